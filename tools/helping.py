@@ -1,11 +1,10 @@
 """What there is: the help of `jcconv`, of each of its words, and its version."""
 import os
-import re
 import subprocess
 import sys
 
 TOP = os.path.dirname(os.path.dirname(os.path.abspath(__file__)))
-# which program runs and how it is built or proved, where a script of its own knows that
+# which program runs, and how it is built or proved
 PROGRAM = os.path.join(TOP, "tools", "program")
 # as the first heading of CHANGELOG.md has them
 VERSION, STATE = "0.1.0", "not released"
@@ -47,11 +46,13 @@ WORDS = {
         "cd examples/wallet && ../../jcconv advise list"),
 }
 
-PROVE = """  jcconv --prove             proves the converter and builds it, which takes hours; what is proved runs from
+OTHERS = """  jcconv --prove             proves the converter and builds it, which takes hours; what is proved runs from
                              then on. Without it a program is built without its proofs, in minutes, and each run
-                             says so"""
-OTHERS = """  jcconv --version           the version, the kit that the converter is proved with, and what it converts
+                             says so
+  jcconv --version           the version, which of the two would run, the kit, and what is converted
   jcconv --help, -h, help    this text; jcconv WORD --help the part of it on one word"""
+# words that no other word may follow
+ALONE = ("--help", "-h", "--version", "--prove")
 
 PAGES = [("COMMANDS", "commands, the list, exit statuses, what stands after each answer"),
          ("RULES", "each refusal, its place, and its repair"),
@@ -84,25 +85,16 @@ def everything():
     parts = ["jcconv converts a Java Card package: class files and export files into the components that a card"
              " loads.\nIt also tests components, runs class files and components, and packs components into CAP files."]
     parts += [of_word(word) for word in WORDS]
-    parts.append("\n".join(([PROVE] if os.path.isfile(PROGRAM) else []) + [OTHERS]))
+    parts.append(OTHERS)
     pages = "\n".join(f"  docs/{name + '.md':14} {text}" for name, text in PAGES)
     words = f"Words are completed in bash after: . {TOP}/tools/completion.bash"
     return "\n\n".join([*parts, f"Pages, in {TOP}:\n{pages}\n{words}"])
 
 
-def kit():
-    """The kit that the converter is proved with, as README.md names it."""
-    with open(os.path.join(TOP, "README.md"), encoding="utf-8") as page:
-        return re.search(r"^    (rattle-kit-.*)$", page.read(), re.M)[1]
-
-
 def version_lines():
     """The version, which program would run, and what it converts."""
-    run = f"proved with {kit()}"
-    if os.path.isfile(PROGRAM):
-        which = subprocess.run([sys.executable, PROGRAM, "which"], stdout=subprocess.PIPE, check=False, text=True)
-        run = which.stdout.strip()
-    return f"jcconv {VERSION}, {STATE}\n{run}\nconverts every package that breaks no rule"
+    which = subprocess.run([sys.executable, PROGRAM, "which"], stdout=subprocess.PIPE, check=False, text=True).stdout
+    return f"jcconv {VERSION}, {STATE}\n{which}converts every package that breaks no rule"
 
 
 def usage(word):
@@ -111,24 +103,35 @@ def usage(word):
 
 
 def is_asked(words):
-    """Whether the words ask for help or the version, or there are none."""
-    alone = len(words) == 1 and words[0] in ("-h", "--help", "help", "--version")
-    return not words or alone or (len(words) == 2 and (words[0] == "help" or words[1] in ("-h", "--help")))
+    """Whether the words ask for help or the version, or there are none, or more than may stand together."""
+    return not words or words[0] in ("help", *ALONE) or (len(words) == 2 and words[1] in ("-h", "--help"))
 
 
 def main(words):
     """Prints what is asked; without any words the same on standard error, with the status of the usage line."""
-    if words == ["--version"]:
-        print(version_lines())
-    elif not words:
+    if not words:
         print(everything(), file=sys.stderr)
         return 1
+    if len(words) > 1 and words[0] in ALONE:
+        return wrong(f"these words stand alone: {', '.join(ALONE)}")
+    if len(words) > 2:
+        return wrong("help takes one word")
+    if words == ["--version"]:
+        print(version_lines())
     elif len(words) == 1:
         print(everything())
     else:
-        word = words[1] if words[0] == "help" else words[0]
-        if word not in WORDS:
-            print(f"jcconv: there is no word {word}; there are: {', '.join(WORDS)}", file=sys.stderr)
-            return 1
-        print(of_word(word))
+        return help_of(words[1] if words[0] == "help" else words[0])
     return 0
+
+
+def help_of(word):
+    if word not in WORDS:
+        return wrong(f"there is no word {word}; there are: {', '.join(WORDS)}")
+    print(of_word(word))
+    return 0
+
+
+def wrong(why):
+    print(f"jcconv: {why}", file=sys.stderr)
+    return 1

@@ -1,4 +1,4 @@
-"""The words of `jcconv` that are answered without the converter: explanations, CAP files, advice and help."""
+"""The words of `jcconv` that need no converter: explanations, CAP files, advice, help and the version."""
 import os
 import sys
 

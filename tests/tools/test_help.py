@@ -40,6 +40,14 @@ class Help(unittest.TestCase):
             self.assertEqual(run.err, "jcconv: there is no word what; there are: convert, check, jvm, card, make,"
                                       " explain, pack, unpack, advise\n")
 
+    def test_words_that_stand_alone(self):
+        for words in (["--help", "pack"], ["-h", "-h"], ["--version", "now"], ["--prove", "now"], ["--prove", "-h"]):
+            run = jcconv(*words)
+            self.assertEqual((run.status, run.out), (1, ""))
+            self.assertEqual(run.err, "jcconv: these words stand alone: --help, -h, --version, --prove\n")
+        run = jcconv("help", "pack", "check")
+        self.assertEqual((run.status, run.out, run.err), (1, "", "jcconv: help takes one word\n"))
+
     def test_lines_are_short(self):
         for line in helping.everything().split("\n"):
             self.assertLessEqual(len(line), 120)
@@ -72,6 +80,7 @@ class Script(unittest.TestCase):
 
     def test_words(self):
         for words in ([], ["-h"], ["--help"], ["help"], ["--version"], ["help", "pack"], ["make", "-h"],
+                      ["--prove", "now"], ["--version", "-h"], ["help", "pack", "check"], ["what", "--help"],
                       ["check", "--help"], ["explain"], ["explain", "310"], ["explain", "999"],
                       ["explain", "refused 601 No.class p/No f()V 3", "no list"], ["pack", "no", "w.cap"],
                       ["unpack", "no", "no"], ["advise", "no"], ["advise"]):

@@ -1,5 +1,6 @@
 -- What bytes that spell a value by a format say of it and of their number.
-use Rattle.std.proofs.Common.{◌≡◌, ℕ, zero, suc, ◌+◌, ◌<◌, ◌^◌, List, [], ◌∷◌, ◌++◌, Option, Some, None, Result, Ok, option_map, length, refl, sym, ap, subst, ◌∙◌, arith, length-append}
+use Rattle.std.proofs.Common.{◌≡◌, ℕ, zero, suc, ◌+◌, ◌<◌, ◌^◌, List, [], ◌∷◌, ◌++◌, Option, Some, None, Result, Ok}
+use Rattle.std.proofs.Common.{option_map, length, refl, sym, ap, subst, ◌∙◌, arith, length-append}
 use Rattle.std.specs.List.{AllByRecursion, slice_get}
 use Rattle.std.specs.Int.{w8, w16, w32, from_be_bytes}
 use Rattle.cjc_bytes.specs.Format.{Format, number, here, looked_up, gives, followed_by, Spells, u1, u2, u4, raw}
@@ -18,7 +19,8 @@ all_back P [] ys h = h
 all_back P (x ∷ xs) ys h = all_back P xs ys h.1
 
 -- what holds of all items holds of the one at an index
-pub all_at : {A : Type 0} (P : A → Type 0) (xs : List A) (i : ℕ) (x : A) → AllByRecursion P xs → slice_get xs i ≡ Some x → P x
+pub all_at : {A : Type 0} (P : A → Type 0) (xs : List A) (i : ℕ) (x : A) → AllByRecursion P xs → slice_get xs i ≡ Some x
+    → P x
 all_at P [] i x h e = absurd cc
 all_at P (y ∷ ys) zero x h e = let same : y ≡ x = cc in subst P same h.0
 all_at P (y ∷ ys) (suc i) x h e = all_at P ys i x h.1 e
@@ -34,14 +36,25 @@ pub record Inner {A B : Type 0} (p : Format B) (f : B → Format A) (at : ℕ) (
   pub one : Spells p at x front
   pub rest : Spells (f x) (at + length front) a back
 
-pub inner : {A B : Type 0} (p : Format B) (f : B → Format A) (at : ℕ) (a : A) (bytes : List ℕ) → InBytes bytes → Spells (followed_by p f) at a bytes → Inner p f at a bytes
+pub inner : {A B : Type 0} (p : Format B) (f : B → Format A) (at : ℕ) (a : A) (bytes : List ℕ) → InBytes bytes
+    → Spells (followed_by p f) at a bytes → Inner p f at a bytes
 unfolding Spells
 inner p f at a bytes ok h =
     let all : InBytes (h.1 ++ h.2) = subst InBytes h.3 ok in
-    record { x = h.0; front = h.1; back = h.2; sizes = ap length h.3 ∙ length-append h.1 h.2; fronts = all_front (λ b. b < 256) h.1 h.2 all; backs = all_back (λ b. b < 256) h.1 h.2 all; one = h.4; rest = h.5 }
+    record {
+      x = h.0;
+      front = h.1;
+      back = h.2;
+      sizes = ap length h.3 ∙ length-append h.1 h.2;
+      fronts = all_front (λ b. b < 256) h.1 h.2 all;
+      backs = all_back (λ b. b < 256) h.1 h.2 all;
+      one = h.4;
+      rest = h.5;
+    }
 
 -- the same, for a proof that goes on with them
-pub with_inner : {A B R : Type 0} (p : Format B) (f : B → Format A) (at : ℕ) (a : A) (bytes : List ℕ) → InBytes bytes → Spells (followed_by p f) at a bytes → (Inner p f at a bytes → R) → R
+pub with_inner : {A B R : Type 0} (p : Format B) (f : B → Format A) (at : ℕ) (a : A) (bytes : List ℕ) → InBytes bytes
+    → Spells (followed_by p f) at a bytes → (Inner p f at a bytes → R) → R
 with_inner p f at a bytes ok h more = more (inner p f at a bytes ok h)
 
 -- a number below a limit, and what its table says of it
@@ -70,17 +83,35 @@ value32 (a ∷ b ∷ c ∷ []) ok e = absurd (omega arith)
 value32 (a ∷ b ∷ c ∷ d ∷ []) ok e = omega (arith, ok.0, ok.1.0, ok.1.1.0, ok.1.1.1.0)
 value32 (a ∷ b ∷ c ∷ d ∷ x ∷ bs) ok e = absurd (omega arith)
 
-pub number8 : {A : Type 0} (table : ℕ → Option A) (at : ℕ) (a : A) (bytes : List ℕ) → InBytes bytes → Spells (number w8 table) at a bytes → Number table a (2 ^ 8) 1 bytes
+pub number8 : {A : Type 0} (table : ℕ → Option A) (at : ℕ) (a : A) (bytes : List ℕ) → InBytes bytes
+    → Spells (number w8 table) at a bytes → Number table a (2 ^ 8) 1 bytes
 unfolding Spells
-number8 table at a bytes ok h = record { n = from_be_bytes w8 bytes; small = value8 bytes ok h.0; is = h.1; sizes = h.0 }
+number8 table at a bytes ok h = record {
+  n = from_be_bytes w8 bytes;
+  small = value8 bytes ok h.0;
+  is = h.1;
+  sizes = h.0;
+}
 
-pub number16 : {A : Type 0} (table : ℕ → Option A) (at : ℕ) (a : A) (bytes : List ℕ) → InBytes bytes → Spells (number w16 table) at a bytes → Number table a (2 ^ 16) 2 bytes
+pub number16 : {A : Type 0} (table : ℕ → Option A) (at : ℕ) (a : A) (bytes : List ℕ) → InBytes bytes
+    → Spells (number w16 table) at a bytes → Number table a (2 ^ 16) 2 bytes
 unfolding Spells
-number16 table at a bytes ok h = record { n = from_be_bytes w16 bytes; small = value16 bytes ok h.0; is = h.1; sizes = h.0 }
+number16 table at a bytes ok h = record {
+  n = from_be_bytes w16 bytes;
+  small = value16 bytes ok h.0;
+  is = h.1;
+  sizes = h.0;
+}
 
-pub number32 : {A : Type 0} (table : ℕ → Option A) (at : ℕ) (a : A) (bytes : List ℕ) → InBytes bytes → Spells (number w32 table) at a bytes → Number table a (2 ^ 32) 4 bytes
+pub number32 : {A : Type 0} (table : ℕ → Option A) (at : ℕ) (a : A) (bytes : List ℕ) → InBytes bytes
+    → Spells (number w32 table) at a bytes → Number table a (2 ^ 32) 4 bytes
 unfolding Spells
-number32 table at a bytes ok h = record { n = from_be_bytes w32 bytes; small = value32 bytes ok h.0; is = h.1; sizes = h.0 }
+number32 table at a bytes ok h = record {
+  n = from_be_bytes w32 bytes;
+  small = value32 bytes ok h.0;
+  is = h.1;
+  sizes = h.0;
+}
 
 plain : (n limit size : ℕ) (bytes : List ℕ) → Number Some n limit size bytes → (n < limit) × (length bytes ≡ size)
 plain n limit size bytes k = let is : k.n ≡ n = cc (k.is) in (subst (λ (m : ℕ). m < limit) is k.small, k.sizes)
@@ -101,18 +132,22 @@ pub raw_is : (n at : ℕ) (b bytes : List ℕ) → Spells (raw n) at b bytes →
 unfolding Spells raw
 raw_is n at b bytes h = (ap length (sym h.1) ∙ h.0, h.0)
 
-pub found_is : {A : Type 0} (found : Result A ℕ) (at : ℕ) (a : A) (bytes : List ℕ) → Spells (looked_up found) at a bytes → (found ≡ Ok a) × (length bytes ≡ 0)
+pub found_is : {A : Type 0} (found : Result A ℕ) (at : ℕ) (a : A) (bytes : List ℕ) → Spells (looked_up found) at a bytes
+    → (found ≡ Ok a) × (length bytes ≡ 0)
 unfolding Spells
 found_is found at a bytes h = (h.1, ap length h.0)
 
-pub here_is : {A : Type 0} (meaning : ℕ → A) (at : ℕ) (a : A) (bytes : List ℕ) → Spells (here meaning) at a bytes → length bytes ≡ 0
+pub here_is : {A : Type 0} (meaning : ℕ → A) (at : ℕ) (a : A) (bytes : List ℕ) → Spells (here meaning) at a bytes
+    → length bytes ≡ 0
 unfolding Spells
 here_is meaning at a bytes h = ap length h.0
 
-pub given : {A : Type 0} (x : A) (at : ℕ) (a : A) (bytes : List ℕ) → Spells (gives x) at a bytes → (x ≡ a) × (length bytes ≡ 0)
+pub given : {A : Type 0} (x : A) (at : ℕ) (a : A) (bytes : List ℕ) → Spells (gives x) at a bytes → (x ≡ a)
+    × (length bytes ≡ 0)
 unfolding Spells
 given x at a bytes h = (h.1, ap length h.0)
 
-pub mapped : {A B : Type 0} (f : A → B) (o : Option A) (y : B) → option_map f o ≡ Some y → (x : A) × (o ≡ Some x) × (f x ≡ y)
+pub mapped : {A B : Type 0} (f : A → B) (o : Option A) (y : B) → option_map f o ≡ Some y → (x : A) × (o ≡ Some x)
+    × (f x ≡ y)
 mapped f None y e = absurd cc
 mapped f (Some x) y e = (x, refl, cc)

@@ -26,7 +26,14 @@ pub record Break : Type 0 where
 -- A rule is broken at a place. Its family is its hundreds digit.
 abbrev pub broken_at : RulePlace → ℕ → Break
 broken_at s rule = record {
-  rank = record { family = rule / 100; file = file_number s.file; class = s.class; member = s.member; offset = s.place.offset; rule = rule };
+  rank = record {
+    family = rule / 100;
+    file = file_number s.file;
+    class = s.class;
+    member = s.member;
+    offset = s.place.offset;
+    rule = rule;
+  };
   refusal = refused_at rule s.place;
 }
 
@@ -41,8 +48,14 @@ abbrev pub class_spot : FilePlace → (class : ℕ) → (name : List ℕ) → Ru
 class_spot f class name = record { file = f.key; class = class; member = 0; place = in_class f.name name [] 0 }
 
 -- an offset of a member of a class, which is told by this text; the member's place counts from 1, fields first
-abbrev pub member_spot : FilePlace → (class : ℕ) → (name : List ℕ) → (member : ℕ) → (text : List ℕ) → (offset : ℕ) → RulePlace
-member_spot f class name member text offset = record { file = f.key; class = class; member = member; place = in_class f.name name text offset }
+abbrev pub member_spot : FilePlace → (class : ℕ) → (name : List ℕ) → (member : ℕ) → (text : List ℕ) → (offset : ℕ)
+    → RulePlace
+member_spot f class name member text offset = record {
+  file = f.key;
+  class = class;
+  member = member;
+  place = in_class f.name name text offset;
+}
 
 -- ---- lists of breaks
 

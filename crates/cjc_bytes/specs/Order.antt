@@ -30,8 +30,10 @@ pub record FilePlace : Type 0 where
 -- there is none it stands behind all files of the list, and has no name.
 abbrev pub file_from : (before : ℕ) → List FileLine → (number : ℕ) → FilePlace
 file_from n [] k = record { key = keys.Line n; name = [] }
-file_from n (line ∷ lines) zero = if line.class_file then record { key = keys.Line n; name = line.name } else file_from (n + 1) lines zero
-file_from n (line ∷ lines) (suc k) = if line.class_file then file_from (n + 1) lines k else file_from (n + 1) lines (suc k)
+file_from n (line ∷ lines) zero = if line.class_file then record { key = keys.Line n; name = line.name }
+    else file_from (n + 1) lines zero
+file_from n (line ∷ lines) (suc k) = if line.class_file then file_from (n + 1) lines k
+    else file_from (n + 1) lines (suc k)
 
 -- the file of the package's class of this number
 abbrev pub file_of : List FileLine → ℕ → FilePlace

@@ -1,5 +1,6 @@
 -- Reading a descriptor byte by byte, and its parts as functions of its bytes.
-use Rattle.std.specs.Prelude.{ℕ, suc, ◌-◌, Bool, true, false, ◌==◌, if◌then◌else◌, List, [], ◌∷◌, ◌++◌, map, length, take, Option, Some, None, option_map, unwrap_or}
+use Rattle.std.specs.Prelude.{ℕ, suc, ◌-◌, Bool, true, false, ◌==◌, if◌then◌else◌, List, [], ◌∷◌, ◌++◌, map, length}
+use Rattle.std.specs.Prelude.{take, Option, Some, None, option_map, unwrap_or}
 use Rattle.cjc_bytes.specs.declared.descriptor.Kind.TheVariants as kinds
 use Rattle.cjc_bytes.specs.declared.descriptor.Role.{Role}
 use Rattle.cjc_bytes.specs.declared.descriptor.Role.TheVariants as roles
@@ -67,7 +68,8 @@ cut_by roles.Last begun behind = begun ∷ behind [] false
 -- the bytes of each type, where one has begun with these and a name may be open
 unfoldable pub types_from : List ℕ → Bool → List ℕ → List (List ℕ)
 types_from begun in_name [] = []
-types_from begun in_name (b ∷ bs) = cut_by (role_of in_name b) (begun ++ b ∷ []) (λ more open_name. types_from more open_name bs)
+types_from begun in_name (b ∷ bs) = cut_by (role_of in_name b) (begun ++ b ∷ []) (λ more open_name. types_from more
+    open_name bs)
 
 -- the bytes of each type of a descriptor, the result's last
 abbrev pub types : List ℕ → List (List ℕ)
@@ -85,7 +87,11 @@ part_of (b ∷ bs) =
 abbrev pub gathered : Bool → List Part → Parts
 gathered is_method [] = record { is_method = is_method; params = []; result = plain kinds.Void }
 gathered is_method (p ∷ []) = record { is_method = is_method; params = []; result = p }
-gathered is_method (p ∷ q ∷ ps) = let d = gathered is_method (q ∷ ps) in record { is_method = is_method; params = p ∷ d.params; result = d.result }
+gathered is_method (p ∷ q ∷ ps) = let d = gathered is_method (q ∷ ps) in record {
+  is_method = is_method;
+  params = p ∷ d.params;
+  result = d.result;
+}
 
 -- whether the first byte is `(` (40), as in a descriptor of a method and of no field
 abbrev pub begins_method : List ℕ → Bool

@@ -1,5 +1,6 @@
 -- The lines of a text, the words of a line, and decimal numbers.
-use Rattle.std.specs.Prelude.{Bool, true, false, not, ◌&&◌, ◌||◌, if◌then◌else◌, ◌==◌, nat_le, nat_lt, ℕ, ◌+◌, ◌-◌, ◌*◌, List, [], ◌∷◌, length, filter, slice_index, Option, Some, None}
+use Rattle.std.specs.Prelude.{Bool, true, false, not, ◌&&◌, ◌||◌, if◌then◌else◌, ◌==◌, nat_le, nat_lt, ℕ, ◌+◌, ◌-◌, ◌*◌}
+use Rattle.std.specs.Prelude.{List, [], ◌∷◌, length, filter, slice_index, Option, Some, None}
 use Rattle.std.specs.List.{slice_split}
 use Rattle.std.specs.Str.Lines.{strip_carriage_return}
 
@@ -17,7 +18,8 @@ parts_of_text bytes = slice_split (λ b. b == 10) bytes
 unfoldable pub lines_from : ℕ → List (List ℕ) → List TextLine
 lines_from at [] = []
 lines_from at (part ∷ []) = record { at = at; text = part } ∷ []
-lines_from at (part ∷ next ∷ parts) = record { at = at; text = strip_carriage_return part } ∷ lines_from (at + length part + 1) (next ∷ parts)
+lines_from at (part ∷ next ∷ parts) = record { at = at; text = strip_carriage_return part }
+    ∷ lines_from (at + length part + 1) (next ∷ parts)
 
 -- neither empty nor beginning with `#` (35)
 abbrev pub is_kept : TextLine → Bool
@@ -59,7 +61,8 @@ is_digit c = nat_le 48 c && nat_le c 57
 -- the number with these further digits, while it is at most the limit
 unfoldable pub decimal_from : ℕ → ℕ → List ℕ → Option ℕ
 decimal_from limit n [] = Some n
-decimal_from limit n (c ∷ cs) = if is_digit c && nat_le (n * 10 + (c - 48)) limit then decimal_from limit (n * 10 + (c - 48)) cs else None
+decimal_from limit n (c ∷ cs) = if is_digit c && nat_le (n * 10 + (c - 48)) limit
+    then decimal_from limit (n * 10 + (c - 48)) cs else None
 
 -- the number that one or more decimal digits spell, where it is at most the limit
 abbrev pub decimal : ℕ → List ℕ → Option ℕ

@@ -14,7 +14,8 @@ unfoldable pub AreLines : ℕ → List TextLine → List ℕ → Type 0
 AreLines at [] bytes = ⊥
 AreLines at (l ∷ []) bytes = (l.at ≡ at) × (l.text ≡ bytes) × Lacks 10 bytes
 AreLines at (l ∷ next ∷ ls) bytes =
-    (ended rest : List ℕ) × (bytes ≡ ended ++ 10 ∷ rest) × Lacks 10 ended × (l.at ≡ at) × StripsCarriageReturn ended l.text × AreLines (at + length ended + 1) (next ∷ ls) rest
+    (ended rest : List ℕ) × (bytes ≡ ended ++ 10 ∷ rest) × Lacks 10 ended × (l.at ≡ at)
+    × StripsCarriageReturn ended l.text × AreLines (at + length ended + 1) (next ∷ ls) rest
 
 -- One or more bytes, and no space (32).
 abbrev pub IsWord : List ℕ → Type 0
@@ -28,4 +29,5 @@ IsGap gap = (n : ℕ) × (gap ≡ 32 ∷ replicate n 32)
 unfoldable pub AreWords : List (List ℕ) → List ℕ → Type 0
 AreWords [] line = line ≡ []
 AreWords (w ∷ []) line = (line ≡ w) × IsWord w
-AreWords (w ∷ next ∷ ws) line = (gap rest : List ℕ) × (line ≡ w ++ (gap ++ rest)) × IsWord w × IsGap gap × AreWords (next ∷ ws) rest
+AreWords (w ∷ next ∷ ws) line = (gap rest : List ℕ) × (line ≡ w ++ (gap ++ rest)) × IsWord w × IsGap gap
+    × AreWords (next ∷ ws) rest

@@ -118,7 +118,9 @@ fn up_to(left: u128, right: u128, rest: bool) -> bool
 
 /// Whether a place does not stand after another in its class, where by an equal place the rule decides.
 fn is_up_to_in_class(left: &RulePlace<'_>, right: &RulePlace<'_>, rule: bool) -> bool
-    ensures { result ≡ (nat_lt left.now.member right.now.member || ((left.now.member == right.now.member) && (nat_lt left.now.place.offset right.now.place.offset || ((left.now.place.offset == right.now.place.offset) && rule)))) }
+    ensures { result ≡ (nat_lt left.now.member right.now.member || ((left.now.member == right.now.member)
+        && (nat_lt left.now.place.offset right.now.place.offset || ((left.now.place.offset == right.now.place.offset)
+        && rule)))) }
 {
     let left_offset = u128::from(left.place.offset);
     let right_offset = u128::from(right.place.offset);
@@ -145,7 +147,8 @@ fn is_up_to(left: &Break<'_>, right: &Break<'_>) -> bool
 
 /// The first of two in the order of refusals.
 pub fn first<'w>(left: Option<Break<'w>>, right: Option<Break<'w>>) -> Option<Break<'w>>
-    ensures { (xs ys : List BreakOf) → IsFirstOf xs (option_map break_of left.entry) → IsFirstOf ys (option_map break_of right.entry) → IsFirstOf (xs ++ ys) (option_map break_of result) }
+    ensures { (xs ys : List BreakOf) → IsFirstOf xs (option_map break_of left.entry)
+        → IsFirstOf ys (option_map break_of right.entry) → IsFirstOf (xs ++ ys) (option_map break_of result) }
 {
     match (left, right) {
         (None, _) => right,
@@ -218,7 +221,8 @@ pub fn refused(alloc: Global, file: &[u8], rule: u16, offset: u32) -> Fault
 /// The refusal of what is broken, or that there is no memory to say so; or nothing.
 pub fn answer(alloc: Global, broken: Option<Break<'_>>) -> Result<(), Fault>
     ensures ok { (bs : List BreakOf) → IsFirstOf bs (option_map break_of broken.entry) → OnOk result (bs ≡ []) }
-    ensures refused { (bs : List BreakOf) → IsFirstOf bs (option_map break_of broken.entry) → IfErr result (IsFirstRefusal bs) }
+    ensures refused { (bs : List BreakOf) → IsFirstOf bs (option_map break_of broken.entry)
+        → IfErr result (IsFirstRefusal bs) }
 {
     match broken {
         None => Ok(()),

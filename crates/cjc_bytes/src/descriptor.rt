@@ -1,10 +1,12 @@
 //! Descriptors of fields and methods (Java Virtual Machine Specification, sections 4.3.2 and 4.3.3): which
 //! bytes are one, and what its types are. Nothing here takes memory.
 
-ghost use Rattle.std.specs.Prelude.{◌≡◌, ◌<◌, ◌≤◌, ◌^◌, ◌∷◌, false, List, [], length, get_or, ℕ, MatchResult, IfOk, IfErr};
+ghost use Rattle.std.specs.Prelude.{◌≡◌, ◌<◌, ◌≤◌, ◌^◌, ◌∷◌, false, List, [], length, get_or, ℕ, MatchResult, IfOk};
+ghost use Rattle.std.specs.Prelude.{IfErr};
 ghost use Rattle.cjc_bytes.specs.declared.descriptor.ParseState.TheVariants as spots;
 ghost use Rattle.cjc_bytes.specs.Descriptor.{Parts, part_at, base_kind, is_name_byte, IsDescriptor, IsLongestStart};
-ghost use Rattle.cjc_bytes.specs.Spots.{behind_type, type_begun, after, end_at, bad_at, role_of, types, part_of, begins_method, desc_of};
+ghost use Rattle.cjc_bytes.specs.Spots.{behind_type, type_begun, after, end_at, bad_at, role_of, types, part_of};
+ghost use Rattle.cjc_bytes.specs.Spots.{begins_method, desc_of};
 
 use std::marker::Model;
 use thiserror::Error;

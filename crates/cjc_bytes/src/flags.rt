@@ -2,7 +2,11 @@
 //! every crate that asks for one. It knows no class and no member.
 
 ghost use Rattle.std.specs.Prelude.{◌≡◌, ◌∷◌, []};
-ghost use Rattle.cjc_bytes.specs.AccessFlags.{has, is_public, is_private, is_protected, is_static, is_final, is_interface, is_abstract, acc_public, acc_private, acc_protected, acc_static, acc_final, acc_super, acc_synchronized, acc_volatile, acc_transient, acc_native, acc_interface, acc_abstract, acc_strict, acc_shareable, acc_synthetic, acc_annotation, acc_enum};
+ghost use Rattle.cjc_bytes.specs.AccessFlags.{has, is_public, is_private, is_protected, is_static, is_final};
+ghost use Rattle.cjc_bytes.specs.AccessFlags.{is_interface, is_abstract, acc_public, acc_private, acc_protected};
+ghost use Rattle.cjc_bytes.specs.AccessFlags.{acc_static, acc_final, acc_super, acc_synchronized, acc_volatile};
+ghost use Rattle.cjc_bytes.specs.AccessFlags.{acc_transient, acc_native, acc_interface, acc_abstract, acc_strict};
+ghost use Rattle.cjc_bytes.specs.AccessFlags.{acc_shareable, acc_synthetic, acc_annotation, acc_enum};
 
 /// May be accessed from outside its package.
 pub const ACC_PUBLIC: u16 = 0x0001;
@@ -58,8 +62,11 @@ pub const ACC_ENUM: u16 = 0x4000;
 /// Each flag is the number that the specification gives it.
 pub fn access_flags()
     ensures visibility { ACC_PUBLIC ∷ ACC_PRIVATE ∷ ACC_PROTECTED ∷ [] ≡ acc_public ∷ acc_private ∷ acc_protected ∷ [] }
-    ensures members { ACC_STATIC ∷ ACC_FINAL ∷ ACC_SYNCHRONIZED ∷ ACC_VOLATILE ∷ ACC_TRANSIENT ∷ ACC_NATIVE ∷ ACC_STRICT ∷ [] ≡ acc_static ∷ acc_final ∷ acc_synchronized ∷ acc_volatile ∷ acc_transient ∷ acc_native ∷ acc_strict ∷ [] }
-    ensures classes { ACC_SUPER ∷ ACC_INTERFACE ∷ ACC_ABSTRACT ∷ ACC_SHAREABLE ∷ ACC_SYNTHETIC ∷ ACC_ANNOTATION ∷ ACC_ENUM ∷ [] ≡ acc_super ∷ acc_interface ∷ acc_abstract ∷ acc_shareable ∷ acc_synthetic ∷ acc_annotation ∷ acc_enum ∷ [] }
+    ensures members { ACC_STATIC ∷ ACC_FINAL ∷ ACC_SYNCHRONIZED ∷ ACC_VOLATILE ∷ ACC_TRANSIENT ∷ ACC_NATIVE ∷ ACC_STRICT
+        ∷ [] ≡ acc_static ∷ acc_final ∷ acc_synchronized ∷ acc_volatile ∷ acc_transient ∷ acc_native ∷ acc_strict ∷ [] }
+    ensures classes { ACC_SUPER ∷ ACC_INTERFACE ∷ ACC_ABSTRACT ∷ ACC_SHAREABLE ∷ ACC_SYNTHETIC ∷ ACC_ANNOTATION
+        ∷ ACC_ENUM ∷ [] ≡ acc_super ∷ acc_interface ∷ acc_abstract ∷ acc_shareable ∷ acc_synthetic ∷ acc_annotation
+        ∷ acc_enum ∷ [] }
 {}
 
 /// Whether flags have one.

@@ -1,9 +1,11 @@
 //! Text as lines, words and decimal numbers, as the program's list and its scripts have it. It knows no
 //! meaning of a line.
 
-ghost use Rattle.std.specs.Prelude.{◌≡◌, ◌==◌, ◌++◌, ◌∷◌, [], ◌<◌, ◌^◌, length, filter, position, IfOk, OnOk, IfSome, ◌≤◌, List, ℕ};
+ghost use Rattle.std.specs.Prelude.{◌≡◌, ◌==◌, ◌++◌, ◌∷◌, [], ◌<◌, ◌^◌, length, filter, position, IfOk, OnOk, IfSome};
+ghost use Rattle.std.specs.Prelude.{◌≤◌, List, ℕ};
 ghost use Rattle.std.specs.Str.Lines.{strip_carriage_return};
-ghost use Rattle.cjc_bytes.specs.Text.{TextLine, is_kept, kept, is_filled, is_spaced, filled_parts, words, decimal, short_decimal, kept_lines, lines_from, parts_of_text};
+ghost use Rattle.cjc_bytes.specs.Text.{TextLine, is_kept, kept, is_filled, is_spaced, filled_parts, words, decimal};
+ghost use Rattle.cjc_bytes.specs.Text.{short_decimal, kept_lines, lines_from, parts_of_text};
 ghost use Rattle.cjc_bytes.specs.TextGrammar.{AreLines, AreWords};
 
 use crate::row::Row;
@@ -188,7 +190,8 @@ pub fn short_decimal(text: &[u8], digits: usize, limit: u32) -> Option<u32>
 
 /// A text has one list of lines, and a line one list of words.
 pub fn lines_and_words()
-    ensures lines { (at : ℕ) (ls : List TextLine) (bytes : List ℕ) → AreLines at ls bytes → lines_from at (parts_of_text bytes) ≡ ls }
+    ensures lines { (at : ℕ) (ls : List TextLine) (bytes : List ℕ) → AreLines at ls bytes
+        → lines_from at (parts_of_text bytes) ≡ ls }
     ensures cut { (at : ℕ) (bytes : List ℕ) → AreLines at (lines_from at (parts_of_text bytes)) bytes }
     ensures words { (ws : List (List ℕ)) (line : List ℕ) → AreWords ws line → words line ≡ Some ws }
     ensures parted { (ws : List (List ℕ)) (line : List ℕ) → words line ≡ Some ws → AreWords ws line }

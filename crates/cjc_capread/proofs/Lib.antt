@@ -2,3 +2,4 @@ pub mod Opcodes
 pub mod Untils
 pub mod Decoding
 pub mod Headers
+pub mod DecoderLaws

@@ -12,7 +12,8 @@ same_tables : map shape_info SHAPES ≡ map (option_map info) forms
 unfolding forms
 same_tables = refl
 
-found : (o : Option (Option Form)) (a : Option OpInfo) → Some a ≡ option_map (option_map info) o → a ≡ option_map info (option_and_then (λ f. f) o)
+found : (o : Option (Option Form)) (a : Option OpInfo) → Some a ≡ option_map (option_map info) o
+    → a ≡ option_map info (option_and_then (λ f. f) o)
 found (Some x) a e = cc
 found None a e = absurd cc
 

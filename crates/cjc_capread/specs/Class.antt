@@ -1,5 +1,6 @@
 -- The interfaces and classes of the package (section 6.8).
-use Rattle.std.specs.Prelude.{ℕ, ◌/◌, ◌%◌, Bool, true, false, List, [], ◌∷◌, ◌++◌, Option, Some, None, nat_lt, if◌then◌else◌}
+use Rattle.std.specs.Prelude.{ℕ, ◌/◌, ◌%◌, Bool, true, false, List, [], ◌∷◌, ◌++◌, Option, Some, None, nat_lt}
+use Rattle.std.specs.Prelude.{if◌then◌else◌}
 use Rattle.std.specs.Int.{w8, w16}
 use Rattle.cjc_bytes.specs.Format.{Format, number, gives, ◌>>=◌, repeated, u1, u2}
 use Rattle.cjc_capread.specs.declared.tree.ClassInfo.{ClassInfo}
@@ -36,7 +37,19 @@ class_entry flags count = do
   public_methods ← repeated public_count u2
   package_methods ← repeated package_count u2
   interfaces ← repeated count implemented_interface
-  gives (record { flags = flags; superclass = superclass; declared_instance_size = declared_instance_size; first_reference_token = first_reference_token; reference_count = reference_count; public_base = public_base; package_base = package_base; public_methods = public_methods; package_methods = package_methods; interfaces = interfaces })
+  gives (record {
+    flags = flags;
+    superclass = superclass;
+    declared_instance_size = declared_instance_size;
+    first_reference_token = first_reference_token;
+    reference_count = reference_count;
+    public_base = public_base;
+    package_base = package_base;
+    public_methods = public_methods;
+    package_methods = package_methods;
+    interfaces =
+        interfaces;
+  })
 
 -- whether a list is empty
 abbrev pub is_none : {A : Type 0} → List A → Bool

@@ -1,7 +1,10 @@
--- One instruction as bytes: an opcode, its operands and, of a switch, its table (Java Card Virtual Machine Specification 2.2.2, chapter 7).
+-- One instruction as bytes: an opcode, its operands and, of a switch, its table (Java Card Virtual Machine
+-- Specification 2.2.2, chapter 7).
 use Rattle.std.specs.Int.RustNames.{int_lt, int_le}
-use Rattle.std.specs.Prelude.{◌≡◌, ℕ, zero, suc, ◌+◌, ◌-◌, ◌*◌, ◌/◌, ◌%◌, ◌^◌, ◌<◌, List, [], ◌∷◌, ◌++◌, replicate, Option, Some, None, Bool, true, false, nat_lt, ◌&&◌, if◌then◌else◌, ℤ, pos, negsuc, ◌-ℤ◌}
-use Rattle.cjc_capread.specs.Opcodes.{Operand, Byte, Signed1, Signed2, Signed4, Index1, Index2, Form, Fields, Table, Lookup, width, widths, form}
+use Rattle.std.specs.Prelude.{◌≡◌, ℕ, zero, suc, ◌+◌, ◌-◌, ◌*◌, ◌/◌, ◌%◌, ◌^◌, ◌<◌, List, [], ◌∷◌, ◌++◌, replicate}
+use Rattle.std.specs.Prelude.{Option, Some, None, Bool, true, false, nat_lt, ◌&&◌, if◌then◌else◌, ℤ, pos, negsuc, ◌-ℤ◌}
+use Rattle.cjc_capread.specs.Opcodes.{Operand, Byte, Signed1, Signed2, Signed4, Index1, Index2, Form, Fields, Table}
+use Rattle.cjc_capread.specs.Opcodes.{Lookup, width, widths, form}
 
 -- an instruction: the operands in order, of a switch those before its table, and the numbers of the table
 pub record Instruction : Type 0 where
@@ -52,7 +55,8 @@ abbrev pub operand : Operand → List ℕ → Option First
 operand Byte (a ∷ rest) = Some (record { value = pos a; rest = rest })
 operand Signed1 (a ∷ rest) = Some (record { value = signed 128 a; rest = rest })
 operand Signed2 (a ∷ b ∷ rest) = Some (record { value = signed 32768 (256 * a + b); rest = rest })
-operand Signed4 (a ∷ b ∷ c ∷ d ∷ rest) = Some (record { value = signed (2 ^ 31) (16777216 * a + 65536 * b + 256 * c + d); rest = rest })
+operand Signed4 (a ∷ b ∷ c ∷ d ∷ rest) =
+    Some (record { value = signed (2 ^ 31) (16777216 * a + 65536 * b + 256 * c + d); rest = rest })
 operand Index1 (a ∷ rest) = Some (record { value = pos a; rest = rest })
 operand Index2 (a ∷ b ∷ rest) = Some (record { value = pos (256 * a + b); rest = rest })
 operand kind bytes = None
@@ -119,19 +123,25 @@ is_whole form operands table = true
 abbrev pub with_table : (opcode : ℕ) → Form → (operands : List ℤ) → Option Front → Option Instruction
 with_table opcode f operands None = None
 with_table opcode f operands (Some front) =
-    if is_whole f operands front.values then Some (record { opcode = opcode; operands = operands; table = front.values }) else None
+    if is_whole f operands front.values then Some (record {
+      opcode = opcode;
+      operands = operands;
+      table = front.values;
+    }) else None
 
 -- an instruction with its operands, and what stands behind them
 abbrev pub with_operands : (opcode : ℕ) → Form → Option Front → Option Instruction
 with_operands opcode f None = None
-with_operands opcode f (Some front) = with_table opcode f front.values (operands_of (in_table f front.values) front.rest)
+with_operands opcode f (Some front) = with_table opcode f front.values (operands_of (in_table f front.values)
+    front.rest)
 
 -- an instruction of an opcode with this form
 abbrev pub decode_as : (opcode : ℕ) → Option Form → List ℕ → Option Instruction
 decode_as opcode None bytes = None
 decode_as opcode (Some f) bytes = with_operands opcode f (operands_of (before_table f) bytes)
 
--- The instruction at the front of these bytes. None where there is no such opcode, the bytes end in an operand, or a switch is not whole.
+-- The instruction at the front of these bytes. None where there is no such opcode, the bytes end in an operand, or a
+-- switch is not whole.
 abbrev pub decode : List ℕ → Option Instruction
 decode [] = None
 decode (opcode ∷ bytes) = decode_as opcode (form opcode) bytes
@@ -178,7 +188,8 @@ Fits Index2 z = IsBelow 65536 z
 -- as many numbers as operands, each of its own kind
 pub data AllFit : List Operand → List ℤ → Type 0 where
   none : AllFit [] []
-  more : {kind : Operand} {value : ℤ} {kinds : List Operand} {values : List ℤ} → Fits kind value → AllFit kinds values → AllFit (kind ∷ kinds) (value ∷ values)
+  more : {kind : Operand} {value : ℤ} {kinds : List Operand} {values : List ℤ} → Fits kind value → AllFit kinds values
+      → AllFit (kind ∷ kinds) (value ∷ values)
 
 -- An instruction of this form that bytes can say.
 pub record IsWritable (f : Form) (i : Instruction) : Type 0 where

@@ -1,5 +1,6 @@
 -- The classes, their members and all types (section 6.13).
-use Rattle.std.specs.Prelude.{ℕ, ◌/◌, ◌%◌, Bool, true, false, List, [], ◌∷◌, ◌++◌, Option, Some, None, nat_lt, ◌==◌, if◌then◌else◌}
+use Rattle.std.specs.Prelude.{ℕ, ◌/◌, ◌%◌, Bool, true, false, List, [], ◌∷◌, ◌++◌, Option, Some, None, nat_lt, ◌==◌}
+use Rattle.std.specs.Prelude.{if◌then◌else◌}
 use Rattle.std.specs.List.{flat_map}
 use Rattle.std.specs.Int.{w8, w16}
 use Rattle.cjc_bytes.specs.AccessFlags.{is_static}
@@ -55,7 +56,15 @@ method_descriptor = do
   bytecode_count ← u2
   handler_count ← u2
   first_handler ← u2
-  gives (record { token = token; flags = flags; offset = offset; type_offset = type_offset; bytecode_count = bytecode_count; handler_count = handler_count; first_handler = first_handler })
+  gives (record {
+    token = token;
+    flags = flags;
+    offset = offset;
+    type_offset = type_offset;
+    bytecode_count = bytecode_count;
+    handler_count = handler_count;
+    first_handler = first_handler;
+  })
 
 -- a class or interface with its members (section 6.13.1)
 unfoldable pub class_descriptor : Format ClassDescriptor
@@ -69,7 +78,14 @@ class_descriptor = do
   interfaces ← repeated interface_count class_ref
   fields ← repeated field_count field_descriptor
   methods ← repeated method_count method_descriptor
-  gives (record { token = token; flags = flags; this_class = this_class; interfaces = interfaces; fields = fields; methods = methods })
+  gives (record {
+    token = token;
+    flags = flags;
+    this_class = this_class;
+    interfaces = interfaces;
+    fields = fields;
+    methods = methods;
+  })
 
 -- the two nibbles of a byte
 abbrev pub two_nibbles : ℕ → List ℕ

@@ -14,4 +14,11 @@ directory = do
   import_count ← u1
   applet_count ← u1
   custom_count ← number w8 (exactly 0)
-  gives (record { component_sizes = sizes; image_size = image_size; array_init_count = array_init_count; array_init_size = array_init_size; import_count = import_count; applet_count = applet_count })
+  gives (record {
+    component_sizes = sizes;
+    image_size = image_size;
+    array_init_count = array_init_count;
+    array_init_size = array_init_size;
+    import_count = import_count;
+    applet_count = applet_count;
+  })

@@ -19,3 +19,4 @@ pub mod Decode
 pub mod MethodHeader
 pub mod Kinds
 pub mod Working
+pub mod Decoder

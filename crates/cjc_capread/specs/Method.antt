@@ -12,7 +12,13 @@ handler = do
   bits ← u2
   target ← u2
   catch_index ← u2
-  gives (record { start = start; stop = nat_le 0x8000 bits; length = bits % 0x8000; handler = target; catch_index = catch_index })
+  gives (record {
+    start = start;
+    stop = nat_le 0x8000 bits;
+    length = bits % 0x8000;
+    handler = target;
+    catch_index = catch_index;
+  })
 
 -- the methods up to the end of the file, which has so many bytes
 unfoldable pub method : ℕ → Format Method

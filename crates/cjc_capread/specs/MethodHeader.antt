@@ -32,7 +32,13 @@ short_header first second = record {
 -- three bytes behind the flags
 abbrev pub extended_header : (first max_stack : ℕ) → List ℕ → Option MethodHeader
 extended_header first max_stack (nargs ∷ max_locals ∷ bytes) =
-    Some (record { max_stack = max_stack; nargs = nargs; max_locals = max_locals; is_abstract = is_abstract first; size = 4 })
+    Some (record {
+      max_stack = max_stack;
+      nargs = nargs;
+      max_locals = max_locals;
+      is_abstract = is_abstract first;
+      size = 4;
+    })
 extended_header first max_stack bytes = None
 
 -- The header at the front of these bytes; None where they end in it.

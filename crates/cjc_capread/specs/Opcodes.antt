@@ -1,5 +1,6 @@
 -- The opcodes of the card and what follows each (Java Card Virtual Machine Specification 2.2.2, chapter 7).
-use Rattle.std.specs.Prelude.{ℕ, ◌+◌, List, [], ◌∷◌, ◌++◌, replicate, Option, Some, None, slice_get, option_and_then, option_map}
+use Rattle.std.specs.Prelude.{ℕ, ◌+◌, List, [], ◌∷◌, ◌++◌, replicate, Option, Some, None, slice_get, option_and_then}
+use Rattle.std.specs.Prelude.{option_map}
 use Rattle.cjc_capread.specs.declared.opcode.OpInfo.{OpInfo}
 
 -- one operand
@@ -18,9 +19,11 @@ pub data Operand : Type 0 where
 pub data Form : Type 0 where
   -- these operands
   Fields : (operands : List Operand) → Form
-  -- an offset of two bytes for the default, the low and the high match, and for each match between an offset of two bytes
+  -- an offset of two bytes for the default, the low and the high match, and for each match between an offset of two
+  -- bytes
   Table : (matches : Operand) → Form
-  -- an offset of two bytes for the default, a count of two bytes without sign, and so many matches, each with an offset of two bytes
+  -- an offset of two bytes for the default, a count of two bytes without sign, and so many matches, each with an offset
+  -- of two bytes
   Lookup : (matches : Operand) → Form
 
 -- the bytes of an operand
@@ -55,14 +58,21 @@ forms =
     ++ replicate 1 (operands (Signed2 ∷ []))  -- 13 sipush
     ++ replicate 1 (operands (Signed4 ∷ []))  -- 14 iipush
     ++ replicate 3 (operands (Byte ∷ []))  -- 15 to 17 aload, sload, iload
-    ++ replicate 16 bare  -- 18 to 27 aload_0 to aload_3, sload_0 to sload_3, iload_0 to iload_3, aaload, baload, saload, iaload
+    -- 18 to 27 aload_0 to aload_3, sload_0 to sload_3, iload_0 to iload_3, aaload, baload, saload, iaload
+    ++ replicate 16 bare
     ++ replicate 3 (operands (Byte ∷ []))  -- 28 to 2A astore, sstore, istore
-    ++ replicate 20 bare  -- 2B to 3E astore_0 to astore_3, sstore_0 to sstore_3, istore_0 to istore_3, aastore, bastore, sastore, iastore, pop, pop2, dup, dup2
+    -- 2B to 3E astore_0 to astore_3, sstore_0 to sstore_3, istore_0 to istore_3, aastore, bastore, sastore, iastore,
+    -- pop, pop2, dup, dup2
+    ++ replicate 20 bare
     ++ replicate 2 (operands (Byte ∷ []))  -- 3F and 40 dup_x, swap_x
-    ++ replicate 24 bare  -- 41 to 58 sadd, iadd, ssub, isub, smul, imul, sdiv, idiv, srem, irem, sneg, ineg, sshl, ishl, sshr, ishr, sushr, iushr, sand, iand, sor, ior, sxor, ixor
+    -- 41 to 58 sadd, iadd, ssub, isub, smul, imul, sdiv, idiv, srem, irem, sneg, ineg, sshl, ishl, sshr, ishr, sushr,
+    -- iushr, sand, iand, sor, ior, sxor, ixor
+    ++ replicate 24 bare
     ++ replicate 2 (operands (Byte ∷ Signed1 ∷ []))  -- 59 and 5A sinc, iinc
     ++ replicate 5 bare  -- 5B to 5F s2b, s2i, i2b, i2s, icmp
-    ++ replicate 17 (operands (Signed1 ∷ []))  -- 60 to 70 ifeq, ifne, iflt, ifge, ifgt, ifle, ifnull, ifnonnull, if_acmpeq, if_acmpne, if_scmpeq, if_scmpne, if_scmplt, if_scmpge, if_scmpgt, if_scmple, goto
+    -- 60 to 70 ifeq, ifne, iflt, ifge, ifgt, ifle, ifnull, ifnonnull, if_acmpeq, if_acmpne, if_scmpeq, if_scmpne,
+    -- if_scmplt, if_scmpge, if_scmpgt, if_scmple, goto
+    ++ replicate 17 (operands (Signed1 ∷ []))
     ++ replicate 1 (operands (Signed2 ∷ []))  -- 71 jsr
     ++ replicate 1 (operands (Byte ∷ []))  -- 72 ret
     ++ replicate 1 (Some (Table Signed2))  -- 73 stableswitch

@@ -26,4 +26,10 @@ static_field = do
   array_inits ← repeated count array_init
   default_value_count ← u2
   values ← bytes2
-  gives (record { image_size = image_size; reference_count = reference_count; array_inits = array_inits; default_value_count = default_value_count; values = values })
+  gives (record {
+    image_size = image_size;
+    reference_count = reference_count;
+    array_inits = array_inits;
+    default_value_count = default_value_count;
+    values = values;
+  })

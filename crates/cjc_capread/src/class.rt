@@ -5,7 +5,8 @@ ghost use Rattle.std.specs.Prelude.{◌≡◌, Ok};
 ghost use Rattle.cjc_bytes.specs.Format.{repeated};
 ghost use Rattle.cjc_bytes.specs.Found.{Finds};
 ghost use Rattle.cjc_bytes.specs.Reading.{Reads};
-ghost use Rattle.cjc_capread.specs.Class.{interface_entry, implemented_interface, class_entry, with_interface, with_class, entry_content, next_entry, no_entries, class_info};
+ghost use Rattle.cjc_capread.specs.Class.{interface_entry, implemented_interface, class_entry, with_interface};
+ghost use Rattle.cjc_capread.specs.Class.{with_class, entry_content, next_entry, no_entries, class_info};
 ghost use Rattle.cjc_capread.specs.Until.{until};
 
 use crate::parts::{read_class_ref, read_class_refs, read_items1, read_numbers};

@@ -87,11 +87,13 @@ pub fn read(alloc: Global, file: &[u8], tag: u8, bytes: &[u8]) -> Result<Compone
 
     // What is read is spelt by the bytes, and what they spell is read.
     ensures found { IfOk result (λ t. FileSpells (component tag (length bytes.now)) t bytes.now) }
-    ensures only { (t : Tree) → FileSpells (component tag (length bytes.now)) t bytes.now → IsUnlessNoMemory result (Ok t) }
+    ensures only { (t : Tree) → FileSpells (component tag (length bytes.now)) t bytes.now
+        → IsUnlessNoMemory result (Ok t) }
 
     // A refusal is where they break, and where they break is refused.
     ensures refused { IfErr result (IsBreak (component tag (length bytes.now)) bytes.now (refusal file.now 106)) }
-    ensures breaks { (k : ℕ) → FileBreaks (component tag (length bytes.now)) bytes.now k → IsUnlessNoMemory result (Err (faults.Refused (refusal file.now 106 k))) }
+    ensures breaks { (k : ℕ) → FileBreaks (component tag (length bytes.now)) bytes.now k
+        → IsUnlessNoMemory result (Err (faults.Refused (refusal file.now 106 k))) }
 {
     match read_whole(alloc, tag, bytes) {
         Ok(tree) => Ok(tree),
@@ -103,9 +105,13 @@ pub fn read(alloc: Global, file: &[u8], tag: u8, bytes: &[u8]) -> Result<Compone
 /// The bytes of a file spell one component of a tag at most, or break at one place, and not both; which of them is a
 /// function of the bytes.
 pub fn readings()
-    ensures one_tree { (tag : ℕ) (s t : Tree) (bytes : List ℕ) → FileSpells (component tag (length bytes)) s bytes → FileSpells (component tag (length bytes)) t bytes → s ≡ t }
-    ensures one_place { (tag : ℕ) (j k : ℕ) (bytes : List ℕ) → FileBreaks (component tag (length bytes)) bytes j → FileBreaks (component tag (length bytes)) bytes k → j ≡ k }
-    ensures not_both { (tag : ℕ) (t : Tree) (k : ℕ) (bytes : List ℕ) → FileSpells (component tag (length bytes)) t bytes → FileBreaks (component tag (length bytes)) bytes k → ⊥ }
-    ensures one_of_them { (tag : ℕ) (bytes : List ℕ) → ((t : Tree) × FileSpells (component tag (length bytes)) t bytes) ⊎ ((k : ℕ) × FileBreaks (component tag (length bytes)) bytes k) }
+    ensures one_tree { (tag : ℕ) (s t : Tree) (bytes : List ℕ) → FileSpells (component tag (length bytes)) s bytes
+        → FileSpells (component tag (length bytes)) t bytes → s ≡ t }
+    ensures one_place { (tag : ℕ) (j k : ℕ) (bytes : List ℕ) → FileBreaks (component tag (length bytes)) bytes j
+        → FileBreaks (component tag (length bytes)) bytes k → j ≡ k }
+    ensures not_both { (tag : ℕ) (t : Tree) (k : ℕ) (bytes : List ℕ) → FileSpells (component tag (length bytes)) t bytes
+        → FileBreaks (component tag (length bytes)) bytes k → ⊥ }
+    ensures one_of_them { (tag : ℕ) (bytes : List ℕ) → ((t : Tree) × FileSpells (component tag (length bytes)) t bytes)
+        ⊎ ((k : ℕ) × FileBreaks (component tag (length bytes)) bytes k) }
     ensures reading { (tag : ℕ) (bytes : List ℕ) → IsReading (component tag (length bytes)) bytes }
 {}

@@ -6,7 +6,8 @@ ghost use Rattle.std.specs.List.{flat_map};
 ghost use Rattle.cjc_bytes.specs.Format.{repeated, before};
 ghost use Rattle.cjc_bytes.specs.AccessFlags.{is_static};
 ghost use Rattle.cjc_bytes.specs.Reading.{Reads};
-ghost use Rattle.cjc_capread.specs.Descriptor.{field_place, type_of, field_descriptor, method_descriptor, class_descriptor, two_nibbles, ended, type_descriptor, descriptor};
+ghost use Rattle.cjc_capread.specs.Descriptor.{field_place, type_of, field_descriptor, method_descriptor};
+ghost use Rattle.cjc_capread.specs.Descriptor.{class_descriptor, two_nibbles, ended, type_descriptor, descriptor};
 
 use crate::parts::{read_class_ref, read_class_refs, read_items, read_numbers};
 use crate::tree::{

@@ -4,6 +4,7 @@
 pub mod card;
 mod class;
 mod component;
+pub mod decoder;
 mod descriptor;
 mod export;
 mod instruction;

@@ -4,7 +4,8 @@
 ghost use Rattle.std.specs.Prelude.{◌≡◌};
 ghost use Rattle.cjc_bytes.specs.Format.{repeated, u1, u2, raw};
 ghost use Rattle.cjc_bytes.specs.Reading.{Reads};
-ghost use Rattle.cjc_capread.specs.Parts.{bytes1, bytes2, items1, bytes_before, class_of, class_ref, package_of, static_rest, static_ref};
+ghost use Rattle.cjc_capread.specs.Parts.{bytes1, bytes2, items1, bytes_before, class_of, class_ref, package_of};
+ghost use Rattle.cjc_capread.specs.Parts.{static_rest, static_ref};
 
 use crate::tree::{ClassRef, StaticRef};
 use cjc_bytes::{Bytes, Cursor, Row, Stop};

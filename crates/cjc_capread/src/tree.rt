@@ -325,7 +325,8 @@ impl Drop for Component {
 }
 
 impl Component {
-    ghost use Rattle.cjc_capread.specs.Kinds.{header_of, directory_of, applet_of, import_of, pool_of, class_of, method_of, statics_of, locations_of, export_of, descriptor_of};
+    ghost use Rattle.cjc_capread.specs.Kinds.{header_of, directory_of, applet_of, import_of, pool_of, class_of};
+    ghost use Rattle.cjc_capread.specs.Kinds.{method_of, statics_of, locations_of, export_of, descriptor_of};
 
     /// What it says, where it is a Header.
     pub fn into_header(self) -> Option<Header>

@@ -1,8 +1,10 @@
 -- What is written of Method, StaticField, ReferenceLocation and Export spells it.
-use Rattle.std.proofs.Common.{◌≡◌, ℕ, ◌+◌, ◌-◌, ◌%◌, ◌<◌, ◌≤◌, ◌^◌, Bool, true, false, leb, cond, List, ◌++◌, length, Some, refl, arith, length-append}
+use Rattle.std.proofs.Common.{◌≡◌, ℕ, ◌+◌, ◌-◌, ◌%◌, ◌<◌, ◌≤◌, ◌^◌, Bool, true, false, leb, cond, List, ◌++◌, length}
+use Rattle.std.proofs.Common.{Some, refl, arith, length-append}
 use Rattle.std.specs.List.{flat_map}
 use Rattle.std.proofs.lemmas.Bool.Decides.{nat_tests}
-use Rattle.cjc_bytes.proofs.Writers.{Writes, then_writes, last_writes, here_writes, raw_writes, number1_writes, repeated_writes}
+use Rattle.cjc_bytes.proofs.Writers.{Writes, then_writes, last_writes, here_writes, raw_writes, number1_writes}
+use Rattle.cjc_bytes.proofs.Writers.{repeated_writes}
 use Rattle.cjc_capread.specs.declared.tree.Method.{Method}
 use Rattle.cjc_capread.specs.declared.tree.Handler.{Handler}
 use Rattle.cjc_capread.specs.declared.tree.StaticField.{StaticField}
@@ -18,7 +20,8 @@ use Rattle.cjc_capread.specs.Export.{exported_class, export}
 use Rattle.cjc_capwrite.specs.Method.{range_bits, handler_bytes, method_bytes}
 use Rattle.cjc_capwrite.specs.Statics.{array_init_bytes, static_field_bytes, reference_location_bytes}
 use Rattle.cjc_capwrite.specs.Export.{exported_class_bytes, export_bytes}
-use Rattle.cjc_capwrite.specs.Fits.{HandlerFits, MethodFits, ArrayInitFits, StaticFieldFits, LocationsFit, ExportedClassFits, ExportFits}
+use Rattle.cjc_capwrite.specs.Fits.{HandlerFits, MethodFits, ArrayInitFits, StaticFieldFits, LocationsFit}
+use Rattle.cjc_capwrite.specs.Fits.{ExportedClassFits, ExportFits}
 use Rattle.cjc_capwrite.proofs.PartsWritten.{one_writes, two_writes, bytes2_writes, numbers_write}
 
 array_type : (n : ℕ) → 2 ≤ n → n ≤ 5 → element_type n ≡ Some n
@@ -26,23 +29,29 @@ array_type n least greatest = grind (arith, nat_tests)
 
 pub array_init_writes : (at : ℕ) (x : ArrayInit) → ArrayInitFits x → Writes array_init at x (array_init_bytes x)
 unfolding array_init array_init_bytes
-array_init_writes at x fits = then_writes (number1_writes element_type at x.type_ x.type_ (array_type x.type_ fits.least fits.greatest)) (last_writes (bytes2_writes _ x.values fits.values) refl)
+array_init_writes at x fits = then_writes (number1_writes element_type at x.type_ x.type_ (array_type x.type_ fits.least
+    fits.greatest)) (last_writes (bytes2_writes _ x.values fits.values) refl)
 
-pub static_field_writes : (at : ℕ) (x : StaticField) → StaticFieldFits x → Writes static_field at x (static_field_bytes x)
+pub static_field_writes : (at : ℕ) (x : StaticField) → StaticFieldFits x
+    → Writes static_field at x (static_field_bytes x)
 unfolding static_field static_field_bytes
 static_field_writes at x fits =
     then_writes (two_writes at x.image_size fits.image_size)
     (then_writes (two_writes _ x.reference_count fits.reference_count)
     (then_writes (two_writes _ (length x.array_inits) fits.count)
-    (then_writes (repeated_writes array_init array_init_bytes ArrayInitFits array_init_writes _ (length x.array_inits) x.array_inits refl fits.array_inits)
+    (then_writes (repeated_writes array_init array_init_bytes ArrayInitFits array_init_writes _ (length x.array_inits)
+    x.array_inits refl fits.array_inits)
     (then_writes (two_writes _ x.default_value_count fits.default_value_count)
     (last_writes (bytes2_writes _ x.values fits.values) refl)))))
 
-pub locations_write : (at : ℕ) (x : ReferenceLocation) → LocationsFit x → Writes reference_location at x (reference_location_bytes x)
+pub locations_write : (at : ℕ) (x : ReferenceLocation) → LocationsFit x
+    → Writes reference_location at x (reference_location_bytes x)
 unfolding reference_location reference_location_bytes
-locations_write at x fits = then_writes (bytes2_writes at x.one_byte fits.one_byte) (last_writes (bytes2_writes _ x.two_byte fits.two_byte) refl)
+locations_write at x fits = then_writes (bytes2_writes at x.one_byte fits.one_byte)
+    (last_writes (bytes2_writes _ x.two_byte fits.two_byte) refl)
 
-pub exported_class_writes : (at : ℕ) (x : ExportedClass) → ExportedClassFits x → Writes exported_class at x (exported_class_bytes x)
+pub exported_class_writes : (at : ℕ) (x : ExportedClass) → ExportedClassFits x
+    → Writes exported_class at x (exported_class_bytes x)
 unfolding exported_class exported_class_bytes
 exported_class_writes at x fits =
     then_writes (two_writes at x.class_offset fits.class_offset)
@@ -55,13 +64,15 @@ pub export_writes : (at : ℕ) (x : Export) → ExportFits x → Writes export a
 unfolding export export_bytes
 export_writes at x fits =
     then_writes (one_writes at (length x.classes) fits.count)
-    (last_writes (repeated_writes exported_class exported_class_bytes ExportedClassFits exported_class_writes _ (length x.classes) x.classes refl fits.classes) refl)
+    (last_writes (repeated_writes exported_class exported_class_bytes ExportedClassFits exported_class_writes _
+    (length x.classes) x.classes refl fits.classes) refl)
 
 -- ---- Method
 
 -- a range by its bits
 range_back : (start length target catch_index : ℕ) (stop : Bool) → length < 0x8000
-    → (leb 0x8000 (cond stop 0x8000 0 + length % 0x8000) ≡ stop) × ((cond stop 0x8000 0 + length % 0x8000) % 0x8000 ≡ length)
+    → (leb 0x8000 (cond stop 0x8000 0 + length % 0x8000) ≡ stop) × ((cond stop 0x8000 0 + length % 0x8000) % 0x8000
+    ≡ length)
 range_back start length target catch_index true lt =
     let low : length % 0x8000 ≡ length = grind arith in
     (let test : leb 0x8000 (0x8000 + length % 0x8000) ≡ true = grind (arith, nat_tests) in test, omega arith)
@@ -86,17 +97,26 @@ handler_writes at x fits =
     (last_writes (two_writes _ x.catch_index fits.catch_index) (same x _ _ back.0 back.1))))
   where
     same : (x : Handler) (stop : Bool) (length : ℕ) → stop ≡ x.stop → length ≡ x.length
-        → (let made : Handler = record { start = x.start; stop = stop; length = length; handler = x.handler; catch_index = x.catch_index } in made ≡ x)
+        → (let made : Handler = record {
+          start = x.start;
+          stop = stop;
+          length = length;
+          handler = x.handler;
+          catch_index = x.catch_index;
+        } in made ≡ x)
     same x stop length e f = rw (e, f) refl
 
 bytes_before_writes : (at end : ℕ) (bytes : List ℕ) → at + length bytes ≡ end → Writes (bytes_before end) at bytes bytes
 unfolding bytes_before
 bytes_before_writes at end bytes is = here_writes (raw_writes at (end - at) bytes (omega (arith, is)))
 
-pub method_writes : (at end : ℕ) (x : Method) → at + length (method_bytes x) ≡ end → MethodFits x → Writes (method end) at x (method_bytes x)
+pub method_writes : (at end : ℕ) (x : Method) → at + length (method_bytes x) ≡ end → MethodFits x
+    → Writes (method end) at x (method_bytes x)
 unfolding method method_bytes
 method_writes at end x is fits =
-    let len : length (flat_map handler_bytes x.handlers ++ x.methods) ≡ length (flat_map handler_bytes x.handlers) + length x.methods = length-append _ _ in
+    let len : length (flat_map handler_bytes x.handlers ++ x.methods) ≡ length (flat_map handler_bytes x.handlers) +
+    length x.methods = length-append _ _ in
     then_writes (one_writes at (length x.handlers) fits.count)
-    (then_writes (repeated_writes handler handler_bytes HandlerFits handler_writes _ (length x.handlers) x.handlers refl fits.handlers)
+    (then_writes (repeated_writes handler handler_bytes HandlerFits handler_writes _ (length x.handlers) x.handlers refl
+    fits.handlers)
     (last_writes (bytes_before_writes _ end x.methods (omega (arith, is, len))) refl))

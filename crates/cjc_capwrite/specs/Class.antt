@@ -23,9 +23,11 @@ implemented_bytes x = class_bytes x.interface ++ bytes1 x.index
 -- a class: its counts, its tables and its interfaces (section 6.8.2)
 unfoldable pub class_entry_bytes : ClassEntry → List ℕ
 class_entry_bytes x =
-    nibbles x.flags (length x.interfaces) ++ (class_bytes x.superclass ++ (x.declared_instance_size ∷ [] ++ (x.first_reference_token ∷ [] ++ (x.reference_count ∷ []
+    nibbles x.flags (length x.interfaces) ++ (class_bytes x.superclass ++ (x.declared_instance_size ∷ []
+    ++ (x.first_reference_token ∷ [] ++ (x.reference_count ∷ []
     ++ (x.public_base ∷ [] ++ (one (length x.public_methods) ++ (x.package_base ∷ [] ++ (one (length x.package_methods)
-    ++ (flat_map two x.public_methods ++ (flat_map two x.package_methods ++ flat_map implemented_bytes x.interfaces))))))))))
+    ++ (flat_map two x.public_methods ++ (flat_map two x.package_methods
+    ++ flat_map implemented_bytes x.interfaces))))))))))
 
 -- the info of Class: an empty signature pool, the interfaces, the classes (section 6.8)
 unfoldable pub class_info_bytes : ClassInfo → List ℕ

@@ -42,8 +42,10 @@ method_descriptor_bytes x = x.token ∷ [] ++ (x.flags ∷ [] ++ (two x.offset +
 -- a class or interface with its members (section 6.13.1)
 unfoldable pub class_descriptor_bytes : ClassDescriptor → List ℕ
 class_descriptor_bytes x =
-    x.token ∷ [] ++ (x.flags ∷ [] ++ (class_bytes x.this_class ++ (one (length x.interfaces) ++ (two (length x.fields) ++ (two (length x.methods)
-    ++ (flat_map class_bytes x.interfaces ++ (flat_map field_bytes x.fields ++ flat_map method_descriptor_bytes x.methods)))))))
+    x.token ∷ [] ++ (x.flags ∷ [] ++ (class_bytes x.this_class ++ (one (length x.interfaces) ++ (two (length x.fields)
+    ++ (two (length x.methods)
+    ++ (flat_map class_bytes x.interfaces ++ (flat_map field_bytes x.fields
+    ++ flat_map method_descriptor_bytes x.methods)))))))
 
 -- the byte of a nibble and the one that waited for it; a nibble for which none waited waits
 abbrev pub put_before : Option ℕ → ℕ → List ℕ

@@ -8,7 +8,8 @@ use Rattle.cjc_capwrite.specs.Parts.{one, two}
 
 -- an exported class: its offset, and those of its static fields and methods by token (section 6.12)
 unfoldable pub exported_class_bytes : ExportedClass → List ℕ
-exported_class_bytes x = two x.class_offset ++ (one (length x.fields) ++ (one (length x.methods) ++ (flat_map two x.fields ++ flat_map two x.methods)))
+exported_class_bytes x = two x.class_offset ++ (one (length x.fields) ++ (one (length x.methods)
+    ++ (flat_map two x.fields ++ flat_map two x.methods)))
 
 -- the info of Export: the classes by token (section 6.12)
 unfoldable pub export_bytes : Export → List ℕ

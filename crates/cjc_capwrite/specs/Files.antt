@@ -1,5 +1,6 @@
 -- The files of a tree, and the limits that they keep.
-use Rattle.std.specs.Prelude.{ℕ, Bool, false, List, [], ◌∷◌, ◌++◌, length, Option, Some, None, is_some, nat_lt, ◌||◌, if◌then◌else◌}
+use Rattle.std.specs.Prelude.{ℕ, Bool, false, List, [], ◌∷◌, ◌++◌, length, Option, Some, None, is_some, nat_lt, ◌||◌}
+use Rattle.std.specs.Prelude.{if◌then◌else◌}
 use Rattle.std.specs.List.{list_any}
 use Rattle.cjc_capread.specs.declared.tree.CapTree.{CapTree}
 use Rattle.cjc_capread.specs.declared.tree.Descriptor.{Descriptor}
@@ -89,9 +90,11 @@ is_long info = nat_lt 65535 (length info)
 -- Class above its limit, or another component above its own. Method is not counted.
 abbrev pub is_too_large : Infos → Bool
 is_too_large i =
-    nat_lt 32767 (length i.class) || (is_long i.header || (is_long i.directory || (is_long i.applet || (is_long i.import || (is_long i.pool
+    nat_lt 32767 (length i.class) || (is_long i.header || (is_long i.directory
+    || (is_long i.applet || (is_long i.import || (is_long i.pool
     || (is_long i.statics || (is_long i.locations || (is_long i.export || is_long i.descriptor))))))))
 
--- the rule that a tree breaks, if it breaks a limit: 411 where the types end too far, else 416 where a component is too large
+-- the rule that a tree breaks, if it breaks a limit: 411 where the types end too far, else 416 where a component is too
+-- large
 abbrev pub limit_of : CapTree → Option ℕ
 limit_of t = if ends_too_far t.descriptor then Some 411 else if is_too_large (infos_of t) then Some 416 else None

@@ -1,4 +1,5 @@
--- Trees whose numbers and counts fit the fields that they are written to: each fact below says it of the tree or part that it is named for.
+-- Trees whose numbers and counts fit the fields that they are written to: each fact below says it of the tree or part
+-- that it is named for.
 use Rattle.std.specs.Prelude.{ℕ, ◌≡◌, ◌<◌, ◌≤◌, ◌^◌, true, false, length}
 use Rattle.std.specs.List.{AllByRecursion}
 use Rattle.cjc_capread.specs.declared.tree.ClassRef.{ClassRef}

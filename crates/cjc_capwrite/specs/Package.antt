@@ -12,11 +12,13 @@ use Rattle.cjc_capwrite.specs.Parts.{one, two, bytes1}
 
 -- the info of Header: the magic number, version 2.2 of the format, the package (section 6.3)
 unfoldable pub header_bytes : Header → List ℕ
-header_bytes x = to_be_bytes w32 0xDECAFFED ++ (2 ∷ [] ++ (2 ∷ [] ++ (x.flags ∷ [] ++ (x.minor ∷ [] ++ (x.major ∷ [] ++ (bytes1 x.aid ++ bytes1 x.name))))))
+header_bytes x = to_be_bytes w32 0xDECAFFED
+    ++ (2 ∷ [] ++ (2 ∷ [] ++ (x.flags ∷ [] ++ (x.minor ∷ [] ++ (x.major ∷ [] ++ (bytes1 x.aid ++ bytes1 x.name))))))
 
 -- the info of Directory: sizes and counts, no custom component (section 6.4)
 unfoldable pub directory_bytes : Directory → List ℕ
-directory_bytes x = flat_map two x.component_sizes ++ (two x.image_size ++ (two x.array_init_count ++ (two x.array_init_size ++ (x.import_count ∷ [] ++ (x.applet_count ∷ [] ++ 0 ∷ [])))))
+directory_bytes x = flat_map two x.component_sizes ++ (two x.image_size ++ (two x.array_init_count
+    ++ (two x.array_init_size ++ (x.import_count ∷ [] ++ (x.applet_count ∷ [] ++ 0 ∷ [])))))
 
 -- an applet: its AID and its install method (section 6.5)
 unfoldable pub applet_entry_bytes : AppletEntry → List ℕ

@@ -27,7 +27,8 @@ abbrev pub class_bytes : ClassRef → List ℕ
 class_bytes (class_refs.Inside offset) = two offset
 class_bytes (class_refs.Outside imported class) = one (0x80 + imported) ++ class ∷ []
 
--- a reference to a static member: 0 and an offset, or 0x80 with a package token, a class token and its own (section 6.7.3)
+-- a reference to a static member: 0 and an offset, or 0x80 with a package token, a class token and its own (section
+-- 6.7.3)
 abbrev pub static_bytes : StaticRef → List ℕ
 static_bytes (static_refs.Inside offset) = 0 ∷ [] ++ two offset
 static_bytes (static_refs.Outside imported class token) = one (0x80 + imported) ++ (class ∷ [] ++ token ∷ [])

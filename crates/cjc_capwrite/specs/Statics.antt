@@ -13,7 +13,8 @@ array_init_bytes x = x.type_ ∷ [] ++ bytes2 x.values
 
 -- the info of StaticField: sizes and counts, the arrays, the primitives that are not 0 (section 6.10)
 unfoldable pub static_field_bytes : StaticField → List ℕ
-static_field_bytes x = two x.image_size ++ (two x.reference_count ++ (two (length x.array_inits) ++ (flat_map array_init_bytes x.array_inits ++ (two x.default_value_count ++ bytes2 x.values))))
+static_field_bytes x = two x.image_size ++ (two x.reference_count ++ (two (length x.array_inits)
+    ++ (flat_map array_init_bytes x.array_inits ++ (two x.default_value_count ++ bytes2 x.values))))
 
 -- the info of ReferenceLocation: the distances of one-byte indices and of two-byte ones (section 6.11)
 unfoldable pub reference_location_bytes : ReferenceLocation → List ℕ

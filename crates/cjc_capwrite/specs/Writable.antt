@@ -6,7 +6,8 @@ use Rattle.cjc_capread.specs.declared.tree.Component.{Component}
 use Rattle.cjc_capread.specs.declared.tree.Component.TheVariants as components
 use Rattle.cjc_capread.specs.Component.{component}
 use Rattle.cjc_capwrite.specs.declared.files.CapFiles.{CapFiles}
-use Rattle.cjc_capwrite.specs.Fits.{HeaderFits, DirectoryFits, AppletFits, ImportFits, PoolFits, ClassInfoFits, MethodFits, StaticFieldFits, LocationsFit, ExportFits, DescriptorFits}
+use Rattle.cjc_capwrite.specs.Fits.{HeaderFits, DirectoryFits, AppletFits, ImportFits, PoolFits, ClassInfoFits}
+use Rattle.cjc_capwrite.specs.Fits.{MethodFits, StaticFieldFits, LocationsFit, ExportFits, DescriptorFits}
 
 -- Only Applet and Export may be absent, and every number and count fits its field.
 pub record IsWritable (t : CapTree) : Type 0 where

@@ -3,7 +3,8 @@
 
 ghost use Rattle.std.specs.Prelude.{◌≡◌, ◌++◌, length, OnOk};
 ghost use Rattle.std.specs.List.{flat_map};
-ghost use Rattle.cjc_capwrite.specs.Class.{nibbles, interface_bytes, implemented_bytes, class_entry_bytes, class_info_bytes};
+ghost use Rattle.cjc_capwrite.specs.Class.{nibbles, interface_bytes, implemented_bytes, class_entry_bytes};
+ghost use Rattle.cjc_capwrite.specs.Class.{class_info_bytes};
 
 use crate::parts::{
     put_bytes1, put_class_ref, put_class_refs, put_count1, put_nibbles, put_numbers, put_two,

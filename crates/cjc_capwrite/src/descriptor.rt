@@ -3,7 +3,9 @@
 
 ghost use Rattle.std.specs.Prelude.{◌≡◌, ◌++◌, IfOk, OnOk, None};
 ghost use Rattle.std.specs.List.{flat_map};
-ghost use Rattle.cjc_capwrite.specs.Descriptor.{place_bytes, type_number, field_bytes, code_bytes, method_descriptor_bytes, class_descriptor_bytes, put_before, waits_after, packed, type_bytes, types_bytes, descriptor_bytes};
+ghost use Rattle.cjc_capwrite.specs.Descriptor.{place_bytes, type_number, field_bytes, code_bytes};
+ghost use Rattle.cjc_capwrite.specs.Descriptor.{method_descriptor_bytes, class_descriptor_bytes, put_before};
+ghost use Rattle.cjc_capwrite.specs.Descriptor.{waits_after, packed, type_bytes, types_bytes, descriptor_bytes};
 
 use crate::parts::{
     put_class_ref, put_class_refs, put_count1, put_count2, put_nibbles, put_numbers, put_two,
@@ -116,7 +118,8 @@ fn put_classes(out: &mut Out, classes: &[ClassDescriptor]) -> Result<(), NoMemor
 
 /// Takes a nibble to the one that waits for it, or lets it wait.
 fn put_nibble(out: &mut Out, waiting: Option<u8>, nibble: u8) -> Result<Option<u8>, NoMemory>
-    ensures { IfOk result (λ behind. (out.new ≡ out.old ++ put_before waiting nibble) × (behind ≡ waits_after waiting nibble)) }
+    ensures { IfOk result (λ behind. (out.new ≡ out.old ++ put_before waiting nibble)
+        × (behind ≡ waits_after waiting nibble)) }
 {
     match waiting {
         None => Ok(Some(nibble)),

@@ -216,7 +216,13 @@ fn file_where(
 
 /// Tags 1 to 4.
 fn fill_package(alloc: Global, tree: &CapTree, files: &mut CapFiles) -> Result<(), NoMemory>
-    ensures { OnOk result (files.new ≡ record files.old { header = file 1 (header_bytes tree.now.header); directory = file 2 (directory_bytes tree.now.directory); applet = file_where (is_some tree.now.applet) 3 (part applet_bytes tree.now.applet); import = file 4 (part import_bytes tree.now.import) }) }
+    ensures { OnOk result (files.new ≡ record files.old {
+      header = file 1 (header_bytes tree.now.header);
+      directory = file 2 (directory_bytes tree.now.directory);
+      applet = file_where (is_some tree.now.applet) 3
+          (part applet_bytes tree.now.applet);
+      import = file 4 (part import_bytes tree.now.import);
+    }) }
 {
     files.header = file(alloc, 1, &header_info(alloc, &tree.header)?)?;
     files.directory = file(alloc, 2, &directory_info(alloc, &tree.directory)?)?;
@@ -232,7 +238,12 @@ fn fill_package(alloc: Global, tree: &CapTree, files: &mut CapFiles) -> Result<(
 
 /// Tags 5 to 8.
 fn fill_code(alloc: Global, tree: &CapTree, files: &mut CapFiles) -> Result<(), NoMemory>
-    ensures { OnOk result (files.new ≡ record files.old { pool = file 5 (part pool_bytes tree.now.pool); class = file 6 (part class_info_bytes tree.now.class); method = file 7 (part method_bytes tree.now.method); statics = file 8 (part static_field_bytes tree.now.statics) }) }
+    ensures { OnOk result (files.new ≡ record files.old {
+      pool = file 5 (part pool_bytes tree.now.pool);
+      class = file 6 (part class_info_bytes tree.now.class);
+      method = file 7 (part method_bytes tree.now.method);
+      statics = file 8 (part static_field_bytes tree.now.statics);
+    }) }
 {
     files.pool = file(alloc, 5, &pool_info(alloc, &tree.pool)?)?;
     files.class = file(alloc, 6, &class_info(alloc, &tree.class)?)?;
@@ -243,7 +254,12 @@ fn fill_code(alloc: Global, tree: &CapTree, files: &mut CapFiles) -> Result<(), 
 
 /// Tags 9 to 11.
 fn fill_tables(alloc: Global, tree: &CapTree, files: &mut CapFiles) -> Result<(), NoMemory>
-    ensures { OnOk result (files.new ≡ record files.old { locations = file 9 (part reference_location_bytes tree.now.locations); export = file_where (is_some tree.now.export) 10 (part export_bytes tree.now.export); descriptor = file 11 (part descriptor_bytes tree.now.descriptor) }) }
+    ensures { OnOk result (files.new ≡ record files.old {
+      locations = file 9 (part reference_location_bytes
+          tree.now.locations);
+      export = file_where (is_some tree.now.export) 10 (part export_bytes tree.now.export);
+      descriptor = file 11 (part descriptor_bytes tree.now.descriptor);
+    }) }
 {
     files.locations = file(alloc, 9, &locations_info(alloc, &tree.locations)?)?;
     files.export = file_where(
@@ -280,7 +296,8 @@ pub fn write(alloc: Global, list: &[u8], tree: &CapTree) -> Result<CapFiles, Fau
     ensures spelt { IfOk result (IsSpelt tree.now) }
 
     // A refusal is by the limit that is broken.
-    ensures refused { IfErr result (λ e. (e ≡ faults.NoMemory) ⊎ ((rule : ℕ) × (limit_of tree.now ≡ Some rule) × (e ≡ faults.Refused (refusal list.now rule 0)))) }
+    ensures refused { IfErr result (λ e. (e ≡ faults.NoMemory) ⊎ ((rule : ℕ) × (limit_of tree.now ≡ Some rule)
+        × (e ≡ faults.Refused (refusal list.now rule 0)))) }
 {
     match broken_limit(tree) {
         Some(rule) => Err(refused(alloc, list, rule, 0)),

@@ -3,7 +3,8 @@
 
 ghost use Rattle.std.specs.Prelude.{◌≡◌, ◌++◌, OnOk};
 ghost use Rattle.std.specs.List.{flat_map};
-ghost use Rattle.cjc_capwrite.specs.Package.{header_bytes, directory_bytes, applet_entry_bytes, applet_bytes, imported_package_bytes, import_bytes};
+ghost use Rattle.cjc_capwrite.specs.Package.{header_bytes, directory_bytes, applet_entry_bytes, applet_bytes};
+ghost use Rattle.cjc_capwrite.specs.Package.{imported_package_bytes, import_bytes};
 
 use crate::parts::{put_bytes1, put_count1, put_numbers, put_two};
 use cjc_bytes::{NoMemory, Out};

@@ -4,7 +4,8 @@
 ghost use Rattle.std.specs.Prelude.{◌≡◌, ◌+◌, ◌*◌, ◌<◌, length};
 ghost use Rattle.std.specs.List.{flat_map};
 ghost use Rattle.cjc_capwrite.specs.Size.{capped, info_of};
-ghost use Rattle.cjc_capwrite.specs.Package.{header_bytes, directory_bytes, applet_entry_bytes, applet_bytes, imported_package_bytes, import_bytes};
+ghost use Rattle.cjc_capwrite.specs.Package.{header_bytes, directory_bytes, applet_entry_bytes, applet_bytes};
+ghost use Rattle.cjc_capwrite.specs.Package.{imported_package_bytes, import_bytes};
 ghost use Rattle.cjc_capwrite.specs.Pool.{pool_bytes};
 ghost use Rattle.cjc_capwrite.specs.Class.{interface_bytes, implemented_bytes, class_entry_bytes, class_info_bytes};
 ghost use Rattle.cjc_capwrite.specs.Method.{method_bytes};

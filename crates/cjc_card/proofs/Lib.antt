@@ -1,1 +1,4 @@
-pub mod Fetching
+pub mod ActsLaws
+pub mod TurnsLaws
+pub mod RunsLaws
+pub mod GroupLaws

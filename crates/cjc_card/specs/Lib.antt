@@ -1,9 +1,4 @@
-pub mod Loaded
-pub mod Classes
-pub mod Statics
-pub mod Dispatch
-pub mod Operations
-pub mod Methods
-pub mod Calls
-pub mod ByToken
-pub mod Worked
+pub mod Acts
+pub mod States
+pub mod Runs
+pub mod Ready

@@ -1,3 +1,4 @@
-mod Widths
-mod Finding
-mod Towers
+pub mod LinesLaws
+pub mod FilesLaws
+pub mod CallsLaws
+pub mod NamesLaws

@@ -1,1 +1,4 @@
+pub mod Lines
+pub mod Files
 pub mod Found
+pub mod Names

@@ -1,6 +1,6 @@
-pub mod Copies
-pub mod Cuts
-pub mod Divisions
-pub mod Increases
-pub mod Nibbles
-pub mod Tops
+pub mod OpcodesLaws
+pub mod FetchLaws
+pub mod FrameLaws
+pub mod HeapLaws
+pub mod ImageLaws
+pub mod FramesLaws

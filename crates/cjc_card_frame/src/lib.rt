@@ -1,18 +1,10 @@
-//! Frames on the card: an operand stack and locals of words, and every instruction that sees them alone, those of int
-//! among them, against the definition of the card's opcodes in cjc_bytecode. Whoever runs components calls it. Knows no
-//! heap, no pool and no place in code.
+//! What a step of the card works on: words, frames, heap, static image, and the instruction that is fetched.
 #![tactic(auto)]
 
-mod arithmetic;
-mod calculation;
-mod cells;
-mod conditions;
-mod ending;
-mod ints;
-mod locals;
-mod stack;
-pub mod words;
-
-pub use cells::Cells;
-pub use ending::{Choice, Ending};
-pub use locals::{is_number, is_reference};
+pub mod fetch;
+pub mod frame;
+pub mod frames;
+pub mod heap;
+pub mod image;
+pub mod opcodes;
+pub mod parts;

@@ -1,1 +1,3 @@
 pub mod FirstPlaces
+pub mod CodesLaws
+pub mod JumpsLaws

@@ -1,12 +1,12 @@
 -- The first places of the sentences on code.
 use Rattle.std.specs.Prelude.{◌≡◌}
 use Rattle.cjc_check.specs.declared.coded.Coded.{Coded}
-use Rattle.cjc_sentences.specs.Spots.{first}
-use Rattle.cjc_sentences.specs.Complete.{Complete}
-use Rattle.cjc_sentences.specs.Codes.{whole_spots}
-use Rattle.cjc_sentences.specs.Instructions.{index_spots, jump_spots}
-use Rattle.cjc_sentences.specs.Handlers.{handler_spots}
-use Rattle.cjc_sentences.specs.Locations.{location_spots}
+use Rattle.cjc_check_rules.specs.Spots.{first}
+use Rattle.cjc_check_rules.specs.Complete.{Complete}
+use Rattle.cjc_check_rules.specs.Codes.{whole_spots}
+use Rattle.cjc_check_rules.specs.Instructions.{index_spots, jump_spots}
+use Rattle.cjc_check_rules.specs.Handlers.{handler_spots}
+use Rattle.cjc_check_rules.specs.Locations.{location_spots}
 
 -- the places kept are the first where 709 to 712 and 714 are broken
 pub record AreCoded (r : Coded) (c : Complete) : Type 0 where

@@ -5,17 +5,17 @@ use Rattle.cjc_check.specs.declared.firsts.Counted.{Counted}
 use Rattle.cjc_check.specs.declared.firsts.Firsts.{Firsts}
 use Rattle.cjc_check.specs.Coded.{AreCoded}
 use Rattle.cjc_check.specs.Linked.{AreFirst}
-use Rattle.cjc_sentences.specs.Codes.{whole_spots}
-use Rattle.cjc_sentences.specs.Complete.{Complete}
-use Rattle.cjc_sentences.specs.Consistent.{Sentence, is_true, sentence}
-use Rattle.cjc_sentences.specs.Described.{descriptor_spots}
-use Rattle.cjc_sentences.specs.Exports.{export_spots}
-use Rattle.cjc_sentences.specs.Handlers.{handler_spots, stop_spots}
-use Rattle.cjc_sentences.specs.Imports.{import_spots}
-use Rattle.cjc_sentences.specs.Instructions.{index_spots, jump_spots}
-use Rattle.cjc_sentences.specs.Locations.{location_spots}
-use Rattle.cjc_sentences.specs.Spots.{first}
-use Rattle.cjc_sentences.specs.Statics.{image_spots, install_spots}
+use Rattle.cjc_check_rules.specs.Codes.{whole_spots}
+use Rattle.cjc_check_rules.specs.Complete.{Complete}
+use Rattle.cjc_check_rules.specs.Consistent.{Sentence, is_true, sentence}
+use Rattle.cjc_check_rules.specs.Described.{descriptor_spots}
+use Rattle.cjc_check_rules.specs.Exports.{export_spots}
+use Rattle.cjc_check_rules.specs.Handlers.{handler_spots, stop_spots}
+use Rattle.cjc_check_rules.specs.Imports.{import_spots}
+use Rattle.cjc_check_rules.specs.Instructions.{index_spots, jump_spots}
+use Rattle.cjc_check_rules.specs.Locations.{location_spots}
+use Rattle.cjc_check_rules.specs.Spots.{first}
+use Rattle.cjc_check_rules.specs.Statics.{image_spots, install_spots}
 
 -- the places kept are the first where 703, 713 and 716 are broken
 pub record AreCounted (r : Counted) (c : Complete) (exports : List ExportTree) : Type 0 where

@@ -2,14 +2,14 @@
 use Rattle.std.specs.Prelude.{◌≡◌, List}
 use Rattle.cjc_export.specs.declared.tree.ExportTree.{ExportTree}
 use Rattle.cjc_check.specs.declared.linked.Linked.{Linked}
-use Rattle.cjc_sentences.specs.Spots.{first}
-use Rattle.cjc_sentences.specs.Complete.{Complete}
-use Rattle.cjc_sentences.specs.ClassRefs.{class_ref_spots, super_spots}
-use Rattle.cjc_sentences.specs.PoolEntries.{pool_spots}
-use Rattle.cjc_sentences.specs.Tables.{map_spots, table_spots}
-use Rattle.cjc_sentences.specs.Statics.{install_spots}
-use Rattle.cjc_sentences.specs.Exports.{export_spots}
-use Rattle.cjc_sentences.specs.Described.{descriptor_spots}
+use Rattle.cjc_check_rules.specs.Spots.{first}
+use Rattle.cjc_check_rules.specs.Complete.{Complete}
+use Rattle.cjc_check_rules.specs.ClassRefs.{class_ref_spots, super_spots}
+use Rattle.cjc_check_rules.specs.PoolEntries.{pool_spots}
+use Rattle.cjc_check_rules.specs.Tables.{map_spots, table_spots}
+use Rattle.cjc_check_rules.specs.Statics.{install_spots}
+use Rattle.cjc_check_rules.specs.Exports.{export_spots}
+use Rattle.cjc_check_rules.specs.Described.{descriptor_spots}
 
 -- the places kept are the first where 704 to 708, 715, 717 and 718 are broken
 pub record AreFirst (r : Linked) (c : Complete) (exports : List ExportTree) : Type 0 where

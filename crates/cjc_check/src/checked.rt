@@ -2,7 +2,7 @@
 //! components takes them as such.
 
 ghost use Rattle.std.specs.Prelude.{◌≡◌};
-ghost use Rattle.cjc_sentences.specs.Consistent.{Consistent};
+ghost use Rattle.cjc_check_rules.specs.Consistent.{Consistent};
 
 use cjc_bytes::Row;
 use cjc_capread::CapTree;

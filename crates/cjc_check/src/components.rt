@@ -4,19 +4,20 @@
 ghost use Rattle.std.specs.Prelude.{◌≡◌, IfErr, IfOk, List, OnOk, flat_map, option_map};
 ghost use Rattle.cjc_bytes.specs.Breaks.{IsFirstOf, IsFirstRefusal};
 ghost use Rattle.cjc_bytes.specs.Told.{break_of};
-ghost use Rattle.cjc_lookup.specs.Parts.{complete_of};
-ghost use Rattle.cjc_sentences.specs.Complete.{AreSmall, IsSmall, complete};
-ghost use Rattle.cjc_sentences.specs.Consistent.{Consistent, Unbroken, breaks, breaks_of, of_complete, where_complete};
+ghost use Rattle.cjc_check_index.specs.Lookup.Parts.{complete_of};
+ghost use Rattle.cjc_check_rules.specs.Complete.{AreSmall, IsSmall, complete};
+ghost use Rattle.cjc_check_rules.specs.Consistent.{Consistent, Unbroken, breaks, breaks_of, of_complete};
+ghost use Rattle.cjc_check_rules.specs.Consistent.{where_complete};
 
 use crate::checked::Checked;
 use crate::firsts::{first_break, first_spots};
 use crate::order::with_sentence;
 use cjc_bytes::{Break, Fault, NoMemory, Row, answer};
 use cjc_capread::CapTree;
-use cjc_counts::{directory_spot, flags_spot};
+use cjc_check_index::lookup::{Parts, parts_of};
+use cjc_check_rules::consistent_where_unbroken;
+use cjc_check_tables::counts::{directory_spot, flags_spot};
 use cjc_export::ExportTree;
-use cjc_lookup::{Parts, parts_of};
-use cjc_sentences::consistent_where_unbroken;
 use std::alloc::Global;
 
 /// The first break of components of which only Applet and Export may be absent.
@@ -26,7 +27,8 @@ fn complete_break(
     exports: &[ExportTree],
 ) -> Result<Option<Break<'static>>, NoMemory>
     requires { AreSmall (complete_of parts.now) }
-    ensures { IfOk result (λ b. IsFirstOf (flat_map breaks_of (of_complete (complete_of parts.now) exports.now)) (option_map break_of b)) }
+    ensures { IfOk result (λ b. IsFirstOf (flat_map breaks_of (of_complete (complete_of parts.now) exports.now))
+        (option_map break_of b)) }
 {
     let firsts = first_spots(alloc, parts, exports)?;
     Ok(first_break(&firsts))
@@ -39,7 +41,8 @@ fn later_break(
     exports: &[ExportTree],
 ) -> Result<Option<Break<'static>>, NoMemory>
     requires { IsSmall tree.now }
-    ensures { IfOk result (λ b. IsFirstOf (flat_map breaks_of (where_complete (complete tree.now) exports.now)) (option_map break_of b)) }
+    ensures { IfOk result (λ b. IsFirstOf (flat_map breaks_of (where_complete (complete tree.now) exports.now))
+        (option_map break_of b)) }
 {
     match parts_of(tree) {
         Some(parts) => complete_break(alloc, &parts, exports),

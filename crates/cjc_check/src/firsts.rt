@@ -6,22 +6,22 @@ ghost use Rattle.cjc_bytes.specs.Breaks.{IsFirstOf};
 ghost use Rattle.cjc_bytes.specs.Told.{break_of};
 ghost use Rattle.cjc_check.specs.Firsts.{AreCounted, AreFirsts, from_whole};
 ghost use Rattle.cjc_export.specs.declared.tree.ExportTree.{ExportTree as Export};
-ghost use Rattle.cjc_lookup.specs.Indexed.{IsIndexed};
-ghost use Rattle.cjc_lookup.specs.Parts.{complete_of};
-ghost use Rattle.cjc_sentences.specs.Classes.{first_class, first_interface};
-ghost use Rattle.cjc_sentences.specs.Complete.{AreSmall, Complete, class_info_size, class_size, interface_size};
-ghost use Rattle.cjc_sentences.specs.Consistent.{breaks_of, of_complete};
-ghost use Rattle.cjc_sentences.specs.Spots.{starts};
+ghost use Rattle.cjc_check_index.specs.Lookup.Indexed.{IsIndexed};
+ghost use Rattle.cjc_check_index.specs.Lookup.Parts.{complete_of};
+ghost use Rattle.cjc_check_rules.specs.Classes.{first_class, first_interface};
+ghost use Rattle.cjc_check_rules.specs.Complete.{AreSmall, Complete, class_info_size, class_size, interface_size};
+ghost use Rattle.cjc_check_rules.specs.Consistent.{breaks_of, of_complete};
+ghost use Rattle.cjc_check_rules.specs.Spots.{starts};
 
 use crate::coded::{Coded, code_spots};
 use crate::linked::{Linked, link_spots};
 use crate::order::{both, is_true, with_sentence};
 use cjc_bytes::{Break, NoMemory, Row};
 use cjc_capread::ClassInfo;
-use cjc_counts::{image_spot, import_spot, stop_spot};
+use cjc_check_index::lookup::{Names, Parts, first_class, starts, tokens_of};
+use cjc_check_rules::ComponentPlace;
+use cjc_check_tables::counts::{image_spot, import_spot, stop_spot};
 use cjc_export::ExportTree;
-use cjc_lookup::{Names, Parts, first_class, starts, tokens_of};
-use cjc_sentences::ComponentPlace;
 use std::alloc::Global;
 
 /// Where 703, 713 and 716 are broken first, each by itself.
@@ -110,7 +110,8 @@ pub(crate) fn first_spots(
 
 /// The first break of 709 to 718.
 fn from_whole(f: &Firsts) -> Option<Break<'static>>
-    ensures { (c : Complete) (exports : List Export) → AreFirsts f.now c exports → IsFirstOf (flat_map breaks_of (from_whole c)) (option_map break_of result) }
+    ensures { (c : Complete) (exports : List Export) → AreFirsts f.now c exports
+        → IsFirstOf (flat_map breaks_of (from_whole c)) (option_map break_of result) }
 {
     let whole = is_true(f.coded.whole);
     let descriptor = with_sentence(718, true, f.linked.descriptor, None);
@@ -127,7 +128,8 @@ fn from_whole(f: &Firsts) -> Option<Break<'static>>
 
 /// The first break of 703 to 718.
 pub(crate) fn first_break(f: &Firsts) -> Option<Break<'static>>
-    ensures { (c : Complete) (exports : List Export) → AreFirsts f.now c exports → IsFirstOf (flat_map breaks_of (of_complete c exports)) (option_map break_of result) }
+    ensures { (c : Complete) (exports : List Export) → AreFirsts f.now c exports
+        → IsFirstOf (flat_map breaks_of (of_complete c exports)) (option_map break_of result) }
 {
     let imported = is_true(f.counted.imports);
     let named = is_true(f.linked.class_refs);

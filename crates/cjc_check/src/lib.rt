@@ -4,8 +4,10 @@
 
 mod checked;
 mod coded;
+pub mod codes;
 mod components;
 mod firsts;
+pub mod jumps;
 mod linked;
 mod order;
 

@@ -5,24 +5,24 @@ ghost use Rattle.std.specs.Prelude.{◌≡◌, ℕ, ◌==◌, ◌&&◌, IfOk, le
 ghost use Rattle.std.specs.List.{list_any};
 ghost use Rattle.std.specs.List.Sorted.{IsNonDecreasing};
 ghost use Rattle.cjc_bytes.specs.AccessFlags.{is_static};
-ghost use Rattle.cjc_sentences.specs.Complete.{AreSmall};
-ghost use Rattle.cjc_sentences.specs.Described.{descriptor_spots};
-ghost use Rattle.cjc_sentences.specs.Members.{class_methods};
-ghost use Rattle.cjc_sentences.specs.Spots.{first};
-ghost use Rattle.cjc_lookup.specs.Indexed.{IsIndexed};
-ghost use Rattle.cjc_lookup.specs.MethodStarts.{HasMethods};
-ghost use Rattle.cjc_links.specs.Leaving.{IsLeaving};
+ghost use Rattle.cjc_check_rules.specs.Complete.{AreSmall};
+ghost use Rattle.cjc_check_rules.specs.Described.{descriptor_spots};
+ghost use Rattle.cjc_check_rules.specs.Members.{class_methods};
+ghost use Rattle.cjc_check_rules.specs.Spots.{first};
+ghost use Rattle.cjc_check_index.specs.Lookup.Indexed.{IsIndexed};
+ghost use Rattle.cjc_check_index.specs.Lookup.MethodStarts.{HasMethods};
+ghost use Rattle.cjc_check_tables.specs.Links.Leaving.{IsLeaving};
 ghost use Rattle.cjc_check.specs.Linked.{AreFirst};
-ghost use Rattle.cjc_lookup.specs.Parts.{complete_of};
+ghost use Rattle.cjc_check_index.specs.Lookup.Parts.{complete_of};
 
 use cjc_bytes::NoMemory;
-use cjc_exported::export_spot;
-use cjc_links::{
+use cjc_check_index::lookup::{Methods, Names, method_starts, static_starts};
+use cjc_check_rules::ComponentPlace;
+use cjc_check_tables::exported::export_spot;
+use cjc_check_tables::links::{
     Tables, class_ref_spot, descriptor_spot, install_spot, leaving_of, super_spot, table_spot,
 };
-use cjc_lookup::{Methods, Names, method_starts, static_starts};
-use cjc_members::member_spots;
-use cjc_sentences::ComponentPlace;
+use cjc_check_tables::members::member_spots;
 use std::alloc::Global;
 
 /// Where 704 to 708, 715, 717 and 718 are broken first, each by itself.
@@ -50,7 +50,8 @@ fn by_methods(
     requires leaving_is { IsLeaving methods.now.names.now.parts.now.class.now leaving.now }
     requires each { length leaving.now ≡ length methods.now.names.now.parts.now.class.now.classes }
     requires described { descriptor ≡ first (descriptor_spots (complete_of methods.now.names.now.parts.now)) }
-    ensures { IfOk result (λ r. AreFirst r (complete_of methods.now.names.now.parts.now) methods.now.names.now.exports.now) }
+    ensures { IfOk result (λ r. AreFirst r (complete_of methods.now.names.now.parts.now)
+        methods.now.names.now.exports.now) }
 {
     let exported = export_spot(alloc, methods)?;
     let members = member_spots(alloc, methods)?;
@@ -77,9 +78,11 @@ fn by_offsets(
     requires ready { IsIndexed names.now }
     requires small { AreSmall (complete_of names.now.parts.now) }
     requires all_rise { IsNonDecreasing all.now }
-    requires all_are { (offset : ℕ) → list_any (λ n. n == offset) all.now ≡ list_any (λ m. m.offset == offset) (class_methods (complete_of names.now.parts.now)) }
+    requires all_are { (offset : ℕ) → list_any (λ n. n == offset) all.now ≡ list_any (λ m. m.offset == offset)
+        (class_methods (complete_of names.now.parts.now)) }
     requires statics_rise { IsNonDecreasing statics.now }
-    requires statics_are { (offset : ℕ) → list_any (λ n. n == offset) statics.now ≡ list_any (λ m. m.offset == offset && is_static m.flags) (class_methods (complete_of names.now.parts.now)) }
+    requires statics_are { (offset : ℕ) → list_any (λ n. n == offset) statics.now ≡ list_any (λ m. m.offset == offset
+        && is_static m.flags) (class_methods (complete_of names.now.parts.now)) }
     ensures { IfOk result (λ r. AreFirst r (complete_of names.now.parts.now) names.now.exports.now) }
 {
     let leaving = leaving_of(alloc, names)?;

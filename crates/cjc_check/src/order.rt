@@ -5,12 +5,12 @@ ghost use Rattle.std.specs.Prelude.{◌≡◌, ◌&&◌, ◌++◌, Bool, List, o
 ghost use Rattle.cjc_bytes.specs.Breaks.{Break as BreakOf, IsFirstOf};
 ghost use Rattle.cjc_bytes.specs.Told.{break_of, spot_of};
 ghost use Rattle.cjc_check.specs.Order.{as_break};
-ghost use Rattle.cjc_sentences.specs.Consistent.{breaks_of, is_true, place_of, sentence, file_name};
-ghost use Rattle.cjc_sentences.specs.Spots.{first};
-ghost use Rattle.cjc_sentences.specs.declared.spot.ComponentPlace.{ComponentPlace as Place};
+ghost use Rattle.cjc_check_rules.specs.Consistent.{breaks_of, is_true, place_of, sentence, file_name};
+ghost use Rattle.cjc_check_rules.specs.Spots.{first};
+ghost use Rattle.cjc_check_rules.specs.declared.spot.ComponentPlace.{ComponentPlace as Place};
 
 use cjc_bytes::{Break, FileKey, Part, PlaceRef, RulePlace, first};
-use cjc_sentences::ComponentPlace;
+use cjc_check_rules::ComponentPlace;
 
 /// The name of a component's file by its tag, the folder aside.
 fn file_name(tag: u8) -> &'static [u8]
@@ -89,7 +89,9 @@ pub(crate) fn with_sentence(
     spot: Option<ComponentPlace>,
     behind: Option<Break<'static>>,
 ) -> Option<Break<'static>>
-    ensures { (need : Bool) (spots : List Place) (rest : List BreakOf) → needed ≡ need → spot ≡ first spots → IsFirstOf rest (option_map break_of behind.entry) → IsFirstOf (breaks_of (sentence number need spots) ++ rest) (option_map break_of result) }
+    ensures { (need : Bool) (spots : List Place) (rest : List BreakOf) → needed ≡ need → spot ≡ first spots
+        → IsFirstOf rest (option_map break_of behind.entry) → IsFirstOf (breaks_of (sentence number need spots)
+        ++ rest) (option_map break_of result) }
 {
     first(as_break(number, needed, spot), behind)
 }

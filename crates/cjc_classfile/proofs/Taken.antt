@@ -21,6 +21,7 @@ taken_by false k x y e = first_is x y e
 pub taken_length : (n : ℕ) (r s : Rest) (bytes : List ℕ) → front n r ≡ Ok (bytes, s) → length bytes ≤ n
 unfolding front
 taken_length n r s bytes e =
-    let is : take n r.left ≡ bytes = taken_by (ltb (length r.left) n) r.at (pair (take n r.left) (past n r)) (pair bytes s) e in
+    let is : take n r.left ≡ bytes = taken_by (ltb (length r.left) n) r.at (pair (take n r.left) (past n r))
+    (pair bytes s) e in
     let same : length (take n r.left) ≡ length bytes = ap length is in
     omega (arith, length-take n r.left)

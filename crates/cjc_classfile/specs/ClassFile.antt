@@ -44,7 +44,16 @@ back_part major pool items = do
   methods ← repeated method_count (method_tree pool)
   attribute_count ← u2
   free ← in_a_row attribute_count (attribute pool)
-  gives (record { major = major; flags = flags; name = name; superclass = superclass; interfaces = interfaces; pool = items; fields = fields; methods = methods })
+  gives (record {
+    major = major;
+    flags = flags;
+    name = name;
+    superclass = superclass;
+    interfaces = interfaces;
+    pool = items;
+    fields = fields;
+    methods = methods;
+  })
 
 -- a whole class file; what the entries of its pool mean is settled before what stands behind the pool is read
 unfoldable pub class_file : Format ClassTree

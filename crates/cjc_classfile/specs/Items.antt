@@ -1,12 +1,14 @@
 -- What the entries of a constant pool mean, and the tests of the indices in it (Java Virtual Machine
 -- Specification, sections 4.4.1 to 4.4.6).
-use Rattle.std.specs.Prelude.{ℕ, Bool, true, false, List, [], ◌∷◌, Option, Some, None, Result, Ok, option_and_then, slice_get}
+use Rattle.std.specs.Prelude.{ℕ, Bool, true, false, List, [], ◌∷◌, Option, Some, None, Result, Ok, option_and_then}
+use Rattle.std.specs.Prelude.{slice_get}
 use Rattle.cjc_bytes.specs.Found.{◌>>=◌, kept, each, all_of}
 use Rattle.cjc_classfile.specs.declared.pool.Index.{Index}
 use Rattle.cjc_bytes.specs.declared.fault.MemberId.{MemberId}
 use Rattle.cjc_classfile.specs.PoolItem.{PoolItem}
 use Rattle.cjc_classfile.specs.PoolItem as items
-use Rattle.cjc_classfile.specs.Entry.{Entry, text, integer, class, string, field, method, interface_method, name_and_type}
+use Rattle.cjc_classfile.specs.Entry.{Entry, text, integer, class, string, field, method, interface_method}
+use Rattle.cjc_classfile.specs.Entry.{name_and_type}
 
 -- the bytes of a CONSTANT_Utf8
 abbrev pub as_text : Entry → Option (List ℕ)

@@ -1,7 +1,8 @@
 -- Entries of the constant pool as the code keeps them, and the entries of the definitions that these are.
 use Rattle.cjc_classfile.specs.declared.pool.EntryKind.{EntryKind}
 use Rattle.cjc_classfile.specs.declared.pool.EntryKind.TheVariants as kinds
-use Rattle.cjc_classfile.specs.Entry.{Entry, text, integer, float, wide, class, string, field, method, interface_method, name_and_type, other}
+use Rattle.cjc_classfile.specs.Entry.{Entry, text, integer, float, wide, class, string, field, method, interface_method}
+use Rattle.cjc_classfile.specs.Entry.{name_and_type, other}
 
 -- the entry of the constant pool that the code's kind is
 abbrev pub entry_of : EntryKind → Entry

@@ -1,5 +1,6 @@
 -- The constant pool of a class file (Java Virtual Machine Specification, section 4.4).
-use Rattle.std.specs.Prelude.{ℕ, zero, suc, Bool, true, false, List, [], ◌∷◌, Option, Some, None, option_map, nat_lt, ◌==◌, if◌then◌else◌}
+use Rattle.std.specs.Prelude.{ℕ, zero, suc, Bool, true, false, List, [], ◌∷◌, Option, Some, None, option_map, nat_lt}
+use Rattle.std.specs.Prelude.{◌==◌, if◌then◌else◌}
 use Rattle.std.specs.Int.{w8, w32, cast_signed}
 use Rattle.cjc_bytes.specs.Descriptor.{Parts}
 use Rattle.cjc_bytes.specs.Spots.{desc_of}
@@ -7,7 +8,8 @@ use Rattle.cjc_bytes.specs.Format.{Format, number, here, gives, ◌>>=◌, u1, u
 use Rattle.cjc_classfile.specs.declared.pool.Index.{Index}
 use Rattle.cjc_classfile.specs.declared.pool.Tag.{Tag}
 use Rattle.cjc_classfile.specs.declared.pool.Tag.TheVariants as tags
-use Rattle.cjc_classfile.specs.Entry.{Entry, text, integer, float, wide, class, string, field, method, interface_method, name_and_type, other}
+use Rattle.cjc_classfile.specs.Entry.{Entry, text, integer, float, wide, class, string, field, method, interface_method}
+use Rattle.cjc_classfile.specs.Entry.{name_and_type, other}
 
 -- The tags (Table 4.4-A). A Long or Double takes two indices, so one more has to stand behind its own.
 abbrev pub tag_of : ℕ → ℕ → Option Tag

@@ -139,7 +139,8 @@ pub fn read<'a>(alloc: Global, file: &[u8], bytes: &'a [u8]) -> Result<ClassTree
 
     // A refusal is where they break, and where they break is refused.
     ensures refused { IfErr result (IsBreak class_file bytes.now (refusal_at file.now bytes.now)) }
-    ensures breaks { (k : ℕ) → FileBreaks class_file bytes.now k → IsUnlessNoMemory result (Err (faults.Refused (refusal_at file.now bytes.now k))) }
+    ensures breaks { (k : ℕ) → FileBreaks class_file bytes.now k
+        → IsUnlessNoMemory result (Err (faults.Refused (refusal_at file.now bytes.now k))) }
 {
     match read_whole(alloc, bytes) {
         Ok(tree) => Ok(tree),
@@ -151,10 +152,13 @@ pub fn read<'a>(alloc: Global, file: &[u8], bytes: &'a [u8]) -> Result<ClassTree
 /// The bytes of a file spell one class at most, or break at one place, and not both; and reading as a function of the
 /// bytes gives that class or place.
 pub fn readings()
-    ensures class { (s t : Tree) (bytes : List ℕ) → FileSpells class_file s bytes → FileSpells class_file t bytes → s ≡ t }
+    ensures class { (s t : Tree) (bytes : List ℕ) → FileSpells class_file s bytes → FileSpells class_file t bytes
+        → s ≡ t }
     ensures place { (j k : ℕ) (bytes : List ℕ) → FileBreaks class_file bytes j → FileBreaks class_file bytes k → j ≡ k }
-    ensures both { (t : Tree) (k : ℕ) (bytes : List ℕ) → FileSpells class_file t bytes → FileBreaks class_file bytes k → ⊥ }
-    ensures either { (bytes : List ℕ) → ((t : Tree) × FileSpells class_file t bytes) ⊎ ((k : ℕ) × FileBreaks class_file bytes k) }
+    ensures both { (t : Tree) (k : ℕ) (bytes : List ℕ) → FileSpells class_file t bytes → FileBreaks class_file bytes k
+        → ⊥ }
+    ensures either { (bytes : List ℕ) → ((t : Tree) × FileSpells class_file t bytes)
+        ⊎ ((k : ℕ) × FileBreaks class_file bytes k) }
     ensures reading { (bytes : List ℕ) → IsReading class_file bytes }
 {}
 
@@ -162,5 +166,6 @@ pub fn readings()
 /// bytes, and so has each code, which is not empty.
 #[tactic(auto, using(crate::proofs::Fitting::spelt_fits))]
 pub fn spelt_classes_fit()
-    ensures { (t : Tree) (bytes : List ℕ) → AllByRecursion (λ b. b < 256) bytes → FileSpells class_file t bytes → ClassFits t }
+    ensures { (t : Tree) (bytes : List ℕ) → AllByRecursion (λ b. b < 256) bytes → FileSpells class_file t bytes
+        → ClassFits t }
 {}

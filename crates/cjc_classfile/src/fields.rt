@@ -4,7 +4,8 @@ ghost use Rattle.std.specs.Prelude.{◌≡◌, None};
 ghost use Rattle.std.specs.Option.{option_copied};
 ghost use Rattle.cjc_bytes.specs.Format.{iterated, repeated};
 ghost use Rattle.cjc_bytes.specs.Reading.{Reads};
-ghost use Rattle.cjc_classfile.specs.Members.{text_field, desc_field, class_field, skipped, attribute, constant_at, constant_content, constant_name_at, field_attribute, field_tree};
+ghost use Rattle.cjc_classfile.specs.Members.{text_field, desc_field, class_field, skipped, attribute, constant_at};
+ghost use Rattle.cjc_classfile.specs.Members.{constant_content, constant_name_at, field_attribute, field_tree};
 
 use crate::items::{class_name_at, desc_of_at, text_at};
 use crate::pool::{Entry, EntryKind};

@@ -4,7 +4,8 @@ ghost use Rattle.std.specs.Prelude.{◌≡◌};
 ghost use Rattle.std.specs.Option.{option_copied};
 ghost use Rattle.cjc_bytes.specs.Found.{Finds, each, all_of};
 ghost use Rattle.cjc_classfile.specs.KeptItem.{id_of, item_of};
-ghost use Rattle.cjc_classfile.specs.Items.{text_at, desc_at, desc_of_at, class_text_at, class_at, pair_at, class_name_at, tested_member, tested, member, item, pool_items};
+ghost use Rattle.cjc_classfile.specs.Items.{text_at, desc_at, desc_of_at, class_text_at, class_at, pair_at};
+ghost use Rattle.cjc_classfile.specs.Items.{class_name_at, tested_member, tested, member, item, pool_items};
 
 use crate::pool::{Entry, EntryKind, Index};
 use crate::tree::{ItemKind, MemberText, PoolItem};

@@ -91,7 +91,12 @@ impl<'a> Model for Code<'a> {
 
     ghost Value = { CodeTree };
 
-    ghost view = { λ c. record { max_stack = c.max_stack; max_locals = c.max_locals; bytes = c.bytes.now; catches = c.catches } };
+    ghost view = { λ c. record {
+      max_stack = c.max_stack;
+      max_locals = c.max_locals;
+      bytes = c.bytes.now;
+      catches = c.catches;
+    } };
 }
 
 /// A method (section 4.6).

@@ -18,6 +18,7 @@ module _ (files : Files) (codes : List MethodCode) (bs : List Break) (all : AreB
   pub unbroken : bs ≡ [] → (b : Break) → BreaksImage files codes b → ⊥
   unbroken none b h = none-among b (subst (λ (q : List Break). Among b q) none ((all b).1 h))
 
-pub kept : {X : Type 0} (f : X → Break) (o : Option X) (bs : List Break) (P : Type 0) → bs ≡ [] → IsFirstOf bs (option_map f o) → IfNone o P → P
+pub kept : {X : Type 0} (f : X → Break) (o : Option X) (bs : List Break) (P : Type 0) → bs ≡ []
+    → IsFirstOf bs (option_map f o) → IfNone o P → P
 kept f None bs P e first p = p
 kept f (Some x) bs P e first p = none-among (f x) (subst (Among (f x)) e first.among)

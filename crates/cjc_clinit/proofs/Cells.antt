@@ -6,8 +6,10 @@ use Rattle.cjc_classfile.specs.declared.tree.FieldTree.{FieldTree}
 use Rattle.cjc_clinit.specs.Fields.{has_unfit_value, is_cell, number_kind, value_fits}
 use Rattle.cjc_export.specs.Members.{may_be_constant}
 
-pub cell_fits : (f : FieldTree) → has_unfit_value f ≡ false → (is_cell f && not (value_fits (number_kind f.desc) f.constant)) ≡ false
-cell_fits f e = by (is_static f.flags) (not (may_be_constant f.flags f.desc && is_some f.constant)) (not (value_fits (number_kind f.desc) f.constant)) e
+pub cell_fits : (f : FieldTree) → has_unfit_value f ≡ false
+    → (is_cell f && not (value_fits (number_kind f.desc) f.constant)) ≡ false
+cell_fits f e = by (is_static f.flags) (not (may_be_constant f.flags f.desc && is_some f.constant))
+    (not (value_fits (number_kind f.desc) f.constant)) e
   where
     by : (a b c : Bool) → (a && c) ≡ false → ((a && b) && c) ≡ false
     by true true c e = e

@@ -9,7 +9,8 @@ use Rattle.cjc_clinit.specs.Initialiser.{ops_of}
 use Rattle.cjc_clinit.specs.Working.Reading.{State, read, state_after, or_wrong}
 
 -- what a value was made of
-pub bound : {A B : Type 0} (f : A → Option B) (o : Option A) (y : B) → option_and_then f o ≡ Some y → (x : A) × (o ≡ Some x) × (f x ≡ Some y)
+pub bound : {A B : Type 0} (f : A → Option B) (o : Option A) (y : B) → option_and_then f o ≡ Some y → (x : A)
+    × (o ≡ Some x) × (f x ≡ Some y)
 bound f None y e = absurd (cc)
 bound f (Some x) y e = (x, refl, e)
 
@@ -29,10 +30,12 @@ module _ (files : Files) (number : ℕ) (c : ClassTree) where
   run s [] = Some s
   run s (op ∷ ops) = option_and_then (λ t. run t ops) (state_after files number c s op)
 
-  pub run-cons : (s t : State) (op : JOp) (ops : List JOp) → state_after files number c s op ≡ Some t → run s (op ∷ ops) ≡ run t ops
+  pub run-cons : (s t : State) (op : JOp) (ops : List JOp) → state_after files number c s op ≡ Some t
+      → run s (op ∷ ops) ≡ run t ops
   run-cons s t op ops e = ap (λ (o : Option State). option_and_then (λ u. run u ops) o) e
 
-  bind-bind : (xs ys : List JOp) → ((t : State) → run t (xs ++ ys) ≡ option_and_then (λ u. run u ys) (run t xs)) → (o : Option State)
+  bind-bind : (xs ys : List JOp) → ((t : State) → run t (xs ++ ys) ≡ option_and_then (λ u. run u ys) (run t xs))
+      → (o : Option State)
       → option_and_then (λ t. run t (xs ++ ys)) o ≡ option_and_then (λ u. run u ys) (option_and_then (λ t. run t xs) o)
   bind-bind xs ys h None = refl
   bind-bind xs ys h (Some t) = h t
@@ -53,7 +56,8 @@ module _ (files : Files) (number : ℕ) (c : ClassTree) where
       let p = bound (λ u. run u (ops_of insns)) (state_after files number c s i.op) t e in
       ap (λ (o : Option State). or_wrong i.at o (λ u. read files number c u insns)) p.1 ∙ read-ok insns p.0 t p.2
 
-  went : (at : ℕ) (o : Option State) (go : State → Result State ℕ) (t : State) → or_wrong at o go ≡ Ok t → (u : State) × (o ≡ Some u) × (go u ≡ Ok t)
+  went : (at : ℕ) (o : Option State) (go : State → Result State ℕ) (t : State) → or_wrong at o go ≡ Ok t → (u : State)
+      × (o ≡ Some u) × (go u ≡ Ok t)
   went at None go t e = absurd (cc)
   went at (Some u) go t e = (u, refl, e)
 
@@ -66,16 +70,20 @@ module _ (files : Files) (number : ℕ) (c : ClassTree) where
 
   -- ---- where it stops
 
-  pub read-append : (front : List JInsn) (i : JInsn) (rest : List JInsn) (s u : State) → read files number c s front ≡ Ok u → state_after files number c u i.op ≡ None → read files number c s (front ++ i ∷ rest) ≡ Err i.at
+  pub read-append : (front : List JInsn) (i : JInsn) (rest : List JInsn) (s u : State) → read files number c s front
+      ≡ Ok u → state_after files number c u i.op ≡ None → read files number c s (front ++ i ∷ rest) ≡ Err i.at
   unfolding read
   read-append [] i rest s u e n =
       let f : s ≡ u = cc in
-      ap (λ (o : Option State). or_wrong i.at o (λ t. read files number c t rest)) (ap (λ (q : State). state_after files number c q i.op) f ∙ n)
+      ap (λ (o : Option State). or_wrong i.at o (λ t. read files number c t rest))
+      (ap (λ (q : State). state_after files number c q i.op) f ∙ n)
   read-append (j ∷ front) i rest s u e n =
       let p = went j.at (state_after files number c s j.op) (λ t. read files number c t front) u e in
-      ap (λ (o : Option State). or_wrong j.at o (λ t. read files number c t (front ++ i ∷ rest))) p.1 ∙ read-append front i rest p.0 u p.2 n
+      ap (λ (o : Option State). or_wrong j.at o (λ t. read files number c t (front ++ i ∷ rest))) p.1
+      ∙ read-append front i rest p.0 u p.2 n
 
-  later : (i : JInsn) (insns : List JInsn) (at : ℕ) (s t : State) → state_after files number c s i.op ≡ Some t → Stop files number c t insns at → Stop files number c s (i ∷ insns) at
+  later : (i : JInsn) (insns : List JInsn) (at : ℕ) (s t : State) → state_after files number c s i.op ≡ Some t
+      → Stop files number c t insns at → Stop files number c s (i ∷ insns) at
   unfolding read
   later i insns at s t e stop = record {
     front = i ∷ stop.front;
@@ -88,11 +96,24 @@ module _ (files : Files) (number : ℕ) (c : ClassTree) where
     stops = stop.stops;
   }
 
-  pub stopped : (insns : List JInsn) (s : State) (at : ℕ) → read files number c s insns ≡ Err at → Stop files number c s insns at
+  pub stopped : (insns : List JInsn) (s : State) (at : ℕ) → read files number c s insns ≡ Err at
+      → Stop files number c s insns at
   unfolding read
   stopped [] s at e = absurd (cc)
   stopped (i ∷ insns) s at e = by (λ t h. stopped insns t at h) (state_after files number c s i.op) refl e
     where
-      by : ((t : State) → read files number c t insns ≡ Err at → Stop files number c t insns at) → (o : Option State) → state_after files number c s i.op ≡ o → or_wrong i.at o (λ u. read files number c u insns) ≡ Err at → Stop files number c s (i ∷ insns) at
-      by rest None n h = record { front = []; rest = insns; insn = i; parts = refl; is_at = (let f : at ≡ i.at = cc in f); before = s; reads = refl; stops = n }
+      by : ((t : State) → read files number c t insns ≡ Err at → Stop files number c t insns at) → (o : Option State)
+          → state_after files number c s i.op ≡ o → or_wrong i.at o (λ u. read files number c u insns) ≡ Err at
+          → Stop files number c s (i ∷ insns) at
+      by rest None n h = record {
+        front = [];
+        rest = insns;
+        insn = i;
+        parts = refl;
+        is_at = (let f : at ≡ i.at = cc
+            in f);
+        before = s;
+        reads = refl;
+        stops = n;
+      }
       by rest (Some t) n h = later i insns at s t n (rest t h)

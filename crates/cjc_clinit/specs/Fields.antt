@@ -1,5 +1,6 @@
 -- The static fields that have a cell, and what may be put into one.
-use Rattle.std.specs.Prelude.{ℕ, List, Bool, true, false, not, ◌&&◌, ◌||◌, ◌==◌, if◌then◌else◌, [], ◌∷◌, Option, Some, None, is_some, ℤ, pos, negsuc, codes}
+use Rattle.std.specs.Prelude.{ℕ, List, Bool, true, false, not, ◌&&◌, ◌||◌, ◌==◌, if◌then◌else◌, [], ◌∷◌, Option, Some}
+use Rattle.std.specs.Prelude.{None, is_some, ℤ, pos, negsuc, codes}
 use Rattle.std.specs.Int.RustNames.{int_le}
 use Rattle.std.specs.Str.{bytes_eq}
 use Rattle.cjc_bytes.specs.declared.descriptor.Kind.{Kind}

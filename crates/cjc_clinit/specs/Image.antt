@@ -1,6 +1,8 @@
--- The static image of a package: what its static fields hold after all initialisers, by groups (Java Card Virtual Machine
+-- The static image of a package: what its static fields hold after all initialisers, by groups (Java Card Virtual
+-- Machine
 -- Specification 2.2.2, section 6.10).
-use Rattle.std.specs.Prelude.{◌≡◌, ℕ, ◌+◌, List, [], ◌∷◌, ◌++◌, map, slice_get, slice_set, Bool, if◌then◌else◌, Option, Some, None, is_some, ℤ, pos}
+use Rattle.std.specs.Prelude.{◌≡◌, ℕ, ◌+◌, List, [], ◌∷◌, ◌++◌, map, slice_get, slice_set, Bool, if◌then◌else◌, Option}
+use Rattle.std.specs.Prelude.{Some, None, is_some, ℤ, pos}
 use Rattle.std.specs.Ordering.{int_eq}
 use Rattle.cjc_bytes.specs.declared.fault.MemberId.{MemberId}
 use Rattle.cjc_classfile.specs.declared.tree.ClassTree.{ClassTree}
@@ -47,13 +49,19 @@ class_where method (Some c) = if_initialiser c (slice_get c.methods method)
 abbrev pub initialised : Files → MethodCode → Option ClassTree
 initialised files code = class_where code.method (slice_get files.classes code.class)
 
--- The initialisers among these codes, one after the other: what the fields of each class hold before and after them, and
+-- The initialisers among these codes, one after the other: what the fields of each class hold before and after them,
+-- and
 -- the arrays that they make.
-pub data AreInitialised (files : Files) : (before : List (List Held)) → List MethodCode → List ArrayCell → (after : List (List Held)) → Type 0 where
+pub data AreInitialised (files : Files) : (before : List (List Held)) → List MethodCode → List ArrayCell
+    → (after : List (List Held)) → Type 0 where
   none : {fields : List (List Held)} → AreInitialised files fields [] [] fields
-  other : {before after : List (List Held)} {code : MethodCode} {codes : List MethodCode} {arrays : List ArrayCell} → initialised files code ≡ None → AreInitialised files before codes arrays after → AreInitialised files before (code ∷ codes) arrays after
-  one : {before after : List (List Held)} {code : MethodCode} {codes : List MethodCode} {arrays : List ArrayCell} (c : ClassTree) (puts : List Put) (fields : List Held)
-      → initialised files code ≡ Some c → Initialises files code.class c (nothing_in c) (ops_of code.insns) puts fields → AreInitialised files (slice_set before code.class fields) codes arrays after
+  other : {before after : List (List Held)} {code : MethodCode} {codes : List MethodCode} {arrays : List ArrayCell}
+      → initialised files code ≡ None → AreInitialised files before codes arrays after
+      → AreInitialised files before (code ∷ codes) arrays after
+  one : {before after : List (List Held)} {code : MethodCode} {codes : List MethodCode} {arrays : List ArrayCell}
+      (c : ClassTree) (puts : List Put) (fields : List Held)
+      → initialised files code ≡ Some c → Initialises files code.class c (nothing_in c) (ops_of code.insns) puts fields
+      → AreInitialised files (slice_set before code.class fields) codes arrays after
       → AreInitialised files before (code ∷ codes) (arrays_of c puts ++ arrays) after
 
 -- ---- one field
@@ -65,7 +73,8 @@ value_or_zero is_number (Some z) = if is_number then z else pos 0
 
 -- into which nothing was put
 abbrev pub unput_start : FieldTree → Start
-unput_start f = if is_reference f.desc then starts.Null else starts.Number (value_or_zero (is_some (number_kind f.desc)) f.constant)
+unput_start f = if is_reference f.desc then starts.Null else starts.Number (value_or_zero (is_some (number_kind f.desc))
+    f.constant)
 
 -- of a field with a cell
 abbrev pub start_by : FieldTree → Held → Option Start
@@ -91,13 +100,19 @@ empty = record { arrays = []; nulls = []; zeros = []; others = [] }
 
 -- group by group
 abbrev pub joined : StaticImage → StaticImage → StaticImage
-joined a b = record { arrays = a.arrays ++ b.arrays; nulls = a.nulls ++ b.nulls; zeros = a.zeros ++ b.zeros; others = a.others ++ b.others }
+joined a b = record {
+  arrays = a.arrays ++ b.arrays;
+  nulls = a.nulls ++ b.nulls;
+  zeros = a.zeros ++ b.zeros;
+  others = a.others ++ b.others;
+}
 
 -- a field in its group: null, 0, or another number
 abbrev pub of_start : MemberId → Option Start → StaticImage
 of_start id None = empty
 of_start id (Some starts.Null) = record empty { nulls = id ∷ [] }
-of_start id (Some (starts.Number z)) = if int_eq z (pos 0) then record empty { zeros = id ∷ [] } else record empty { others = record { field = id; value = z } ∷ [] }
+of_start id (Some (starts.Number z)) = if int_eq z (pos 0) then record empty { zeros = id ∷ [] }
+    else record empty { others = record { field = id; value = z } ∷ [] }
 
 -- a field by the name of its class, its own name and its descriptor
 abbrev pub field_id : (class : List ℕ) → FieldTree → MemberId
@@ -106,7 +121,8 @@ field_id class f = record { class = class; name = f.name; desc = f.desc }
 -- fields of a class in the order of its file, the first of which has this place
 abbrev pub of_fields : (class : List ℕ) → List Held → (place : ℕ) → List FieldTree → StaticImage
 of_fields class fields k [] = empty
-of_fields class fields k (f ∷ fs) = joined (of_start (field_id class f) (start_of f (held_in (slice_get fields k)))) (of_fields class fields (k + 1) fs)
+of_fields class fields k (f ∷ fs) = joined (of_start (field_id class f) (start_of f (held_in (slice_get fields k))))
+    (of_fields class fields (k + 1) fs)
 
 -- what the fields of a class hold, nothing where there is no class
 abbrev pub fields_in : Option (List Held) → List Held
@@ -116,7 +132,8 @@ fields_in (Some fields) = fields
 -- classes in list order, the first of which has this number
 abbrev pub of_classes : List (List Held) → (number : ℕ) → List ClassTree → StaticImage
 of_classes puts n [] = empty
-of_classes puts n (c ∷ cs) = joined (of_fields c.name (fields_in (slice_get puts n)) 0 c.fields) (of_classes puts (n + 1) cs)
+of_classes puts n (c ∷ cs) = joined (of_fields c.name (fields_in (slice_get puts n)) 0 c.fields)
+    (of_classes puts (n + 1) cs)
 
 -- arrays in the order of making, then the fields
 abbrev pub image_of : List ClassTree → List ArrayCell → List (List Held) → StaticImage

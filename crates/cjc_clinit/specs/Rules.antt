@@ -1,4 +1,5 @@
--- Rule 308: an initialiser is of another form, an interface has one, or the ConstantValue of a static field does not fit
+-- Rule 308: an initialiser is of another form, an interface has one, or the ConstantValue of a static field does not
+-- fit
 -- its type.
 use Rattle.std.specs.Prelude.{◌≡◌, ◌⊎◌, ℕ, List, slice_get, Bool, true, ◌&&◌, ◌||◌, Option, Some}
 use Rattle.std.specs.List.{list_any}
@@ -37,12 +38,15 @@ pub record BreaksCode (files : Files) (code : MethodCode) (b : Break) : Type 0 w
 
 -- What a package whose methods have these codes breaks of 308.
 pub data BreaksImage (files : Files) (codes : List MethodCode) (b : Break) : Type 0 where
-  of_class : (number : ℕ) (c : ClassTree) → slice_get files.classes number ≡ Some c → BreaksClass files number c b → BreaksImage files codes b
-  of_code : (index : ℕ) (code : MethodCode) → slice_get codes index ≡ Some code → BreaksCode files code b → BreaksImage files codes b
+  of_class : (number : ℕ) (c : ClassTree) → slice_get files.classes number ≡ Some c → BreaksClass files number c b
+      → BreaksImage files codes b
+  of_code : (index : ℕ) (code : MethodCode) → slice_get codes index ≡ Some code → BreaksCode files code b
+      → BreaksImage files codes b
 
 -- The list has exactly these.
 abbrev pub AreBreaks : Files → List MethodCode → List Break → Type 0
-AreBreaks files codes bs = (b : Break) → (Among b bs → BreaksImage files codes b) × (BreaksImage files codes b → Among b bs)
+AreBreaks files codes bs = (b : Break) → (Among b bs → BreaksImage files codes b) × (BreaksImage files codes b
+    → Among b bs)
 
 -- None where there is none of them, else one that no other stands before.
 abbrev pub IsFirstBroken : Files → List MethodCode → Option Break → Type 0
@@ -50,4 +54,5 @@ IsFirstBroken files codes o = (bs : List Break) × AreBreaks files codes bs × I
 
 -- The error is the refusal of the first of them, or that memory ran out.
 abbrev pub IsFirstRefused : Files → List MethodCode → Fault → Type 0
-IsFirstRefused files codes e = (e ≡ faults.NoMemory) ⊎ ((b : Break) × BreaksImage files codes b × ((a : Break) → BreaksImage files codes a → NotAfter b.rank a.rank) × (e ≡ faults.Refused b.refusal))
+IsFirstRefused files codes e = (e ≡ faults.NoMemory) ⊎ ((b : Break) × BreaksImage files codes b × ((a : Break)
+    → BreaksImage files codes a → NotAfter b.rank a.rank) × (e ≡ faults.Refused b.refusal))

@@ -49,7 +49,12 @@ class_t = record {
 
 -- the package
 abbrev pub files : Files
-files = record { package_name = codes "p"; lines = record { class_file = true; name = codes "T.class" } ∷ []; classes = class_t ∷ []; exports = [] }
+files = record {
+  package_name = codes "p";
+  lines = record { class_file = true; name = codes "T.class" } ∷ [];
+  classes = class_t ∷ [];
+  exports = [];
+}
 
 -- instructions, each of which is told by its number in place of its offset
 abbrev pub numbered : ℕ → List JOp → List JInsn
@@ -96,7 +101,8 @@ byte_at i z = jop.Stack 0x59 ∷ number i ∷ number z ∷ jop.ArrayStore 0x54 �
 
 -- t = {1, 2, 3}; o = null; s = 7
 abbrev pub statements : List JOp
-statements = new_bytes 3 ++ byte_at 0 1 ++ byte_at 1 2 ++ byte_at 2 3 ++ (put (codes "t") (codes "[B") ∷ jop.Null ∷ put (codes "o") (codes "Ljava/lang/Object;") ∷ number 7 ∷ put (codes "s") (codes "S") ∷ return ∷ [])
+statements = new_bytes 3 ++ byte_at 0 1 ++ byte_at 1 2 ++ byte_at 2 3 ++ (put (codes "t") (codes "[B") ∷ jop.Null
+    ∷ put (codes "o") (codes "Ljava/lang/Object;") ∷ number 7 ∷ put (codes "s") (codes "S") ∷ return ∷ [])
 
 -- what it leaves
 abbrev pub statements_image : StaticImage
@@ -104,7 +110,10 @@ statements_image = record {
   arrays = record { field = id (codes "t") (codes "[B"); kind = kinds.Byte; items = pos 1 ∷ pos 2 ∷ pos 3 ∷ [] } ∷ [];
   nulls = id (codes "o") (codes "Ljava/lang/Object;") ∷ [];
   zeros = id (codes "z") (codes "Z") ∷ [];
-  others = record { field = id (codes "s") (codes "S"); value = pos 7 } ∷ record { field = id (codes "v") (codes "S"); value = pos 5 } ∷ [];
+  others = record { field = id (codes "s") (codes "S"); value = pos 7 } ∷ record {
+    field = id (codes "v") (codes "S");
+    value = pos 5;
+  } ∷ [];
 }
 
 -- what the fields hold then

@@ -10,7 +10,8 @@ ghost use Rattle.std.specs.List.{list_any};
 ghost use Rattle.cjc_clinit.specs.Fields.{has_unfit_value};
 ghost use Rattle.cjc_clinit.specs.Initialiser.{is_initialiser};
 ghost use Rattle.cjc_clinit.specs.Rules.{is_wrong_class};
-ghost use Rattle.cjc_clinit.specs.Working.Reading.{after_code, after_codes, class_breaks, code_breaks, image_breaks, offset_break, puts};
+ghost use Rattle.cjc_clinit.specs.Working.Reading.{after_code, after_codes, class_breaks, code_breaks, image_breaks};
+ghost use Rattle.cjc_clinit.specs.Working.Reading.{offset_break, puts};
 
 use crate::fields::has_unfit_value;
 use crate::puts::{after_code, is_initialiser};
@@ -45,14 +46,16 @@ fn is_wrong_class(class: &ClassTree<'_>) -> bool
 /// Rule 308 at a class itself.
 #[tactic(auto, unfolding(crate::specs::Working::Reading::class_breaks))]
 fn class_break<'w>(class: &ClassTree<'_>, spot: RulePlace<'w>) -> Option<Break<'w>>
-    ensures { (f : FilePlace) → spot_of spot.entry ≡ at_class f class.now → IsFirstOf (class_breaks f class.now) (option_map break_of result) }
+    ensures { (f : FilePlace) → spot_of spot.entry ≡ at_class f class.now
+        → IsFirstOf (class_breaks f class.now) (option_map break_of result) }
 {
     broken(is_wrong_class(class), spot, 308)
 }
 
 /// Rule 308 at the first class that breaks it itself.
 fn classes_break<'w>(world: &'w World<'_>) -> Option<Break<'w>>
-    ensures { IsFirstOf (each (λ n c. class_breaks (file_of world.now.lines n) c) world.now.classes) (option_map break_of result) }
+    ensures { IsFirstOf (each (λ n c. class_breaks (file_of world.now.lines n) c) world.now.classes)
+        (option_map break_of result) }
 {
     let mut least = None;
     let classes = world.classes().items();
@@ -89,7 +92,8 @@ fn code_break<'w>(
     arrays: &mut Row<ArrayCell>,
 ) -> Result<Option<Break<'w>>, NoMemory>
     ensures first { IfOk result (λ b. IsFirstOf (code_breaks world.now code.now) (option_map break_of b)) }
-    ensures puts { IfOk result (λ b. IfNone b (after_code world.now (puts rows.old arrays.old) code.now ≡ Ok (puts rows.new arrays.new))) }
+    ensures puts { IfOk result (λ b. IfNone b (after_code world.now (puts rows.old arrays.old) code.now
+        ≡ Ok (puts rows.new arrays.new))) }
 {
     match after_code(alloc, world, code, rows, arrays)? {
         None => Ok(None),
@@ -105,8 +109,10 @@ fn codes_break<'w>(
     rows: &mut [Row<Held>],
     arrays: &mut Row<ArrayCell>,
 ) -> Result<Option<Break<'w>>, NoMemory>
-    ensures first { IfOk result (λ b. IsFirstOf (each (λ _ code. code_breaks world.now code) codes.now) (option_map break_of b)) }
-    ensures puts { IfOk result (λ b. IfNone b (after_codes world.now (puts rows.old arrays.old) codes.now ≡ Ok (puts rows.new arrays.new))) }
+    ensures first { IfOk result (λ b. IsFirstOf (each (λ _ code. code_breaks world.now code) codes.now)
+        (option_map break_of b)) }
+    ensures puts { IfOk result (λ b. IfNone b (after_codes world.now (puts rows.old arrays.old) codes.now
+        ≡ Ok (puts rows.new arrays.new))) }
 {
     let mut least = None;
     for code in codes {
@@ -126,7 +132,8 @@ pub(crate) fn image_break<'w>(
     arrays: &mut Row<ArrayCell>,
 ) -> Result<Option<Break<'w>>, NoMemory>
     ensures first { IfOk result (λ b. IsFirstOf (image_breaks world.now codes.now) (option_map break_of b)) }
-    ensures puts { IfOk result (λ b. IfNone b (after_codes world.now (puts rows.old arrays.old) codes.now ≡ Ok (puts rows.new arrays.new))) }
+    ensures puts { IfOk result (λ b. IfNone b (after_codes world.now (puts rows.old arrays.old) codes.now
+        ≡ Ok (puts rows.new arrays.new))) }
 {
     let in_classes = classes_break(world);
     let in_codes = codes_break(alloc, world, codes, rows, arrays)?;

@@ -1,7 +1,8 @@
 //! The static fields that have a cell, and what may be put into one. Nothing here takes memory.
 
 ghost use Rattle.std.specs.Prelude.{◌≡◌};
-ghost use Rattle.cjc_clinit.specs.Fields.{array_desc, fits, fits_kind, has_unfit_value, is_cell, is_reference, lies_in, number_kind, value_fits};
+ghost use Rattle.cjc_clinit.specs.Fields.{array_desc, fits, fits_kind, has_unfit_value, is_cell, is_reference, lies_in};
+ghost use Rattle.cjc_clinit.specs.Fields.{number_kind, value_fits};
 
 use cjc_bytes::{Kind, is_static};
 use cjc_classfile::FieldTree;

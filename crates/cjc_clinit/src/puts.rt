@@ -1,10 +1,13 @@
 //! What initialisers put into the fields of their classes, instruction by instruction.
 
-ghost use Rattle.std.specs.Prelude.{◌≡◌, ◌++◌, [], map, slice_get, slice_set, option_map, true, IfNone, IfOk, IfSome, OnOk};
+ghost use Rattle.std.specs.Prelude.{◌≡◌, ◌++◌, [], map, slice_get, slice_set, option_map, true, IfNone, IfOk, IfSome};
+ghost use Rattle.std.specs.Prelude.{OnOk};
 ghost use Rattle.cjc_clinit.specs.declared.stage.Stage.TheVariants as stages;
 ghost use Rattle.cjc_clinit.specs.Image.{initialised, own_field};
 ghost use Rattle.cjc_clinit.specs.Initialiser.{is_initialiser, is_open, nothing_in, open_in, open_place, own_place};
-ghost use Rattle.cjc_clinit.specs.Working.Reading.{IsRead, after_code, after_initialiser, after_static, array_from, contents_of, ended, is_ended, puts, puts_as, read, state, state_after};
+ghost use Rattle.cjc_clinit.specs.Working.Reading.{IsRead, after_code, after_initialiser, after_static, array_from};
+ghost use Rattle.cjc_clinit.specs.Working.Reading.{contents_of, ended, is_ended, puts, puts_as, read, state};
+ghost use Rattle.cjc_clinit.specs.Working.Reading.{state_after};
 
 use crate::fields::is_cell;
 use crate::stage::{Held, Stage};
@@ -115,7 +118,8 @@ fn after_put(
     stage: Stage,
     id: &MemberId,
 ) -> Result<Option<Stage>, NoMemory>
-    ensures { IfOk result (λ s. after_static world.now number class.now true id.now (state fields.old arrays.old stage) ≡ option_map (state fields.new arrays.new) s) }
+    ensures { IfOk result (λ s. after_static world.now number class.now true id.now (state fields.old arrays.old stage)
+        ≡ option_map (state fields.new arrays.new) s) }
 {
     if !takes(&stage, id.desc.items()) {
         return Ok(None);
@@ -146,7 +150,8 @@ fn state_after(
     stage: Stage,
     op: &JOp,
 ) -> Result<Option<Stage>, NoMemory>
-    ensures { IfOk result (λ s. state_after world.now number class.now (state fields.old arrays.old stage) op.now ≡ option_map (state fields.new arrays.new) s) }
+    ensures { IfOk result (λ s. state_after world.now number class.now (state fields.old arrays.old stage) op.now
+        ≡ option_map (state fields.new arrays.new) s) }
 {
     match op {
         JOp::Static { put, field } => {
@@ -180,7 +185,9 @@ fn read(
     arrays: &mut Row<ArrayCell>,
     insns: &[JInsn],
 ) -> Result<Option<u32>, NoMemory>
-    ensures { IfOk result (λ at. IsRead (ended (read world.now number class.now (state fields.old arrays.old stages.Free) insns.now)) at fields.new arrays.new) }
+    ensures { IfOk result
+        (λ at. IsRead (ended (read world.now number class.now (state fields.old arrays.old stages.Free) insns.now)) at
+        fields.new arrays.new) }
 {
     let mut stage = Stage::Free;
     for insn in insns {
@@ -243,7 +250,8 @@ fn after_initialiser(
     rows: &mut [Row<Held>],
     arrays: &mut Row<ArrayCell>,
 ) -> Result<Option<u32>, NoMemory>
-    ensures { IfOk result (λ at. after_initialiser world.now class.now code.now (puts rows.old arrays.old) ≡ puts_as at (puts rows.new arrays.new)) }
+    ensures { IfOk result (λ at. after_initialiser world.now class.now code.now (puts rows.old arrays.old)
+        ≡ puts_as at (puts rows.new arrays.new)) }
 {
     let held = nothing_in(alloc, class)?;
     let mut fields = held.into_vec();
@@ -279,7 +287,8 @@ pub(crate) fn after_code(
     rows: &mut [Row<Held>],
     arrays: &mut Row<ArrayCell>,
 ) -> Result<Option<u32>, NoMemory>
-    ensures { IfOk result (λ at. after_code world.now (puts rows.old arrays.old) code.now ≡ puts_as at (puts rows.new arrays.new)) }
+    ensures { IfOk result (λ at. after_code world.now (puts rows.old arrays.old) code.now
+        ≡ puts_as at (puts rows.new arrays.new)) }
 {
     match initialised(world, code) {
         None => Ok(None),

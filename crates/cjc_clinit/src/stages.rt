@@ -2,7 +2,9 @@
 
 ghost use Rattle.std.specs.Prelude.{◌≡◌, replicate, pos, slice_set, IfOk};
 ghost use Rattle.cjc_clinit.specs.Initialiser.{element_kind, store};
-ghost use Rattle.cjc_clinit.specs.Working.Reading.{after_newarray, after_null, after_number, after_return, after_stack, after_store, contents_of, count_in, held_from, index_in, new_array, stage_after, takes_from};
+ghost use Rattle.cjc_clinit.specs.Working.Reading.{after_newarray, after_null, after_number, after_return, after_stack};
+ghost use Rattle.cjc_clinit.specs.Working.Reading.{after_store, contents_of, count_in, held_from, index_in, new_array};
+ghost use Rattle.cjc_clinit.specs.Working.Reading.{stage_after, takes_from};
 
 use crate::fields::{array_desc, fits, fits_kind, is_reference, number_kind};
 use crate::stage::{Held, Stage};

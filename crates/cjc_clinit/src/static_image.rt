@@ -4,7 +4,8 @@
 ghost use Rattle.std.specs.Prelude.{◌≡◌, [], map, slice_get, Some, Ok, IfErr, IfOk, OnOk, option_map};
 ghost use Rattle.cjc_bytes.specs.Breaks.{Break as Broken};
 ghost use Rattle.cjc_bytes.specs.Told.{break_of};
-ghost use Rattle.cjc_clinit.specs.Image.{IsImage, field_id, fields_in, held_in, image_of, joined, of_classes, of_fields, of_start, start_of, unput_start, value_or_zero};
+ghost use Rattle.cjc_clinit.specs.Image.{IsImage, field_id, fields_in, held_in, image_of, joined, of_classes};
+ghost use Rattle.cjc_clinit.specs.Image.{of_fields, of_start, start_of, unput_start, value_or_zero};
 ghost use Rattle.cjc_clinit.specs.Initialiser.{nothing_in};
 ghost use Rattle.cjc_clinit.specs.Working.Reading.{after_codes, puts};
 ghost use Rattle.cjc_clinit.specs.Rules.{BreaksImage, IsFirstBroken, IsFirstRefused};
@@ -93,7 +94,8 @@ fn put_field(
     field: &FieldTree,
     held: Held,
 ) -> Result<(), NoMemory>
-    ensures { OnOk result (image.new ≡ joined image.old (of_start (field_id class.now field.now) (start_of field.now held))) }
+    ensures { OnOk result (image.new ≡ joined image.old (of_start (field_id class.now field.now)
+        (start_of field.now held))) }
 {
     match start_of(field, held) {
         None => Ok(()),
@@ -185,7 +187,8 @@ fn image_after(
     arrays: Row<ArrayCell>,
     rows: &[Row<Held>],
 ) -> Result<StaticImage, NoMemory>
-    requires { after_codes world.now (puts (map nothing_in world.now.classes) []) codes.now ≡ Ok (puts rows.now arrays) }
+    requires { after_codes world.now (puts (map nothing_in world.now.classes) []) codes.now
+        ≡ Ok (puts rows.now arrays) }
     ensures { IfOk result (IsImage world.now codes.now) }
 {
     image_of(alloc, world.classes().items(), arrays, rows)

@@ -6,3 +6,4 @@ pub mod Places
 pub mod RuleLaws
 pub mod StartLaws
 pub mod Decided
+pub mod ReadLaws

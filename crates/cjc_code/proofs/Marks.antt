@@ -1,5 +1,7 @@
 -- Marking the places where instructions start, one after the other.
-use Rattle.std.proofs.Common.{◌≡◌, ℕ, zero, suc, ◌+◌, ◌<◌, ◌≤◌, ◌≢◌, Bool, true, false, cond, ltb, eqb, ◌==◌, ◌||◌, List, [], ◌∷◌, ◌++◌, length, map, take, take_all, replicate, set, get_or, refl, sym, ap, ◌∙◌, arith, add-one}
+use Rattle.std.proofs.Common.{◌≡◌, ℕ, zero, suc, ◌+◌, ◌<◌, ◌≤◌, ◌≢◌, Bool, true, false, cond, ltb, eqb, ◌==◌, ◌||◌}
+use Rattle.std.proofs.Common.{List, [], ◌∷◌, ◌++◌, length, map, take, take_all, replicate, set, get_or, refl, sym, ap}
+use Rattle.std.proofs.Common.{◌∙◌, arith, add-one}
 use Rattle.std.specs.List.{list_any}
 use Rattle.std.proofs.lemmas.Bool.{eq-eqb, ne_eqb, ltb-true, ltb-false}
 use Rattle.std.proofs.lemmas.List.{map-append}
@@ -61,11 +63,13 @@ length-marks ps k zero = refl
 length-marks ps k (suc n) = ap suc (length-marks ps (suc k) n)
 
 -- one place more
-marked_by : (b : Bool) (ps : List ℕ) (p n : ℕ) → ltb p n ≡ b → cond b (set (marks ps 0 n) p true) (marks ps 0 n) ≡ marks (ps ++ p ∷ []) 0 n
+marked_by : (b : Bool) (ps : List ℕ) (p n : ℕ) → ltb p n ≡ b → cond b (set (marks ps 0 n) p true) (marks ps 0 n)
+    ≡ marks (ps ++ p ∷ []) 0 n
 marked_by true ps p n e = mark_at ps p 0 n p (omega arith) (ltb-true p n e)
 marked_by false ps p n e = sym (mark_behind ps p 0 n (let h = ltb-false p n e in omega arith))
 
-pub mark_more : (ps : List ℕ) (p n : ℕ) (starts : List Bool) → starts ≡ marks ps 0 n → cond (ltb p (length starts)) (set starts p true) starts ≡ marks (ps ++ p ∷ []) 0 n
+pub mark_more : (ps : List ℕ) (p n : ℕ) (starts : List Bool) → starts ≡ marks ps 0 n
+    → cond (ltb p (length starts)) (set starts p true) starts ≡ marks (ps ++ p ∷ []) 0 n
 mark_more ps p n starts e = rw (e, length-marks ps 0 n) (marked_by (ltb p n) ps p n refl)
 
 pub marks_none : (k n : ℕ) → replicate n false ≡ marks [] k n
@@ -74,17 +78,22 @@ marks_none k zero = refl
 marks_none k (suc n) = ap (λ (bs : List Bool). false ∷ bs) (marks_none (suc k) n)
 
 -- the places of one instruction more
-pub marks_next : (insns : List Raw) (i : ℕ) (d : Raw) (n : ℕ) (old new : List Bool) → i < length insns → new ≡ cond (ltb (get_or insns i d).at (length old)) (set old (get_or insns i d).at true) old
-    → old ≡ marks (map (λ (r : Raw). r.at) (take i insns)) 0 n → new ≡ marks (map (λ (r : Raw). r.at) (take (i + 1) insns)) 0 n
+pub marks_next : (insns : List Raw) (i : ℕ) (d : Raw) (n : ℕ) (old new : List Bool) → i < length insns
+    → new ≡ cond (ltb (get_or insns i d).at (length old)) (set old (get_or insns i d).at true) old
+    → old ≡ marks (map (λ (r : Raw). r.at) (take i insns)) 0 n
+    → new ≡ marks (map (λ (r : Raw). r.at) (take (i + 1) insns)) 0 n
 marks_next insns i d n old new lt is so_far =
     let ps = map (λ (r : Raw). r.at) (take i insns) in
     let p = (get_or insns i d).at in
     let one : take (i + 1) insns ≡ take i insns ++ get_or insns i d ∷ [] = rw add-one (take-suc insns i d lt) in
-    let more : map (λ (r : Raw). r.at) (take (i + 1) insns) ≡ ps ++ p ∷ [] = ap (map (λ (r : Raw). r.at)) one ∙ map-append (λ (r : Raw). r.at) (take i insns) (get_or insns i d ∷ []) in
+    let more : map (λ (r : Raw). r.at) (take (i + 1) insns) ≡ ps ++ p ∷ [] = ap (map (λ (r : Raw). r.at)) one
+    ∙ map-append (λ (r : Raw). r.at) (take i insns) (get_or insns i d ∷ []) in
     (is ∙ mark_more ps p n old so_far) ∙ ap (λ (qs : List ℕ). marks qs 0 n) (sym more)
 
 -- after all instructions, the place where the cut stops
 pub marks_end : (insns : List Raw) (i p n : ℕ) (old : List Bool) → length insns ≤ i
-    → old ≡ marks (map (λ (r : Raw). r.at) (take i insns)) 0 n → cond (ltb p (length old)) (set old p true) old ≡ marks (map (λ (r : Raw). r.at) insns ++ p ∷ []) 0 n
+    → old ≡ marks (map (λ (r : Raw). r.at) (take i insns)) 0 n → cond (ltb p (length old)) (set old p true) old
+    ≡ marks (map (λ (r : Raw). r.at) insns ++ p ∷ []) 0 n
 marks_end insns i p n old le so_far =
-    mark_more (map (λ (r : Raw). r.at) insns) p n old (so_far ∙ ap (λ (rs : List Raw). marks (map (λ (r : Raw). r.at) rs) 0 n) (take_all i insns le))
+    mark_more (map (λ (r : Raw). r.at) insns) p n old (so_far
+    ∙ ap (λ (rs : List Raw). marks (map (λ (r : Raw). r.at) rs) 0 n) (take_all i insns le))

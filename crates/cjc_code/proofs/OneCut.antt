@@ -1,5 +1,6 @@
 -- A code is cut in one way only.
-use Rattle.std.proofs.Common.{◌≡◌, ℕ, zero, suc, ◌+◌, ◌≤◌, ◌<◌, List, [], ◌∷◌, Result, Ok, Err, refl, ap, arith, length, inl, inr}
+use Rattle.std.proofs.Common.{◌≡◌, ℕ, zero, suc, ◌+◌, ◌≤◌, ◌<◌, List, [], ◌∷◌, Result, Ok, Err, refl, ap, arith, length}
+use Rattle.std.proofs.Common.{inl, inr}
 use Rattle.std.proofs.lemmas.List.{length-append}
 use Rattle.cjc_bytes.specs.Rest.{Rest}
 use Rattle.cjc_bytes.specs.Format.{Spells, Breaks}
@@ -27,8 +28,10 @@ none_left at = (at + length {A = ℕ} [], inr (at, [], [], refl, (refl, refl), i
 abbrev cut_at : ℕ → ℕ → List ℕ → Cut
 cut_at n at bytes = cut_rest n (record { at = at; left = bytes })
 
-cut_on_is : (n at : ℕ) (bytes : List ℕ) (x : Result (Raw × Rest) ℕ) → ((at : ℕ) (bytes : List ℕ) → length bytes ≤ n → IsCutFrom at bytes (cut_at n at bytes).insns (cut_at n at bytes).stop)
-    → read instruction (record { at = at; left = bytes }) ≡ x → length bytes ≤ suc n → IsCutFrom at bytes (cut_on x at (λ s. cut_rest n s)).insns (cut_on x at (λ s. cut_rest n s)).stop
+cut_on_is : (n at : ℕ) (bytes : List ℕ) (x : Result (Raw × Rest) ℕ) → ((at : ℕ) (bytes : List ℕ) → length bytes ≤ n
+    → IsCutFrom at bytes (cut_at n at bytes).insns (cut_at n at bytes).stop)
+    → read instruction (record { at = at; left = bytes }) ≡ x → length bytes ≤ suc n
+    → IsCutFrom at bytes (cut_on x at (λ s. cut_rest n s)).insns (cut_on x at (λ s. cut_rest n s)).stop
 unfolding IsCutFrom
 cut_on_is n at bytes (Ok x) from e few =
     let g = read_ok instruction (record { at = at; left = bytes }) x.0 x.1 e in
@@ -38,11 +41,13 @@ cut_on_is n at bytes (Ok x) from e few =
 cut_on_is n at bytes (Err k) from e few = (refl, (k, read_err instruction (record { at = at; left = bytes }) k e))
 
 -- from any place, with enough tries
-cut_is : (n at : ℕ) (bytes : List ℕ) → length bytes ≤ n → IsCutFrom at bytes (cut_at n at bytes).insns (cut_at n at bytes).stop
+cut_is : (n at : ℕ) (bytes : List ℕ) → length bytes ≤ n → IsCutFrom at bytes (cut_at n at bytes).insns
+    (cut_at n at bytes).stop
 unfolding IsCutFrom cut_rest
 cut_is zero at [] few = (refl, none_left at)
 cut_is zero at (b ∷ bytes) few = absurd (omega arith)
-cut_is (suc n) at bytes few = cut_on_is n at bytes (read instruction (record { at = at; left = bytes })) (cut_is n) refl few
+cut_is (suc n) at bytes few = cut_on_is n at bytes (read instruction (record { at = at; left = bytes })) (cut_is n) refl
+    few
 
 pub is_cut : (code : List ℕ) → IsCut code (cut code)
 unfolding cut
@@ -53,10 +58,12 @@ is_cut code = cut_is (length code) 0 code (omega arith)
 abbrev parts : List Raw → ℕ → Cut
 parts insns stop = record { insns = insns; stop = stop }
 
-cut_only : (insns : List Raw) (n at : ℕ) (bytes : List ℕ) (stop : ℕ) → length bytes ≤ n → IsCutFrom at bytes insns stop → parts insns stop ≡ cut_rest n (record { at = at; left = bytes })
+cut_only : (insns : List Raw) (n at : ℕ) (bytes : List ℕ) (stop : ℕ) → length bytes ≤ n → IsCutFrom at bytes insns stop
+    → parts insns stop ≡ cut_rest n (record { at = at; left = bytes })
 unfolding IsCutFrom cut_rest
 cut_only [] zero at bytes stop few (is, (k, breaks)) = ap (parts []) is
-cut_only [] (suc n) at bytes stop few (is, (k, breaks)) = rw (broken_reads instruction at bytes k breaks) (ap (parts []) is)
+cut_only [] (suc n) at bytes stop few (is, (k, breaks)) = rw (broken_reads instruction at bytes k breaks)
+    (ap (parts []) is)
 cut_only (i ∷ insns) zero at bytes stop few (front, back, parted, spelt, rest) =
     let some : 0 < length front = has_bytes at i front spelt in
     absurd (omega (arith, ap length parted, length-append front back))

@@ -1,5 +1,6 @@
 -- Where instructions start, by the list of the marks.
-use Rattle.std.proofs.Common.{◌≡◌, ℕ, zero, suc, ◌+◌, ◌<◌, Bool, true, false, ◌==◌, eqb, List, [], ◌∷◌, ◌++◌, length, map, get_or, refl, sym, ap, subst, ◌∙◌, arith, inl, inr}
+use Rattle.std.proofs.Common.{◌≡◌, ℕ, zero, suc, ◌+◌, ◌<◌, Bool, true, false, ◌==◌, eqb, List, [], ◌∷◌, ◌++◌, length}
+use Rattle.std.proofs.Common.{map, get_or, refl, sym, ap, subst, ◌∙◌, arith, inl, inr}
 use Rattle.std.specs.List.{Contains, list_any}
 use Rattle.std.proofs.lemmas.Bool.{eqb-true, eq-eqb}
 use Rattle.std.proofs.lemmas.List.Elements.{Contains-append_left, Contains-append_right, Contains-append_cases}
@@ -28,7 +29,8 @@ there_hit (p ∷ ps) k (suc n, lt, e) = or_right (eqb p k) (hits ps k) (there_hi
 marked_at : (ps : List ℕ) (k n j : ℕ) → get_or (marks ps k n) j false ≡ true → (j < n) × (hits ps (k + j) ≡ true)
 unfolding marks
 marked_at ps k zero j e = absurd cc
-marked_at ps k (suc n) zero e = let same : k ≡ k + 0 = omega arith in (omega arith, subst (λ (m : ℕ). hits ps m ≡ true) same e)
+marked_at ps k (suc n) zero e = let same : k ≡ k + 0 = omega arith
+    in (omega arith, subst (λ (m : ℕ). hits ps m ≡ true) same e)
 marked_at ps k (suc n) (suc j) e =
     let h = marked_at ps (suc k) n j e in
     let same : suc k + j ≡ k + suc j = omega arith in
@@ -48,7 +50,8 @@ ats insns = map (λ (i : Raw). i.at) insns
 in_ats : (insns : List Raw) (k : ℕ) → Contains (ats insns) k → (i : Raw) × Contains insns i × (i.at ≡ k)
 in_ats [] k (n, lt, e) = absurd (omega arith)
 in_ats (i ∷ insns) k (zero, lt, e) = (i, contains_first i insns, e)
-in_ats (i ∷ insns) k (suc n, lt, e) = let h = in_ats insns k (n, omega arith, e) in (h.0, contains_later i h.0 insns h.1, h.2)
+in_ats (i ∷ insns) k (suc n, lt, e) = let h = in_ats insns k (n, omega arith, e)
+    in (h.0, contains_later i h.0 insns h.1, h.2)
 
 ats_in : (insns : List Raw) (i : Raw) (k : ℕ) → Contains insns i → i.at ≡ k → Contains (ats insns) k
 ats_in [] i k (n, lt, e) h = absurd (omega arith)
@@ -61,7 +64,8 @@ start_is code place e =
     let c = cut code.bytes in
     let h = marked_at (ats c.insns ++ c.stop ∷ []) 0 (length code.bytes) place e in
     let same : 0 + place ≡ place = omega arith in
-    let there : Contains (ats c.insns ++ c.stop ∷ []) place = hit_there (ats c.insns ++ c.stop ∷ []) place (subst (λ (m : ℕ). hits (ats c.insns ++ c.stop ∷ []) m ≡ true) same h.1) in
+    let there : Contains (ats c.insns ++ c.stop ∷ []) place = hit_there (ats c.insns ++ c.stop ∷ []) place
+    (subst (λ (m : ℕ). hits (ats c.insns ++ c.stop ∷ []) m ≡ true) same h.1) in
     record {
       inside = h.0;
       starts = elim (Contains-append_cases (ats c.insns) (c.stop ∷ []) place there) [
@@ -83,4 +87,5 @@ is_start_there code place h =
       | inr stop ↦ Contains-append_right (ats c.insns) (c.stop ∷ []) place (0, omega arith, sym stop)
     ] in
     let same : place ≡ 0 + place = omega arith in
-    at_marked (ats c.insns ++ c.stop ∷ []) 0 (length code.bytes) place h.inside (subst (λ (m : ℕ). hits (ats c.insns ++ c.stop ∷ []) m ≡ true) same (there_hit (ats c.insns ++ c.stop ∷ []) place there))
+    at_marked (ats c.insns ++ c.stop ∷ []) 0 (length code.bytes) place h.inside (subst (λ (m : ℕ). hits (ats c.insns
+    ++ c.stop ∷ []) m ≡ true) same (there_hit (ats c.insns ++ c.stop ∷ []) place there))

@@ -19,10 +19,12 @@ table_is = refl
 get_or-rows_from : (n opcode k : ℕ) (d : Operands × Family) → k < n → get_or (rows_from opcode n) k d ≡ row (opcode + k)
 get_or-rows_from zero opcode k d h = absurd (omega (arith, h))
 get_or-rows_from (suc n) opcode zero d h = ap row (omega arith)
-get_or-rows_from (suc n) opcode (suc k) d h = get_or-rows_from n (suc opcode) k d (omega (arith, h)) ∙ ap row (omega arith)
+get_or-rows_from (suc n) opcode (suc k) d h = get_or-rows_from n (suc opcode) k d (omega (arith, h))
+    ∙ ap row (omega arith)
 
 pub get_or-table : (opcode : ℕ) (d : Operands × Family) → opcode < 256 → get_or TABLE opcode d ≡ row opcode
-get_or-table opcode d h = ap (λ t. get_or t opcode d) table_is ∙ get_or-rows_from 256 0 opcode d h ∙ ap row (omega arith)
+get_or-table opcode d h = ap (λ t. get_or t opcode d) table_is ∙ get_or-rows_from 256 0 opcode d h
+    ∙ ap row (omega arith)
 
 pub slice_get-table : (opcode : ℕ) → opcode < 256 → slice_get TABLE opcode ≡ Some (row opcode)
 slice_get-table opcode h =

@@ -11,7 +11,8 @@ use Rattle.cjc_code.specs.Instruction.{instruction}
 -- `stop`, the bytes end or spell no instruction: the opcode is unknown or an operand is cut.
 unfoldable pub IsCutFrom : (place : ℕ) → List ℕ → List Raw → (stop : ℕ) → Type 0
 IsCutFrom place bytes [] stop = (stop ≡ place) × ((k : ℕ) × Breaks instruction place bytes k)
-IsCutFrom place bytes (i ∷ insns) stop = (front back : List ℕ) × (bytes ≡ front ++ back) × Spells instruction place i front × IsCutFrom (place + length front) back insns stop
+IsCutFrom place bytes (i ∷ insns) stop = (front back : List ℕ) × (bytes ≡ front ++ back)
+    × Spells instruction place i front × IsCutFrom (place + length front) back insns stop
 
 -- A code is cut into these instructions.
 abbrev pub IsCut : List ℕ → Cut → Type 0

@@ -1,5 +1,6 @@
 -- The instructions of a method, or the rule that its code breaks.
-use Rattle.std.specs.Prelude.{◌≡◌, ◌≤◌, ◌<◌, ◌^◌, ◌⊎◌, ℕ, min, List, [], ◌∷◌, ◌++◌, length, Option, Some, None, slice_get, get_or, Result, Ok, Err}
+use Rattle.std.specs.Prelude.{◌≡◌, ◌≤◌, ◌<◌, ◌^◌, ◌⊎◌, ℕ, min, List, [], ◌∷◌, ◌++◌, length, Option, Some, None}
+use Rattle.std.specs.Prelude.{slice_get, get_or, Result, Ok, Err}
 use Rattle.std.specs.List.{Contains, All}
 use Rattle.cjc_bytes.specs.declared.fault.Fault.{Fault}
 use Rattle.cjc_bytes.specs.declared.fault.Fault.TheVariants as faults
@@ -45,7 +46,8 @@ unless_unfit None found = found
 -- of its places; else, where rule 303 is, the first.
 unfoldable pub decoding : ClassTree → MethodTree → CodeTree → Result (List JInsn) BrokenAt
 decoding class method code =
-    unless_unfit (least (unfit_code class method code)) (unless_unsupported (all_named class.pool (cut code.bytes).insns))
+    unless_unfit (least (unfit_code class method code))
+    (unless_unsupported (all_named class.pool (cut code.bytes).insns))
 
 -- the instructions, and none where a rule is broken
 abbrev pub insns_of : Result (List JInsn) BrokenAt → List JInsn
@@ -98,8 +100,10 @@ method_at class k = get_or class.methods k no_method
 -- the refusal of the code of the method at this place of the class
 abbrev pub refusal_of : (file : List ℕ) → ClassTree → ℕ → BrokenAt → Refusal
 refusal_of file class k broken =
-    refused_at broken.rule (in_class file class.name (method_text (method_at class k).name (method_at class k).desc) broken.offset)
+    refused_at broken.rule (in_class file class.name (method_text (method_at class k).name (method_at class k).desc)
+    broken.offset)
 
 -- The error says which rule the code breaks and where, or that memory ran out.
 abbrev pub IsBroken : Result (List JInsn) BrokenAt → (BrokenAt → Refusal) → Fault → Type 0
-IsBroken found refused e = (e ≡ faults.NoMemory) ⊎ ((broken : BrokenAt) × (found ≡ Err broken) × (e ≡ faults.Refused (refused broken)))
+IsBroken found refused e = (e ≡ faults.NoMemory) ⊎ ((broken : BrokenAt) × (found ≡ Err broken)
+    × (e ≡ faults.Refused (refused broken)))

@@ -10,3 +10,4 @@ pub mod Decoded
 pub mod Samples
 pub mod Rules
 pub mod PackageCodes
+pub mod ReadLaws

@@ -1,6 +1,7 @@
 -- What the instructions of a code are, with the names of the constant pool, and rule 303: an instruction of the
 -- Java Virtual Machine that is not converted, or an ldc of something other than an Integer.
-use Rattle.std.specs.Prelude.{ℕ, Bool, true, false, if◌then◌else◌, List, [], ◌∷◌, map, Option, Some, None, slice_get, Result, Ok, Err, ℤ, pos}
+use Rattle.std.specs.Prelude.{ℕ, Bool, true, false, if◌then◌else◌, List, [], ◌∷◌, map, Option, Some, None, slice_get}
+use Rattle.std.specs.Prelude.{Result, Ok, Err, ℤ, pos}
 use Rattle.cjc_bytes.specs.Found.{each}
 use Rattle.cjc_bytes.specs.declared.fault.MemberId.{MemberId}
 use Rattle.cjc_classfile.specs.PoolItem.{PoolItem}

@@ -16,17 +16,21 @@ code_with class method (Err broken) = []
 -- ---- of all methods that have code, by what it is decoded to
 
 -- what is made of the decoded code of a method, and nothing where it has no code
-abbrev pub where_code : {A : Type 0} → (Result (List JInsn) BrokenAt → List A) → ClassTree → MethodTree → Option CodeTree → List A
+abbrev pub where_code : {A : Type 0} → (Result (List JInsn) BrokenAt → List A) → ClassTree → MethodTree
+    → Option CodeTree → List A
 where_code f tree m (Some code) = f (decoding tree m code)
 where_code f tree m None = []
 
 -- of these methods, the first of which has this place in its class
-abbrev pub of_methods : {A : Type 0} → (ℕ → ℕ → Result (List JInsn) BrokenAt → List A) → (class method : ℕ) → ClassTree → List MethodTree → List A
+abbrev pub of_methods : {A : Type 0} → (ℕ → ℕ → Result (List JInsn) BrokenAt → List A) → (class method : ℕ) → ClassTree
+    → List MethodTree → List A
 of_methods f class method tree [] = []
-of_methods f class method tree (m ∷ ms) = where_code (f class method) tree m m.code ++ of_methods f class (method + 1) tree ms
+of_methods f class method tree (m ∷ ms) = where_code (f class method) tree m m.code
+    ++ of_methods f class (method + 1) tree ms
 
 -- of these classes, the first of which has this place in the package
-abbrev pub of_classes : {A : Type 0} → (ℕ → ℕ → Result (List JInsn) BrokenAt → List A) → (class : ℕ) → List ClassTree → List A
+abbrev pub of_classes : {A : Type 0} → (ℕ → ℕ → Result (List JInsn) BrokenAt → List A) → (class : ℕ) → List ClassTree
+    → List A
 of_classes f class [] = []
 of_classes f class (tree ∷ trees) = of_methods f class 0 tree tree.methods ++ of_classes f (class + 1) trees
 

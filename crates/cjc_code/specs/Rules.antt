@@ -1,5 +1,6 @@
 -- Rules 103 and 303, case by case, over what a code is cut into.
-use Rattle.std.specs.Prelude.{◌⊎◌, ◌≡◌, ◌≢◌, ◌<◌, ◌≤◌, ℕ, ◌-◌, Bool, true, false, not, List, ◌∷◌, ◌++◌, length, map, Some, slice_get, pos}
+use Rattle.std.specs.Prelude.{◌⊎◌, ◌≡◌, ◌≢◌, ◌<◌, ◌≤◌, ℕ, ◌-◌, Bool, true, false, not, List, ◌∷◌, ◌++◌, length, map}
+use Rattle.std.specs.Prelude.{Some, slice_get, pos}
 use Rattle.std.specs.List.{Contains, AllPass}
 use Rattle.cjc_classfile.specs.declared.tree.Catch.{Catch}
 use Rattle.cjc_classfile.specs.declared.tree.ClassTree.{ClassTree}
@@ -9,7 +10,8 @@ use Rattle.cjc_classfile.specs.Code.{CodeTree}
 use Rattle.cjc_code.specs.declared.insn.JInsn.{JInsn}
 use Rattle.cjc_code.specs.declared.raw.Raw.{Raw}
 use Rattle.cjc_code.specs.Cut.{cut}
-use Rattle.cjc_code.specs.Unfit.{starts, is_start, has_wrong_item, has_wrong_jump, has_wrong_local, has_wrong_values, has_wrong_type, may_go_on, arguments}
+use Rattle.cjc_code.specs.Unfit.{starts, is_start, has_wrong_item, has_wrong_jump, has_wrong_local, has_wrong_values}
+use Rattle.cjc_code.specs.Unfit.{has_wrong_type, may_go_on, arguments}
 use Rattle.cjc_code.specs.Named.{is_unsupported, op_of}
 
 -- whether an instruction of a code starts at a place; the place where the cut stops inside the code counts as one
@@ -26,23 +28,34 @@ pub data IsUnfit (class : ClassTree) (method : MethodTree) (code : CodeTree) : �
   -- an unknown opcode, or an operand is cut
   stopped : (cut code.bytes).stop < length code.bytes → IsUnfit class method code (cut code.bytes).stop
   -- an index of the pool names nothing of the kind that is needed
-  wrong_item : (i : Raw) → Contains (cut code.bytes).insns i → has_wrong_item class.major class.pool i ≡ true → IsUnfit class method code i.at
+  wrong_item : (i : Raw) → Contains (cut code.bytes).insns i → has_wrong_item class.major class.pool i ≡ true
+      → IsUnfit class method code i.at
   -- a jump leads off an instruction's start
-  wrong_jump : (i : Raw) → Contains (cut code.bytes).insns i → has_wrong_jump (starts (cut code.bytes) (length code.bytes)) i ≡ true → IsUnfit class method code i.at
+  wrong_jump : (i : Raw) → Contains (cut code.bytes).insns i
+      → has_wrong_jump (starts (cut code.bytes) (length code.bytes)) i ≡ true → IsUnfit class method code i.at
   -- a local is at max_locals or above
-  wrong_local : (i : Raw) → Contains (cut code.bytes).insns i → has_wrong_local code.max_locals i ≡ true → IsUnfit class method code i.at
-  -- the low value of a tableswitch is above the high one, or a lookupswitch has a negative count or values that do not ascend
-  wrong_values : (i : Raw) → Contains (cut code.bytes).insns i → has_wrong_values i.family i.numbers ≡ true → IsUnfit class method code i.at
+  wrong_local : (i : Raw) → Contains (cut code.bytes).insns i → has_wrong_local code.max_locals i ≡ true
+      → IsUnfit class method code i.at
+  -- the low value of a tableswitch is above the high one, or a lookupswitch has a negative count or values that do not
+  -- ascend
+  wrong_values : (i : Raw) → Contains (cut code.bytes).insns i → has_wrong_values i.family i.numbers ≡ true
+      → IsUnfit class method code i.at
   -- the type of a newarray is outside 4 to 11
-  wrong_type : (i : Raw) → Contains (cut code.bytes).insns i → has_wrong_type i.family i.numbers ≡ true → IsUnfit class method code i.at
+  wrong_type : (i : Raw) → Contains (cut code.bytes).insns i → has_wrong_type i.family i.numbers ≡ true
+      → IsUnfit class method code i.at
   -- the last instruction may fall off the end
-  falls : (i : Raw) → (cut code.bytes).stop ≡ length code.bytes → slice_get (cut code.bytes).insns (length (cut code.bytes).insns - 1) ≡ Some i → may_go_on i.family ≡ true → IsUnfit class method code i.at
+  falls : (i : Raw) → (cut code.bytes).stop ≡ length code.bytes
+      → slice_get (cut code.bytes).insns (length (cut code.bytes).insns - 1) ≡ Some i → may_go_on i.family ≡ true
+      → IsUnfit class method code i.at
   -- the arguments, which the first instruction counts as using, take more locals than there are
   too_many : code.max_locals < arguments method → IsUnfit class method code 0
   -- a bound or the target of a handler is off an instruction's start. An end may be the code's length
-  wrong_start : (c : Catch) → Contains code.catches c → starts_at code c.start ≡ false → IsUnfit class method code c.start
-  wrong_end : (c : Catch) → Contains code.catches c → starts_at code c.end ≡ false → c.end ≢ length code.bytes → IsUnfit class method code c.end
-  wrong_target : (c : Catch) → Contains code.catches c → starts_at code c.target ≡ false → IsUnfit class method code c.target
+  wrong_start : (c : Catch) → Contains code.catches c → starts_at code c.start ≡ false
+      → IsUnfit class method code c.start
+  wrong_end : (c : Catch) → Contains code.catches c → starts_at code c.end ≡ false → c.end ≢ length code.bytes
+      → IsUnfit class method code c.end
+  wrong_target : (c : Catch) → Contains code.catches c → starts_at code c.target ≡ false
+      → IsUnfit class method code c.target
 
 -- The rule is broken there and nowhere before.
 pub record IsFirstUnfit (class : ClassTree) (method : MethodTree) (code : CodeTree) (k : ℕ) : Type 0 where

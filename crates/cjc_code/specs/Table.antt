@@ -1,5 +1,6 @@
 -- The opcodes of the Java Virtual Machine and what follows each (Java Virtual Machine Specification, 6.5).
-use Rattle.std.specs.Prelude.{ℕ, true, false, ◌-◌, ◌*◌, ◌%◌, ◌==◌, ◌&&◌, nat_le, if◌then◌else◌, List, [], ◌∷◌, Option, Some, None, ℤ, pos, negsuc, ◌+ℤ◌, ◌-ℤ◌}
+use Rattle.std.specs.Prelude.{ℕ, true, false, ◌-◌, ◌*◌, ◌%◌, ◌==◌, ◌&&◌, nat_le, if◌then◌else◌, List, [], ◌∷◌, Option}
+use Rattle.std.specs.Prelude.{Some, None, ℤ, pos, negsuc, ◌+ℤ◌, ◌-ℤ◌}
 use Rattle.cjc_code.specs.declared.table.Operand.{Operand}
 use Rattle.cjc_code.specs.declared.table.Operand.TheVariants.{Unsigned1, Signed1, Unsigned2, Signed2, Signed4}
 use Rattle.cjc_code.specs.declared.table.Operands.{Operands}
@@ -48,7 +49,8 @@ ranges =
     ∷ alike 0x16 0x18 behind.U1 family.UnsupportedLocal  -- lload, fload, dload
     ∷ single 0x19 behind.U1 (family.Load true)  -- aload
     ∷ range 0x1A 0x1D (λ k. bare (family.LoadAt false k))  -- iload_0 to iload_3
-    ∷ range 0x1E 0x29 (λ k. bare (family.UnsupportedLocalAt (k % 4)))  -- lload_0 to lload_3, fload_0 to fload_3, dload_0 to dload_3
+    -- lload_0 to lload_3, fload_0 to fload_3, dload_0 to dload_3
+    ∷ range 0x1E 0x29 (λ k. bare (family.UnsupportedLocalAt (k % 4)))
     ∷ range 0x2A 0x2D (λ k. bare (family.LoadAt true k))  -- aload_0 to aload_3
     ∷ single 0x2E behind.Nothing family.ArrayLoad  -- iaload
     ∷ alike 0x2F 0x31 behind.Nothing family.Unsupported  -- laload, faload, daload
@@ -59,7 +61,8 @@ ranges =
     ∷ alike 0x37 0x39 behind.U1 family.UnsupportedLocal  -- lstore, fstore, dstore
     ∷ single 0x3A behind.U1 (family.Store true)  -- astore
     ∷ range 0x3B 0x3E (λ k. bare (family.StoreAt false k))  -- istore_0 to istore_3
-    ∷ range 0x3F 0x4A (λ k. bare (family.UnsupportedLocalAt (k % 4)))  -- lstore_0 to lstore_3, fstore_0 to fstore_3, dstore_0 to dstore_3
+    -- lstore_0 to lstore_3, fstore_0 to fstore_3, dstore_0 to dstore_3
+    ∷ range 0x3F 0x4A (λ k. bare (family.UnsupportedLocalAt (k % 4)))
     ∷ range 0x4B 0x4E (λ k. bare (family.StoreAt true k))  -- astore_0 to astore_3
     ∷ single 0x4F behind.Nothing family.ArrayStore  -- iastore
     ∷ alike 0x50 0x52 behind.Nothing family.Unsupported  -- lastore, fastore, dastore
@@ -67,15 +70,18 @@ ranges =
     ∷ single 0x55 behind.Nothing family.Unsupported  -- castore
     ∷ single 0x56 behind.Nothing family.ArrayStore  -- sastore
     ∷ alike 0x57 0x5F behind.Nothing family.Stack  -- pop, pop2, dup, dup_x1, dup_x2, dup2, dup2_x1, dup2_x2, swap
-    ∷ range 0x60 0x77 (λ k. bare (if k % 4 == 0 then family.Arith else family.Unsupported))  -- of int, long, float and double: add, sub, mul, div, rem, neg
-    ∷ range 0x78 0x83 (λ k. bare (if k % 2 == 0 then family.Arith else family.Unsupported))  -- of int and long: shl, shr, ushr, and, or, xor
+    -- of int, long, float and double: add, sub, mul, div, rem, neg
+    ∷ range 0x60 0x77 (λ k. bare (if k % 4 == 0 then family.Arith else family.Unsupported))
+    -- of int and long: shl, shr, ushr, and, or, xor
+    ∷ range 0x78 0x83 (λ k. bare (if k % 2 == 0 then family.Arith else family.Unsupported))
     ∷ single 0x84 behind.U1S1 family.Inc  -- iinc
     ∷ alike 0x85 0x90 behind.Nothing family.Unsupported  -- i2l, i2f, i2d, l2i, l2f, l2d, f2i, f2l, f2d, d2i, d2l, d2f
     ∷ single 0x91 behind.Nothing family.Narrow  -- i2b
     ∷ single 0x92 behind.Nothing family.Unsupported  -- i2c
     ∷ single 0x93 behind.Nothing family.Narrow  -- i2s
     ∷ alike 0x94 0x98 behind.Nothing family.Unsupported  -- lcmp, fcmpl, fcmpg, dcmpl, dcmpg
-    ∷ alike 0x99 0xA6 behind.S2 family.If  -- ifeq, ifne, iflt, ifge, ifgt, ifle, if_icmpeq to if_icmple, if_acmpeq, if_acmpne
+    -- ifeq, ifne, iflt, ifge, ifgt, ifle, if_icmpeq to if_icmple, if_acmpeq, if_acmpne
+    ∷ alike 0x99 0xA6 behind.S2 family.If
     ∷ single 0xA7 behind.S2 family.Goto  -- goto
     ∷ single 0xA8 behind.S2 family.UnsupportedJump  -- jsr
     ∷ single 0xA9 behind.U1 family.Ret  -- ret
@@ -110,7 +116,8 @@ ranges =
 -- the row of an opcode in the range that has it; what is in none is no opcode
 abbrev pub row_in : List Range → ℕ → Operands × Family
 row_in [] opcode = bare family.Unknown
-row_in (r ∷ rs) opcode = if nat_le r.first opcode && nat_le opcode r.last then r.row (opcode - r.first) else row_in rs opcode
+row_in (r ∷ rs) opcode = if nat_le r.first opcode && nat_le opcode r.last then r.row (opcode - r.first)
+    else row_in rs opcode
 
 -- what follows an opcode, and what its instruction is
 unfoldable pub row : ℕ → Operands × Family

@@ -1,6 +1,8 @@
 -- Rule 103: code that is not a run of instructions (Java Virtual Machine Specification, 4.9.1). Each case is a
 -- test, and its places are offsets in the code, in bytes.
-use Rattle.std.specs.Prelude.{ℕ, zero, suc, ◌+◌, ◌-◌, Bool, true, false, not, ◌&&◌, ◌||◌, nat_lt, nat_le, int_lt, ◌==◌, if◌then◌else◌, List, [], ◌∷◌, ◌++◌, length, map, flat_map, Option, Some, None, slice_get, get_or, ℤ, pos, negsuc}
+use Rattle.std.specs.Prelude.{ℕ, zero, suc, ◌+◌, ◌-◌, Bool, true, false, not, ◌&&◌, ◌||◌, nat_lt, nat_le, int_lt, ◌==◌}
+use Rattle.std.specs.Prelude.{if◌then◌else◌, List, [], ◌∷◌, ◌++◌, length, map, flat_map, Option, Some, None, slice_get}
+use Rattle.std.specs.Prelude.{get_or, ℤ, pos, negsuc}
 use Rattle.std.specs.List.{list_any, list_all}
 use Rattle.cjc_bytes.specs.AccessFlags.{is_static}
 use Rattle.cjc_bytes.specs.Descriptor.{Parts}
@@ -25,7 +27,8 @@ unfoldable pub marks : List ℕ → (place : ℕ) → ℕ → List Bool
 marks places place zero = []
 marks places place (suc n) = list_any (λ p. p == place) places ∷ marks places (suc place) n
 
--- for each byte of a code of this length: whether an instruction starts there. The place where the cut stops counts as one
+-- for each byte of a code of this length: whether an instruction starts there. The place where the cut stops counts as
+-- one
 unfoldable pub starts : Cut → ℕ → List Bool
 starts c size = marks (map (λ (i : Raw). i.at) c.insns ++ c.stop ∷ []) 0 size
 
@@ -84,7 +87,8 @@ where_true false place = []
 
 -- the instructions that break it
 abbrev pub unfit_places : (major : ℕ) → List PoolItem → (max_locals : ℕ) → List Bool → List Raw → List ℕ
-unfit_places major pool max_locals starts insns = flat_map (λ (i : Raw). where_true (is_unfit major pool max_locals starts i) i.at) insns
+unfit_places major pool max_locals starts insns =
+    flat_map (λ (i : Raw). where_true (is_unfit major pool max_locals starts i) i.at) insns
 
 -- an unknown opcode or a cut operand, where the cut stops before the end
 abbrev pub stop_places : (stop : ℕ) → (size : ℕ) → List ℕ
@@ -146,4 +150,5 @@ cut_places class method code c starts =
 
 -- the places where the code of a method breaks rule 103
 unfoldable pub unfit_code : ClassTree → MethodTree → CodeTree → List ℕ
-unfit_code class method code = cut_places class method code (cut code.bytes) (starts (cut code.bytes) (length code.bytes))
+unfit_code class method code = cut_places class method code (cut code.bytes) (starts (cut code.bytes)
+    (length code.bytes))

@@ -48,7 +48,8 @@ fn read_operands(
 /// So many numbers of four bytes behind these.
 #[tactic(auto, using(cjc_bytes::proofs::Loops::repeated_more, cjc_bytes::proofs::Loops::repeated_stops, cjc_bytes::proofs::Loops::repeated_all))]
 fn read_tail(mut numbers: Row<i32>, count: u64, cursor: &mut Cursor<'_>) -> Result<Row<i32>, Stop>
-    ensures { Finds (λ zs. (zs, cursor.new)) (with_front numbers (read (repeated count (operand kinds.Signed4)) cursor.old)) result }
+    ensures { Finds (λ zs. (zs, cursor.new)) (with_front numbers (read (repeated count (operand kinds.Signed4))
+        cursor.old)) result }
 {
     for _ in 0..count {
         numbers.push(read_operand(Operand::Signed4, cursor)?)?;

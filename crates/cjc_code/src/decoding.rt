@@ -139,7 +139,8 @@ pub fn decode(
 
     // A refusal is where the code breaks a rule, and where it does it is refused.
     ensures refused { IfErr result (IsBroken (decoding_at class.now method) (refusal_of file.now class.now method)) }
-    ensures breaks { (b : BrokenAt) → decoding_at class.now method ≡ Err b → IsUnlessNoMemory result (Err (faults.Refused (refusal_of file.now class.now method b))) }
+    ensures breaks { (b : BrokenAt) → decoding_at class.now method ≡ Err b
+        → IsUnlessNoMemory result (Err (faults.Refused (refusal_of file.now class.now method b))) }
 {
     match decode_method(alloc, class, method) {
         Ok(insns) => Ok(insns),

@@ -30,9 +30,12 @@ pub fn cuts()
 /// a bound of its range need a place where an instruction starts.
 pub fn rules()
     ensures starts { (code : CodeTree) (place : ℕ) → (starts_at code place ≡ true) ↔ IsStart code place }
-    ensures unfit { (class : ClassTree) (method : MethodTree) (code : CodeTree) (k : ℕ) → (decoding class method code ≡ broken 103 k) ↔ IsFirstUnfit class method code k }
-    ensures unsupported { (class : ClassTree) (method : MethodTree) (code : CodeTree) (k : ℕ) → (decoding class method code ≡ broken 303 k) ↔ IsFirstUnsupportedCode class method code k }
-    ensures decoded { (class : ClassTree) (method : MethodTree) (code : CodeTree) (insns : List JInsn) → (decoding class method code ≡ Ok insns) ↔ IsDecoded class method code insns }
+    ensures unfit { (class : ClassTree) (method : MethodTree) (code : CodeTree) (k : ℕ)
+        → (decoding class method code ≡ broken 103 k) ↔ IsFirstUnfit class method code k }
+    ensures unsupported { (class : ClassTree) (method : MethodTree) (code : CodeTree) (k : ℕ)
+        → (decoding class method code ≡ broken 303 k) ↔ IsFirstUnsupportedCode class method code k }
+    ensures decoded { (class : ClassTree) (method : MethodTree) (code : CodeTree) (insns : List JInsn)
+        → (decoding class method code ≡ Ok insns) ↔ IsDecoded class method code insns }
 {}
 
 /// Some codes are decoded as they should be.

@@ -12,6 +12,7 @@ mod method_code;
 mod named;
 mod numbers;
 mod raw;
+pub mod read_laws;
 mod starts;
 mod table;
 mod unfit;

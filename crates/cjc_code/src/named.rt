@@ -5,7 +5,8 @@ ghost use Rattle.std.specs.Prelude.{◌≡◌, ◌<◌, ◌∷◌, [], length, I
 ghost use Rattle.cjc_bytes.specs.Found.{Finds};
 ghost use Rattle.cjc_classfile.specs.KeptItem.{id_of};
 ghost use Rattle.cjc_code.specs.Numbers.{first, u16_of};
-ghost use Rattle.cjc_code.specs.Named.{int_of, class_of, field_of, method_of, no_member, is_unsupported, place, places, cases, table, lookup, op_of, named, all_named};
+ghost use Rattle.cjc_code.specs.Named.{int_of, class_of, field_of, method_of, no_member, is_unsupported, place, places};
+ghost use Rattle.cjc_code.specs.Named.{cases, table, lookup, op_of, named, all_named};
 
 use crate::insn::{JCase, JInsn, JOp};
 use crate::numbers::{first, i16_of, second, u8_of, u16_of};
@@ -129,7 +130,8 @@ fn places(alloc: Global, at: u16, offsets: &[i32]) -> Result<Row<u32>, NoMemory>
 
 /// The case at the front of pairs, and the pairs behind it.
 fn first_case(at: u16, pairs: &[i32]) -> Option<(JCase, &[i32])>
-    ensures { MatchOption result (cases at pairs.now ≡ []) (λ x. (cases at pairs.now ≡ x.0 ∷ cases at x.1.now) × (length x.1.now < length pairs.now)) }
+    ensures { MatchOption result (cases at pairs.now ≡ []) (λ x. (cases at pairs.now ≡ x.0 ∷ cases at x.1.now)
+        × (length x.1.now < length pairs.now)) }
 {
     match pairs {
         [value, offset, behind @ ..] => {

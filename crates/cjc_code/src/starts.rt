@@ -12,7 +12,8 @@ use cjc_bytes::NoMemory;
 use std::alloc::Global;
 
 fn marked(mut starts: Vec<bool>, place: usize) -> Vec<bool>
-    ensures { result.items ≡ (if nat_lt place (length starts.items) then slice_set starts.items place true else starts.items) }
+    ensures { result.items ≡ (if nat_lt place (length starts.items) then slice_set starts.items place true
+        else starts.items) }
 {
     if place < starts.len() {
         starts[place] = true;

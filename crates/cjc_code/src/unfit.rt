@@ -3,7 +3,9 @@
 ghost use Rattle.std.specs.Prelude.{◌≡◌, ◌++◌, ◌≤◌, ◌^◌, ◌<◌, length, OnOk, IfOk, map, pos};
 ghost use Rattle.std.specs.List.{flat_map};
 ghost use Rattle.cjc_bytes.specs.Spots.{desc_of};
-ghost use Rattle.cjc_code.specs.Unfit.{rise, has_wrong_item, has_wrong_jump, has_wrong_local, has_wrong_values, has_wrong_type, is_unfit, where_true, unfit_places, may_go_on, last_places, arguments, catch_places, cut_places};
+ghost use Rattle.cjc_code.specs.Unfit.{rise, has_wrong_item, has_wrong_jump, has_wrong_local, has_wrong_values};
+ghost use Rattle.cjc_code.specs.Unfit.{has_wrong_type, is_unfit, where_true, unfit_places, may_go_on, last_places};
+ghost use Rattle.cjc_code.specs.Unfit.{arguments, catch_places, cut_places};
 
 use crate::items::{meets, needed};
 use crate::numbers::{first, local, u8_of, u16_of};

@@ -1,5 +1,6 @@
 -- Class: the interfaces and classes of a package (Java Card Virtual Machine Specification 2.2.2, section 6.8).
-use Rattle.std.specs.Prelude.{ℕ, ◌+◌, ◌==◌, ◌&&◌, ◌||◌, List, [], map, slice_get, unwrap_or, count_by, Bool, true, false, if◌then◌else◌, Option, Some, None}
+use Rattle.std.specs.Prelude.{ℕ, ◌+◌, ◌==◌, ◌&&◌, ◌||◌, List, [], map, slice_get, unwrap_or, count_by, Bool, true}
+use Rattle.std.specs.Prelude.{false, if◌then◌else◌, Option, Some, None}
 use Rattle.std.specs.Str.{bytes_eq}
 use Rattle.cjc_bytes.specs.AccessFlags.{is_interface}
 use Rattle.cjc_capread.specs.declared.tree.ClassRef.{ClassRef}
@@ -75,7 +76,8 @@ reference_count fields = count_by is_reference_field fields
 
 -- their first token: references stand behind the public and protected primitives
 abbrev pub first_reference_token : List FieldTree → ℕ
-first_reference_token fields = if reference_count fields == 0 then 0xFF else cells_of (λ f. is_instance f && group f == 0) fields
+first_reference_token fields = if reference_count fields == 0 then 0xFF else cells_of (λ f. is_instance f
+    && group f == 0) fields
 
 -- an entry of a public table: 0xFFFF where the implementation is imported
 abbrev pub table_entry : Package → Option Found → ℕ

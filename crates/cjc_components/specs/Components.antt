@@ -1,5 +1,6 @@
 -- All components of a package, as they are written (Java Card Virtual Machine Specification 2.2.2, chapter 6).
-use Rattle.std.specs.Prelude.{ℕ, ◌+◌, List, [], ◌∷◌, ◌++◌, map, flat_map, length, replicate, Bool, false, ◌||◌, if◌then◌else◌, Option, Some, None, is_some, codes}
+use Rattle.std.specs.Prelude.{ℕ, ◌+◌, List, [], ◌∷◌, ◌++◌, map, flat_map, length, replicate, Bool, false, ◌||◌}
+use Rattle.std.specs.Prelude.{if◌then◌else◌, Option, Some, None, is_some, codes}
 use Rattle.std.specs.List.{list_any}
 use Rattle.cjc_bytes.specs.declared.settings.AppletLine.{AppletLine}
 use Rattle.cjc_capread.specs.declared.tree.Header.{Header}
@@ -13,13 +14,13 @@ use Rattle.cjc_capread.specs.declared.tree.ReferenceLocation.{ReferenceLocation}
 use Rattle.cjc_capread.specs.declared.tree.CapTree.{CapTree}
 use Rattle.cjc_capwrite.specs.Size.{info_of}
 use Rattle.cjc_export.specs.declared.tree.ExportTree.{ExportTree}
-use Rattle.cjc_sentences.specs.Locations.{distances, catch_places}
-use Rattle.cjc_sentences.specs.Listed.{array_bytes, applet_count}
+use Rattle.cjc_check_rules.specs.Locations.{distances, catch_places}
+use Rattle.cjc_check_rules.specs.Listed.{array_bytes, applet_count}
 use Rattle.cjc_world.specs.Lookup.{find_method}
 use Rattle.cjc_world.specs.Classes.{Class}
 use Rattle.cjc_subset.specs.Types.{is_int_desc}
-use Rattle.cjc_lower.specs.Placed.{Placed}
-use Rattle.cjc_lower.specs.Package.{all_bytes, all_handlers}
+use Rattle.cjc_ncode.specs.Lowering.Placed.{Placed}
+use Rattle.cjc_ncode.specs.Lowering.Package.{all_bytes, all_handlers}
 use Rattle.cjc_emit.specs.Emitted.{code_places}
 use Rattle.cjc_components.specs.Package.{Package, world, has_applets}
 use Rattle.cjc_components.specs.Methods.{placed_methods}
@@ -57,7 +58,10 @@ header p = let list = p.list in record {
 
 -- an applet with the offset of the install method of its class
 abbrev pub applet_entry : Package → AppletLine → AppletEntry
-applet_entry p a = record { aid = a.aid; install_method = offset_where p (find_method (world p) a.class (codes "install") (codes "([BSB)V")) }
+applet_entry p a = record {
+  aid = a.aid;
+  install_method = offset_where p (find_method (world p) a.class (codes "install") (codes "([BSB)V"));
+}
 
 -- there where the list has an applet line
 abbrev pub applet_with : Package → List AppletLine → Option Applet
@@ -82,7 +86,10 @@ import p = let files = p.files in record { packages = map imported_package files
 
 -- Method: the handlers of all methods, and their bytes one behind the other.
 abbrev pub method : Package → Method
-method p = record { handlers = all_handlers (names p) (placed_methods p); methods = all_bytes (names p) (placed_methods p) }
+method p = record {
+  handlers = all_handlers (names p) (placed_methods p);
+  methods = all_bytes (names p) (placed_methods p);
+}
 
 -- ---- ReferenceLocation (section 6.11)
 
@@ -90,7 +97,8 @@ method p = record { handlers = all_handlers (names p) (placed_methods p); method
 abbrev pub places_in : Package → (bytes : ℕ) → Placed → List ℕ
 places_in p bytes m = let code = m.method in code_places (names p) bytes (m.offset + length m.header) code.insns m.wide
 
--- ReferenceLocation: the distances between the indices of one byte, and between those of two; catch indices stand before all methods.
+-- ReferenceLocation: the distances between the indices of one byte, and between those of two; catch indices stand
+-- before all methods.
 abbrev pub reference_location : Package → ReferenceLocation
 reference_location p = let m = method p in record {
   one_byte = distances 0 (flat_map (places_in p 1) (placed_methods p));

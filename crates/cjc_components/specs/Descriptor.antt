@@ -1,6 +1,8 @@
--- Descriptor: the classes of a package with their members, and types (Java Card Virtual Machine Specification 2.2.2, section 6.13).
+-- Descriptor: the classes of a package with their members, and types (Java Card Virtual Machine Specification 2.2.2,
+-- section 6.13).
 use Rattle.std.specs.Prelude.{ℕ, ◌+◌, ◌-◌, List, [], ◌∷◌, ◌++◌, map, length, slice_get, unwrap_or, Some, if◌then◌else◌}
-use Rattle.cjc_bytes.specs.AccessFlags.{has, is_static, acc_public, acc_private, acc_protected, acc_static, acc_final, acc_interface, acc_abstract}
+use Rattle.cjc_bytes.specs.AccessFlags.{has, is_static, acc_public, acc_private, acc_protected, acc_static, acc_final}
+use Rattle.cjc_bytes.specs.AccessFlags.{acc_interface, acc_abstract}
 use Rattle.cjc_capread.specs.declared.tree.FieldDescriptor.{FieldDescriptor}
 use Rattle.cjc_capread.specs.declared.tree.FieldPlace.{FieldPlace}
 use Rattle.cjc_capread.specs.declared.tree.FieldPlace.TheVariants as places
@@ -37,23 +39,27 @@ flag_where flags flag written = if has flags flag then written else 0
 -- public 1, final 10, interface 40, abstract 80
 abbrev pub class_flags : ℕ → ℕ
 class_flags flags =
-    flag_where flags acc_public 0x01 + flag_where flags acc_final 0x10 + flag_where flags acc_interface 0x40 + flag_where flags acc_abstract 0x80
+    flag_where flags acc_public 0x01 + flag_where flags acc_final 0x10 + flag_where flags acc_interface 0x40 +
+    flag_where flags acc_abstract 0x80
 
 -- public 1, private 2, protected 4, static 8, final 10
 abbrev pub field_flags : ℕ → ℕ
 field_flags flags =
-    flag_where flags acc_public 0x01 + flag_where flags acc_private 0x02 + flag_where flags acc_protected 0x04 + flag_where flags acc_static 0x08 + flag_where flags acc_final 0x10
+    flag_where flags acc_public 0x01 + flag_where flags acc_private 0x02 + flag_where flags acc_protected 0x04 +
+    flag_where flags acc_static 0x08 + flag_where flags acc_final 0x10
 
 -- those of a field, abstract 40, constructor 80
 abbrev pub method_flags : Member → ℕ
-method_flags m = field_flags m.flags + flag_where m.flags acc_abstract 0x40 + (if is_constructor m.name then 0x80 else 0)
+method_flags m = field_flags m.flags + flag_where m.flags acc_abstract 0x40 + (if is_constructor m.name then 0x80
+    else 0)
 
 -- ---- fields
 
 -- a static field by its cell, an instance field by its class and its token
 abbrev pub field_place : Package → Class → FieldTree → (token : ℕ) → FieldPlace
 field_place p c f token =
-    if is_static f.flags then places.Static (cell_offset p.image (field_id c.name f)) else places.Instance (class_ref p c.name) token
+    if is_static f.flags then places.Static (cell_offset p.image (field_id c.name f))
+    else places.Instance (class_ref p c.name) token
 
 -- a primitive type itself, a reference type by the offset of its descriptor
 abbrev pub field_type : Package → (desc : List ℕ) → Sort → FieldType
@@ -68,12 +74,18 @@ field_type p desc NoValue = types.Described 0
 abbrev pub field_descriptor : Package → Class → (place : ℕ) → FieldTree → FieldDescriptor
 field_descriptor p c i f =
     let token = member_token p (Some (member_at c i)) in
-    record { token = token; flags = field_flags f.flags; place = field_place p c f token; type_ = field_type p f.desc (field_sort f.desc) }
+    record {
+      token = token;
+      flags = field_flags f.flags;
+      place = field_place p c f token;
+      type_ = field_type p f.desc (field_sort f.desc);
+    }
 
 -- those of the fields from a place on that are no constants
 abbrev pub fields_from : Package → Class → (place : ℕ) → List FieldTree → List FieldDescriptor
 fields_from p c i [] = []
-fields_from p c i (f ∷ fields) = (if is_constant f then [] else field_descriptor p c i f ∷ []) ++ fields_from p c (i + 1) fields
+fields_from p c i (f ∷ fields) = (if is_constant f then [] else field_descriptor p c i f ∷ [])
+    ++ fields_from p c (i + 1) fields
 
 -- ---- methods
 
@@ -137,7 +149,8 @@ type_by p (desc ∷ rest) = type_offset p desc
 abbrev pub pool_type : Package → PoolKey → ℕ
 pool_type p key = type_by p (desc_of_key key)
 
--- Descriptor: all classes and interfaces in the order of Class, a type for each entry of the pool, and the type descriptors.
+-- Descriptor: all classes and interfaces in the order of Class, a type for each entry of the pool, and the type
+-- descriptors.
 abbrev pub descriptor : Package → Descriptor
 descriptor p = record {
   classes = map (class_descriptor p) (class_order (world p));

@@ -1,5 +1,6 @@
 -- The export file of a package (Java Card Virtual Machine Specification 2.2.2, chapter 5).
-use Rattle.std.specs.Prelude.{ℕ, ◌+◌, ◌-◌, ◌&&◌, ◌||◌, List, [], ◌∷◌, ◌++◌, map, length, unwrap_or, bit_and, Bool, true, not, if◌then◌else◌, Option, Some, None, option_and_then, option_map}
+use Rattle.std.specs.Prelude.{ℕ, ◌+◌, ◌-◌, ◌&&◌, ◌||◌, List, [], ◌∷◌, ◌++◌, map, length, unwrap_or, bit_and, Bool, true}
+use Rattle.std.specs.Prelude.{not, if◌then◌else◌, Option, Some, None, option_and_then, option_map}
 use Rattle.cjc_bytes.specs.AccessFlags.{is_interface, acc_super, acc_shareable}
 use Rattle.cjc_classfile.specs.declared.tree.FieldTree.{FieldTree}
 use Rattle.cjc_export.specs.declared.tree.ExportField.{ExportField}
@@ -10,7 +11,7 @@ use Rattle.cjc_world.specs.declared.found.Found.{Found}
 use Rattle.cjc_world.specs.Classes.{Member, Class, class_at}
 use Rattle.cjc_world.specs.Added.{added}
 use Rattle.cjc_world.specs.Lookup.{member_at}
-use Rattle.cjc_supers.specs.Supers.{superclasses, interfaces}
+use Rattle.cjc_order.specs.Supers.Supers.{superclasses, interfaces}
 use Rattle.cjc_tokens.specs.Members.{Signature, has as is_among, is_exposed, is_initialiser, signatures}
 use Rattle.cjc_tokens.specs.Fields.{is_constant}
 use Rattle.cjc_tokens.specs.Lines.{line_at}
@@ -49,7 +50,8 @@ field_entry p c i f = record {
 -- the public and protected ones among those from a place on
 abbrev pub fields_from : Package → Class → (place : ℕ) → List FieldTree → List ExportField
 fields_from p c i [] = []
-fields_from p c i (f ∷ fields) = (if is_exposed f.flags then field_entry p c i f ∷ [] else []) ++ fields_from p c (i + 1) fields
+fields_from p c i (f ∷ fields) = (if is_exposed f.flags then field_entry p c i f ∷ [] else [])
+    ++ fields_from p c (i + 1) fields
 
 -- ---- its own methods
 
@@ -64,12 +66,14 @@ is_listed c m = (is_interface c.flags || is_exposed m.flags) && not (is_initiali
 -- those among the methods from a place on
 abbrev pub methods_from : Package → Class → (place : ℕ) → List Member → List ExportMethod
 methods_from p c i [] = []
-methods_from p c i (m ∷ methods) = (if is_listed c m then method_entry (member_token p (Some (member_at c i))) m ∷ [] else []) ++ methods_from p c (i + 1) methods
+methods_from p c i (m ∷ methods) = (if is_listed c m then method_entry (member_token p (Some (member_at c i))) m ∷ []
+    else []) ++ methods_from p c (i + 1) methods
 
 -- the methods that are added to a class, the first of which has this place
 abbrev pub added_from : Package → Class → (place : ℕ) → List Member → List ExportMethod
 added_from p c i [] = []
-added_from p c i (m ∷ methods) = method_entry (member_token p (Some (member_at c i))) (as_added m) ∷ added_from p c (i + 1) methods
+added_from p c i (m ∷ methods) = method_entry (member_token p (Some (member_at c i))) (as_added m)
+    ∷ added_from p c (i + 1) methods
 
 -- ---- inherited methods
 
@@ -110,7 +114,8 @@ abbrev pub supers_from : List Class → Class → (token : ℕ) → List Signatu
 supers_from w c t (s ∷ methods) (f ∷ row) = super_at w c t s f ++ supers_from w c (t + 1) methods row
 supers_from w c t methods row = []
 
--- The methods that a class inherits: of a class public and protected ones, of an interface those of its superinterfaces.
+-- The methods that a class inherits: of a class public and protected ones, of an interface those of its
+-- superinterfaces.
 abbrev pub inherited : List Class → Class → List ExportMethod
 inherited w c =
     if is_interface c.flags then supers_from w c 0 (interface_methods w c) (interface_row w c)
@@ -127,10 +132,12 @@ export_class p c = let w = world p in record {
   supers = superclasses w c;
   interfaces = interfaces w c;
   fields = fields_from p c 0 (fields_of p.files c);
-  methods = methods_from p c (length c.fields) c.methods ++ (added_from p c (length c.fields + length c.methods) (added w c) ++ inherited w c);
+  methods = methods_from p c (length c.fields) c.methods
+      ++ (added_from p c (length c.fields + length c.methods) (added w c) ++ inherited w c);
 }
 
--- The export file of a package: the classes that others may name, by token. It is a library's where the list has no applet.
+-- The export file of a package: the classes that others may name, by token. It is a library's where the list has no
+-- applet.
 abbrev pub export_of : Package → ExportTree
 export_of p = let list = p.list in record {
   name = list.package;

@@ -1,5 +1,6 @@
 -- Export: what other packages can use, by token (Java Card Virtual Machine Specification 2.2.2, section 6.12).
-use Rattle.std.specs.Prelude.{ℕ, ◌+◌, List, [], ◌∷◌, ◌++◌, map, filter, length, unwrap_or, not, ◌&&◌, if◌then◌else◌, Option, Some, None}
+use Rattle.std.specs.Prelude.{ℕ, ◌+◌, List, [], ◌∷◌, ◌++◌, map, filter, length, unwrap_or, not, ◌&&◌, if◌then◌else◌}
+use Rattle.std.specs.Prelude.{Option, Some, None}
 use Rattle.cjc_capread.specs.declared.tree.Export.{Export}
 use Rattle.cjc_capread.specs.declared.tree.ExportedClass.{ExportedClass}
 use Rattle.cjc_world.specs.declared.found.Found.{Found}
@@ -19,7 +20,8 @@ use Rattle.cjc_components.specs.Names.{class_offset}
 abbrev pub exported_classes : Package → List Class
 exported_classes p = filter (λ c. not c.is_imported && is_exported (world p) (has_applets p) c) (world p)
 
--- the public and protected static methods and constructors among those from a place on, which have their tokens in this order
+-- the public and protected static methods and constructors among those from a place on, which have their tokens in this
+-- order
 abbrev pub open_methods : Class → (place : ℕ) → List Member → List Found
 open_methods c i [] = []
 open_methods c i (m ∷ methods) = (if is_open_bound m then member_at c i ∷ [] else []) ++ open_methods c (i + 1) methods

@@ -10,3 +10,4 @@ pub mod Exports
 pub mod Components
 pub mod ExportFile
 pub mod Limits
+pub mod Paired

@@ -1,5 +1,6 @@
 -- The limits of what is written for a package, and where each is broken.
-use Rattle.std.specs.Prelude.{ℕ, ◌+◌, ◌*◌, List, [], ◌∷◌, ◌++◌, flat_map, length, sum_by, nat_lt, Bool, ◌||◌, if◌then◌else◌, Option, Some, None}
+use Rattle.std.specs.Prelude.{ℕ, ◌+◌, ◌*◌, List, [], ◌∷◌, ◌++◌, flat_map, length, sum_by, nat_lt, Bool, ◌||◌}
+use Rattle.std.specs.Prelude.{if◌then◌else◌, Option, Some, None}
 use Rattle.cjc_bytes.specs.Breaks.{Break, RulePlace, at, broken_at, list_spot, class_spot, member_spot}
 use Rattle.cjc_bytes.specs.Order.{file_of}
 use Rattle.cjc_bytes.specs.Refused.{method_text}
@@ -8,7 +9,7 @@ use Rattle.cjc_export.specs.Written.{constants}
 use Rattle.cjc_world.specs.declared.found.Found.{Found}
 use Rattle.cjc_world.specs.Classes.{Member, Class, class_at}
 use Rattle.cjc_layout.specs.Refusals.{overtaking, least}
-use Rattle.cjc_narrow.specs.Resolved.{argument_words}
+use Rattle.cjc_narrow.specs.Rows.Resolved.{argument_words}
 use Rattle.cjc_components.specs.Package.{LaidMethod, Package, world, pool}
 use Rattle.cjc_components.specs.Methods.{handler_count}
 use Rattle.cjc_components.specs.Descriptor.{method_in}
@@ -17,7 +18,8 @@ use Rattle.cjc_components.specs.ExportFile.{export_of}
 
 -- ---- places
 
--- a method at an offset of its code in the class file; one that is added to a class has no place of its own, and stands at the class
+-- a method at an offset of its code in the class file; one that is added to a class has no place of its own, and stands
+-- at the class
 abbrev pub method_spot : Package → Class → Found → Member → (offset : ℕ) → RulePlace
 method_spot p c f m offset = let files = p.files in
     if nat_lt f.member (length c.fields + length c.methods)
@@ -38,14 +40,16 @@ has_many_words m = nat_lt 255 (argument_words m.flags m.desc)
 abbrev pub is_too_long : LaidMethod → Bool
 is_too_long m = let code = m.code in nat_lt 32767 code.widest
 
--- 311: two handlers that cover a common instruction stand in the class file in another order than their offsets; the place is the first of the later ones.
+-- 311: two handlers that cover a common instruction stand in the class file in another order than their offsets; the
+-- place is the first of the later ones.
 abbrev pub order_breaks : (place : ℕ → RulePlace) → Option ℕ → List Break
 order_breaks place None = []
 order_breaks place (Some offset) = broken_at (place offset) 311 ∷ []
 
 -- a method of a class, which has room for its arguments
 abbrev pub layout_breaks : Package → Class → LaidMethod → List Break
-layout_breaks p c m = let f = m.member in let code = m.code in let place = method_spot p c f (method_in (world p) c f.member) in
+layout_breaks p c m = let f = m.member in let code = m.code in let place =
+    method_spot p c f (method_in (world p) c f.member) in
     order_breaks place (least (overtaking [] code.catches)) ++ at (is_too_long m) (place 0) 415
 
 -- 417 of a method of a class
@@ -60,7 +64,8 @@ in_class breaks m (Some c) = breaks c m
 
 -- what is broken of all methods that are laid out, each beside its class
 abbrev pub of_methods : Package → (Class → LaidMethod → List Break) → List Break
-of_methods p breaks = flat_map (λ m. let f = m.member in in_class breaks m (class_at (world p) f.imported f.class)) p.methods
+of_methods p breaks = flat_map (λ m. let f = m.member in in_class breaks m (class_at (world p) f.imported f.class))
+    p.methods
 
 -- ---- the whole
 
@@ -68,9 +73,11 @@ of_methods p breaks = flat_map (λ m. let f = m.member in in_class breaks m (cla
 abbrev pub has_many_entries : Package → Bool
 has_many_entries p = nat_lt 16383 (length (pool p)) || nat_lt 16383 (length (constants (export_of p)))
 
--- Method counted at the widest: the number of handlers, eight bytes for each, and four bytes for each method beside what is written for it.
+-- Method counted at the widest: the number of handlers, eight bytes for each, and four bytes for each method beside
+-- what is written for it.
 abbrev pub widest_method : Package → ℕ
-widest_method p = 1 + 8 * sum_by handler_count p.methods + 4 * length p.methods + sum_by (λ m. let code = m.code in code.widest) p.methods
+widest_method p = 1 + 8 * sum_by handler_count p.methods + 4 * length p.methods + sum_by (λ m. let code = m.code
+    in code.widest) p.methods
 
 -- 416: Class has more than 32,767 bytes, or another component more than 65,535.
 abbrev pub has_large_component : Package → Bool

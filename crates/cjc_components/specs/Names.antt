@@ -1,5 +1,7 @@
--- How components name classes and members: class_refs, tokens and offsets (Java Card Virtual Machine Specification 2.2.2, sections 4.3.7, 6.1 and 6.7).
-use Rattle.std.specs.Prelude.{ℕ, List, [], map, position, unwrap_or, slice_get, option_map, option_and_then, Option, Some, None, Bool, if◌then◌else◌}
+-- How components name classes and members: class_refs, tokens and offsets (Java Card Virtual Machine Specification
+-- 2.2.2, sections 4.3.7, 6.1 and 6.7).
+use Rattle.std.specs.Prelude.{ℕ, List, [], map, position, unwrap_or, slice_get, option_map, option_and_then, Option}
+use Rattle.std.specs.Prelude.{Some, None, Bool, if◌then◌else◌}
 use Rattle.std.specs.Str.{bytes_eq}
 use Rattle.cjc_bytes.specs.declared.fault.MemberId.{MemberId}
 use Rattle.cjc_capread.specs.declared.tree.ClassRef.{ClassRef}
@@ -7,11 +9,11 @@ use Rattle.cjc_capread.specs.declared.tree.ClassRef.TheVariants.{Inside, Outside
 use Rattle.cjc_capread.specs.declared.tree.StaticRef.{StaticRef}
 use Rattle.cjc_capread.specs.declared.tree.StaticRef.TheVariants as refs
 use Rattle.cjc_capread.specs.declared.tree.PoolEntry.{PoolEntry}
-use Rattle.cjc_sentences.specs.Described.{all_starts}
-use Rattle.cjc_card.specs.Loaded.{Loaded}
-use Rattle.cjc_card.specs.Classes.{Class as CardClass, Own, External, external_from, or_else}
-use Rattle.cjc_card.specs.Dispatch.{Open}
-use Rattle.cjc_card.specs.Operations.{Fixed, Outer, Callee, token_of}
+use Rattle.cjc_check_rules.specs.Described.{all_starts}
+use Rattle.cjc_card_semantics.specs.Machine.Loaded.{Loaded}
+use Rattle.cjc_card_semantics.specs.Machine.Classes.{Class as CardClass, Own, External, external_from, or_else}
+use Rattle.cjc_card_semantics.specs.Machine.Dispatch.{Open}
+use Rattle.cjc_card_semantics.specs.Machine.Operations.{Fixed, Outer, Callee, token_of}
 use Rattle.cjc_world.specs.declared.found.Found.{Found}
 use Rattle.cjc_world.specs.Classes.{Class, class_named}
 use Rattle.cjc_world.specs.Lookup.{find_field, find_method}
@@ -23,8 +25,8 @@ use Rattle.cjc_tokens.specs.Methods.{interface_methods, with_high_bit}
 use Rattle.cjc_tokens.specs.Tokens.{token_of_member}
 use Rattle.cjc_vtable.specs.Tables.{or_zero}
 use Rattle.cjc_vtable.specs.Calls.{finds_hidden}
-use Rattle.cjc_lower.specs.Naming.{Naming, entry_of}
-use Rattle.cjc_keys.specs.Index.{index_of}
+use Rattle.cjc_ncode.specs.Lowering.Naming.{Naming, entry_of}
+use Rattle.cjc_narrow.specs.Keys.Index.{index_of}
 use Rattle.cjc_components.specs.Package.{Package, world, tokens, pool}
 use Rattle.cjc_components.specs.Methods.{method_offset}
 use Rattle.cjc_components.specs.Class.{class_info}
@@ -38,11 +40,14 @@ info_starts p = all_starts (class_info (λ name. Inside 0) p)
 
 -- the offset of a class of the package
 abbrev pub class_offset : Package → (name : List ℕ) → Option ℕ
-class_offset p name = option_and_then (slice_get (info_starts p)) (position (λ c. bytes_eq c.name name) (class_order (world p)))
+class_offset p name = option_and_then (slice_get (info_starts p)) (position (λ c. bytes_eq c.name name)
+    (class_order (world p)))
 
--- The class of a name: one of the package by its offset, else that of the first export file that has it, by the number of the file and its token there.
+-- The class of a name: one of the package by its offset, else that of the first export file that has it, by the number
+-- of the file and its token there.
 abbrev pub class_at : Package → (name : List ℕ) → CardClass
-class_at p name = unwrap_or (or_else (option_map (Own 0) (class_offset p name)) (let files = p.files in external_from 0 files.exports name)) (Own 0 0)
+class_at p name = unwrap_or (or_else (option_map (Own 0) (class_offset p name)) (let files = p.files
+    in external_from 0 files.exports name)) (Own 0 0)
 
 -- a class_ref: the token of an imported package is the number of its export file
 abbrev pub ref_to : CardClass → ClassRef
@@ -67,9 +72,11 @@ field_token p f = member_token p (find_field (world p) f.class f.name f.desc)
 abbrev pub signature_of : MemberId → Signature
 signature_of m = record { name = m.name; desc = m.desc }
 
--- The token of a virtual method in a class: the high bit marks one that is found as a package-visible method of the package.
+-- The token of a virtual method in a class: the high bit marks one that is found as a package-visible method of the
+-- package.
 abbrev pub token_in : Line → Signature → ℕ
-token_in line s = if finds_hidden line s then with_high_bit (or_zero (token (hidden_slots line) s)) else or_zero (token (slots line) s)
+token_in line s = if finds_hidden line s then with_high_bit (or_zero (token (hidden_slots line) s))
+    else or_zero (token (slots line) s)
 
 -- the token of a virtual method in the class that the member names
 abbrev pub virtual_token : Package → MemberId → ℕ
@@ -102,7 +109,8 @@ offset_where p (Some f) = method_offset p f
 
 -- a method, by the class in which it is found
 abbrev pub method_ref : Package → MemberId → StaticRef
-method_ref p m = let f = find_method (world p) m.class m.name m.desc in member_ref (class_at p m.class) (offset_where p f) (member_token p f)
+method_ref p m = let f = find_method (world p) m.class m.name m.desc
+    in member_ref (class_at p m.class) (offset_where p f) (member_token p f)
 
 -- ---- all names
 

@@ -12,7 +12,8 @@ use Rattle.cjc_ncode.specs.PoolOrder.{pool_order}
 
 -- A method of a class, by what is written for it.
 pub record LaidMethod : Type 0 where
-  -- its class and its place among the members there: fields are counted first, and methods that the class got behind its own
+  -- its class and its place among the members there: fields are counted first, and methods that the class got behind
+  -- its own
   pub member : Found
   pub is_abstract : Bool
   -- no instructions where it is abstract; its handlers stand in the order of the class file
@@ -20,7 +21,8 @@ pub record LaidMethod : Type 0 where
   -- for each instruction, whether a jump has its wide form
   pub wide : List Bool
 
--- A package: its list, its class files and export files, what its static fields hold at first, and its methods in the order of Method.
+-- A package: its list, its class files and export files, what its static fields hold at first, and its methods in the
+-- order of Method.
 pub record Package : Type 0 where
   pub list : ListTree
   pub files : Files

@@ -1,4 +1,5 @@
--- StaticField: the static fields of a package and what they hold at first (Java Card Virtual Machine Specification 2.2.2, section 6.10).
+-- StaticField: the static fields of a package and what they hold at first (Java Card Virtual Machine Specification
+-- 2.2.2, section 6.10).
 use Rattle.std.specs.Prelude.{ℕ, ◌+◌, ◌*◌, List, [], ◌∷◌, ◌++◌, map, length, flat_map, sum_by, if◌then◌else◌, ℤ}
 use Rattle.cjc_bytes.specs.declared.fault.MemberId.{MemberId}
 use Rattle.cjc_bytes.specs.declared.descriptor.Kind.{Kind}
@@ -7,9 +8,9 @@ use Rattle.cjc_capread.specs.declared.tree.ArrayInit.{ArrayInit}
 use Rattle.cjc_capread.specs.declared.tree.StaticField.{StaticField}
 use Rattle.cjc_script.specs.declared.value.Value.TheVariants.{Num}
 use Rattle.cjc_script.specs.Sorts.{Sort, Boolean, Byte, Short, Int, Reference, NoValue, field_sort}
-use Rattle.cjc_bytecode.specs.Effects.{Letter}
-use Rattle.cjc_bytecode.specs.Effects
-use Rattle.cjc_card.specs.Statics.{number_bytes}
+use Rattle.cjc_card_semantics.specs.Bytecode.Effects.{Letter}
+use Rattle.cjc_card_semantics.specs.Bytecode.Effects
+use Rattle.cjc_card_semantics.specs.Machine.Statics.{number_bytes}
 use Rattle.cjc_world.specs.declared.image.ArrayCell.{ArrayCell}
 use Rattle.cjc_world.specs.declared.image.ValueCell.{ValueCell}
 use Rattle.cjc_world.specs.declared.image.StaticImage.{StaticImage}
@@ -90,7 +91,8 @@ default_size image = sum_by size_of_field image.zeros
 abbrev pub other_values : StaticImage → List ℕ
 other_values image = flat_map value_bytes image.others
 
--- StaticField: references first, of two bytes each, of which the arrays stand before null, then the numbers that are 0, then the others.
+-- StaticField: references first, of two bytes each, of which the arrays stand before null, then the numbers that are 0,
+-- then the others.
 abbrev pub static_field : StaticImage → StaticField
 static_field image = record {
   image_size = 2 * reference_count image + default_size image + length (other_values image);

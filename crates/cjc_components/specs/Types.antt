@@ -1,17 +1,20 @@
 -- The type descriptors of Descriptor (Java Card Virtual Machine Specification 2.2.2, section 6.13.4).
-use Rattle.std.specs.Prelude.{ℕ, ◌+◌, ◌*◌, ◌/◌, ◌%◌, List, [], ◌∷◌, ◌++◌, map, flat_map, length, position, unwrap_or, slice_get, option_and_then, Option, Some, None, if◌then◌else◌}
+use Rattle.std.specs.Prelude.{ℕ, ◌+◌, ◌*◌, ◌/◌, ◌%◌, List, [], ◌∷◌, ◌++◌, map, flat_map, length, position, unwrap_or}
+use Rattle.std.specs.Prelude.{slice_get, option_and_then, Option, Some, None, if◌then◌else◌}
 use Rattle.std.specs.Str.{bytes_eq}
 use Rattle.cjc_capread.specs.declared.tree.ClassRef.{ClassRef}
 use Rattle.cjc_capread.specs.declared.tree.TypeDescriptor.{TypeDescriptor}
 use Rattle.cjc_capwrite.specs.Parts.{class_bytes}
-use Rattle.cjc_sentences.specs.Spots.{starts}
-use Rattle.cjc_sentences.specs.Complete.{type_size}
-use Rattle.cjc_script.specs.Sorts.{Element, Booleans, Bytes, Shorts, Ints, Shape, OfClass, OfNumbers, OfReferences, Sort, Boolean, Byte, Short, Int, Reference, NoValue, Signature, field_sort, signature_of}
+use Rattle.cjc_check_rules.specs.Spots.{starts}
+use Rattle.cjc_check_rules.specs.Complete.{type_size}
+use Rattle.cjc_script.specs.Sorts.{Element, Booleans, Bytes, Shorts, Ints, Shape, OfClass, OfNumbers, OfReferences}
+use Rattle.cjc_script.specs.Sorts.{Sort, Boolean, Byte, Short, Int, Reference, NoValue, Signature, field_sort}
+use Rattle.cjc_script.specs.Sorts.{signature_of}
 use Rattle.cjc_classfile.specs.declared.tree.FieldTree.{FieldTree}
 use Rattle.cjc_world.specs.Classes.{Class}
 use Rattle.cjc_world.specs.Added.{added, without_initialiser}
 use Rattle.cjc_world.specs.Order.{class_order}
-use Rattle.cjc_supers.specs.Supers.{each_once}
+use Rattle.cjc_order.specs.Supers.Supers.{each_once}
 use Rattle.cjc_clinit.specs.Fields.{is_reference}
 use Rattle.cjc_ncode.specs.declared.narrow.PoolKey.{PoolKey}
 use Rattle.cjc_ncode.specs.declared.narrow.PoolKey.TheVariants as keys
@@ -79,7 +82,8 @@ desc_of_field f = if is_reference f.desc then f.desc ∷ [] else []
 -- a class: its fields of reference types, its methods, and those that are added to it
 abbrev pub descs_of_class : Package → Class → List (List ℕ)
 descs_of_class p c =
-    flat_map desc_of_field (fields_of p.files c) ++ (map (λ m. m.desc) (without_initialiser c.methods) ++ map (λ m. m.desc) (added (world p) c))
+    flat_map desc_of_field (fields_of p.files c) ++ (map (λ m. m.desc) (without_initialiser c.methods)
+    ++ map (λ m. m.desc) (added (world p) c))
 
 -- those of the pool's entries, then class by class
 abbrev pub all_descs : Package → List (List ℕ)
@@ -101,4 +105,5 @@ type_starts p = starts type_size (2 + 2 * length (pool p)) (map type_descriptor 
 
 -- the offset of the type descriptor that says what a descriptor says
 abbrev pub type_offset : Package → (desc : List ℕ) → ℕ
-type_offset p desc = unwrap_or (option_and_then (slice_get (type_starts p)) (position (bytes_eq (nibbles_of p desc)) (types_of p))) 0
+type_offset p desc = unwrap_or (option_and_then (slice_get (type_starts p)) (position (bytes_eq (nibbles_of p desc))
+    (types_of p))) 0

@@ -7,13 +7,13 @@ use Rattle.cjc_world.specs.declared.found.Found.{Found}
 use Rattle.cjc_world.specs.Files.{Files}
 use Rattle.cjc_world.specs.Classes.{Class, all_classes, class_at}
 use Rattle.cjc_world.specs.Order.{method_order}
-use Rattle.cjc_by_name.specs.Linked.{Method}
-use Rattle.cjc_by_name.specs.OnePackage.{method_at}
+use Rattle.cjc_jvm_semantics.specs.Linked.{Method}
+use Rattle.cjc_jvm_semantics.specs.OnePackage.{method_at}
 use Rattle.cjc_clinit.specs.Image.{IsImage}
 use Rattle.cjc_ncode.specs.declared.narrow.NMethod.{NMethod}
-use Rattle.cjc_narrow.specs.Resolved.{argument_words}
-use Rattle.cjc_narrow.specs.Package.{code_of}
-use Rattle.cjc_narrow.specs.Selected.{near_fields}
+use Rattle.cjc_narrow.specs.Rows.Resolved.{argument_words}
+use Rattle.cjc_narrow.specs.Rows.Package.{code_of}
+use Rattle.cjc_narrow.specs.Rows.Selected.{near_fields}
 use Rattle.cjc_layout.specs.Legal.{IsLeast}
 use Rattle.cjc_components.specs.Package.{LaidMethod, Package, pool}
 use Rattle.cjc_components.specs.Descriptor.{method_in}
@@ -49,7 +49,8 @@ abbrev pub is_abstract_at : Files → Found → Bool
 is_abstract_at files f = is_abstract_by (method_at files f)
 
 -- A method as it is written.
-pub record IsWritten {A : Type 0} (files : Files) (near : List MemberId) (rows : Method → List (Option A)) (m : LaidMethod) : Type 0 where
+pub record IsWritten {A : Type 0} (files : Files) (near : List MemberId) (rows : Method
+    → List (Option A)) (m : LaidMethod) : Type 0 where
   pub is_abstract : m.is_abstract ≡ is_abstract_at files m.member
   pub code : m.code ≡ code_at files near rows m.member
   pub wide : (let code = m.code in IsLeast code.insns m.wide)
@@ -57,11 +58,13 @@ pub record IsWritten {A : Type 0} (files : Files) (near : List MemberId) (rows :
 -- ---- all methods
 
 -- The package of a list and its files, whose methods have these instructions and these rows in their least tables.
-pub record IsPackage {A : Type 0} (list : ListTree) (files : Files) (codes : List MethodCode) (rows : Method → List (Option A)) (p : Package) : Type 0 where
+pub record IsPackage {A : Type 0} (list : ListTree) (files : Files) (codes : List MethodCode) (rows : Method
+    → List (Option A)) (p : Package) : Type 0 where
   pub by_list : p.list ≡ list
   pub by_files : p.files ≡ files
   pub image : IsImage files codes p.image
   -- in the order of Method
   pub members : map (λ m. m.member) p.methods ≡ method_order (all_classes files)
   -- those instance fields have short indices that stand first in the pool
-  pub methods : (k : ℕ) (m : LaidMethod) → slice_get p.methods k ≡ Some m → IsWritten files (near_fields (pool p)) rows m
+  pub methods : (k : ℕ) (m : LaidMethod) → slice_get p.methods k ≡ Some m
+      → IsWritten files (near_fields (pool p)) rows m

@@ -4,6 +4,8 @@
 //! here runs.
 #![tactic(auto)]
 
+pub mod paired;
+
 ghost use Rattle.std.specs.Prelude.{◌≡◌, map, length};
 ghost use Rattle.cjc_capwrite.specs.Size.{info_of};
 ghost use Rattle.cjc_components.specs.Package.{Package};
@@ -11,5 +13,6 @@ ghost use Rattle.cjc_components.specs.Components.{tags, components_of};
 
 /// Directory has the size of each component, its own counted.
 pub fn directory_has_sizes()
-    ensures { (p : Package) → let t = components_of p in let d = t.directory in d.component_sizes ≡ map (λ tag. length (info_of t tag)) tags }
+    ensures { (p : Package) → let t = components_of p in let d = t.directory in d.component_sizes
+        ≡ map (λ tag. length (info_of t tag)) tags }
 {}

@@ -1,3 +1,4 @@
 mod Shapes
 mod Told
 mod OneAnswer
+pub mod ConvertingLaws

@@ -18,50 +18,65 @@ use Rattle.cjc_judge.proofs.Places.{IsTold, class_files, place_at}
 use Rattle.cjc_judge.specs.Rules.{Breach, OnLevels, files_spelt, on_first, on_second}
 use Rattle.cjc_judge.specs.Spelt.{FileTree, SpellTrees, classes_of, of_class, of_export}
 use Rattle.cjc_list.specs.Listed.{ListTree}
-use Rattle.cjc_prepared.specs.Prepared.{tested}
-use Rattle.cjc_whole.proofs.One.{one_package}
-use Rattle.cjc_whole.proofs.Second.{package_is_draft}
-use Rattle.cjc_whole.specs.Conversion.{BreaksWritten, IsDraft, IsRefused, of_form, of_size}
+use Rattle.cjc_shape.specs.Prepared.{tested}
+use Rattle.cjc_shape.proofs.WholeLaws.One.{one_package}
+use Rattle.cjc_shape.proofs.WholeLaws.Second.{package_is_draft}
+use Rattle.cjc_shape.specs.Whole.Conversion.{BreaksWritten, IsDraft, IsRefused, of_form, of_size}
 use Rattle.cjc_world.specs.Files.{Files}
-use Rattle.cjc_converting.proofs.Stops.{none_written}
+use Rattle.cjc_convert.proofs.ConvertingLaws.Stops.{none_written}
 use Rattle.cjc_convert.proofs.Told.{sizes_told, written_told}
 use Rattle.cjc_convert.specs.Conversion.{IsConverted}
 use Rattle.cjc_convert.specs.declared.conversion.Converted.{Converted}
 
 -- as many classes as class files
-class_lines : (lines : List FileLine) (files : List (List ℕ)) (trees : List FileTree) → SpellTrees lines files trees → length (classes_of trees) ≡ class_files lines
+class_lines : (lines : List FileLine) (files : List (List ℕ)) (trees : List FileTree) → SpellTrees lines files trees
+    → length (classes_of trees) ≡ class_files lines
 class_lines [] files trees s = ap (λ (ts : List FileTree). length (classes_of ts)) s.1
 class_lines (l ∷ ls) [] trees s = absurd s
 class_lines (l ∷ ls) (b ∷ bs) [] s = absurd s
-class_lines (l ∷ ls) (b ∷ bs) (of_class t ∷ ts) s = ap suc (class_lines ls bs ts s.1) ∙ sym (ap (λ (v : Bool). if v then suc (class_files ls) else class_files ls) s.0.0)
-class_lines (l ∷ ls) (b ∷ bs) (of_export t ∷ ts) s = class_lines ls bs ts s.1 ∙ sym (ap (λ (v : Bool). if v then suc (class_files ls) else class_files ls) s.0.0)
+class_lines (l ∷ ls) (b ∷ bs) (of_class t ∷ ts) s = ap suc (class_lines ls bs ts s.1)
+    ∙ sym (ap (λ (v : Bool). if v then suc (class_files ls) else class_files ls) s.0.0)
+class_lines (l ∷ ls) (b ∷ bs) (of_export t ∷ ts) s = class_lines ls bs ts s.1
+    ∙ sym (ap (λ (v : Bool). if v then suc (class_files ls) else class_files ls) s.0.0)
 
 module _ (list : ListTree) (files : List (List ℕ)) where
   -- what is told of it stands at its place among what the files spell
   IsSpelt : Break → Type 0
   IsSpelt b = (trees : List FileTree) × SpellTrees list.lines files trees × IsTold list.name (files_spelt list trees) b
 
-  of_draft : (p : Package) → IsDraft list files p → (b : Break) → ((let v = p.files in length v.classes ≡ class_files v.lines) → IsTold (let l = p.list in l.name) p.files b) → IsSpelt b
+  of_draft : (p : Package) → IsDraft list files p → (b : Break)
+      → ((let v = p.files in length v.classes ≡ class_files v.lines) → IsTold (let l = p.list in l.name) p.files b)
+      → IsSpelt b
   unfolding IsSpelt
   of_draft p d b told =
       let s = d.spelt in
       let world = s.is_world in
-      let counted : (let v = p.files in length v.classes ≡ class_files v.lines) = ap (λ (v : Files). length v.classes) s.world_is ∙ class_lines list.lines files s.trees world.0 ∙ ap (λ (v : Files). class_files v.lines) (sym s.world_is) in
-      (s.trees, world.0, subst (λ (l : ListTree). IsTold l.name (files_spelt list s.trees) b) d.by_list (subst (λ (v : Files). IsTold (let l = p.list in l.name) v b) s.world_is (told counted)))
+      let counted : (let v = p.files in length v.classes ≡ class_files v.lines) = ap (λ (v : Files). length v.classes)
+      s.world_is ∙ class_lines list.lines files s.trees world.0 ∙ ap (λ (v : Files). class_files v.lines)
+      (sym s.world_is) in (
+        s.trees,
+        world.0,
+        subst (λ (l : ListTree). IsTold l.name (files_spelt list s.trees) b) d.by_list
+            (subst (λ (v : Files). IsTold (let l = p.list in l.name) v b) s.world_is (told counted)),
+      )
 
   spelt : (b : Break) → BreaksWritten list files b → IsSpelt b
-  spelt b (of_form p d among) = of_draft p d b (λ counted. let all = written_told p counted d.members in all.holds b among)
-  spelt b (of_size p is none fine among) = let d = package_is_draft list files p is in of_draft p d b (λ counted. let all = sizes_told p counted d.members in all.holds b among)
+  spelt b (of_form p d among) = of_draft p d b (λ counted. let all = written_told p counted d.members
+      in all.holds b among)
+  spelt b (of_size p is none fine among) = let d = package_is_draft list files p is
+      in of_draft p d b (λ counted. let all = sizes_told p counted d.members in all.holds b among)
 
   one_told : (a b : Break) → IsSpelt a → IsSpelt b → a.rank ≡ b.rank → a.refusal ≡ b.refusal
   unfolding IsSpelt
   one_told a b (ts, s, told) (us, s', told') e =
       let same : us ≡ ts = one_spelling list.lines files us ts s' s in
-      let here : IsTold list.name (files_spelt list ts) b = subst (λ (vs : List FileTree). IsTold list.name (files_spelt list vs) b) same told' in
+      let here : IsTold list.name (files_spelt list ts) b =
+      subst (λ (vs : List FileTree). IsTold list.name (files_spelt list vs) b) same told' in
       told ∙ ap (λ (r : Rank). refused_at r.rule (place_at list.name (files_spelt list ts) r)) e ∙ sym here
 
   pub one_refused : (r s : Refusal) → IsRefused list files r → IsRefused list files s → r ≡ s
-  one_refused = one_first_of (one_on_levels (one_refusal list files tested) (λ a b x y e. one_told a b (spelt a x) (spelt b y) e))
+  one_refused = one_first_of (one_on_levels (one_refusal list files tested) (λ a b x y e. one_told a b (spelt a x)
+      (spelt b y) e))
 
   pub one_converted : (m n : Converted) → IsConverted list files m → IsConverted list files n → m ≡ n
   one_converted m n f g =
@@ -76,4 +91,5 @@ module _ (list : ListTree) (files : List (List ℕ)) where
     where
       by : OnLevels (Breach list files tested) (BreaksWritten list files) (let b = is.broken in b) → ⊥
       by (on_first breach) = f.unbroken is.broken breach
-      by (on_second none broken) = none_written list files f.judged f.sound f.whole f.is_package f.limits is.broken broken
+      by (on_second none broken) = none_written list files f.judged f.sound f.whole f.is_package f.limits is.broken
+          broken

@@ -14,10 +14,11 @@ use Rattle.cjc_export.specs.Written.{written}
 use Rattle.cjc_judge.specs.Rules.{Breach}
 use Rattle.cjc_judge.specs.declared.judged.Judged.{Judged}
 use Rattle.cjc_list.specs.Listed.{ListTree}
-use Rattle.cjc_prepared.specs.Prepared.{IsSound, tested}
-use Rattle.cjc_whole.specs.Conversion.{IsPackageOf}
+use Rattle.cjc_shape.specs.Prepared.{IsSound, tested}
+use Rattle.cjc_shape.specs.Whole.Conversion.{IsPackageOf}
 
--- The files break no rule, nor does what is written for them; and these are the component files and the export file of their
+-- The files break no rule, nor does what is written for them; and these are the component files and the export file of
+-- their
 -- package. They spell its components and its export file.
 pub record IsConverted (list : ListTree) (files : List (List ℕ)) (made : Converted) : Type 0 where
   pub unbroken : (b : Break) → Breach list files tested b → ⊥

@@ -15,17 +15,19 @@ ghost use Rattle.cjc_convert.specs.Conversion.{IsConverted};
 ghost use Rattle.cjc_export.specs.ExportFile.{export_file};
 ghost use Rattle.cjc_export.specs.Written.{written};
 ghost use Rattle.cjc_judge.specs.Spelt.{IsRead};
-ghost use Rattle.cjc_prepared.specs.Prepared.{IsSound};
-ghost use Rattle.cjc_whole.specs.Conversion.{IsRefused};
-ghost use Rattle.cjc_whole.specs.Working.Shaped.{IsShaped, Stopped};
+ghost use Rattle.cjc_shape.specs.Prepared.{IsSound};
+ghost use Rattle.cjc_shape.specs.Whole.Conversion.{IsRefused};
+ghost use Rattle.cjc_shape.specs.Whole.Working.Shaped.{IsShaped, Stopped};
 
+use crate::converting::{judge_files, shaped_components};
 use cjc_bytes::{Bytes, Fault, Row};
 use cjc_capwrite::CapFiles;
-use cjc_converting::{judge_files, shaped_components};
 use cjc_judge::Judged;
 use cjc_list::List;
-use cjc_whole::{Shaped, shape};
-use cjc_writing_laws::{aids_are_short, components_can_be_written, export_files_can_be_written};
+use cjc_shape::whole::{Shaped, shape};
+use cjc_shape_proof::writing::{
+    aids_are_short, components_can_be_written, export_files_can_be_written,
+};
 use std::alloc::Global;
 
 /// What a conversion writes.
@@ -45,11 +47,16 @@ fn cap_files(
     shaped: &Shaped,
 ) -> Result<CapFiles, Fault>
     requires read { IsRead list.now }
-    requires shaped { (files : Items (Items ℕ)) × (p : Package) × IsSound list.now files judged.now × IsShaped list.now files shaped.now p }
-    ensures sizes { (files : Items (Items ℕ)) (p : Package) → IsSound list.now files judged.now → IsShaped list.now files shaped.now p → IfOk result (λ _. size_breaks p ≡ []) }
-    ensures files { (files : Items (Items ℕ)) (p : Package) → IsSound list.now files judged.now → IsShaped list.now files shaped.now p → IfOk result (λ f. f ≡ files_of (components_of p)) }
-    ensures spelt { (files : Items (Items ℕ)) (p : Package) → IsSound list.now files judged.now → IsShaped list.now files shaped.now p → IfOk result (IsSpelt (components_of p)) }
-    ensures refused { (files : Items (Items ℕ)) (p : Package) → IsSound list.now files judged.now → IsShaped list.now files shaped.now p → IfErr result (Stopped list.now files) }
+    requires shaped { (files : Items (Items ℕ)) × (p : Package) × IsSound list.now files judged.now
+        × IsShaped list.now files shaped.now p }
+    ensures sizes { (files : Items (Items ℕ)) (p : Package) → IsSound list.now files judged.now
+        → IsShaped list.now files shaped.now p → IfOk result (λ _. size_breaks p ≡ []) }
+    ensures files { (files : Items (Items ℕ)) (p : Package) → IsSound list.now files judged.now
+        → IsShaped list.now files shaped.now p → IfOk result (λ f. f ≡ files_of (components_of p)) }
+    ensures spelt { (files : Items (Items ℕ)) (p : Package) → IsSound list.now files judged.now
+        → IsShaped list.now files shaped.now p → IfOk result (IsSpelt (components_of p)) }
+    ensures refused { (files : Items (Items ℕ)) (p : Package) → IsSound list.now files judged.now
+        → IsShaped list.now files shaped.now p → IfErr result (Stopped list.now files) }
 {
     aids_are_short();
     components_can_be_written();
@@ -65,9 +72,12 @@ fn shaped_files(
     shaped: &Shaped,
 ) -> Result<Converted, Fault>
     requires read { IsRead list.now }
-    requires shaped { (files : Items (Items ℕ)) × (p : Package) × IsSound list.now files judged.now × IsShaped list.now files shaped.now p }
-    ensures converted { (files : Items (Items ℕ)) (p : Package) → IsSound list.now files judged.now → IsShaped list.now files shaped.now p → IfOk result (IsConverted list.now files) }
-    ensures refused { (files : Items (Items ℕ)) (p : Package) → IsSound list.now files judged.now → IsShaped list.now files shaped.now p → IfErr result (Stopped list.now files) }
+    requires shaped { (files : Items (Items ℕ)) × (p : Package) × IsSound list.now files judged.now
+        × IsShaped list.now files shaped.now p }
+    ensures converted { (files : Items (Items ℕ)) (p : Package) → IsSound list.now files judged.now
+        → IsShaped list.now files shaped.now p → IfOk result (IsConverted list.now files) }
+    ensures refused { (files : Items (Items ℕ)) (p : Package) → IsSound list.now files judged.now
+        → IsShaped list.now files shaped.now p → IfErr result (Stopped list.now files) }
 {
     aids_are_short();
     export_files_can_be_written();
@@ -80,8 +90,10 @@ fn shaped_files(
 fn judged_files(alloc: Global, list: &List, judged: &Judged<'_>) -> Result<Converted, Fault>
     requires read { IsRead list.now }
     requires sound { (files : Items (Items ℕ)) × IsSound list.now files judged.now }
-    ensures converted { (files : Items (Items ℕ)) → IsSound list.now files judged.now → IfOk result (IsConverted list.now files) }
-    ensures refused { (files : Items (Items ℕ)) → IsSound list.now files judged.now → IfErr result (Stopped list.now files) }
+    ensures converted { (files : Items (Items ℕ)) → IsSound list.now files judged.now
+        → IfOk result (IsConverted list.now files) }
+    ensures refused { (files : Items (Items ℕ)) → IsSound list.now files judged.now
+        → IfErr result (Stopped list.now files) }
 {
     let shaped = shape(alloc, list, judged)?;
     shaped_files(alloc, list, judged, &shaped)
@@ -98,7 +110,8 @@ pub fn assemble(alloc: Global, list: &List, files: &Row<Bytes>) -> Result<Conver
     requires count { length files.now ≡ length list.now.lines }
     requires files { All (λ bytes. length bytes ≤ 2 ^ 29) files.now }
     ensures converted { IfOk result (IsConverted list.now files.now) }
-    ensures refused { IfErr result (λ e. (e ≡ faults.NoMemory) ⊎ ((r : Broken) × IsRefused list.now files.now r × (e ≡ faults.Refused r))) }
+    ensures refused { IfErr result (λ e. (e ≡ faults.NoMemory) ⊎ ((r : Broken) × IsRefused list.now files.now r
+        × (e ≡ faults.Refused r))) }
 {
     let judged = judge_files(alloc, list, files)?;
     judged_files(alloc, list, &judged)

@@ -4,6 +4,7 @@
 #![tactic(auto)]
 
 mod conversion;
+pub mod converting;
 mod laws;
 
 pub use cjc_capwrite::CapFiles;

@@ -5,17 +5,23 @@ use Rattle.cjc_capread.specs.Decode.{decode}
 use Rattle.cjc_capread.proofs.Decoding.{decode_emitted}
 use Rattle.cjc_ncode.specs.declared.narrow.NInsn.{NInsn}
 use Rattle.cjc_ncode.specs.declared.narrow.NMethod.{NMethod}
-use Rattle.cjc_lower.specs.Naming.{Naming}
-use Rattle.cjc_lower.specs.Laid.{laid}
-use Rattle.cjc_lower.specs.Placed.{Placed, bytes_before, bytes_of, code_bytes, first, insn_size, offset_of}
-use Rattle.cjc_lower.proofs.Bytes.{code_at, drop_past, length_spelt, spelt_as}
-use Rattle.cjc_lower.proofs.Places.{size_same}
+use Rattle.cjc_ncode.specs.Lowering.Naming.{Naming}
+use Rattle.cjc_ncode.specs.Lowering.Laid.{laid}
+use Rattle.cjc_ncode.specs.Lowering.Placed.{Placed, bytes_before, bytes_of, code_bytes, first, insn_size, offset_of}
+use Rattle.cjc_ncode.proofs.LoweringLaws.Bytes.{code_at, drop_past, length_spelt, spelt_as}
+use Rattle.cjc_ncode.proofs.LoweringLaws.Places.{size_same}
 use Rattle.cjc_emit.specs.Emitted.{CanBeWritten, emitted_bytes, header_bytes, placed_at}
 
-sized : (n : Naming) (p : Placed) → CanBeWritten n p → (k : ℕ) (i : NInsn) (w : Bool) → slice_get p.method.insns k ≡ Some i → slice_get p.wide k ≡ Some w → length (bytes_of (laid n (offset_of n p) (offset_of n p k) w i)) ≡ insn_size n w i
-sized n p whole k i w e f = length_spelt (laid n (offset_of n p) (offset_of n p k) w i) (whole.spellable k i w e f) ∙ size_same n (offset_of n p) (offset_of n p k) w i
+sized : (n : Naming) (p : Placed) → CanBeWritten n p → (k : ℕ) (i : NInsn) (w : Bool) → slice_get p.method.insns k
+    ≡ Some i → slice_get p.wide k ≡ Some w → length (bytes_of (laid n (offset_of n p) (offset_of n p k) w i))
+    ≡ insn_size n w i
+sized n p whole k i w e f = length_spelt (laid n (offset_of n p) (offset_of n p k) w i) (whole.spellable k i w e f)
+    ∙ size_same n (offset_of n p) (offset_of n p k) w i
 
-pub code_decoded : (n : Naming) (m : NMethod) (wide : List Bool) (behind : List ℕ) → CanBeWritten n (placed_at 0 m wide) → (k : ℕ) (i : NInsn) (w : Bool) → slice_get m.insns k ≡ Some i → slice_get wide k ≡ Some w → decode (drop (offset_of n (placed_at 0 m wide) k) (emitted_bytes n m wide ++ behind)) ≡ Some (laid n (offset_of n (placed_at 0 m wide)) (offset_of n (placed_at 0 m wide) k) w i)
+pub code_decoded : (n : Naming) (m : NMethod) (wide : List Bool) (behind : List ℕ) → CanBeWritten n (placed_at 0 m wide)
+    → (k : ℕ) (i : NInsn) (w : Bool) → slice_get m.insns k ≡ Some i → slice_get wide k ≡ Some w
+    → decode (drop (offset_of n (placed_at 0 m wide) k) (emitted_bytes n m wide ++ behind))
+    ≡ Some (laid n (offset_of n (placed_at 0 m wide)) (offset_of n (placed_at 0 m wide) k) w i)
 code_decoded n m wide behind whole k i w e f =
     let p = placed_at 0 m wide in
     let header = header_bytes m in

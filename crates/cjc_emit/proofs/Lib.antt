@@ -3,3 +3,4 @@ mod Steps
 mod Spelled
 mod Whole
 mod Decoded
+pub mod EmitLaws

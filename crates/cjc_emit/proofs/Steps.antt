@@ -1,5 +1,6 @@
 -- Steps of the loop over instructions.
-use Rattle.std.proofs.Common.{◌≡◌, ℕ, zero, suc, ◌+◌, ◌<◌, refl, sym, ap, ◌∙◌, arith, Bool, false, List, [], ◌∷◌, ◌++◌, length, get_or, drop, append_assoc, add-one}
+use Rattle.std.proofs.Common.{◌≡◌, ℕ, zero, suc, ◌+◌, ◌<◌, refl, sym, ap, ◌∙◌, arith, Bool, false, List, [], ◌∷◌, ◌++◌}
+use Rattle.std.proofs.Common.{length, get_or, drop, append_assoc, add-one}
 use Rattle.std.specs.Prelude.{Option, slice_index}
 use Rattle.cjc_bytes.specs.declared.fault.MemberId.{MemberId}
 use Rattle.cjc_ncode.specs.declared.narrow.NInsn.{NInsn}
@@ -14,7 +15,12 @@ drop_next {A = A} xs k d h = rw add-one (by xs k h)
     by (x ∷ xs) zero h = refl
     by (x ∷ xs) (suc k) h = by xs k (omega arith)
 
-pub step_written : (keys : List PoolKey) (token_of : MemberId → Option ℕ) (to : ℕ → ℕ) (places : List ℕ) (insns : List NInsn) (wide : List Bool) (k : ℕ) (i : NInsn) (front now old : List ℕ) → k < length insns → length wide ≡ length insns → i ≡ get_or insns k i → front ++ all_written keys token_of to places k (drop k insns) (drop k wide) ≡ old → now ≡ front ++ written keys token_of to (slice_index places k) (get_or wide k false) i → now ++ all_written keys token_of to places (k + 1) (drop (k + 1) insns) (drop (k + 1) wide) ≡ old
+pub step_written : (keys : List PoolKey) (token_of : MemberId → Option ℕ) (to : ℕ
+    → ℕ) (places : List ℕ) (insns : List NInsn) (wide : List Bool) (k : ℕ) (i : NInsn) (front now old : List ℕ)
+    → k < length insns → length wide ≡ length insns → i ≡ get_or insns k i
+    → front ++ all_written keys token_of to places k (drop k insns) (drop k wide) ≡ old → now ≡ front
+    ++ written keys token_of to (slice_index places k) (get_or wide k false) i
+    → now ++ all_written keys token_of to places (k + 1) (drop (k + 1) insns) (drop (k + 1) wide) ≡ old
 step_written keys token_of to places insns wide k i front now old h count is e f =
     let w = get_or wide k false in
     let this = written keys token_of to (slice_index places k) w i in

@@ -1,5 +1,7 @@
--- The bytes of a method with its header, and where the indices into the constant pool stand in them (Java Card Virtual Machine Specification 2.2.2, sections 6.9.2 and 6.12).
-use Rattle.std.specs.Prelude.{◌≡◌, ℕ, ◌+◌, List, [], ◌∷◌, ◌++◌, length, position, slice_get, Option, Some, None, Bool, nat_lt, ◌&&◌, ◌==◌, if◌then◌else◌}
+-- The bytes of a method with its header, and where the indices into the constant pool stand in them (Java Card Virtual
+-- Machine Specification 2.2.2, sections 6.9.2 and 6.12).
+use Rattle.std.specs.Prelude.{◌≡◌, ℕ, ◌+◌, List, [], ◌∷◌, ◌++◌, length, position, slice_get, Option, Some, None, Bool}
+use Rattle.std.specs.Prelude.{nat_lt, ◌&&◌, ◌==◌, if◌then◌else◌}
 use Rattle.cjc_bytes.specs.declared.fault.MemberId.{MemberId}
 use Rattle.cjc_capread.specs.declared.opcode.OpInfo.{OpInfo}
 use Rattle.cjc_capread.specs.Opcodes.{op_info}
@@ -9,10 +11,11 @@ use Rattle.cjc_ncode.specs.declared.narrow.NMethod.{NMethod}
 use Rattle.cjc_ncode.specs.declared.narrow.PoolKey.{PoolKey}
 use Rattle.cjc_ncode.specs.declared.narrow.PoolKey.TheVariants as keys
 use Rattle.cjc_ncode.specs.PoolOrder.{same_key}
-use Rattle.cjc_lower.specs.Naming.{Naming}
+use Rattle.cjc_ncode.specs.Lowering.Naming.{Naming}
 use Rattle.cjc_capread.specs.Card.{invokeinterface}
-use Rattle.cjc_lower.specs.Laid.{laid}
-use Rattle.cjc_lower.specs.Placed.{IsSpellable, Placed, extended_header, insn_size, method_bytes, offset_of, short_header}
+use Rattle.cjc_ncode.specs.Lowering.Laid.{laid}
+use Rattle.cjc_ncode.specs.Lowering.Placed.{IsSpellable, Placed, extended_header, insn_size, method_bytes, offset_of}
+use Rattle.cjc_ncode.specs.Lowering.Placed.{short_header}
 use Rattle.cjc_layout.specs.Forms.{HasForm}
 use Rattle.cjc_emit.specs.declared.emitted.MethodBytes.{MethodBytes}
 
@@ -39,11 +42,13 @@ pub record IsNamedBy (ks : List PoolKey) (token_of : MemberId → Option ℕ) (n
   pub index : (key : PoolKey) (i : ℕ) → position (same_key key) ks ≡ Some i → n.index key ≡ i
   pub token : (id : MemberId) (t : ℕ) → token_of id ≡ Some t → n.interface_token id ≡ t
 
--- Instructions of a method that have their forms, and that bytes can say where they are laid. What their names mean is not asked.
+-- Instructions of a method that have their forms, and that bytes can say where they are laid. What their names mean is
+-- not asked.
 pub record CanBeWritten (n : Naming) (p : Placed) : Type 0 where
   pub count : length p.wide ≡ (let m = p.method in length m.insns)
   pub forms : (k : ℕ) (insn : NInsn) → (let m = p.method in slice_get m.insns k ≡ Some insn) → HasForm insn
-  pub spellable : (k : ℕ) (insn : NInsn) (wide : Bool) → (let m = p.method in slice_get m.insns k ≡ Some insn) → slice_get p.wide k ≡ Some wide → IsSpellable (laid n (offset_of n p) (offset_of n p k) wide insn)
+  pub spellable : (k : ℕ) (insn : NInsn) (wide : Bool) → (let m = p.method in slice_get m.insns k ≡ Some insn)
+      → slice_get p.wide k ≡ Some wide → IsSpellable (laid n (offset_of n p) (offset_of n p k) wide insn)
 
 -- ---- places of indices
 
@@ -63,7 +68,8 @@ insn_places bytes at _ = []
 abbrev pub code_places : Naming → (bytes at : ℕ) → List NInsn → (wide : List Bool) → List ℕ
 code_places n bytes at [] wide = []
 code_places n bytes at (i ∷ insns) [] = []
-code_places n bytes at (i ∷ insns) (w ∷ wide) = insn_places bytes at i ++ code_places n bytes (at + insn_size n w i) insns wide
+code_places n bytes at (i ∷ insns) (w ∷ wide) = insn_places bytes at i ++ code_places n bytes (at + insn_size n w i)
+    insns wide
 
 -- The places of the indices of so many bytes, from the start of the method's header.
 abbrev pub index_places : Naming → (bytes : ℕ) → NMethod → (wide : List Bool) → List ℕ
@@ -87,7 +93,8 @@ module _ (ks : List PoolKey) (token_of : MemberId → Option ℕ) where
   HasNames (insns.TypeTest op kind (Some class)) = HasIndex (keys.Class class)
   HasNames _ = Unit {0}
 
-  -- Components name what a pool has, the method's instructions can be written where they are laid, and the pool has what these name.
+  -- Components name what a pool has, the method's instructions can be written where they are laid, and the pool has
+  -- what these name.
   pub record IsEmittable (n : Naming) (m : NMethod) (wide : List Bool) : Type 0 where
     pub named : IsNamedBy ks token_of n
     pub written : CanBeWritten n (placed_at 0 m wide)

@@ -1,3 +1,4 @@
 pub mod Emitted
 pub mod Worked
 pub mod Working
+pub mod Said

@@ -1,5 +1,6 @@
 -- The bytes that the private functions of emitting write: numbers, operands, and instructions by their opcodes.
-use Rattle.std.specs.Prelude.{ℕ, ◌+◌, ◌-◌, ◌*◌, ◌/◌, ◌%◌, List, [], ◌∷◌, ◌++◌, length, position, slice_index, Option, Some, None, Bool, nat_lt, ◌==◌, if◌then◌else◌, ℤ}
+use Rattle.std.specs.Prelude.{ℕ, ◌+◌, ◌-◌, ◌*◌, ◌/◌, ◌%◌, List, [], ◌∷◌, ◌++◌, length, position, slice_index, Option}
+use Rattle.std.specs.Prelude.{Some, None, Bool, nat_lt, ◌==◌, if◌then◌else◌, ℤ}
 use Rattle.std.specs.Int.{w32, cast_unsigned}
 use Rattle.cjc_bytes.specs.declared.fault.MemberId.{MemberId}
 use Rattle.cjc_capread.specs.declared.opcode.OpInfo.{OpInfo}
@@ -11,7 +12,7 @@ use Rattle.cjc_ncode.specs.declared.narrow.NInsn.TheVariants as insns
 use Rattle.cjc_ncode.specs.declared.narrow.PoolKey.{PoolKey}
 use Rattle.cjc_ncode.specs.declared.narrow.PoolKey.TheVariants as keys
 use Rattle.cjc_ncode.specs.PoolOrder.{same_key}
-use Rattle.cjc_lower.specs.Laid.{distance, wide_jump}
+use Rattle.cjc_ncode.specs.Lowering.Laid.{distance, wide_jump}
 use Rattle.cjc_emit.specs.Emitted.{insn_places}
 
 -- ---- numbers
@@ -67,11 +68,13 @@ module _ (to : ℕ → ℕ) (at : ℕ) where
   -- of each case its match, of so many bytes, and the distance to its target, of two
   abbrev pub match_bytes : (width : ℕ) → List NCase → List ℕ
   match_bytes width [] = []
-  match_bytes width (c ∷ cases) = low_bytes width (bits c.value) ++ (low_bytes 2 (bits (distance at (to c.target))) ++ match_bytes width cases)
+  match_bytes width (c ∷ cases) = low_bytes width (bits c.value) ++ (low_bytes 2 (bits (distance at (to c.target)))
+      ++ match_bytes width cases)
 
   -- from the low match on
   abbrev pub range_bytes : (width : ℕ) → (low : ℤ) → List NCase → List ℕ
-  range_bytes width low cases = low_bytes width (bits low) ++ (low_bytes width (last_bits (bits low) (length cases)) ++ offset_bytes cases)
+  range_bytes width low cases = low_bytes width (bits low) ++ (low_bytes width (last_bits (bits low) (length cases))
+      ++ offset_bytes cases)
 
   -- with matches
   abbrev pub lookup_bytes : (width : ℕ) → List NCase → List ℕ
@@ -80,7 +83,8 @@ module _ (to : ℕ → ℕ) (at : ℕ) where
   -- what stands behind the default, by the opcode
   unfoldable pub table_bytes : (op : ℕ) → (low : ℤ) → List NCase → List ℕ
   table_bytes op low cases =
-      if op == card.stableswitch then range_bytes 2 low cases else (if op == card.itableswitch then range_bytes 4 low cases
+      if op == card.stableswitch then range_bytes 2 low cases else (if op == card.itableswitch
+      then range_bytes 4 low cases
       else (if op == card.slookupswitch then lookup_bytes 2 cases else lookup_bytes 4 cases))
 
   -- a switch: its opcode, the distance to the default's target, and what stands behind that
@@ -101,7 +105,8 @@ class_in ks (Some c) = index_in ks (keys.Class c)
 module _ (ks : List PoolKey) (token_of : MemberId → Option ℕ) where
   -- a call of an interface's method
   abbrev pub call_bytes : (nargs : ℕ) → MemberId → List ℕ
-  call_bytes nargs m = card.invokeinterface ∷ nargs ∷ (low_bytes 2 (index_in ks (keys.Class m.class)) ++ known (token_of m) ∷ [])
+  call_bytes nargs m = card.invokeinterface ∷ nargs ∷ (low_bytes 2 (index_in ks (keys.Class m.class))
+      ++ known (token_of m) ∷ [])
 
   module _ (to : ℕ → ℕ) where
     -- the bytes of an instruction at this offset, where its jump is wide or not
@@ -122,11 +127,13 @@ module _ (ks : List PoolKey) (token_of : MemberId → Option ℕ) where
     abbrev pub all_written : (places : List ℕ) → (k : ℕ) → List NInsn → List Bool → List ℕ
     all_written places k [] wide = []
     all_written places k (i ∷ insns) [] = []
-    all_written places k (i ∷ insns) (w ∷ wide) = written (slice_index places k) w i ++ all_written places (k + 1) insns wide
+    all_written places k (i ∷ insns) (w ∷ wide) = written (slice_index places k) w i
+        ++ all_written places (k + 1) insns wide
 
 -- ---- places of indices
 
 -- of instructions from the k-th on, behind a header of so many bytes
 abbrev pub all_marked : (bytes head : ℕ) → (places : List ℕ) → (k : ℕ) → List NInsn → List ℕ
 all_marked bytes head places k [] = []
-all_marked bytes head places k (i ∷ insns) = insn_places bytes (head + slice_index places k) i ++ all_marked bytes head places (k + 1) insns
+all_marked bytes head places k (i ∷ insns) = insn_places bytes (head + slice_index places k) i
+    ++ all_marked bytes head places (k + 1) insns

@@ -47,7 +47,8 @@ fn put_call<P: PoolLookup>(
     nargs: u8,
     method: &MemberId,
 ) -> Result<(), NoMemory>
-    ensures { OnOk result (out.new ≡ out.old ++ call_bytes (P.pool_keys pool.now) (P.method_token pool.now) nargs method.now) }
+    ensures { OnOk result (out.new ≡ out.old ++ call_bytes (P.pool_keys pool.now) (P.method_token pool.now) nargs
+        method.now) }
 {
     out.push(card::INVOKEINTERFACE)?;
     out.push(nargs)?;
@@ -66,7 +67,8 @@ fn put<P: PoolLookup>(
     wide: bool,
     insn: &NInsn,
 ) -> Result<(), NoMemory>
-    ensures { OnOk result (out.new ≡ out.old ++ written (P.pool_keys pool.now) (P.method_token pool.now) (label_at places.now end) at wide insn.now) }
+    ensures { OnOk result (out.new ≡ out.old ++ written (P.pool_keys pool.now) (P.method_token pool.now)
+        (label_at places.now end) at wide insn.now) }
 {
     match insn {
         NInsn::Op(op) => {
@@ -113,7 +115,8 @@ pub(crate) fn put_code<P: PoolLookup>(
 ) -> Result<(), NoMemory>
     requires places { length places.now ≡ length insns.now }
     requires wide { length wide.now ≡ length insns.now }
-    ensures { OnOk result (out.new ≡ out.old ++ all_written (P.pool_keys pool.now) (P.method_token pool.now) (label_at places.now end) places.now 0 insns.now wide.now) }
+    ensures { OnOk result (out.new ≡ out.old ++ all_written (P.pool_keys pool.now) (P.method_token pool.now)
+        (label_at places.now end) places.now 0 insns.now wide.now) }
 {
     for k in 0..insns.len() {
         put(out, pool, places, end, places[k], wide[k], &insns[k])?;

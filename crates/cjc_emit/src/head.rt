@@ -2,7 +2,7 @@
 //! 6.9.2). Called by whoever emits a method.
 
 ghost use Rattle.std.specs.Prelude.{◌≡◌, ◌<◌, IfOk};
-ghost use Rattle.cjc_lower.specs.Placed.{extended_header, short_header};
+ghost use Rattle.cjc_ncode.specs.Lowering.Placed.{extended_header, short_header};
 ghost use Rattle.cjc_emit.specs.Emitted.{header_bytes};
 
 use cjc_bytes::{Bytes, NoMemory, Row};

@@ -1,7 +1,7 @@
 //! The bytes of a whole method. Called by whoever writes Method and ReferenceLocation.
 
 ghost use Rattle.std.specs.Prelude.{◌≡◌, IfOk};
-ghost use Rattle.cjc_lower.specs.Naming.{Naming};
+ghost use Rattle.cjc_ncode.specs.Lowering.Naming.{Naming};
 ghost use Rattle.cjc_layout.specs.Layouts.{IsLayout};
 ghost use Rattle.cjc_emit.specs.Emitted.{IsEmittable, IsEmitted};
 
@@ -24,7 +24,8 @@ pub fn emit<P: PoolLookup>(
     pool: &P,
 ) -> Result<MethodBytes, NoMemory>
     requires { IsLayout method.now layout.now }
-    ensures { (n : Naming) → (let l = layout.now in IsEmittable (P.pool_keys pool.now) (P.method_token pool.now) n method.now l.wide → IfOk result (IsEmitted n method.now l.wide)) }
+    ensures { (n : Naming) → (let l = layout.now in IsEmittable (P.pool_keys pool.now) (P.method_token pool.now) n
+        method.now l.wide → IfOk result (IsEmitted n method.now l.wide)) }
 {
     let insns = method.insns.items();
     let places = layout.places.items();

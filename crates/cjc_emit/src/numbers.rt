@@ -1,7 +1,7 @@
 //! Numbers as bytes, high ones first. Called by whoever writes instructions. It knows no instruction.
 
 ghost use Rattle.std.specs.Prelude.{◌≡◌, ◌∷◌, [], ◌++◌, OnOk};
-ghost use Rattle.cjc_lower.specs.Laid.{distance};
+ghost use Rattle.cjc_ncode.specs.Lowering.Laid.{distance};
 ghost use Rattle.cjc_emit.specs.Working.{bits, last_bits, low_bytes};
 
 use cjc_bytes::{Bytes, NoMemory};

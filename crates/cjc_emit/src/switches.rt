@@ -2,8 +2,9 @@
 //! whoever writes instructions. It knows no other instruction.
 
 ghost use Rattle.std.specs.Prelude.{◌≡◌, ◌∷◌, [], ◌++◌, OnOk};
-ghost use Rattle.cjc_lower.specs.Laid.{distance};
-ghost use Rattle.cjc_emit.specs.Working.{bits, low_bytes, label_at, lookup_bytes, match_bytes, offset_bytes, range_bytes, switch_bytes, table_bytes};
+ghost use Rattle.cjc_ncode.specs.Lowering.Laid.{distance};
+ghost use Rattle.cjc_emit.specs.Working.{bits, low_bytes, label_at, lookup_bytes, match_bytes, offset_bytes};
+ghost use Rattle.cjc_emit.specs.Working.{range_bytes, switch_bytes, table_bytes};
 
 use crate::numbers::{distance_bits, last_bits, put_low};
 use cjc_bytes::{Bytes, NoMemory};

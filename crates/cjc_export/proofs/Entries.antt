@@ -1,5 +1,6 @@
 -- What bytes that spell a pool say of its entries, and the constants that these stand for.
-use Rattle.std.proofs.Common.{◌≡◌, ℕ, zero, suc, ◌+◌, ◌<◌, ◌≤◌, ◌^◌, Bool, true, false, cond, List, [], ◌∷◌, Option, Some, None, option_and_then, length, refl, sym, ap, subst, ◌∙◌, arith, FitsSigned}
+use Rattle.std.proofs.Common.{◌≡◌, ℕ, zero, suc, ◌+◌, ◌<◌, ◌≤◌, ◌^◌, Bool, true, false, cond, List, [], ◌∷◌, Option}
+use Rattle.std.proofs.Common.{Some, None, option_and_then, length, refl, sym, ap, subst, ◌∙◌, arith, FitsSigned}
 use Rattle.std.specs.Prelude.{◌==◌}
 use Rattle.std.specs.List.{AllByRecursion, flat_map}
 use Rattle.std.specs.Int.{w32, cast_unsigned}
@@ -35,7 +36,8 @@ abbrev pub EntryFits : Entry → Type 0
 EntryFits (entries.text bytes) = IsText bytes
 EntryFits (entries.integer n) = FitsSigned w32 n
 EntryFits (entries.class name) = Unit {0}
-EntryFits (entries.package_info library name minor major aid) = (minor < 2 ^ 8) × (major < 2 ^ 8) × (aid_length (length aid) ≡ Some (length aid))
+EntryFits (entries.package_info library name minor major aid) = (minor < 2 ^ 8) × (major < 2 ^ 8)
+    × (aid_length (length aid) ≡ Some (length aid))
 
 abbrev EntryRead : ℕ → Entry → Type 0
 EntryRead size e = EntryFits e × (1 + size ≡ entry_size e)
@@ -48,7 +50,8 @@ pub cond_other : {A : Type 0} (b : Bool) (x y : A) → cond b None (Some x) ≡ 
 cond_other true x y e = absurd cc
 cond_other false x y e = cc
 
-pub chosen : {A B : Type 0} (p : A → Bool) (o : Option A) (b d : B) → option_and_then (λ (x : A). cond (p x) (Some b) None) o ≡ Some d → b ≡ d
+pub chosen : {A B : Type 0} (p : A → Bool) (o : Option A) (b d : B)
+    → option_and_then (λ (x : A). cond (p x) (Some b) None) o ≡ Some d → b ≡ d
 chosen p None b d e = absurd cc
 chosen p (Some x) b d e = cond_same (p x) b d e
 
@@ -67,11 +70,13 @@ index_read at i bytes ok h =
 
 -- the parts of a package's entry, one behind the other
 package_sum : (all flags a name b minor c major d count e aid f size : ℕ)
-    → all ≡ flags + a → flags ≡ 1 → a ≡ name + b → name ≡ 2 → b ≡ minor + c → minor ≡ 1 → c ≡ major + d → major ≡ 1 → d ≡ count + e → count ≡ 1 → e ≡ aid + f → aid ≡ size → f ≡ 0
+    → all ≡ flags + a → flags ≡ 1 → a ≡ name + b → name ≡ 2 → b ≡ minor + c → minor ≡ 1 → c ≡ major + d → major ≡ 1
+    → d ≡ count + e → count ≡ 1 → e ≡ aid + f → aid ≡ size → f ≡ 0
     → 1 + all ≡ 7 + size
 package_sum all flags a name b minor c major d count e aid f size p q r s t u v w x y z o n = omega arith
 
-content_read : (tag : Tag) (at : ℕ) (e : Entry) (bytes : List ℕ) → InBytes bytes → Spells (content tag) at e bytes → EntryRead (length bytes) e
+content_read : (tag : Tag) (at : ℕ) (e : Entry) (bytes : List ℕ) → InBytes bytes → Spells (content tag) at e bytes
+    → EntryRead (length bytes) e
 unfolding content counted
 content_read tags.Utf8 at e bytes ok h =
     with_inner _ _ _ _ _ ok h (λ b.
@@ -87,7 +92,11 @@ content_read tags.Integer at e bytes ok h =
     let k = u4_is _ _ _ n.fronts n.one in
     let g = given _ _ _ _ n.rest in
     let size : 1 + length bytes ≡ 5 = omega (arith, n.sizes, k.1, g.1) in
-    subst (λ (x : Entry). EntryRead (length bytes) x) g.0 (sfits_to_z {w = w32} {n = n.x} (Fits-bits {w = w32} {n = n.x} 32 tt k.0), size))
+    subst (λ (x : Entry). EntryRead (length bytes) x) g.0 (
+      sfits_to_z {w = w32} {n = n.x} (Fits-bits {w = w32} {n = n.x}
+          32 tt k.0),
+      size,
+    ))
 content_read tags.Class at e bytes ok h =
     with_inner _ _ _ _ _ ok h (λ i.
     let g = given _ _ _ _ i.rest in
@@ -109,12 +118,15 @@ content_read tags.Package at e bytes ok h =
     let g = given _ _ _ _ aid.rest in
     let same_count : count.n ≡ n.x = aid_same count.n n.x count.is in
     let long : count.n ≡ length aid.x = same_count ∙ sym r.0 in
-    let fits : aid_length (length aid.x) ≡ Some (length aid.x) = subst (λ (m : ℕ). aid_length m ≡ Some m) long (count.is ∙ ap Some (sym same_count)) in
+    let fits : aid_length (length aid.x) ≡ Some (length aid.x) = subst (λ (m : ℕ). aid_length m ≡ Some m) long (count.is
+    ∙ ap Some (sym same_count)) in
     let size : 1 + length bytes ≡ 7 + length aid.x =
-    package_sum _ _ _ _ _ _ _ _ _ _ _ _ _ _ flags.sizes f.1 i.sizes (index_read _ _ _ i.fronts i.one) minor.sizes mi.1 major.sizes ma.1 n.sizes count.sizes aid.sizes (r.1 ∙ sym r.0) g.1 in
+    package_sum _ _ _ _ _ _ _ _ _ _ _ _ _ _ flags.sizes f.1 i.sizes (index_read _ _ _ i.fronts i.one) minor.sizes mi.1
+    major.sizes ma.1 n.sizes count.sizes aid.sizes (r.1 ∙ sym r.0) g.1 in
     subst (λ (x : Entry). EntryRead (length bytes) x) g.0 ((mi.0, ma.0, fits), size)))))))
 
-entry_read : (at : ℕ) (e : Entry) (bytes : List ℕ) → InBytes bytes → Spells entry at e bytes → EntryFits e × (length bytes ≡ entry_size e)
+entry_read : (at : ℕ) (e : Entry) (bytes : List ℕ) → InBytes bytes → Spells entry at e bytes → EntryFits e
+    × (length bytes ≡ entry_size e)
 unfolding entry
 entry_read at e bytes ok h =
     with_inner _ _ _ _ _ ok h (λ tag.
@@ -126,16 +138,20 @@ entry_read at e bytes ok h =
 abbrev pub PoolRead : ℕ → ℕ → List Entry → Type 0
 PoolRead n size pool = (length pool ≡ n) × AllByRecursion EntryFits pool × (size ≡ entry_sizes pool)
 
-pub entries_read : (n at : ℕ) (pool : List Entry) (bytes : List ℕ) → InBytes bytes → Spells (repeated n entry) at pool bytes → PoolRead n (length bytes) pool
+pub entries_read : (n at : ℕ) (pool : List Entry) (bytes : List ℕ) → InBytes bytes
+    → Spells (repeated n entry) at pool bytes → PoolRead n (length bytes) pool
 unfolding repeated
-entries_read zero at pool bytes ok h = let g = given _ _ _ _ h in subst (λ (es : List Entry). PoolRead 0 (length bytes) es) g.0 (refl, tt, g.1)
+entries_read zero at pool bytes ok h = let g = given _ _ _ _ h
+    in subst (λ (es : List Entry). PoolRead 0 (length bytes) es) g.0 (refl, tt, g.1)
 entries_read (suc n) at pool bytes ok h =
     with_inner _ _ _ _ _ ok h (λ x.
     with_inner _ _ _ _ _ x.backs x.rest (λ xs.
     let one = entry_read _ x.x x.front x.fronts x.one in
     let more = entries_read n _ xs.x xs.front xs.fronts xs.one in
     let g = given _ _ _ _ xs.rest in
-    let size : length bytes ≡ entry_size x.x + entry_sizes xs.x = x.sizes ∙ joined_sizes (length x.front) (length x.back) (length xs.front) (length xs.back) (entry_size x.x) (entry_sizes xs.x) one.1 xs.sizes more.2 g.1 in
+    let size : length bytes ≡ entry_size x.x + entry_sizes xs.x = x.sizes
+    ∙ joined_sizes (length x.front) (length x.back) (length xs.front) (length xs.back) (entry_size x.x)
+    (entry_sizes xs.x) one.1 xs.sizes more.2 g.1 in
     subst (λ (es : List Entry). PoolRead (suc n) (length bytes) es) g.0 (ap suc more.0, (one.0, more.1), size)))
   where
     joined_sizes : (a b c d e f : ℕ) → a ≡ e → b ≡ c + d → c ≡ f → d ≡ 0 → a + b ≡ e + f
@@ -200,10 +216,13 @@ module _ (pool : List Entry) (mine : ℕ) where
 
   pub meant_sizes : (es : List Entry) → total (size_of mine) (flat_map (meant pool mine) es) ≤ entry_sizes es
   meant_sizes [] = omega arith
-  meant_sizes (e ∷ es) = added _ _ _ _ _ (total-append (size_of mine) (meant pool mine e) (flat_map (meant pool mine) es)) (meant_size e) (meant_sizes es)
+  meant_sizes (e ∷ es) = added _ _ _ _ _ (total-append (size_of mine) (meant pool mine e) (flat_map (meant pool mine)
+      es)) (meant_size e) (meant_sizes es)
 
   pub meant_ones : (es : List Entry) → total one_each (flat_map (meant pool mine) es) ≤ length es
   meant_ones [] = omega arith
   meant_ones (e ∷ es) =
-      let bound : total one_each (flat_map (meant pool mine) (e ∷ es)) ≤ 1 + length es = added _ _ _ _ _ (total-append one_each (meant pool mine e) (flat_map (meant pool mine) es)) (meant_one e) (meant_ones es) in
+      let bound : total one_each (flat_map (meant pool mine) (e ∷ es)) ≤ 1 + length es =
+      added _ _ _ _ _ (total-append one_each (meant pool mine e) (flat_map (meant pool mine) es)) (meant_one e)
+      (meant_ones es) in
       omega arith

@@ -10,7 +10,8 @@ done x = Ok x
 ok_is : (x y : List ℕ × Rest) → done x ≡ done y → x ≡ y
 ok_is x y e = cc
 
-taken_by : (b : Bool) (n : ℕ) (r : Rest) (bytes : List ℕ) (s : Rest) → cond {A = Result (List ℕ × Rest) ℕ} b (Err r.at) (Ok (take n r.left, past n r)) ≡ Ok (bytes, s) → length bytes ≤ n
+taken_by : (b : Bool) (n : ℕ) (r : Rest) (bytes : List ℕ) (s : Rest) → cond {A = Result (List ℕ × Rest) ℕ} b (Err r.at)
+    (Ok (take n r.left, past n r)) ≡ Ok (bytes, s) → length bytes ≤ n
 taken_by true n r bytes s e = absurd cc
 taken_by false n r bytes s e =
     let is : take n r.left ≡ bytes = ap (λ (q : List ℕ × Rest). q.0) (ok_is (take n r.left, past n r) (bytes, s) e) in

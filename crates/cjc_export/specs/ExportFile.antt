@@ -1,5 +1,6 @@
 -- The export file (Java Card Virtual Machine Specification 2.2.2, chapter 5).
-use Rattle.std.specs.Prelude.{ℕ, Bool, List, [], Option, Some, None, option_and_then, nat_lt, ◌==◌, ◌&&◌, ◌||◌, if◌then◌else◌}
+use Rattle.std.specs.Prelude.{ℕ, Bool, List, [], Option, Some, None, option_and_then, nat_lt, ◌==◌, ◌&&◌, ◌||◌}
+use Rattle.std.specs.Prelude.{if◌then◌else◌}
 use Rattle.std.specs.List.{list_any}
 use Rattle.std.specs.Int.{w8, w16, w32}
 use Rattle.std.specs.Str.{bytes_eq}
@@ -54,7 +55,15 @@ class_tree pool so_far = do
   fields ← iterated field_count (grown (field pool)) []
   count ← number w16 (method_count (is_interface flags))
   methods ← iterated count (grown (method pool (is_interface flags) count)) []
-  gives (record { token = token; flags = flags; name = name; supers = supers; interfaces = interfaces; fields = fields; methods = methods })
+  gives (record {
+    token = token;
+    flags = flags;
+    name = name;
+    supers = supers;
+    interfaces = interfaces;
+    fields = fields;
+    methods = methods;
+  })
 
 -- ---- the file
 
@@ -79,4 +88,11 @@ export_file = do
   this ← package_field pool
   count ← u1
   classes ← iterated count (grown (class_tree pool)) []
-  gives (record { name = this.name; aid = this.aid; major = this.major; minor = this.minor; library = this.library; classes = classes })
+  gives (record {
+    name = this.name;
+    aid = this.aid;
+    major = this.major;
+    minor = this.minor;
+    library = this.library;
+    classes = classes;
+  })

@@ -1,5 +1,6 @@
 -- Where the classes and members of a tree stand.
-use Rattle.std.specs.Prelude.{ℕ, ◌+◌, ◌==◌, ◌&&◌, nat_lt, if◌then◌else◌, List, length, position, Option, Some, None, option_and_then, option_map, slice_get}
+use Rattle.std.specs.Prelude.{ℕ, ◌+◌, ◌==◌, ◌&&◌, nat_lt, if◌then◌else◌, List, length, position, Option, Some, None}
+use Rattle.std.specs.Prelude.{option_and_then, option_map, slice_get}
 use Rattle.std.specs.Str.{bytes_eq}
 use Rattle.cjc_export.specs.declared.tree.ExportField.{ExportField}
 use Rattle.cjc_export.specs.declared.tree.ExportMethod.{ExportMethod}
@@ -33,7 +34,8 @@ or_else None second = second
 
 -- the place of a member: the fields are counted first, then the methods
 unfoldable pub member_place : ExportClass → List ℕ → List ℕ → Option ℕ
-member_place c name desc = or_else (field_place c.fields name desc) (option_map (λ i. length c.fields + i) (method_place c.methods name desc))
+member_place c name desc = or_else (field_place c.fields name desc) (option_map (λ i. length c.fields + i)
+    (method_place c.methods name desc))
 
 -- in the class at a place, if there is one
 abbrev pub place_of_member : List ExportClass → ℕ → List ℕ → List ℕ → Option ℕ

@@ -1,5 +1,6 @@
 -- The fields and methods of a class (Java Card Virtual Machine Specification 2.2.2, sections 5.8 to 5.10).
-use Rattle.std.specs.Prelude.{ℕ, ℤ, Bool, true, false, not, List, [], ◌∷◌, ◌++◌, Option, Some, None, option_and_then, slice_get, is_some, is_none, nat_lt, ◌==◌, ◌&&◌, ◌||◌, if◌then◌else◌, codes}
+use Rattle.std.specs.Prelude.{ℕ, ℤ, Bool, true, false, not, List, [], ◌∷◌, ◌++◌, Option, Some, None, option_and_then}
+use Rattle.std.specs.Prelude.{slice_get, is_some, is_none, nat_lt, ◌==◌, ◌&&◌, ◌||◌, if◌then◌else◌, codes}
 use Rattle.std.specs.List.{list_any}
 use Rattle.std.specs.Int.{w8, w16, w32}
 use Rattle.std.specs.Str.{bytes_eq}
@@ -49,7 +50,8 @@ desc_field pool method = number w16 (desc_at pool method)
 
 -- boolean, byte, short or int
 abbrev pub is_constant_type : List ℕ → Bool
-is_constant_type desc = bytes_eq desc (codes "Z") || bytes_eq desc (codes "B") || bytes_eq desc (codes "S") || bytes_eq desc (codes "I")
+is_constant_type desc = bytes_eq desc (codes "Z") || bytes_eq desc (codes "B") || bytes_eq desc (codes "S")
+    || bytes_eq desc (codes "I")
 
 -- a field that is a constant where it has a ConstantValue
 abbrev pub may_be_constant : ℕ → List ℕ → Bool
@@ -97,7 +99,8 @@ attribute pool place wrong behind so_far = do
 -- whether an earlier field has this token; static fields that are no constants and instance fields are
 -- numbered each by themselves
 abbrev pub field_token_taken : List ExportField → ℕ → ℕ → Bool
-field_token_taken so_far flags token = list_any (λ f. (f.token == token) && same_bool (is_static flags) (is_static f.flags) && is_none f.constant) so_far
+field_token_taken so_far flags token = list_any (λ f. (f.token == token)
+    && same_bool (is_static flags) (is_static f.flags) && is_none f.constant) so_far
 
 -- the token of a constant
 abbrev pub no_token : ℕ → Bool
@@ -114,14 +117,23 @@ field pool so_far = do
   place ← here (λ k. k)
   token ← u1
   flags ← u2
-  first ← looked_up (broken_where place (field_token_taken so_far flags token && not (no_token token && is_static flags && is_final flags)))
+  first ← looked_up (broken_where place (field_token_taken so_far flags token && not (no_token token && is_static flags
+      && is_final flags)))
   name ← text_field pool
   desc ← desc_field pool false
-  second ← looked_up (broken_where place (field_token_taken so_far flags token && not (no_token token && may_be_constant flags desc)))
+  second ← looked_up (broken_where place (field_token_taken so_far flags token && not (no_token token
+      && may_be_constant flags desc)))
   count ← u2
   value ← iterated count (attribute pool place (may_be_constant flags desc && not (no_token token))) None
-  third ← looked_up (broken_where place (field_token_taken so_far flags token && is_none (where_constant (may_be_constant flags desc) value)))
-  gives (record { token = token; flags = flags; name = name; desc = desc; constant = where_constant (may_be_constant flags desc) value })
+  third ← looked_up (broken_where place (field_token_taken so_far flags token
+      && is_none (where_constant (may_be_constant flags desc) value)))
+  gives (record {
+    token = token;
+    flags = flags;
+    name = name;
+    desc = desc;
+    constant = where_constant (may_be_constant flags desc) value;
+  })
 
 -- ---- methods of classes
 
@@ -131,7 +143,8 @@ is_unbound flags name = is_static flags || bytes_eq name (codes "<init>")
 
 -- an earlier method has this token, among those with tokens of this kind
 abbrev pub method_token_taken : List ExportMethod → Bool → ℕ → Bool
-method_token_taken so_far unbound token = list_any (λ m. (m.token == token) && same_bool unbound (is_unbound m.flags m.name)) so_far
+method_token_taken so_far unbound token = list_any (λ m. (m.token == token)
+    && same_bool unbound (is_unbound m.flags m.name)) so_far
 
 -- whether a token can't be that of the next method: an earlier one has it, or it is above 127 and the method virtual
 abbrev pub method_token_wrong : List ExportMethod → Bool → ℕ → Bool

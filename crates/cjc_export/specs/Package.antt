@@ -8,7 +8,13 @@ use Rattle.cjc_export.specs.Pool.{text_at}
 
 -- the package that a CONSTANT_Package tells, where its name is a text of the pool
 abbrev pub package_of : List Entry → Entry → Option Package
-package_of pool (package_info library name minor major aid) = option_map (λ n. record { name = n; aid = aid; major = major; minor = minor; library = library }) (text_at pool name.to)
+package_of pool (package_info library name minor major aid) = option_map (λ n. record {
+  name = n;
+  aid = aid;
+  major = major;
+  minor = minor;
+  library = library;
+}) (text_at pool name.to)
 package_of pool _ = None
 
 -- the package at an index

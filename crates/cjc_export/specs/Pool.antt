@@ -1,5 +1,6 @@
 -- The constant pool of an export file (Java Card Virtual Machine Specification 2.2.2, section 5.6).
-use Rattle.std.specs.Prelude.{ℕ, Bool, List, Option, Some, None, Result, Ok, nat_le, ◌==◌, ◌&&◌, if◌then◌else◌, option_and_then, slice_get}
+use Rattle.std.specs.Prelude.{ℕ, Bool, List, Option, Some, None, Result, Ok, nat_le, ◌==◌, ◌&&◌, if◌then◌else◌}
+use Rattle.std.specs.Prelude.{option_and_then, slice_get}
 use Rattle.std.specs.Int.{w8, w32, cast_signed}
 use Rattle.cjc_bytes.specs.Format.{Format, number, here, gives, ◌>>=◌, u1, u2, u4, raw}
 use Rattle.cjc_bytes.specs.Found.{◌>>=◌ as ◌>>>◌, kept}

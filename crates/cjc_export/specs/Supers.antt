@@ -1,6 +1,7 @@
 -- What stands above a class by the supers that export files list, direct or not, and the virtual methods that a class
 -- lists or inherits (Java Card Virtual Machine Specification 2.2.2, sections 5.7 and 5.9).
-use Rattle.std.specs.Prelude.{◌≡◌, ℕ, zero, suc, ◌+◌, ◌==◌, ◌&&◌, ◌||◌, not, Bool, true, false, if◌then◌else◌, List, [], ◌∷◌, ◌++◌, length, Option, Some, None, codes}
+use Rattle.std.specs.Prelude.{◌≡◌, ℕ, zero, suc, ◌+◌, ◌==◌, ◌&&◌, ◌||◌, not, Bool, true, false, if◌then◌else◌, List, []}
+use Rattle.std.specs.Prelude.{◌∷◌, ◌++◌, length, Option, Some, None, codes}
 use Rattle.std.specs.List.{list_any, flat_map, find}
 use Rattle.std.specs.Str.{bytes_eq}
 use Rattle.cjc_bytes.specs.AccessFlags.{is_static, is_private}
@@ -30,10 +31,12 @@ are_apart (x ∷ names) = not (is_one_of names x) && are_apart names
 -- A name is one of these, or a super of a class whose name is so.
 pub data IsAtOrAbove (classes : List ExportClass) (names : List (List ℕ)) : (name : List ℕ) → Type 0 where
   at : {x : List ℕ} → is_one_of names x ≡ true → IsAtOrAbove classes names x
-  above : {x y : List ℕ} (c : ExportClass) → IsAtOrAbove classes names x → class_named classes x ≡ Some c → is_one_of c.supers y ≡ true → IsAtOrAbove classes names y
+  above : {x y : List ℕ} (c : ExportClass) → IsAtOrAbove classes names x → class_named classes x ≡ Some c
+      → is_one_of c.supers y ≡ true → IsAtOrAbove classes names y
 
 -- a class, and onwards from its supers before the other names
-abbrev pub with_class : Option ExportClass → (names : List (List ℕ)) → (onwards : List (List ℕ) → List ExportClass) → List ExportClass
+abbrev pub with_class : Option ExportClass → (names : List (List ℕ)) → (onwards : List (List ℕ) → List ExportClass)
+    → List ExportClass
 with_class None names onwards = onwards names
 with_class (Some c) names onwards = c ∷ onwards (c.supers ++ names)
 

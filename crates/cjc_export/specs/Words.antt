@@ -1,5 +1,6 @@
 -- Words on numbers and flags that the tables use.
-use Rattle.std.specs.Prelude.{ℕ, Bool, true, false, nat_lt, ◌==◌, if◌then◌else◌, Option, Some, None, Result, Ok, Err, bit_and}
+use Rattle.std.specs.Prelude.{ℕ, Bool, true, false, nat_lt, ◌==◌, if◌then◌else◌, Option, Some, None, Result, Ok, Err}
+use Rattle.std.specs.Prelude.{bit_and}
 
 -- the one number that may stand there
 abbrev pub exactly : ℕ → ℕ → Option ℕ

@@ -1,5 +1,6 @@
 -- Which trees some export file spells, said of the tree alone.
-use Rattle.std.specs.Prelude.{◌≡◌, ◌<◌, ◌^◌, ℕ, ℤ, Bool, true, false, ◌&&◌, List, [], ◌∷◌, ◌++◌, length, All, Option, Some, None, is_none, FitsSigned}
+use Rattle.std.specs.Prelude.{◌≡◌, ◌<◌, ◌^◌, ℕ, ℤ, Bool, true, false, ◌&&◌, List, [], ◌∷◌, ◌++◌, length, All, Option}
+use Rattle.std.specs.Prelude.{Some, None, is_none, FitsSigned}
 use Rattle.std.specs.List.{AllByRecursion}
 use Rattle.std.specs.Int.{w32}
 use Rattle.cjc_export.specs.declared.tree.ExportField.{ExportField}
@@ -8,7 +9,8 @@ use Rattle.cjc_export.specs.declared.tree.ExportClass.{ExportClass}
 use Rattle.cjc_export.specs.declared.tree.ExportTree.{ExportTree}
 use Rattle.cjc_bytes.specs.AccessFlags.{is_interface}
 use Rattle.cjc_export.specs.Pool.{aid_length}
-use Rattle.cjc_export.specs.Members.{as_desc, may_be_constant, field_token_taken, is_unbound, method_token_wrong, interface_token, not_special}
+use Rattle.cjc_export.specs.Members.{as_desc, may_be_constant, field_token_taken, is_unbound, method_token_wrong}
+use Rattle.cjc_export.specs.Members.{interface_token, not_special}
 use Rattle.cjc_export.specs.ExportFile.{class_token, new_name, method_count}
 use Rattle.cjc_export.specs.Constant.{Constant, text, integer}
 use Rattle.cjc_export.specs.Written.{constants}
@@ -60,8 +62,10 @@ pub record MethodFits (m : ExportMethod) : Type 0 where
 
 -- A method can stand behind these, in an interface with so many methods, or in a class.
 abbrev pub MethodStands : Bool → ℕ → List ExportMethod → ExportMethod → Type 0
-MethodStands true count before m = MethodFits m × (interface_token count before m.token ≡ Some m.token) × (not_special m.name ≡ Some m.name)
-MethodStands false count before m = MethodFits m × (method_token_wrong before (is_unbound m.flags m.name) m.token ≡ false)
+MethodStands true count before m = MethodFits m × (interface_token count before m.token ≡ Some m.token)
+    × (not_special m.name ≡ Some m.name)
+MethodStands false count before m = MethodFits m × (method_token_wrong before (is_unbound m.flags m.name) m.token
+    ≡ false)
 
 -- A class can stand behind these.
 pub record ClassFits (before : List ExportClass) (c : ExportClass) : Type 0 where

@@ -1,6 +1,7 @@
 -- An export file as bytes, from its tree: the pool of the constants that writing needs, then the package and
 -- its classes.
-use Rattle.std.specs.Prelude.{ℕ, ℤ, Bool, List, [], ◌∷◌, ◌++◌, length, position, Option, Some, None, unwrap_or, if◌then◌else◌, codes}
+use Rattle.std.specs.Prelude.{ℕ, ℤ, Bool, List, [], ◌∷◌, ◌++◌, length, position, Option, Some, None, unwrap_or}
+use Rattle.std.specs.Prelude.{if◌then◌else◌, codes}
 use Rattle.std.specs.List.{flat_map}
 use Rattle.std.specs.Int.{w8, w16, w32, to_be_bytes, cast_unsigned}
 use Rattle.indexmap.specs.IndexSet.{insert_all}
@@ -35,7 +36,8 @@ method_needs m = text m.name ∷ text m.desc ∷ []
 
 -- the class, the classes and interfaces above it, then what its fields and its methods need
 unfoldable pub class_tree_needs : ExportClass → List Constant
-class_tree_needs c = class_needs c.name ++ (flat_map class_needs c.supers ++ (flat_map class_needs c.interfaces ++ (flat_map field_needs c.fields ++ flat_map method_needs c.methods)))
+class_tree_needs c = class_needs c.name ++ (flat_map class_needs c.supers ++ (flat_map class_needs c.interfaces
+    ++ (flat_map field_needs c.fields ++ flat_map method_needs c.methods)))
 
 -- the name of the package, the package, then what its classes need
 unfoldable pub needs : ExportTree → List Constant
@@ -62,19 +64,23 @@ class_ref pool name = index_bytes pool (class name)
 -- the attributes of a field
 abbrev pub value_bytes : List Constant → Option ℤ → List ℕ
 value_bytes pool None = to_be_bytes w16 0
-value_bytes pool (Some value) = to_be_bytes w16 1 ++ (index_bytes pool value_name ++ (to_be_bytes w32 2 ++ index_bytes pool (integer (cast_unsigned w32 value))))
+value_bytes pool (Some value) = to_be_bytes w16 1 ++ (index_bytes pool value_name
+    ++ (to_be_bytes w32 2 ++ index_bytes pool (integer (cast_unsigned w32 value))))
 
 -- a field_info: its token, flags, name, descriptor and attributes
 unfoldable pub field_bytes : List Constant → ExportField → List ℕ
-field_bytes pool f = to_be_bytes w8 f.token ++ (to_be_bytes w16 f.flags ++ (index_bytes pool (text f.name) ++ (index_bytes pool (text f.desc) ++ value_bytes pool f.constant)))
+field_bytes pool f = to_be_bytes w8 f.token ++ (to_be_bytes w16 f.flags ++ (index_bytes pool (text f.name)
+    ++ (index_bytes pool (text f.desc) ++ value_bytes pool f.constant)))
 
 -- a method_info: its token, flags, name and descriptor
 unfoldable pub method_bytes : List Constant → ExportMethod → List ℕ
-method_bytes pool m = to_be_bytes w8 m.token ++ (to_be_bytes w16 m.flags ++ (index_bytes pool (text m.name) ++ index_bytes pool (text m.desc)))
+method_bytes pool m = to_be_bytes w8 m.token ++ (to_be_bytes w16 m.flags ++ (index_bytes pool (text m.name)
+    ++ index_bytes pool (text m.desc)))
 
 -- behind the interfaces of a class
 unfoldable pub members_bytes : List Constant → ExportClass → List ℕ
-members_bytes pool c = to_be_bytes w16 (length c.fields) ++ (flat_map (field_bytes pool) c.fields ++ (to_be_bytes w16 (length c.methods) ++ flat_map (method_bytes pool) c.methods))
+members_bytes pool c = to_be_bytes w16 (length c.fields) ++ (flat_map (field_bytes pool) c.fields
+    ++ (to_be_bytes w16 (length c.methods) ++ flat_map (method_bytes pool) c.methods))
 
 -- a class_info: its token, flags, name, superclasses, interfaces and members
 unfoldable pub class_bytes : List Constant → ExportClass → List ℕ
@@ -102,11 +108,13 @@ constant_bytes t pool this = to_be_bytes w8 13 ++ package_bytes t pool
 
 -- magic, version and count of the pool
 unfoldable pub head_bytes : List Constant → List ℕ
-head_bytes pool = to_be_bytes w32 0x00FACADE ++ (to_be_bytes w8 2 ++ (to_be_bytes w8 2 ++ to_be_bytes w16 (length pool)))
+head_bytes pool = to_be_bytes w32 0x00FACADE
+    ++ (to_be_bytes w8 2 ++ (to_be_bytes w8 2 ++ to_be_bytes w16 (length pool)))
 
 -- the whole file over a pool
 unfoldable pub bytes_over : List Constant → ExportTree → List ℕ
-bytes_over pool t = head_bytes pool ++ (flat_map (constant_bytes t pool) pool ++ (index_bytes pool this ++ (to_be_bytes w8 (length t.classes) ++ flat_map (class_bytes pool) t.classes)))
+bytes_over pool t = head_bytes pool ++ (flat_map (constant_bytes t pool) pool ++ (index_bytes pool this
+    ++ (to_be_bytes w8 (length t.classes) ++ flat_map (class_bytes pool) t.classes)))
 
 -- the whole file, with a pool of the constants that it needs
 unfoldable pub written : ExportTree → List ℕ

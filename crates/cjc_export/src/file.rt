@@ -13,7 +13,8 @@ ghost use Rattle.cjc_export.specs.Members.{grown, class_field};
 ghost use Rattle.cjc_export.specs.Package.{package_field};
 ghost use Rattle.cjc_export.specs.Writable.{AreBytes, IsWritable};
 ghost use Rattle.cjc_export.specs.Written.{written};
-ghost use Rattle.cjc_export.specs.ExportFile.{token_taken, class_token, name_taken, new_name_at, class_tree, front_part, export_file};
+ghost use Rattle.cjc_export.specs.ExportFile.{token_taken, class_token, name_taken, new_name_at, class_tree};
+ghost use Rattle.cjc_export.specs.ExportFile.{front_part, export_file};
 
 use crate::members::{read_class, read_fields, read_methods};
 use crate::pool::{Entry, Kind, class_name_at, read_pool, test_entries, text_at};
@@ -233,7 +234,8 @@ pub fn read(alloc: Global, file: &[u8], bytes: &[u8]) -> Result<ExportTree, Faul
 
     // A refusal is where they break, and where they break is refused.
     ensures refused { IfErr result (IsBreak export_file bytes.now (refusal file.now 104)) }
-    ensures breaks { (k : ℕ) → FileBreaks export_file bytes.now k → IsUnlessNoMemory result (Err (faults.Refused (refusal file.now 104 k))) }
+    ensures breaks { (k : ℕ) → FileBreaks export_file bytes.now k
+        → IsUnlessNoMemory result (Err (faults.Refused (refusal file.now 104 k))) }
 {
     match read_whole(alloc, bytes) {
         Ok(tree) => Ok(tree),
@@ -246,12 +248,17 @@ pub fn read(alloc: Global, file: &[u8], bytes: &[u8]) -> Result<ExportTree, Faul
 /// of the bytes gives that tree or place. The trees that bytes spell are those that can be written, and no
 /// bytes that spell a tree are fewer than the written ones.
 pub fn readings()
-    ensures tree { (s t : Tree) (bytes : List ℕ) → FileSpells export_file s bytes → FileSpells export_file t bytes → s ≡ t }
-    ensures place { (j k : ℕ) (bytes : List ℕ) → FileBreaks export_file bytes j → FileBreaks export_file bytes k → j ≡ k }
-    ensures both { (t : Tree) (k : ℕ) (bytes : List ℕ) → FileSpells export_file t bytes → FileBreaks export_file bytes k → ⊥ }
-    ensures either { (bytes : List ℕ) → ((t : Tree) × FileSpells export_file t bytes) ⊎ ((k : ℕ) × FileBreaks export_file bytes k) }
+    ensures tree { (s t : Tree) (bytes : List ℕ) → FileSpells export_file s bytes → FileSpells export_file t bytes
+        → s ≡ t }
+    ensures place { (j k : ℕ) (bytes : List ℕ) → FileBreaks export_file bytes j → FileBreaks export_file bytes k
+        → j ≡ k }
+    ensures both { (t : Tree) (k : ℕ) (bytes : List ℕ) → FileSpells export_file t bytes → FileBreaks export_file bytes k
+        → ⊥ }
+    ensures either { (bytes : List ℕ) → ((t : Tree) × FileSpells export_file t bytes)
+        ⊎ ((k : ℕ) × FileBreaks export_file bytes k) }
     ensures reading { (bytes : List ℕ) → IsReading export_file bytes }
     ensures writable { (t : Tree) (bytes : List ℕ) → AreBytes bytes → FileSpells export_file t bytes → IsWritable t }
     ensures written { (t : Tree) → IsWritable t → FileSpells export_file t (written t) }
-    ensures shortest { (t : Tree) (bytes : List ℕ) → AreBytes bytes → FileSpells export_file t bytes → length (written t) ≤ length bytes }
+    ensures shortest { (t : Tree) (bytes : List ℕ) → AreBytes bytes → FileSpells export_file t bytes
+        → length (written t) ≤ length bytes }
 {}

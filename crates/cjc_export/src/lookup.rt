@@ -3,7 +3,8 @@
 
 ghost use Rattle.std.specs.Prelude.{◌≡◌, ◌↔◌, ℕ, List, true, Some, map};
 ghost use Rattle.std.specs.List.{AllByRecursion};
-ghost use Rattle.cjc_export.specs.Lookup.{in_32_bits, name_place, token_place, field_place, method_place, member_place, place_of_member};
+ghost use Rattle.cjc_export.specs.Lookup.{in_32_bits, name_place, token_place, field_place, method_place, member_place};
+ghost use Rattle.cjc_export.specs.Lookup.{place_of_member};
 ghost use Rattle.cjc_export.specs.Supers.{class_named, is_one_of, are_apart, IsAtOrAbove, upwards};
 ghost use Rattle.cjc_export.specs.declared.tree.ExportClass.{ExportClass as Class};
 
@@ -94,7 +95,10 @@ impl ExportTree {
 /// listed, each once, and nothing else.
 pub fn supers()
     ensures found { (classes : List Class) (names : List (List ℕ)) (name : List ℕ)
-        → (is_one_of (map (λ c. c.name) (upwards classes names)) name ≡ true) ↔ (IsAtOrAbove classes names name × ((c : Class) × (class_named classes name ≡ Some c))) }
-    ensures own { (classes : List Class) (names : List (List ℕ)) → AllByRecursion (λ c. class_named classes c.name ≡ Some c) (upwards classes names) }
-    ensures once { (classes : List Class) (names : List (List ℕ)) → are_apart (map (λ c. c.name) (upwards classes names)) ≡ true }
+        → (is_one_of (map (λ c. c.name) (upwards classes names)) name ≡ true) ↔ (IsAtOrAbove classes names name
+        × ((c : Class) × (class_named classes name ≡ Some c))) }
+    ensures own { (classes : List Class) (names : List (List ℕ)) → AllByRecursion (λ c. class_named classes c.name
+        ≡ Some c) (upwards classes names) }
+    ensures once { (classes : List Class) (names : List (List ℕ))
+        → are_apart (map (λ c. c.name) (upwards classes names)) ≡ true }
 {}

@@ -7,7 +7,12 @@ ghost use Rattle.cjc_bytes.specs.Format.{iterated};
 ghost use Rattle.cjc_bytes.specs.Found.{Finds};
 ghost use Rattle.cjc_bytes.specs.Reading.{Reads};
 ghost use Rattle.cjc_export.specs.Words.{broken_where};
-ghost use Rattle.cjc_export.specs.Members.{grown, text_field, class_field, same_bool, as_desc, desc_at, desc_field, is_constant_type, may_be_constant, constant_name_at, integer_at, attribute_content, attribute, field_token_taken, no_token, where_constant, field, is_unbound, method_token_taken, method_token_wrong, class_method, interface_token_taken, interface_token, is_special, interface_name_at, interface_method, method};
+ghost use Rattle.cjc_export.specs.Members.{grown, text_field, class_field, same_bool, as_desc, desc_at, desc_field};
+ghost use Rattle.cjc_export.specs.Members.{is_constant_type, may_be_constant, constant_name_at, integer_at};
+ghost use Rattle.cjc_export.specs.Members.{attribute_content, attribute, field_token_taken, no_token, where_constant};
+ghost use Rattle.cjc_export.specs.Members.{field, is_unbound, method_token_taken, method_token_wrong, class_method};
+ghost use Rattle.cjc_export.specs.Members.{interface_token_taken, interface_token, is_special, interface_name_at};
+ghost use Rattle.cjc_export.specs.Members.{interface_method, method};
 
 use crate::pool::{Entry, Kind, class_name_at, text_at};
 use crate::tree::{ExportField, ExportMethod};
@@ -379,7 +384,8 @@ pub(crate) fn read_methods(
     count: u16,
     cursor: &mut Cursor<'_>,
 ) -> Result<Row<ExportMethod>, Stop>
-    ensures { Reads (λ ms. ms) (iterated count (grown (method pool.now of_interface count)) []) cursor.old cursor.new result }
+    ensures { Reads (λ ms. ms) (iterated count (grown (method pool.now of_interface count)) []) cursor.old cursor.new
+        result }
 {
     let mut methods = Row::new(alloc);
     for _behind in (0..count).rev() {

@@ -4,7 +4,8 @@ ghost use Rattle.std.specs.Prelude.{◌≡◌, length, IfOk, OnOk};
 ghost use Rattle.std.specs.List.{flat_map};
 ghost use Rattle.indexmap.specs.IndexSet.{insert_all};
 ghost use Rattle.cjc_export.specs.Constant.{same};
-ghost use Rattle.cjc_export.specs.Written.{class_needs, value_name, value_needs, field_needs, method_needs, class_tree_needs, constants};
+ghost use Rattle.cjc_export.specs.Written.{class_needs, value_name, value_needs, field_needs, method_needs};
+ghost use Rattle.cjc_export.specs.Written.{class_tree_needs, constants};
 
 use crate::constants::{Constant, Pool};
 use crate::tree::{ExportClass, ExportField, ExportMethod, ExportTree};

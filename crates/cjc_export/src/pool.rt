@@ -8,7 +8,8 @@ ghost use Rattle.cjc_bytes.specs.Found.{Finds, all_of};
 ghost use Rattle.cjc_bytes.specs.Reading.{Reads};
 ghost use Rattle.cjc_export.specs.Entry.{Entry as Seen};
 ghost use Rattle.cjc_export.specs.Kind.{entry_of, IsShort};
-ghost use Rattle.cjc_export.specs.Pool.{tag_of, index, aid_length, is_library, counted, content, entry, text_at, tested_name, tested, class_name_at};
+ghost use Rattle.cjc_export.specs.Pool.{tag_of, index, aid_length, is_library, counted, content, entry, text_at};
+ghost use Rattle.cjc_export.specs.Pool.{tested_name, tested, class_name_at};
 
 use cjc_bytes::{Cursor, Row, Stop};
 use std::alloc::Global;

@@ -5,7 +5,9 @@ ghost use Rattle.std.specs.Prelude.{◌≡◌, ◌<◌, ◌^◌, ◌++◌, lengt
 ghost use Rattle.std.specs.List.{flat_map};
 ghost use Rattle.cjc_bytes.specs.Format.{FileSpells};
 ghost use Rattle.cjc_export.specs.ExportFile.{export_file};
-ghost use Rattle.cjc_export.specs.Written.{class_ref, value_bytes, field_bytes, method_bytes, members_bytes, class_bytes, package_bytes, constant_bytes, head_bytes, bytes_over, index_bytes, written};
+ghost use Rattle.cjc_export.specs.Written.{class_ref, value_bytes, field_bytes, method_bytes, members_bytes};
+ghost use Rattle.cjc_export.specs.Written.{class_bytes, package_bytes, constant_bytes, head_bytes, bytes_over};
+ghost use Rattle.cjc_export.specs.Written.{index_bytes, written};
 ghost use Rattle.cjc_export.specs.Writable.{ConstantFits, CountsFit, IsWritable};
 
 use crate::constants::{Constant, Kind, Pool};

@@ -1,7 +1,5 @@
-//! The test of the sentence on Export: its offsets are what Descriptor gives the tokens. Whoever tests components
-//! calls it. It knows no code.
+//! The export file of a package, and its Export component.
 #![tactic(auto)]
 
-mod offsets;
-
-pub use offsets::export_spot;
+pub mod export_file;
+pub mod export_laws;

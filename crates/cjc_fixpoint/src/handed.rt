@@ -37,7 +37,8 @@ fn with_edge<F: Flow>(
 ) -> Result<Option<F::State>, NoMemory>
     requires row { OwnMaybe (F.meaning flow.now) row }
     requires own { (F.meaning flow.now).Own edge.state }
-    ensures { IfOk result (λ more. more ≡ merged (F.meaning flow.now) row (if edge.to == to then Some edge.state else None)) }
+    ensures { IfOk result (λ more. more ≡ merged (F.meaning flow.now) row (if edge.to == to then Some edge.state
+        else None)) }
 {
     if edge.to == to {
         merged(alloc, flow, row, edge.state)

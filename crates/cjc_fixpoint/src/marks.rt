@@ -1,6 +1,7 @@
 //! Which places have a row of their own in a table: their numbers in ascending order, found by halving.
 
-ghost use Rattle.std.specs.Prelude.{◌≡◌, ◌<◌, ◌^◌, ◌↔◌, IsTrue, Some, [], ◌∷◌, ◌++◌, if◌then◌else◌, is_some, length, slice_get, IfOk, OnOk};
+ghost use Rattle.std.specs.Prelude.{◌≡◌, ◌<◌, ◌^◌, ◌↔◌, IsTrue, Some, [], ◌∷◌, ◌++◌, if◌then◌else◌, is_some, length};
+ghost use Rattle.std.specs.Prelude.{slice_get, IfOk, OnOk};
 ghost use Rattle.std.specs.List.{range_with_len};
 ghost use Rattle.cjc_fixpoint.specs.Kept.{IsAscending, mark_of as mark_at};
 ghost use Rattle.cjc_fixpoint.specs.Marked.{marks_in};

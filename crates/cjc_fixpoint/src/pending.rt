@@ -16,7 +16,8 @@ use std::collections::BTreeMap;
 fn is_known<F: Flow>(flow: &F, pending: &BTreeMap<u32, F::State>, to: u32, state: &F::State) -> bool
     requires own { OwnMaybe (F.meaning flow.now) (state_at nat_cmp pending.now to) }
     requires state { (F.meaning flow.now).Own state.now }
-    ensures { IsTrue result → merged (F.meaning flow.now) (state_at nat_cmp pending.now to) (Some state.now) ≡ state_at nat_cmp pending.now to }
+    ensures { IsTrue result → merged (F.meaning flow.now) (state_at nat_cmp pending.now to) (Some state.now)
+        ≡ state_at nat_cmp pending.now to }
 {
     match pending.get(&to) {
         Some(row) => flow.is_above(row, state),
@@ -51,7 +52,8 @@ pub(crate) fn hand<F: Flow>(
 ) -> Result<(), NoMemory>
     requires pending { (k : ℕ) → OwnMaybe (F.meaning flow.now) (state_at nat_cmp pending.old k) }
     requires own { (F.meaning flow.now).Own state }
-    ensures { OnOk result ((k : ℕ) → state_at nat_cmp pending.new k ≡ merged (F.meaning flow.now) (state_at nat_cmp pending.old k) (if to == k then Some state else None)) }
+    ensures { OnOk result ((k : ℕ) → state_at nat_cmp pending.new k ≡ merged (F.meaning flow.now)
+        (state_at nat_cmp pending.old k) (if to == k then Some state else None)) }
 {
     if is_known(flow, pending, to, &state) {
         return Ok(());

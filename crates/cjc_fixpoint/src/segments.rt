@@ -2,7 +2,8 @@
 //! mark. Along it the state is handed on from place to place, and only its edges to marked places
 //! are edges of the segment.
 
-ghost use Rattle.std.specs.Prelude.{◌≡◌, ◌+◌, ◌==◌, if◌then◌else◌, [], ◌∷◌, ◌++◌, ◌-◌, ◌<◌, ◌≤◌, ◌||◌, true, is_some, ℕ, None, Some, length, filter_map, Contains, IfOk, OnOk};
+ghost use Rattle.std.specs.Prelude.{◌≡◌, ◌+◌, ◌==◌, if◌then◌else◌, [], ◌∷◌, ◌++◌, ◌-◌, ◌<◌, ◌≤◌, ◌||◌, true, is_some};
+ghost use Rattle.std.specs.Prelude.{ℕ, None, Some, length, filter_map, Contains, IfOk, OnOk};
 ghost use Rattle.cjc_fixpoint.specs.declared.flow.Edge.{Edge as Leads};
 ghost use Rattle.std.specs.Ordering.{nat_cmp};
 ghost use Rattle.std.specs.BTreeMap.{get as state_at};
@@ -57,9 +58,11 @@ fn deal_one<F: Flow>(
     requires row { OwnMaybe (F.meaning flow.now) row }
     requires own { (F.meaning flow.now).Own edge.state }
     requires out { (k : ℕ) → OwnMaybe (F.meaning flow.now) (state_at nat_cmp out.old k) }
-    ensures out { OnOk result ((k : ℕ) → state_at nat_cmp out.new k ≡ handed_more (F.meaning flow.now) k (state_at nat_cmp out.old k) (filter_map (to_segment marks.now) (edge ∷ []))) }
+    ensures out { OnOk result ((k : ℕ) → state_at nat_cmp out.new k ≡ handed_more (F.meaning flow.now) k
+        (state_at nat_cmp out.old k) (filter_map (to_segment marks.now) (edge ∷ []))) }
     ensures own { IfOk result (OwnMaybe (F.meaning flow.now)) }
-    ensures next { IfOk result (λ more. next < end → more ≡ merged (F.meaning flow.now) row (if edge.to == next then Some edge.state else None)) }
+    ensures next { IfOk result (λ more. next < end → more ≡ merged (F.meaning flow.now) row (if edge.to == next
+        then Some edge.state else None)) }
 {
     if edge.to == next && next < end {
         return merged(alloc, flow, row, edge.state);
@@ -84,7 +87,8 @@ fn deal<F: Flow>(
     requires unmarked { next < end → mark_at marks.now next ≡ None }
     requires own { (e : Leads F.State) → Contains edges e → (F.meaning flow.now).Own e.state }
     requires out { (k : ℕ) → OwnMaybe (F.meaning flow.now) (state_at nat_cmp out.old k) }
-    ensures out { OnOk result ((k : ℕ) → state_at nat_cmp out.new k ≡ handed_more (F.meaning flow.now) k (state_at nat_cmp out.old k) (filter_map (to_segment marks.now) edges)) }
+    ensures out { OnOk result ((k : ℕ) → state_at nat_cmp out.new k ≡ handed_more (F.meaning flow.now) k
+        (state_at nat_cmp out.old k) (filter_map (to_segment marks.now) edges)) }
     ensures own { IfOk result (OwnMaybe (F.meaning flow.now)) }
     ensures next { IfOk result (λ row. next < end → row ≡ handed (F.meaning flow.now) next edges) }
 {
@@ -124,9 +128,12 @@ fn go_on<F: Repeating>(
     requires unmarked { at + 1 < end → mark_at marks.now (at + 1) ≡ None }
     requires own { (F.meaning flow.now).Own state }
     requires out { (k : ℕ) → OwnMaybe (F.meaning flow.now) (state_at nat_cmp out.old k) }
-    ensures out { OnOk result ((k : ℕ) → state_at nat_cmp out.new k ≡ handed_more (F.meaning flow.now) k (state_at nat_cmp out.old k) (asked (F.meaning flow.now) marks.now (asks || is_some (mark_at marks.now (at + 1))) at state)) }
+    ensures out { OnOk result ((k : ℕ) → state_at nat_cmp out.new k ≡ handed_more (F.meaning flow.now) k
+        (state_at nat_cmp out.old k) (asked (F.meaning flow.now) marks.now (asks
+        || is_some (mark_at marks.now (at + 1))) at state)) }
     ensures own { IfOk result (OwnMaybe (F.meaning flow.now)) }
-    ensures next { IfOk result (λ row. at + 1 < end → row ≡ handed (F.meaning flow.now) (at + 1) ((F.meaning flow.now).edges at state)) }
+    ensures next { IfOk result (λ row. at + 1 < end
+        → row ≡ handed (F.meaning flow.now) (at + 1) ((F.meaning flow.now).edges at state)) }
 {
     if is_asked(marks, at + 1, asks) {
         let edges = flow.step(alloc, at, state)?;
@@ -150,7 +157,9 @@ fn run<F: Repeating>(
     requires unmarked { (at : ℕ) → start < at → at < end → mark_at marks.now at ≡ None }
     requires own { (F.meaning flow.now).Own state }
     requires out { (k : ℕ) → OwnMaybe (F.meaning flow.now) (state_at nat_cmp out.old k) }
-    ensures { OnOk result ((k : ℕ) → state_at nat_cmp out.new k ≡ handed_more (F.meaning flow.now) k (state_at nat_cmp out.old k) (short_run (F.meaning flow.now) marks.now (F.again flow.now) (end - start) start true (Some state))) }
+    ensures { OnOk result ((k : ℕ) → state_at nat_cmp out.new k ≡ handed_more (F.meaning flow.now) k
+        (state_at nat_cmp out.old k) (short_run (F.meaning flow.now) marks.now (F.again flow.now) (end - start) start
+        true (Some state))) }
 {
     let mut row = Some(state);
     let mut asks = true;
@@ -177,7 +186,8 @@ fn gathered<F: Repeating>(
     requires ascending { IsAscending marks.now }
     requires unmarked { (at : ℕ) → start < at → at < end → mark_at marks.now at ≡ None }
     requires own { (F.meaning flow.now).Own state }
-    ensures { IfOk result (λ edges. edges ≡ gathered (F.meaning flow.now) (length marks.now) (short_run (F.meaning flow.now) marks.now (F.again flow.now) (end - start) start true (Some state))) }
+    ensures { IfOk result (λ edges. edges ≡ gathered (F.meaning flow.now) (length marks.now)
+        (short_run (F.meaning flow.now) marks.now (F.again flow.now) (end - start) start true (Some state))) }
 {
     let mut out = BTreeMap::new(alloc);
     run(alloc, flow, marks, start, end, state, &mut out)?;
@@ -192,9 +202,12 @@ impl<F: Repeating> Flow for Segments<'_, F> {
 
     type State = F::State;
 
-    ghost meaning = { λ s. gathering (shortened (F.meaning s.flow.now) s.places s.marks.now (F.again s.flow.now)) (length s.marks.now) };
+    ghost meaning = { λ s. gathering (shortened (F.meaning s.flow.now) s.places s.marks.now (F.again s.flow.now))
+        (length s.marks.now) };
 
-    ghost laws = { λ s. gathering_laws (shortened (F.meaning s.flow.now) s.places s.marks.now (F.again s.flow.now)) (shortened_laws (F.meaning s.flow.now) (F.laws s.flow.now) s.places s.marks.now (F.again s.flow.now) (F.repeated s.flow.now)) (length s.marks.now) };
+    ghost laws = { λ s. gathering_laws (shortened (F.meaning s.flow.now) s.places s.marks.now (F.again s.flow.now))
+        (shortened_laws (F.meaning s.flow.now) (F.laws s.flow.now) s.places s.marks.now (F.again s.flow.now)
+        (F.repeated s.flow.now)) (length s.marks.now) };
 
     fn copy(&self, alloc: Global, state: &F::State) -> Result<F::State, NoMemory> {
         self.flow.copy(alloc, state)

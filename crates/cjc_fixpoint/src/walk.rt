@@ -42,7 +42,8 @@ pub fn passed_on<F: Repeating>(
     requires ascending { IsAscending marks.now }
     requires at { at < places }
     requires row { OwnMaybe (F.meaning flow.now) row }
-    ensures { IfOk result (λ next. at + 1 < places → mark_of marks.now (at + 1) ≡ None → next ≡ handed_on (F.meaning flow.now) at row) }
+    ensures { IfOk result (λ next. at + 1 < places → mark_of marks.now (at + 1) ≡ None
+        → next ≡ handed_on (F.meaning flow.now) at row) }
 {
     let next = at + 1;
     if next == places {
@@ -70,7 +71,8 @@ fn passed_on_copy<F: Repeating>(
     requires ascending { IsAscending marks.now }
     requires at { at < places }
     requires row { OwnMaybe (F.meaning flow.now) row.now }
-    ensures { IfOk result (λ next. at + 1 < places → mark_of marks.now (at + 1) ≡ None → next ≡ handed_on (F.meaning flow.now) at row.now) }
+    ensures { IfOk result (λ next. at + 1 < places → mark_of marks.now (at + 1) ≡ None
+        → next ≡ handed_on (F.meaning flow.now) at row.now) }
 {
     let next = at + 1;
     if next == places {
@@ -108,9 +110,14 @@ impl<'a, F: Flow> Model for Walk<'a, F> {
 
     ghost Value = { Walking F.State };
 
-    ghost view = { λ w. record { at = w.at; rows = full (F.meaning w.flow.now) w.places w.table.now.marks w.table.now.rows } };
+    ghost view = { λ w. record {
+      at = w.at;
+      rows = full (F.meaning w.flow.now) w.places w.table.now.marks
+          w.table.now.rows;
+    } };
 
-    ghost invariant = { λ w. IsWalk (F.meaning w.flow.now) w.places w.table.now.marks w.table.now.rows w.at w.mark w.handed };
+    ghost invariant = { λ w. IsWalk (F.meaning w.flow.now) w.places w.table.now.marks w.table.now.rows w.at w.mark
+        w.handed };
 }
 
 impl<'a, F: Repeating> Walk<'a, F> {
@@ -172,7 +179,8 @@ impl<'a, F: Repeating> Walk<'a, F> {
 
     /// The place that is next; none after the last one.
     pub fn place(&self) -> Option<u32>
-        ensures { MatchOption result (self.now.at ≡ length self.now.rows) (λ place. (place ≡ self.now.at) × (place < length self.now.rows)) }
+        ensures { MatchOption result (self.now.at ≡ length self.now.rows) (λ place. (place ≡ self.now.at)
+            × (place < length self.now.rows)) }
     {
         if self.at == self.places {
             return None;

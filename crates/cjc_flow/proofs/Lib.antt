@@ -9,3 +9,4 @@ pub mod Exact
 pub mod Normal
 pub mod Searching
 pub mod Least
+pub mod TestsLaws

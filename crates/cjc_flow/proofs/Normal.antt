@@ -1,5 +1,7 @@
 -- Cells that are no numbers are full, and stay so past every instruction.
-use Rattle.std.proofs.Common.{◌≡◌, ◌||◌, ◌&&◌, ◌==◌, ℕ, zero, suc, Bool, true, false, cond, leb, List, [], ◌∷◌, ◌++◌, map, length, drop, slice_set, Option, Some, None, All, refl, sym, ◌∙◌, ap, subst, arith, ℤ, pos, negsuc, int_le}
+use Rattle.std.proofs.Common.{◌≡◌, ◌||◌, ◌&&◌, ◌==◌, ℕ, zero, suc, Bool, true, false, cond, leb, List, [], ◌∷◌, ◌++◌}
+use Rattle.std.proofs.Common.{map, length, drop, slice_set, Option, Some, None, All, refl, sym, ◌∙◌, ap, subst, arith}
+use Rattle.std.proofs.Common.{ℤ, pos, negsuc, int_le}
 use Rattle.std.specs.List.{AllZip}
 use Rattle.std.proofs.lemmas.List.Elements.{All-head, All-tail}
 use Rattle.std.proofs.lemmas.Int.{ints}
@@ -24,10 +26,11 @@ use Rattle.cjc_types.specs.Rules.{is_number}
 use Rattle.cjc_types.specs.Search.{cells_of}
 use Rattle.cjc_types.specs.Steps as typed
 use Rattle.cjc_types.specs.Steps.{takes, shuffled}
-use Rattle.cjc_range_flow.specs.Frames.{StackOf, Cells, Clash, RangeState, stack_of}
-use Rattle.cjc_range_flow.specs.Values.{range_of, range_of_kind, result_ranges, element_range}
-use Rattle.cjc_range_flow.specs.Steps.{operand, field_range, loaded, gives, stack_behind, stack_after, stored, locals_after}
-use Rattle.cjc_range_flow.specs.Flow.{number_range, number_ranges}
+use Rattle.cjc_intervals.specs.Frames.{StackOf, Cells, Clash, RangeState, stack_of}
+use Rattle.cjc_intervals.specs.Values.{range_of, range_of_kind, result_ranges, element_range}
+use Rattle.cjc_intervals.specs.Steps.{operand, field_range, loaded, gives, stack_behind, stack_after, stored}
+use Rattle.cjc_intervals.specs.Steps.{locals_after}
+use Rattle.cjc_intervals.specs.Flow.{number_range, number_ranges}
 use Rattle.cjc_flow.specs.Constants.{AreNumbers}
 
 -- ---- full intervals
@@ -38,7 +41,8 @@ is_full s = int_le s.low (negsuc 2147483647) && int_le (pos 2147483647) s.high
 above_full : (s : Span) → is_full s ≡ true → Within full s
 above_full s e = go (int_le s.low (negsuc 2147483647)) (int_le (pos 2147483647) s.high) refl refl e
   where
-    go : (a b : Bool) → int_le s.low (negsuc 2147483647) ≡ a → int_le (pos 2147483647) s.high ≡ b → (a && b) ≡ true → Within full s
+    go : (a b : Bool) → int_le s.low (negsuc 2147483647) ≡ a → int_le (pos 2147483647) s.high ≡ b → (a && b) ≡ true
+        → Within full s
     go true true l h k = record { low = grind (arith, ints, l); high = grind (arith, ints, h) }
     go true false l h k = absurd cc
     go false b l h k = absurd cc
@@ -116,19 +120,25 @@ fits (c ∷ cs) (s ∷ ss) = fits_cell c s && fits cs ss
 pub fits_same : (cells : List Cell) (s : List Span) → All IsWord s → fits cells s ≡ true → number_ranges cells s ≡ s
 fits_same cells [] own e = refl
 fits_same [] (x ∷ xs) own e =
-    ap (λ (y : Span). y ∷ number_ranges [] xs) (sym (full_is x (All-head IsWord x xs own) (first_of_two (is_full x) (fits [] xs) e)))
-    ∙ ap (λ (ys : List Span). x ∷ ys) (fits_same [] xs (All-tail IsWord x xs own) (second_of_two (is_full x) (fits [] xs) e))
+    ap (λ (y : Span). y ∷ number_ranges [] xs) (sym (full_is x (All-head IsWord x xs own) (first_of_two (is_full x)
+    (fits [] xs) e)))
+    ∙ ap (λ (ys : List Span). x ∷ ys) (fits_same [] xs (All-tail IsWord x xs own) (second_of_two (is_full x)
+    (fits [] xs) e))
 fits_same (c ∷ cs) (x ∷ xs) own e =
-    ap (λ (y : Span). y ∷ number_ranges cs xs) (number_same c x (All-head IsWord x xs own) (first_of_two (fits_cell c x) (fits cs xs) e))
-    ∙ ap (λ (ys : List Span). x ∷ ys) (fits_same cs xs (All-tail IsWord x xs own) (second_of_two (fits_cell c x) (fits cs xs) e))
+    ap (λ (y : Span). y ∷ number_ranges cs xs) (number_same c x (All-head IsWord x xs own) (first_of_two (fits_cell c x)
+    (fits cs xs) e))
+    ∙ ap (λ (ys : List Span). x ∷ ys) (fits_same cs xs (All-tail IsWord x xs own) (second_of_two (fits_cell c x)
+    (fits cs xs) e))
 
 pub fits_up : (cells : List Cell) (s t : List Span) → AllZip Within s t → fits cells s ≡ true → fits cells t ≡ true
 fits_up cells [] [] h e = refl
 fits_up cells [] (y ∷ ys) h e = absurd h
 fits_up cells (x ∷ xs) [] h e = absurd h
-fits_up [] (x ∷ xs) (y ∷ ys) h e = both (is_full y) (fits [] ys) (full_up x y h.0 (first_of_two (is_full x) (fits [] xs) e)) (fits_up [] xs ys h.1 (second_of_two (is_full x) (fits [] xs) e))
+fits_up [] (x ∷ xs) (y ∷ ys) h e = both (is_full y) (fits [] ys) (full_up x y h.0 (first_of_two (is_full x) (fits [] xs)
+    e)) (fits_up [] xs ys h.1 (second_of_two (is_full x) (fits [] xs) e))
 fits_up (c ∷ cs) (x ∷ xs) (y ∷ ys) h e =
-    both (fits_cell c y) (fits cs ys) (or_same (is_number c) (is_full x) (is_full y) (full_up x y h.0) (first_of_two (fits_cell c x) (fits cs xs) e))
+    both (fits_cell c y) (fits cs ys) (or_same (is_number c) (is_full x) (is_full y) (full_up x y h.0)
+    (first_of_two (fits_cell c x) (fits cs xs) e))
     (fits_up cs xs ys h.1 (second_of_two (fits_cell c x) (fits cs xs) e))
 
 pub fits_numbers : (cells : List Cell) (s : List Span) → fits cells (number_ranges cells s) ≡ true
@@ -136,12 +146,14 @@ fits_numbers cells [] = refl
 fits_numbers [] (x ∷ xs) = both (is_full full) _ full_full (fits_numbers [] xs)
 fits_numbers (c ∷ cs) (x ∷ xs) = both _ _ (number_fits c x) (fits_numbers cs xs)
 
-fits_append : (cs ds : List Cell) (xs ys : List Span) → length cs ≡ length xs → fits cs xs ≡ true → fits ds ys ≡ true → fits (cs ++ ds) (xs ++ ys) ≡ true
+fits_append : (cs ds : List Cell) (xs ys : List Span) → length cs ≡ length xs → fits cs xs ≡ true → fits ds ys ≡ true
+    → fits (cs ++ ds) (xs ++ ys) ≡ true
 fits_append [] ds [] ys same h k = k
 fits_append [] ds (x ∷ xs) ys same h k = absurd (omega (arith, same))
 fits_append (c ∷ cs) ds [] ys same h k = absurd (omega (arith, same))
 fits_append (c ∷ cs) ds (x ∷ xs) ys same h k =
-    both (fits_cell c x) (fits (cs ++ ds) (xs ++ ys)) (first_of_two (fits_cell c x) (fits cs xs) h) (fits_append cs ds xs ys (omega (arith, same)) (second_of_two (fits_cell c x) (fits cs xs) h) k)
+    both (fits_cell c x) (fits (cs ++ ds) (xs ++ ys)) (first_of_two (fits_cell c x) (fits cs xs) h)
+    (fits_append cs ds xs ys (omega (arith, same)) (second_of_two (fits_cell c x) (fits cs xs) h) k)
 
 fits_drop : (n : ℕ) (cells : List Cell) (s : List Span) → fits cells s ≡ true → fits (drop n cells) (drop n s) ≡ true
 fits_drop zero cells s e = e
@@ -155,25 +167,31 @@ fits_drop (suc n) [] (x ∷ xs) e = drop_none n xs (second_of_two (is_full x) (f
     drop_none (suc n) (x ∷ xs) e = drop_none n xs (second_of_two (is_full x) (fits [] xs) e)
 fits_drop (suc n) (c ∷ cs) (x ∷ xs) e = fits_drop n cs xs (second_of_two (fits_cell c x) (fits cs xs) e)
 
-fits_operand : (cells : List Cell) (s : List Span) (k : ℕ) → fits cells s ≡ true → fits_cell (typed.operand cells k) (operand s k) ≡ true
+fits_operand : (cells : List Cell) (s : List Span) (k : ℕ) → fits cells s ≡ true
+    → fits_cell (typed.operand cells k) (operand s k) ≡ true
 fits_operand cells [] k e = or_full (is_number (typed.operand cells k))
 fits_operand [] (x ∷ xs) zero e = first_of_two (is_full x) (fits [] xs) e
 fits_operand [] (x ∷ xs) (suc k) e = fits_operand [] xs k (second_of_two (is_full x) (fits [] xs) e)
 fits_operand (c ∷ cs) (x ∷ xs) zero e = first_of_two (fits_cell c x) (fits cs xs) e
 fits_operand (c ∷ cs) (x ∷ xs) (suc k) e = fits_operand cs xs k (second_of_two (fits_cell c x) (fits cs xs) e)
 
-fits_set : (cells : List Cell) (s : List Span) (k : ℕ) (c : Cell) (x : Span) → length cells ≡ length s → fits cells s ≡ true → fits_cell c x ≡ true → fits (slice_set cells k c) (slice_set s k x) ≡ true
+fits_set : (cells : List Cell) (s : List Span) (k : ℕ) (c : Cell) (x : Span) → length cells ≡ length s
+    → fits cells s ≡ true → fits_cell c x ≡ true → fits (slice_set cells k c) (slice_set s k x) ≡ true
 fits_set [] [] k c x same e h = refl
 fits_set [] (y ∷ ys) k c x same e h = absurd (omega (arith, same))
 fits_set (d ∷ ds) [] k c x same e h = absurd (omega (arith, same))
-fits_set (d ∷ ds) (y ∷ ys) zero c x same e h = both (fits_cell c x) (fits ds ys) h (second_of_two (fits_cell d y) (fits ds ys) e)
-fits_set (d ∷ ds) (y ∷ ys) (suc k) c x same e h = both (fits_cell d y) _ (first_of_two (fits_cell d y) (fits ds ys) e) (fits_set ds ys k c x (omega (arith, same)) (second_of_two (fits_cell d y) (fits ds ys) e) h)
+fits_set (d ∷ ds) (y ∷ ys) zero c x same e h = both (fits_cell c x) (fits ds ys) h (second_of_two (fits_cell d y)
+    (fits ds ys) e)
+fits_set (d ∷ ds) (y ∷ ys) (suc k) c x same e h = both (fits_cell d y) _ (first_of_two (fits_cell d y) (fits ds ys) e)
+    (fits_set ds ys k c x (omega (arith, same)) (second_of_two (fits_cell d y) (fits ds ys) e) h)
 
-fits_shuffled : (ks : List ℕ) (cells : List Cell) (s : List Span) → fits cells s ≡ true → fits (map (typed.operand cells) ks) (map (operand s) ks) ≡ true
+fits_shuffled : (ks : List ℕ) (cells : List Cell) (s : List Span) → fits cells s ≡ true
+    → fits (map (typed.operand cells) ks) (map (operand s) ks) ≡ true
 fits_shuffled [] cells s e = refl
 fits_shuffled (k ∷ ks) cells s e = both _ _ (fits_operand cells s k e) (fits_shuffled ks cells s e)
 
-shuffled_sized : (ks : List ℕ) (cells : List Cell) (s : List Span) → length (map (typed.operand cells) ks) ≡ length (map (operand s) ks)
+shuffled_sized : (ks : List ℕ) (cells : List Cell) (s : List Span) → length (map (typed.operand cells) ks)
+    ≡ length (map (operand s) ks)
 shuffled_sized [] cells s = refl
 shuffled_sized (k ∷ ks) cells s = ap suc (shuffled_sized ks cells s)
 
@@ -235,12 +253,15 @@ abbrev pub HasArray : JOp → List Cell → Type 0
 HasArray (jop.ArrayLoad opcode) cells = (names : List (List ℕ)) × (typed.operand cells 1 ≡ Refs names)
 HasArray _ cells = Unit {0}
 
-element_fits : (opcode : ℕ) (names : List (List ℕ)) → fits_cell (element_of opcode (Refs names)) (element_range opcode (Refs names)) ≡ true
+element_fits : (opcode : ℕ) (names : List (List ℕ))
+    → fits_cell (element_of opcode (Refs names)) (element_range opcode (Refs names)) ≡ true
 element_fits opcode names = go (opcode == 0x32) refl
   where
-    go : (b : Bool) → (opcode == 0x32) ≡ b → (is_number (cond b (refs (elements names [])) Number) || is_full (element_range opcode (Refs names))) ≡ true
+    go : (b : Bool) → (opcode == 0x32) ≡ b → (is_number (cond b (refs (elements names [])) Number)
+        || is_full (element_range opcode (Refs names))) ≡ true
     go false e = refl
-    go true e = subst (λ (s : Span). (is_number (refs (elements names [])) || is_full s) ≡ true) (sym (aaload e)) (or_full (is_number (refs (elements names []))))
+    go true e = subst (λ (s : Span). (is_number (refs (elements names [])) || is_full s) ≡ true) (sym (aaload e))
+        (or_full (is_number (refs (elements names []))))
       where
         aaload : (opcode == 0x32) ≡ true → element_range opcode (Refs names) ≡ full
         aaload h = subst (λ (n : ℕ). element_range n (Refs names) ≡ full) (sym (eqb-true opcode 0x32 h)) refl
@@ -269,10 +290,12 @@ cut_fits cells s e = go (leb (length s) most_cells)
     go false = refl
 
 module _ (constant : MemberId → Option ℤ) (numbers : AreNumbers constant) where
-  field_fits : (field : MemberId) → Fits (result_of (parts field.desc).result) (field_range (constant field) (parts field.desc).result)
+  field_fits : (field : MemberId) → Fits (result_of (parts field.desc).result) (field_range (constant field)
+      (parts field.desc).result)
   field_fits field = go (constant field) refl
     where
-      go : (o : Option ℤ) → constant field ≡ o → Fits (result_of (parts field.desc).result) (field_range o (parts field.desc).result)
+      go : (o : Option ℤ) → constant field ≡ o
+          → Fits (result_of (parts field.desc).result) (field_range o (parts field.desc).result)
       go None e = result_fits (parts field.desc).result
       go (Some z) e = constant_fits (parts field.desc).result _ (numbers field z e)
 
@@ -280,9 +303,15 @@ module _ (constant : MemberId → Option ℤ) (numbers : AreNumbers constant) wh
   loaded_fits true c s = full_fits (as_reference c)
   loaded_fits false c s = number_one s
 
-  gives_fit : (op : JOp) (cells locals : List Cell) (s more : List Span) → HasArray op cells → fits cells s ≡ true → Fits (typed.gives op locals cells) (gives constant op cells more s)
-  gives_fit (jop.ArrayLoad opcode) cells locals s more h e = subst (λ (c : Cell). Fits (element_of opcode c ∷ []) (element_range opcode c ∷ [])) (sym h.1) (one_fits _ _ (element_fits opcode h.0))
-  gives_fit (jop.Stack opcode) cells locals s more h e = record { sized = shuffled_sized (shuffled opcode) cells s; fit = fits_shuffled (shuffled opcode) cells s e }
+  gives_fit : (op : JOp) (cells locals : List Cell) (s more : List Span) → HasArray op cells → fits cells s ≡ true
+      → Fits (typed.gives op locals cells) (gives constant op cells more s)
+  gives_fit (jop.ArrayLoad opcode) cells locals s more h e =
+      subst (λ (c : Cell). Fits (element_of opcode c ∷ []) (element_range opcode c ∷ [])) (sym h.1)
+      (one_fits _ _ (element_fits opcode h.0))
+  gives_fit (jop.Stack opcode) cells locals s more h e = record {
+    sized = shuffled_sized (shuffled opcode) cells s;
+    fit = fits_shuffled (shuffled opcode) cells s e;
+  }
   gives_fit (jop.Load r k) cells locals s more h e = loaded_fits r (typed.operand locals k) (operand more k)
   gives_fit jop.Nop cells locals s more h e = none_fits
   gives_fit jop.Null cells locals s more h e = full_fits (Refs [])
@@ -308,22 +337,31 @@ module _ (constant : MemberId → Option ℤ) (numbers : AreNumbers constant) wh
   gives_fit (jop.CheckCast class) cells locals s more h e = full_fits _
   gives_fit (jop.InstanceOf class) cells locals s more h e = number_one _
 
-  behind_fits : (op : JOp) (cells locals : List Cell) (s more : List Span) → HasArray op cells → fits cells s ≡ true → fits (typed.stack_behind op locals cells) (stack_behind constant op cells more s) ≡ true
+  behind_fits : (op : JOp) (cells locals : List Cell) (s more : List Span) → HasArray op cells → fits cells s ≡ true
+      → fits (typed.stack_behind op locals cells) (stack_behind constant op cells more s) ≡ true
   behind_fits op cells locals s more h e =
       let given = gives_fit op cells locals s more h e in
-      fits_append (typed.gives op locals cells) (drop (takes op) cells) (gives constant op cells more s) (drop (takes op) s) given.sized given.fit (fits_drop (takes op) cells s e)
+      fits_append (typed.gives op locals cells) (drop (takes op) cells) (gives constant op cells more s)
+      (drop (takes op) s) given.sized given.fit (fits_drop (takes op) cells s e)
 
-  pub stack_fits : (op : JOp) (cells locals later : List Cell) (s : StackOf Span) (more : List Span) → HasArray op cells → typed.stack_after op locals (typed_stacks.Cells cells) ≡ typed_stacks.Cells later → fits_stack cells s ≡ true → fits_stack later (stack_after constant op cells more s) ≡ true
+  pub stack_fits : (op : JOp) (cells locals later : List Cell) (s : StackOf Span) (more : List Span) → HasArray op cells
+      → typed.stack_after op locals (typed_stacks.Cells cells) ≡ typed_stacks.Cells later → fits_stack cells s ≡ true
+      → fits_stack later (stack_after constant op cells more s) ≡ true
   stack_fits op cells locals later Clash more h is e = refl
   stack_fits op cells locals later (Cells s) more h is e =
       let same = whole_stack (typed.stack_behind op locals cells) later is in
-      subst (λ (cs : List Cell). fits_stack cs (stack_of (stack_behind constant op cells more s)) ≡ true) same (cut_fits (typed.stack_behind op locals cells) (stack_behind constant op cells more s) (behind_fits op cells locals s more h e))
+      subst (λ (cs : List Cell). fits_stack cs (stack_of (stack_behind constant op cells more s)) ≡ true) same
+      (cut_fits (typed.stack_behind op locals cells) (stack_behind constant op cells more s)
+      (behind_fits op cells locals s more h e))
 
-stored_fits : (r : Bool) (cells : List Cell) (s : StackOf Span) → fits_cell (typed.stored r (typed_stacks.Cells cells)) (stored r s) ≡ true
+stored_fits : (r : Bool) (cells : List Cell) (s : StackOf Span) → fits_cell (typed.stored r (typed_stacks.Cells cells))
+    (stored r s) ≡ true
 stored_fits true cells s = or_full (is_number (as_reference (typed.operand cells 0)))
 stored_fits false cells s = refl
 
-pub locals_fit : (op : JOp) (cells locals : List Cell) (s : StackOf Span) (more : List Span) → length locals ≡ length more → fits locals more ≡ true → fits (typed.locals_after op locals (typed_stacks.Cells cells)) (locals_after op more s) ≡ true
+pub locals_fit : (op : JOp) (cells locals : List Cell) (s : StackOf Span) (more : List Span)
+    → length locals ≡ length more → fits locals more ≡ true
+    → fits (typed.locals_after op locals (typed_stacks.Cells cells)) (locals_after op more s) ≡ true
 locals_fit (jop.Store r k) cells locals s more same e = fits_set locals more k _ _ same e (stored_fits r cells s)
 locals_fit (jop.Inc k by) cells locals s more same e = fits_set locals more k Number _ same e refl
 locals_fit _ cells locals s more same e = e

@@ -3,7 +3,8 @@ use Rattle.std.proofs.Common.{◌≡◌, ◌<◌, ◌+◌, ◌||◌, ℕ, Bool, 
 use Rattle.std.specs.List.{list_any}
 use Rattle.std.proofs.lemmas.List.{drop_more}
 
-module _ {X : Type 0} (p : X → Bool) (xs : List X) (k : ℕ) (d : X) (total : Bool) (lt : k < length xs) (so_far : list_any p (drop k xs) ≡ total) where
+module _ {X : Type 0} (p : X → Bool) (xs : List X) (k : ℕ) (d : X) (total : Bool) (lt : k < length xs)
+    (so_far : list_any p (drop k xs) ≡ total) where
   opened : (p (get_or xs k d) || list_any p (drop (k + 1) xs)) ≡ total
   opened = sym (ap (list_any p) (drop_more xs k d lt)) ∙ so_far
 

@@ -9,7 +9,8 @@ use Rattle.cjc_types.specs.Rules.{is_number}
 
 -- A constant is of a type whose values are numbers.
 abbrev pub AreNumbers : (MemberId → Option ℤ) → Type 0
-AreNumbers constant = (field : MemberId) (z : ℤ) → constant field ≡ Some z → is_number (value_of (parts field.desc).result) ≡ true
+AreNumbers constant = (field : MemberId) (z : ℤ) → constant field ≡ Some z
+    → is_number (value_of (parts field.desc).result) ≡ true
 
 module _ (constant : MemberId → Option ℤ) where
   -- the constant of the field that an instruction names

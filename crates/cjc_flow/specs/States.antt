@@ -1,7 +1,7 @@
 -- Stacks of intervals as they are kept: none where ways with stacks of different heights meet.
 use Rattle.std.specs.Prelude.{List, Option, Some, None}
 use Rattle.cjc_range.specs.Span.{Span}
-use Rattle.cjc_range_flow.specs.Frames.{StackOf, Cells, Clash}
+use Rattle.cjc_intervals.specs.Frames.{StackOf, Cells, Clash}
 
 -- the stack of the intervals that are kept, or a clash where there are none
 abbrev pub stack_in : Option (List Span) → StackOf Span

@@ -5,7 +5,7 @@ ghost use Rattle.std.specs.Prelude.{◌≡◌, if◌then◌else◌, option_map, 
 ghost use Rattle.cjc_types.specs.Rules.{is_number};
 ghost use Rattle.cjc_types.specs.Tables.{state_of};
 ghost use Rattle.cjc_types.specs.declared.table.Frame.{Frame as Typed};
-ghost use Rattle.cjc_range_flow.specs.Flow.{by_types, number_range, rounded};
+ghost use Rattle.cjc_intervals.specs.Flow.{by_types, number_range, rounded};
 ghost use Rattle.cjc_flow.specs.States.{stack_in};
 ghost use Rattle.cjc_flow.specs.Working.Arriving.{all_known, known_in, rounded_cells, rounded_span, stack_known};
 
@@ -75,7 +75,8 @@ fn arrived_locals(
     rounds: bool,
     locals: &[Interval],
 ) -> Result<Row<Interval>, NoMemory>
-    ensures { IfOk result (λ arrived. arrived ≡ all_known (option_map (λ (f : Typed). f.locals) frame.now) (rounded_cells rounds locals.now)) }
+    ensures { IfOk result (λ arrived. arrived ≡ all_known (option_map (λ (f : Typed). f.locals) frame.now)
+        (rounded_cells rounds locals.now)) }
 {
     let mut arrived = Vec::with_capacity(alloc, locals.len())?;
     for k in 0..locals.len() {
@@ -91,7 +92,8 @@ fn arrived_cells(
     rounds: bool,
     stack: &Intervals,
 ) -> Result<Intervals, NoMemory>
-    ensures { IfOk result (λ arrived. arrived ≡ all_known (option_map (λ (f : Typed). f.stack) frame.now) (rounded_cells rounds stack.now)) }
+    ensures { IfOk result (λ arrived. arrived ≡ all_known (option_map (λ (f : Typed). f.stack) frame.now)
+        (rounded_cells rounds stack.now)) }
 {
     let mut arrived = Intervals::new(alloc);
     let count = stack.len();
@@ -108,7 +110,8 @@ fn arrived_stack(
     rounds: bool,
     stack: &Option<Intervals>,
 ) -> Result<Option<Intervals>, NoMemory>
-    ensures { IfOk result (λ arrived. stack_in arrived ≡ stack_known (option_map (λ (f : Typed). f.stack) frame.now) rounds (stack_in stack.now)) }
+    ensures { IfOk result (λ arrived. stack_in arrived ≡ stack_known (option_map (λ (f : Typed). f.stack) frame.now)
+        rounds (stack_in stack.now)) }
 {
     match stack {
         Some(cells) => Ok(Some(arrived_cells(alloc, frame, rounds, cells)?)),
@@ -123,7 +126,8 @@ pub(crate) fn arrived(
     rounds: bool,
     state: &Ranges,
 ) -> Result<Ranges, NoMemory>
-    ensures { IfOk result (λ arrived. arrived ≡ by_types (option_map state_of frame.now) (if rounds then rounded state.now else state.now)) }
+    ensures { IfOk result (λ arrived. arrived ≡ by_types (option_map state_of frame.now) (if rounds
+        then rounded state.now else state.now)) }
 {
     Ok(Ranges {
         stack: arrived_stack(alloc, frame, rounds, &state.stack)?,

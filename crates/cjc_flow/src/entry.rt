@@ -1,7 +1,7 @@
 //! How a method begins, in intervals. Called by ranging.rt. Knows no instruction.
 
 ghost use Rattle.std.specs.Prelude.{◌≡◌, ◌++◌, replicate, take, IfOk};
-ghost use Rattle.cjc_range_flow.specs.Flow.{argument_ranges, first_state};
+ghost use Rattle.cjc_intervals.specs.Flow.{argument_ranges, first_state};
 
 use crate::intervals::{Intervals, full_interval};
 use crate::state::Ranges;

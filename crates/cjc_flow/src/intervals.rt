@@ -5,7 +5,7 @@ ghost use Rattle.std.specs.Prelude.{◌≡◌, ◌≤◌, ◌*◌, ◌^◌, ◌�
 ghost use Rattle.cjc_fixpoint.specs.Lattice.{joined};
 ghost use Rattle.cjc_range.specs.Rows.{join_row};
 ghost use Rattle.cjc_range.specs.Span.{full, width, IsWord};
-ghost use Rattle.cjc_range_flow.specs.Steps.{operand};
+ghost use Rattle.cjc_intervals.specs.Steps.{operand};
 
 use cjc_bytes::NoMemory;
 use cjc_range::Interval;

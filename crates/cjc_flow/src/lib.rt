@@ -11,6 +11,7 @@ mod repeats;
 mod state;
 mod steps;
 mod targets;
+pub mod tests;
 mod values;
 
 pub use intervals::Intervals;

@@ -1,6 +1,7 @@
 //! The intervals of a method as a dataflow problem, whose places are its instructions, and the table that solves it.
 
-ghost use Rattle.std.specs.Prelude.{◌≡◌, ◌<◌, ◌==◌, ◌||◌, not, ◌++◌, ℕ, Option, List, ℤ, Some, None, map, filter_map, length, slice_get, get_or, IfOk, OnOk};
+ghost use Rattle.std.specs.Prelude.{◌≡◌, ◌<◌, ◌==◌, ◌||◌, not, ◌++◌, ℕ, Option, List, ℤ, Some, None, map, filter_map};
+ghost use Rattle.std.specs.Prelude.{length, slice_get, get_or, IfOk, OnOk};
 ghost use Rattle.cjc_bytes.specs.declared.fault.MemberId.{MemberId as Field};
 ghost use Rattle.cjc_classfile.specs.Code.{CodeTree};
 ghost use Rattle.cjc_classfile.specs.declared.tree.ClassTree.{ClassTree as Class};
@@ -14,11 +15,12 @@ ghost use Rattle.cjc_types.specs.Marks.{is_marked, marks_of};
 ghost use Rattle.cjc_types.specs.Repeats.{repeats_at as repeats_here};
 ghost use Rattle.cjc_types.specs.Search.{cells_of};
 ghost use Rattle.cjc_types.specs.Tables.{IsMethodOf, IsOfPackage, IsTypeTable, rows_of};
-ghost use Rattle.cjc_range_flow.specs.Flow.{caught as caught_by, is_target};
+ghost use Rattle.cjc_intervals.specs.Flow.{caught as caught_by, is_target};
 ghost use Rattle.cjc_flow.specs.Constants.{AreNumbers, values_of};
 ghost use Rattle.cjc_flow.specs.Tables.{IsRangeTable, ranges_of};
 ghost use Rattle.cjc_flow.specs.Working.Given.{after_by, element_at as element_by, element_given};
-ghost use Rattle.cjc_flow.specs.Working.Kept.{kept_arrival, kept_edge, kept_edges, kept_flow, kept_handler, kept_on, kept_place, value_at as value_by};
+ghost use Rattle.cjc_flow.specs.Working.Kept.{kept_arrival, kept_edge, kept_edges, kept_flow, kept_handler, kept_on};
+ghost use Rattle.cjc_flow.specs.Working.Kept.{kept_place, value_at as value_by};
 
 use crate::elements::elements;
 use crate::intervals::{Intervals, full_interval};
@@ -121,9 +123,14 @@ impl<'a> Ranging<'a> {
         values: Row<Option<i32>>,
     ) -> Result<Ranging<'a>, NoMemory>
         requires code { IsOfPackage world.now code.now }
-        requires types { (c : Class) (m : ClassMethod) (t : CodeTree) → IsMethodOf world.now code.now c m t → IsTypeTable (all_classes world.now) (body_of c m t code.now.insns) types.now }
+        requires types { (c : Class) (m : ClassMethod) (t : CodeTree) → IsMethodOf world.now code.now c m t
+            → IsTypeTable (all_classes world.now) (body_of c m t code.now.insns) types.now }
         ensures { (c : Class) (m : ClassMethod) (t : CodeTree) → IsMethodOf world.now code.now c m t
-            → IfOk result (λ r. r ≡ record { body = body_of c m t code.now.insns; values = values; types = rows_of (body_of c m t code.now.insns) types.now }) }
+            → IfOk result (λ r. r ≡ record {
+              body = body_of c m t code.now.insns;
+              values = values;
+              types = rows_of (body_of c m t code.now.insns) types.now;
+            }) }
     {
         let method = Method::new(world, code);
         let elements = elements(alloc, &method, types, code.insns.items())?;
@@ -228,7 +235,8 @@ impl<'a> Ranging<'a> {
         before: &Ranges,
     ) -> Result<(), NoMemory>
         requires { 0 < length self.now.body.insns }
-        ensures { OnOk result (edges.new ≡ edges.old ++ filter_map (kept_handler self.now offset before.now) self.now.body.catches) }
+        ensures { OnOk result (edges.new ≡ edges.old ++ filter_map (kept_handler self.now offset before.now)
+            self.now.body.catches) }
     {
         for catch in self.method.catches() {
             put_some(edges, self.handler_edge(alloc, offset, before, catch)?)?;
@@ -248,7 +256,8 @@ impl<'a> Ranging<'a> {
 
     /// What an instruction gives where it loads from an array; nothing where the types don't reach it.
     fn element_at(&self, at: u32) -> Option<Interval>
-        ensures { (insn : Insn) → slice_get self.now.body.insns at ≡ Some insn → result ≡ element_by insn (get_or self.now.types at None) }
+        ensures { (insn : Insn) → slice_get self.now.body.insns at ≡ Some insn
+            → result ≡ element_by insn (get_or self.now.types at None) }
     {
         kept_at(self.elements.items(), at)
     }
@@ -278,7 +287,8 @@ impl<'a> Ranging<'a> {
         before: Ranges,
     ) -> Result<Row<Edge<Ranges>>, NoMemory>
         requires { at < length self.now.body.insns }
-        ensures { (t : TypeState) → element ≡ element_given insn.now.op (cells_of t.stack) → IfOk result (λ edges. edges ≡ kept_edges self.now at insn.now t before) }
+        ensures { (t : TypeState) → element ≡ element_given insn.now.op (cells_of t.stack)
+            → IfOk result (λ edges. edges ≡ kept_edges self.now at insn.now t before) }
     {
         let mut handled = Row::new(alloc);
         self.put_handlers(alloc, &mut handled, insn.at, &before)?;
@@ -296,7 +306,8 @@ impl<'a> Ranging<'a> {
         at: u32,
         before: Ranges,
     ) -> Result<Row<Edge<Ranges>>, NoMemory>
-        ensures { IfOk result (λ edges. edges ≡ kept_place self.now at (slice_get self.now.body.insns at) (get_or self.now.types at None) before) }
+        ensures { IfOk result (λ edges. edges ≡ kept_place self.now at (slice_get self.now.body.insns at)
+            (get_or self.now.types at None) before) }
     {
         match self.method.insn_at(at) {
             Some(insn) => match self.element_at(at) {
@@ -330,7 +341,8 @@ impl<'a> Ranging<'a> {
     /// The range table of the method: it stands for the least table of intervals that is closed under the
     /// instructions, over the least type table.
     pub fn ranges(&self, alloc: Global) -> Result<RangeTable, NoMemory>
-        ensures { (constant : Field → Option ℤ) → AreNumbers constant → self.now.values ≡ values_of constant self.now.body.insns
+        ensures { (constant : Field → Option ℤ) → AreNumbers constant
+            → self.now.values ≡ values_of constant self.now.body.insns
             → IfOk result (λ table. IsRangeTable self.now.body constant self.now.types table.marks table.rows) }
     {
         let bounds = bounds_of(alloc, &self.method)?;
@@ -343,10 +355,16 @@ impl<'a> Ranging<'a> {
 
     /// Goes through the intervals before all instructions. It begins at the first, and takes no memory.
     pub fn walk<'w>(&'w self, table: &'w RangeTable) -> Walk<'w, Ranging<'a>>
-        requires { (constant : Field → Option ℤ) × (numbers : AreNumbers constant) × (values : self.now.values ≡ values_of constant self.now.body.insns)
+        requires { (constant : Field → Option ℤ) × (numbers : AreNumbers constant)
+            × (values : self.now.values ≡ values_of constant self.now.body.insns)
             × IsRangeTable self.now.body constant self.now.types table.now.marks table.now.rows }
-        ensures { (constant : Field → Option ℤ) → AreNumbers constant → self.now.values ≡ values_of constant self.now.body.insns
-            → result ≡ record { at = 0; rows = ranges_of self.now.body constant self.now.types table.now.marks table.now.rows } }
+        ensures { (constant : Field → Option ℤ) → AreNumbers constant
+            → self.now.values ≡ values_of constant self.now.body.insns
+            → result ≡ record {
+              at = 0;
+              rows = ranges_of self.now.body constant self.now.types table.now.marks
+                  table.now.rows;
+            } }
     {
         Walk::new(self, table, self.method.places())
     }

@@ -2,8 +2,8 @@
 //! word that holds no number has the full interval.
 
 ghost use Rattle.std.specs.Prelude.{◌≡◌, ◌≤◌, ◌+◌, ◌*◌, ◌^◌, IfOk, IsTrue};
-ghost use Rattle.cjc_range_flow.specs.Frames.{IsStack, joined_stack, spans, spans_of, stack_of, stack_rank, states};
-ghost use Rattle.cjc_range_flow.specs.Steps.{operand};
+ghost use Rattle.cjc_intervals.specs.Frames.{IsStack, joined_stack, spans, spans_of, stack_of, stack_rank, states};
+ghost use Rattle.cjc_intervals.specs.Steps.{operand};
 ghost use Rattle.cjc_flow.specs.States.{stack_in};
 
 use crate::intervals::{self, Intervals};
@@ -21,7 +21,7 @@ pub struct Ranges {
 }
 
 impl Model for Ranges {
-    ghost use Rattle.cjc_range_flow.specs.Frames.{RangeState};
+    ghost use Rattle.cjc_intervals.specs.Frames.{RangeState};
     ghost use Rattle.cjc_flow.specs.States.{stack_in};
 
     ghost Value = { RangeState };

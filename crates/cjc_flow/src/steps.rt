@@ -1,11 +1,13 @@
 //! What an instruction does to the intervals of a frame, where it is known which constant it gets and what the
 //! elements of its array are. Called by ranging.rt.
 
-ghost use Rattle.std.specs.Prelude.{◌≡◌, [], ◌∷◌, ◌++◌, map, drop, slice_set, option_to_list, if◌then◌else◌, IfOk, OnOk};
+ghost use Rattle.std.specs.Prelude.{◌≡◌, [], ◌∷◌, ◌++◌, map, drop, slice_set, option_to_list, if◌then◌else◌, IfOk};
+ghost use Rattle.std.specs.Prelude.{OnOk};
 ghost use Rattle.cjc_range.specs.Rows.{and_row, or_row};
 ghost use Rattle.cjc_range.specs.Span.{IsWord};
-ghost use Rattle.cjc_range_flow.specs.Steps.{arithmetic, field_range, loaded, locals_after, narrowed, operand, stored, two_operands};
-ghost use Rattle.cjc_range_flow.specs.Values.{result_ranges};
+ghost use Rattle.cjc_intervals.specs.Steps.{arithmetic, field_range, loaded, locals_after, narrowed, operand, stored};
+ghost use Rattle.cjc_intervals.specs.Steps.{two_operands};
+ghost use Rattle.cjc_intervals.specs.Values.{result_ranges};
 ghost use Rattle.cjc_types.specs.Types.{parts};
 ghost use Rattle.cjc_flow.specs.States.{stack_in};
 ghost use Rattle.cjc_flow.specs.Working.Given.{after_by, behind_by, given_by, stack_by};

@@ -2,7 +2,8 @@
 
 ghost use Rattle.std.specs.Prelude.{◌≡◌, ◌++◌, map, option_to_list, IfOk, OnOk};
 ghost use Rattle.std.specs.List.{list_all};
-ghost use Rattle.cjc_range_flow.specs.Values.{boolean_range, byte_element_range, element_range, exactly, is_boolean_array, length_range, range_of, range_of_kind, result_ranges};
+ghost use Rattle.cjc_intervals.specs.Values.{boolean_range, byte_element_range, element_range, exactly};
+ghost use Rattle.cjc_intervals.specs.Values.{is_boolean_array, length_range, range_of, range_of_kind, result_ranges};
 ghost use Rattle.cjc_range.specs.Span.{byte_range, short_range};
 ghost use Rattle.cjc_types.specs.Types.{is_void, parts};
 

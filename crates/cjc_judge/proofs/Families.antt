@@ -17,10 +17,12 @@ use Rattle.cjc_subset.specs.Places.{at_method}
 use Rattle.cjc_bytes.specs.Order.{FilePlace, file_of}
 use Rattle.cjc_subset.specs.Names.{insn_breaks, catch_breaks, catches_of, method_breaks, code_breaks, name_breaks}
 use Rattle.cjc_subset.specs.Checks as checks
-use Rattle.cjc_subset.specs.Overriding.{is_inherited, method_against, class_against, supertype_breaks, overriding_breaks}
-use Rattle.cjc_tokens.specs.Rules.{breaks_from, breaks_where, has_high_token, is_few, tested_breaks, token_breaks, at_class as token_at_class}
+use Rattle.cjc_subset.specs.Overriding.{is_inherited, method_against, class_against, supertype_breaks}
+use Rattle.cjc_subset.specs.Overriding.{overriding_breaks}
+use Rattle.cjc_tokens.specs.Rules.{breaks_from, breaks_where, has_high_token, is_few, tested_breaks, token_breaks}
+use Rattle.cjc_tokens.specs.Rules.{at_class as token_at_class}
 use Rattle.cjc_world.specs.Exported.{is_exported}
-use Rattle.cjc_range_rules.proofs.Hundred.{of_sixth_hundred}
+use Rattle.cjc_judge.proofs.RangesLaws.Hundred.{of_sixth_hundred}
 use Rattle.cjc_types.specs.declared.state.State.{State}
 use Rattle.cjc_types.specs.Flow.{Body}
 use Rattle.cjc_types.specs.Rules.{Breaks, clash, wrong, off}
@@ -33,18 +35,22 @@ use Rattle.cjc_judge.proofs.Each.{Each, each_none, each_more, each_append, each_
 abbrev pub IsSecond : Break → Type 0
 IsSecond b = b.rank.family ≡ 2
 
-insn_second : (files : Files) (f : FilePlace) (c : ClassTree) (i : ℕ) (m : MethodTree) (insn : JInsn) → Each IsSecond (insn_breaks files f c i m insn)
+insn_second : (files : Files) (f : FilePlace) (c : ClassTree) (i : ℕ) (m : MethodTree) (insn : JInsn)
+    → Each IsSecond (insn_breaks files f c i m insn)
 unfolding insn_breaks
 insn_second files f c i m insn =
     each_append IsSecond _ _
-    (each_append IsSecond _ _ (each_append IsSecond _ _ (each_at IsSecond _ _ 203 refl) (each_at IsSecond _ _ 205 refl)) (each_at IsSecond _ _ 205 refl))
+    (each_append IsSecond _ _ (each_append IsSecond _ _ (each_at IsSecond _ _ 203 refl) (each_at IsSecond _ _ 205 refl))
+    (each_at IsSecond _ _ 205 refl))
     (each_at IsSecond _ _ 206 refl)
 
-catch_second : (files : Files) (f : FilePlace) (c : ClassTree) (i : ℕ) (m : MethodTree) (k : Catch) → Each IsSecond (catch_breaks files f c i m k)
+catch_second : (files : Files) (f : FilePlace) (c : ClassTree) (i : ℕ) (m : MethodTree) (k : Catch)
+    → Each IsSecond (catch_breaks files f c i m k)
 unfolding catch_breaks
 catch_second files f c i m k = each_at IsSecond _ _ 203 refl
 
-method_second : (files : Files) (f : FilePlace) (c : ClassTree) (i : ℕ) (m : MethodTree) (insns : List JInsn) → Each IsSecond (method_breaks files f c i m insns)
+method_second : (files : Files) (f : FilePlace) (c : ClassTree) (i : ℕ) (m : MethodTree) (insns : List JInsn)
+    → Each IsSecond (method_breaks files f c i m insns)
 unfolding method_breaks
 method_second files f c i m insns =
     each_append IsSecond _ _
@@ -53,7 +59,8 @@ method_second files f c i m insns =
 
 code_second : (files : Files) (code : MethodCode) → Each IsSecond (code_breaks files code)
 unfolding code_breaks
-code_second files code = each_code IsSecond files code.class code.method (λ f c m. method_breaks files f c code.method m code.insns) (λ c m _ _. method_second files (file_of files.lines code.class) c code.method m code.insns)
+code_second files code = each_code IsSecond files code.class code.method (λ f c m. method_breaks files f c code.method m
+    code.insns) (λ c m _ _. method_second files (file_of files.lines code.class) c code.method m code.insns)
 
 -- 203, 205 and 206 are of the second hundred
 pub names_second : (files : Files) (codes : List MethodCode) → Each IsSecond (name_breaks files codes)
@@ -70,7 +77,8 @@ unsupported_third : (files : Files) (x : UnsupportedInsn) → Each IsThird (unsu
 unfolding unsupported_break
 unsupported_third files x =
     each_code IsThird files x.class x.method (λ f c m. broken_at (at_method f c x.method m x.offset) 303 ∷ [])
-    (λ c m _ _. each_more IsThird (broken_at (at_method (file_of files.lines x.class) c x.method m x.offset) 303) [] refl (each_none IsThird))
+    (λ c m _ _. each_more IsThird (broken_at (at_method (file_of files.lines x.class) c x.method m x.offset) 303) []
+    refl (each_none IsThird))
 
 pub unsupported_insns_third : (files : Files) (xs : List UnsupportedInsn) → Each IsThird (unsupported_breaks files xs)
 unfolding unsupported_breaks
@@ -85,39 +93,53 @@ third = (omega arith, omega arith)
 fourth : (3 ≤ 4) × (4 ≤ 4)
 fourth = (omega arith, omega arith)
 
-check_insn : (files : Files) (settings : Settings) (f : FilePlace) (c : ClassTree) (i : ℕ) (m : MethodTree) (insn : JInsn) → Each IsLanguage (checks.insn_breaks files settings f c i m insn)
+check_insn : (files : Files) (settings : Settings) (f : FilePlace) (c : ClassTree) (i : ℕ) (m : MethodTree)
+    (insn : JInsn) → Each IsLanguage (checks.insn_breaks files settings f c i m insn)
 unfolding checks.insn_breaks
 check_insn files settings f c i m insn =
-    each_append IsLanguage _ _ (each_append IsLanguage _ _ (each_at IsLanguage _ _ 301 third) (each_at IsLanguage _ _ 302 third)) (each_at IsLanguage _ _ 310 third)
+    each_append IsLanguage _ _ (each_append IsLanguage _ _ (each_at IsLanguage _ _ 301 third) (each_at IsLanguage _ _
+    302 third)) (each_at IsLanguage _ _ 310 third)
 
-check_code : (files : Files) (settings : Settings) (code : MethodCode) → Each IsLanguage (checks.code_breaks files settings code)
+check_code : (files : Files) (settings : Settings) (code : MethodCode)
+    → Each IsLanguage (checks.code_breaks files settings code)
 unfolding checks.code_breaks
-check_code files settings code = each_code IsLanguage files code.class code.method (λ f c m. each (λ _ insn. checks.insn_breaks files settings f c code.method m insn) code.insns)
-    (λ c m _ _. each_of IsLanguage _ code.insns (λ _ insn _. check_insn files settings (file_of files.lines code.class) c code.method m insn))
+check_code files settings code = each_code IsLanguage files code.class code.method
+    (λ f c m. each (λ _ insn. checks.insn_breaks files settings f c code.method m insn) code.insns)
+    (λ c m _ _. each_of IsLanguage _ code.insns (λ _ insn _. check_insn files settings (file_of files.lines code.class)
+    c code.method m insn))
 
-check_field : (settings : Settings) (f : FilePlace) (c : ClassTree) (i : ℕ) (m : FieldTree) → Each IsLanguage (checks.field_breaks settings f c i m)
+check_field : (settings : Settings) (f : FilePlace) (c : ClassTree) (i : ℕ) (m : FieldTree)
+    → Each IsLanguage (checks.field_breaks settings f c i m)
 unfolding checks.field_breaks
 check_field settings f c i m =
-    each_append IsLanguage _ _ (each_append IsLanguage _ _ (each_at IsLanguage _ _ 301 third) (each_at IsLanguage _ _ 302 third)) (each_at IsLanguage _ _ 304 third)
+    each_append IsLanguage _ _ (each_append IsLanguage _ _ (each_at IsLanguage _ _ 301 third) (each_at IsLanguage _ _
+    302 third)) (each_at IsLanguage _ _ 304 third)
 
-check_method : (settings : Settings) (f : FilePlace) (c : ClassTree) (i : ℕ) (m : MethodTree) → Each IsLanguage (checks.method_breaks settings f c i m)
+check_method : (settings : Settings) (f : FilePlace) (c : ClassTree) (i : ℕ) (m : MethodTree)
+    → Each IsLanguage (checks.method_breaks settings f c i m)
 unfolding checks.method_breaks
 check_method settings f c i m =
     each_append IsLanguage _ _
     (each_append IsLanguage _ _
-    (each_append IsLanguage _ _ (each_append IsLanguage _ _ (each_at IsLanguage _ _ 301 third) (each_at IsLanguage _ _ 302 third)) (each_at IsLanguage _ _ 304 third))
+    (each_append IsLanguage _ _ (each_append IsLanguage _ _ (each_at IsLanguage _ _ 301 third) (each_at IsLanguage _ _
+    302 third)) (each_at IsLanguage _ _ 304 third))
     (each_at IsLanguage _ _ 404 fourth))
     (each_at IsLanguage _ _ 405 fourth)
 
-check_against : (f : FilePlace) (c : ClassTree) (d : Class) (i : ℕ) (m : MethodTree) → Each IsLanguage (method_against f c d i m)
+check_against : (f : FilePlace) (c : ClassTree) (d : Class) (i : ℕ) (m : MethodTree)
+    → Each IsLanguage (method_against f c d i m)
 unfolding method_against
-check_against f c d i m = each_append IsLanguage _ _ (each_at IsLanguage _ _ 305 third) (each_at IsLanguage _ _ 306 third)
+check_against f c d i m = each_append IsLanguage _ _ (each_at IsLanguage _ _ 305 third) (each_at IsLanguage _ _ 306
+    third)
 
-check_class_against : (w : List Class) (f : FilePlace) (c : ClassTree) (d : Class) → Each IsLanguage (class_against w f c d)
+check_class_against : (w : List Class) (f : FilePlace) (c : ClassTree) (d : Class)
+    → Each IsLanguage (class_against w f c d)
 unfolding class_against
-check_class_against w f c d = each_append IsLanguage _ _ (each_at IsLanguage _ _ 307 third) (each_of IsLanguage _ c.methods (λ i m _. check_against f c d i m))
+check_class_against w f c d = each_append IsLanguage _ _ (each_at IsLanguage _ _ 307 third)
+    (each_of IsLanguage _ c.methods (λ i m _. check_against f c d i m))
 
-check_supertypes : (w : List Class) (f : FilePlace) (c : ClassTree) (d : Class) → Each IsLanguage (supertype_breaks w f c d)
+check_supertypes : (w : List Class) (f : FilePlace) (c : ClassTree) (d : Class)
+    → Each IsLanguage (supertype_breaks w f c d)
 unfolding supertype_breaks
 check_supertypes w f c d = by (is_inherited w c d)
   where
@@ -129,44 +151,54 @@ check_overriding : (files : Files) (f : FilePlace) (c : ClassTree) → Each IsLa
 unfolding overriding_breaks
 check_overriding files f c =
     each_append IsLanguage _ _
-    (each_append IsLanguage _ _ (each_at IsLanguage _ _ 307 third) (each_of IsLanguage _ files.classes (λ _ d _. check_supertypes (all_classes files) f c (declared 0 d))))
-    (each_of IsLanguage _ files.exports (λ _ t _. each_of IsLanguage _ t.classes (λ _ d _. check_supertypes (all_classes files) f c (imported 0 d))))
+    (each_append IsLanguage _ _ (each_at IsLanguage _ _ 307 third) (each_of IsLanguage _ files.classes
+    (λ _ d _. check_supertypes (all_classes files) f c (declared 0 d))))
+    (each_of IsLanguage _ files.exports (λ _ t _. each_of IsLanguage _ t.classes (λ _ d _. check_supertypes
+    (all_classes files) f c (imported 0 d))))
 
-check_own : (files : Files) (settings : Settings) (f : FilePlace) (n : ℕ) (c : ClassTree) → Each IsLanguage (checks.own_breaks files settings f n c)
+check_own : (files : Files) (settings : Settings) (f : FilePlace) (n : ℕ) (c : ClassTree)
+    → Each IsLanguage (checks.own_breaks files settings f n c)
 unfolding checks.own_breaks
 check_own files settings f n c =
     each_append IsLanguage _ _
     (each_append IsLanguage _ _
-    (each_append IsLanguage _ _ (each_append IsLanguage _ _ (each_at IsLanguage _ _ 301 third) (each_at IsLanguage _ _ 302 third)) (each_at IsLanguage _ _ 304 third))
+    (each_append IsLanguage _ _ (each_append IsLanguage _ _ (each_at IsLanguage _ _ 301 third) (each_at IsLanguage _ _
+    302 third)) (each_at IsLanguage _ _ 304 third))
     (each_at IsLanguage _ _ 403 fourth))
     (each_at IsLanguage _ _ 406 fourth)
 
-check_class : (files : Files) (settings : Settings) (f : FilePlace) (n : ℕ) (c : ClassTree) → Each IsLanguage (checks.class_breaks files settings f n c)
+check_class : (files : Files) (settings : Settings) (f : FilePlace) (n : ℕ) (c : ClassTree)
+    → Each IsLanguage (checks.class_breaks files settings f n c)
 unfolding checks.class_breaks
 check_class files settings f n c =
     each_append IsLanguage _ _
     (each_append IsLanguage _ _
-    (each_append IsLanguage _ _ (check_own files settings f n c) (each_of IsLanguage _ c.fields (λ i m _. check_field settings f c i m)))
+    (each_append IsLanguage _ _ (check_own files settings f n c) (each_of IsLanguage _ c.fields
+    (λ i m _. check_field settings f c i m)))
     (each_of IsLanguage _ c.methods (λ i m _. check_method settings f c i m)))
     (check_overriding files f c)
 
-check_list : (list : List ℕ) (files : Files) (settings : Settings) → Each IsLanguage (checks.list_breaks list files settings)
+check_list : (list : List ℕ) (files : Files) (settings : Settings)
+    → Each IsLanguage (checks.list_breaks list files settings)
 unfolding checks.list_breaks
 check_list list files settings =
     each_append IsLanguage _ _
     (each_append IsLanguage _ _
     (each_append IsLanguage _ _
-    (each_append IsLanguage _ _ (each_append IsLanguage _ _ (each_at IsLanguage _ _ 309 third) (each_at IsLanguage _ _ 401 fourth)) (each_at IsLanguage _ _ 402 fourth))
+    (each_append IsLanguage _ _ (each_append IsLanguage _ _ (each_at IsLanguage _ _ 309 third) (each_at IsLanguage _ _
+    401 fourth)) (each_at IsLanguage _ _ 402 fourth))
     (each_at IsLanguage _ _ 407 fourth))
     (each_at IsLanguage _ _ 408 fourth))
     (each_at IsLanguage _ _ 409 fourth)
 
 -- 301 to 310 and 401 to 409 are of the third and fourth hundred
-pub checks_language : (list : List ℕ) (files : Files) (codes : List MethodCode) (settings : Settings) → Each IsLanguage (checks.check_breaks list files codes settings)
+pub checks_language : (list : List ℕ) (files : Files) (codes : List MethodCode) (settings : Settings)
+    → Each IsLanguage (checks.check_breaks list files codes settings)
 unfolding checks.check_breaks
 checks_language list files codes settings =
     each_append IsLanguage _ _
-    (each_append IsLanguage _ _ (check_list list files settings) (each_of IsLanguage _ files.classes (λ n c _. check_class files settings (file_of files.lines n) n c)))
+    (each_append IsLanguage _ _ (check_list list files settings) (each_of IsLanguage _ files.classes
+    (λ n c _. check_class files settings (file_of files.lines n) n c)))
     (each_of IsLanguage _ codes (λ _ code _. check_code files settings code))
 
 -- ---- tokens
@@ -174,10 +206,13 @@ checks_language list files codes settings =
 abbrev pub IsFourth : Break → Type 0
 IsFourth b = b.rank.family ≡ 4
 
-high_fourth : (w : List Class) (applets : Bool) (lines : List FileLine) (k : ℕ) (cs : List ClassTree) → Each IsFourth (breaks_from w applets lines k cs)
+high_fourth : (w : List Class) (applets : Bool) (lines : List FileLine) (k : ℕ) (cs : List ClassTree)
+    → Each IsFourth (breaks_from w applets lines k cs)
 unfolding breaks_from
 high_fourth w applets lines k [] = each_none IsFourth
-high_fourth w applets lines k (c ∷ cs) = each_append IsFourth _ _ (by (has_high_token w (is_exported w applets (declared k c)) k c)) (high_fourth w applets lines (k + 1) cs)
+high_fourth w applets lines k (c ∷ cs) =
+    each_append IsFourth _ _ (by (has_high_token w (is_exported w applets (declared k c)) k c)) (high_fourth w applets
+    lines (k + 1) cs)
   where
     by : (high : Bool) → Each IsFourth (breaks_where high (token_at_class (file_of lines k) c.name))
     by true = each_more IsFourth _ [] refl (each_none IsFourth)
@@ -188,7 +223,8 @@ pub tokens_fourth : (applets : Bool) (files : Files) → Each IsFourth (tested_b
 unfolding tested_breaks token_breaks
 tokens_fourth applets files = by (is_few applets files)
   where
-    by : (few : Bool) → Each IsFourth (if few then breaks_from (all_classes files) applets files.lines 0 files.classes else [])
+    by : (few : Bool) → Each IsFourth (if few then breaks_from (all_classes files) applets files.lines 0 files.classes
+        else [])
     by true = high_fourth (all_classes files) applets files.lines 0 files.classes
     by false = each_none IsFourth
 

@@ -9,5 +9,6 @@ pub item_at : {A : Type 0} (xs : List A) (i : ℕ) (x : A) → i < length xs →
 item_at xs i x lt is = slice_get-get_or xs i x lt ∙ ap Some (sym is)
 
 -- one item more from the front
-pub front_more : {A : Type 0} (xs : List A) (i : ℕ) (x : A) → i < length xs → x ≡ get_or xs i x → take (i + 1) xs ≡ take i xs ++ x ∷ []
+pub front_more : {A : Type 0} (xs : List A) (i : ℕ) (x : A) → i < length xs → x ≡ get_or xs i x
+    → take (i + 1) xs ≡ take i xs ++ x ∷ []
 front_more xs i x lt is = rw add-one (take-suc xs i x lt ∙ ap (λ y. take i xs ++ y ∷ []) (sym is))

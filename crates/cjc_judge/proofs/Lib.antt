@@ -15,3 +15,4 @@ pub mod Places
 pub mod ToldWorld
 pub mod ToldRules
 pub mod OneRefusal
+pub mod RangesLaws

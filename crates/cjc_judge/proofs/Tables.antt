@@ -1,5 +1,6 @@
 -- Type tables, one method after the other.
-use Rattle.std.proofs.Common.{◌≡◌, ℕ, zero, suc, ◌+◌, ◌<◌, ◌≤◌, List, [], ◌∷◌, ◌++◌, Option, Some, None, IfNone, length, get_or, take, refl, sym, ap, subst, arith}
+use Rattle.std.proofs.Common.{◌≡◌, ℕ, zero, suc, ◌+◌, ◌<◌, ◌≤◌, List, [], ◌∷◌, ◌++◌, Option, Some, None, IfNone, length}
+use Rattle.std.proofs.Common.{get_or, take, refl, sym, ap, subst, arith}
 use Rattle.std.specs.Prelude.{option_map, slice_get}
 use Rattle.std.proofs.lemmas.List.{take_all}
 use Rattle.cjc_code.specs.declared.method_code.MethodCode.{MethodCode}
@@ -21,7 +22,8 @@ none_was f None e = refl
 none_was f (Some x) e = absurd (let g = e in cc)
 
 -- where the first of two is none, both are
-both_none : (xs ys : List Break) (o p q : Option Break) → IsFirstOf xs o → IsFirstOf ys p → IsFirstOf (xs ++ ys) q → q ≡ None → (o ≡ None) × (p ≡ None)
+both_none : (xs ys : List Break) (o p q : Option Break) → IsFirstOf xs o → IsFirstOf ys p → IsFirstOf (xs ++ ys) q
+    → q ≡ None → (o ≡ None) × (p ≡ None)
 both_none xs ys o p q f g joined is = by o p f g (subst (IsFirstOf (xs ++ ys)) is joined)
   where
     by : (o p : Option Break) → IsFirstOf xs o → IsFirstOf ys p → xs ++ ys ≡ [] → (o ≡ None) × (p ≡ None)
@@ -38,10 +40,13 @@ had None P e p = p
 had (Some x) P e p = absurd (let f = e in cc)
 
 -- What holds of what is left where both were none holds where the first of both is.
-pub joined : {X : Type 0} (f : X → Break) (G H : Break → Type 0) (o p q : Option X) (P Q R : Type 0) → ((xs ys : List Break) → IsFirstOf xs (option_map f o) → IsFirstOf ys (option_map f p) → IsFirstOf (xs ++ ys) (option_map f q))
+pub joined : {X : Type 0} (f : X → Break) (G H : Break → Type 0) (o p q : Option X) (P Q R : Type 0)
+    → ((xs ys : List Break) → IsFirstOf xs (option_map f o) → IsFirstOf ys (option_map f p)
+    → IsFirstOf (xs ++ ys) (option_map f q))
     → IsFirstIn G (option_map f o) → IsFirstIn H (option_map f p) → (P → Q → R) → IfNone o P → IfNone p Q → IfNone q R
 joined f G H o p q P Q R joins (xs, _, first) (ys, _, next) go had_o had_p = when_none q R (λ e.
-    let both = both_none xs ys (option_map f o) (option_map f p) (option_map f q) first next (joins xs ys first next) (ap (option_map f) e) in
+    let both = both_none xs ys (option_map f o) (option_map f p) (option_map f q) first next (joins xs ys first next)
+    (ap (option_map f) e) in
     go (had o P (none_was f o both.0) had_o) (had p Q (none_was f p both.1) had_p))
 
 pub mapped : {A : Type 0} (o : Option A) (P Q : Type 0) → (P → Q) → IfNone o P → IfNone o Q
@@ -50,29 +55,40 @@ mapped (Some x) P Q f p = tt
 
 -- ---- one method after the other
 
-put_table : (world : Files) (codes : List MethodCode) (tables : List TypeTable) (code : MethodCode) (table : TypeTable) → AreTables world codes tables → IsTableOf world code table → AreTables world (codes ++ code ∷ []) (tables ++ table ∷ [])
-put_table world [] tables code table e is = subst (λ (ts : List TypeTable). AreTables world (code ∷ []) (ts ++ table ∷ [])) (sym e) (is, refl)
+put_table : (world : Files) (codes : List MethodCode) (tables : List TypeTable) (code : MethodCode) (table : TypeTable)
+    → AreTables world codes tables → IsTableOf world code table → AreTables world (codes ++ code ∷ []) (tables
+    ++ table ∷ [])
+put_table world [] tables code table e is = subst (λ (ts : List TypeTable). AreTables world (code ∷ []) (ts
+    ++ table ∷ [])) (sym e) (is, refl)
 put_table world (c ∷ cs) [] code table h is = absurd h
 put_table world (c ∷ cs) (t ∷ ts) code table h is = (h.0, put_table world cs ts code table h.1 is)
 
 -- one method more
-pub more_tables : (world : Files) (codes : List MethodCode) (i : ℕ) (code : MethodCode) (old new : List TypeTable) → i < length codes → code ≡ get_or codes i code → AreTables world (take i codes) old → PutsTable world code old new → AreTables world (take (i + 1) codes) new
+pub more_tables : (world : Files) (codes : List MethodCode) (i : ℕ) (code : MethodCode) (old new : List TypeTable)
+    → i < length codes → code ≡ get_or codes i code → AreTables world (take i codes) old → PutsTable world code old new
+    → AreTables world (take (i + 1) codes) new
 more_tables world codes i code old new lt is h (table, e, here) =
     subst (λ (ts : List TypeTable). AreTables world (take (i + 1) codes) ts) (sym e)
-    (subst (λ (cs : List MethodCode). AreTables world cs (old ++ table ∷ [])) (sym (front_more codes i code lt is)) (put_table world (take i codes) old code table h here))
+    (subst (λ (cs : List MethodCode). AreTables world cs (old ++ table ∷ [])) (sym (front_more codes i code lt is))
+    (put_table world (take i codes) old code table h here))
 
 -- all of them
-pub all_tables : (world : Files) (codes : List MethodCode) (i : ℕ) (tables : List TypeTable) → length codes ≤ i → AreTables world (take i codes) tables → AreTables world codes tables
-all_tables world codes i tables low h = subst (λ (cs : List MethodCode). AreTables world cs tables) (take_all i codes low) h
+pub all_tables : (world : Files) (codes : List MethodCode) (i : ℕ) (tables : List TypeTable) → length codes ≤ i
+    → AreTables world (take i codes) tables → AreTables world codes tables
+all_tables world codes i tables low h = subst (λ (cs : List MethodCode). AreTables world cs tables)
+    (take_all i codes low) h
 
 -- as many as there are codes
-pub tables_sized : (world : Files) (codes : List MethodCode) (tables : List TypeTable) → AreTables world codes tables → length tables ≡ length codes
+pub tables_sized : (world : Files) (codes : List MethodCode) (tables : List TypeTable) → AreTables world codes tables
+    → length tables ≡ length codes
 tables_sized world [] tables h = ap (λ (ts : List TypeTable). length ts) h
 tables_sized world (c ∷ cs) [] h = absurd h
 tables_sized world (c ∷ cs) (t ∷ ts) h = ap suc (tables_sized world cs ts h.1)
 
 -- the table of the method at a place
-pub table_at : (world : Files) (codes : List MethodCode) (tables : List TypeTable) (i : ℕ) (code : MethodCode) (table : TypeTable) → AreTables world codes tables → slice_get codes i ≡ Some code → slice_get tables i ≡ Some table → IsTableOf world code table
+pub table_at : (world : Files) (codes : List MethodCode) (tables : List TypeTable) (i : ℕ) (code : MethodCode)
+    (table : TypeTable) → AreTables world codes tables → slice_get codes i ≡ Some code → slice_get tables i ≡ Some table
+    → IsTableOf world code table
 table_at world [] tables i code table h e f = absurd cc
 table_at world (c ∷ cs) [] i code table h e f = absurd h
 table_at world (c ∷ cs) (t ∷ ts) zero code table h e f =
@@ -82,14 +98,21 @@ table_at world (c ∷ cs) (t ∷ ts) zero code table h e f =
 table_at world (c ∷ cs) (t ∷ ts) (suc i) code table h e f = table_at world cs ts i code table h.1 e f
 
 -- that which is read there
-pub table_of : (world : Files) (codes : List MethodCode) (tables : List TypeTable) (i : ℕ) (code : MethodCode) (table : TypeTable) → AreTables world codes tables → i < length codes → code ≡ get_or codes i code → table ≡ get_or tables i table → IsTableOf world code table
+pub table_of : (world : Files) (codes : List MethodCode) (tables : List TypeTable) (i : ℕ) (code : MethodCode)
+    (table : TypeTable) → AreTables world codes tables → i < length codes → code ≡ get_or codes i code
+    → table ≡ get_or tables i table → IsTableOf world code table
 table_of world codes tables i code table h lt is_code is_table =
     let sized = tables_sized world codes tables h in
-    table_at world codes tables i code table h (item_at codes i code lt is_code) (item_at tables i table (omega (arith, sized, lt)) is_table)
+    table_at world codes tables i code table h (item_at codes i code lt is_code) (item_at tables i table (omega (
+      arith,
+      sized,
+      lt,
+    )) is_table)
 
 -- ---- what is answered
 
 -- where nothing is broken the answer is Ok
-pub kept : {X : Type 0} (f : X → Break) (o : Option X) (bs : List Break) (P : Type 0) → bs ≡ [] → IsFirstOf bs (option_map f o) → IfNone o P → P
+pub kept : {X : Type 0} (f : X → Break) (o : Option X) (bs : List Break) (P : Type 0) → bs ≡ []
+    → IsFirstOf bs (option_map f o) → IfNone o P → P
 kept f None bs P e first p = p
 kept f (Some x) bs P e first p = absurd (none_among (f x) (subst (Among (f x)) e first.among))

@@ -1,5 +1,6 @@
 -- Of the breaks of the third and the fourth hundred, those of the third.
-use Rattle.std.proofs.Common.{◌≡◌, inl, inr, ◌<◌, ◌≤◌, Bool, true, false, List, [], ◌∷◌, Some, None, refl, sym, subst, ◌∙◌, arith}
+use Rattle.std.proofs.Common.{◌≡◌, inl, inr, ◌<◌, ◌≤◌, Bool, true, false, List, [], ◌∷◌, Some, None, refl, sym, subst}
+use Rattle.std.proofs.Common.{◌∙◌, arith}
 use Rattle.std.specs.Prelude.{◌==◌, if◌then◌else◌}
 use Rattle.std.proofs.lemmas.Bool.Decides.{nat_tests}
 use Rattle.cjc_bytes.specs.Order.{NotAfter}
@@ -30,11 +31,13 @@ Third bs b = Among b bs × IsOfThirdHundred b
 later : (x : Break) (bs : List Break) (b : Break) → Third bs b → Third (x ∷ bs) b
 later x bs b h = (after h.0, h.1)
 
-from_true : (x : Break) (bs ts : List Break) (b : Break) → is_third x ≡ true → (Among b ts → Third bs b) → Among b (x ∷ ts) → Third (x ∷ bs) b
+from_true : (x : Break) (bs ts : List Break) (b : Break) → is_third x ≡ true → (Among b ts → Third bs b)
+    → Among b (x ∷ ts) → Third (x ∷ bs) b
 from_true x bs ts b e rest foremost = (foremost, third_is x e)
 from_true x bs ts b e rest (after j) = later x bs b (rest j)
 
-from_more : (x : Break) (bs : List Break) (b : Break) (t : Bool) → is_third x ≡ t → (Among b (thirds bs) → Third bs b) → Among b (if t then x ∷ thirds bs else thirds bs) → Third (x ∷ bs) b
+from_more : (x : Break) (bs : List Break) (b : Break) (t : Bool) → is_third x ≡ t → (Among b (thirds bs) → Third bs b)
+    → Among b (if t then x ∷ thirds bs else thirds bs) → Third (x ∷ bs) b
 from_more x bs b true e rest i = from_true x bs (thirds bs) b e rest i
 from_more x bs b false e rest i = later x bs b (rest i)
 
@@ -43,7 +46,8 @@ unfolding thirds
 from_thirds [] b i = absurd (none_among b i)
 from_thirds (x ∷ bs) b i = from_more x bs b (is_third x) refl (λ j. from_thirds bs b j) i
 
-into_more : (x : Break) (bs : List Break) (b : Break) (t : Bool) → is_third x ≡ t → (Among b bs → Among b (thirds bs)) → IsOfThirdHundred b → Among b (x ∷ bs) → Among b (if t then x ∷ thirds bs else thirds bs)
+into_more : (x : Break) (bs : List Break) (b : Break) (t : Bool) → is_third x ≡ t → (Among b bs → Among b (thirds bs))
+    → IsOfThirdHundred b → Among b (x ∷ bs) → Among b (if t then x ∷ thirds bs else thirds bs)
 into_more x bs b true e rest h foremost = foremost
 into_more x bs b true e rest h (after j) = after (rest j)
 into_more x bs b false e rest h foremost = absurd (let f = sym e ∙ third_holds b h in cc)
@@ -63,14 +67,26 @@ no_breaks (b ∷ bs) none = absurd (none b foremost)
 
 -- where nothing is broken
 pub third_of_none : (bs : List Break) → IsFirstOf bs None → IsFirstIn (Third bs) None
-third_of_none bs e = (thirds bs, lists_thirds bs, no_breaks (thirds bs) (λ b i. none_among b (subst (Among b) e (from_thirds bs b i).0)))
+third_of_none bs e = (
+  thirds bs,
+  lists_thirds bs,
+  no_breaks (thirds bs) (λ b i. none_among b (subst (Among b) e (from_thirds bs b i).0)),
+)
 
 -- the first of all is of the third hundred
 pub third_found : (bs : List Break) (b : Break) → IsFirst b bs → IsOfThirdHundred b → IsFirstIn (Third bs) (Some b)
-third_found bs b f h = (thirds bs, lists_thirds bs, record { among = into_thirds bs b f.among h; least = λ a i. f.least a (from_thirds bs a i).0 })
+third_found bs b f h = (
+  thirds bs,
+  lists_thirds bs,
+  record {
+    among = into_thirds bs b f.among h;
+    least = λ a i. f.least a (from_thirds bs a i).0;
+  },
+)
 
 -- the first of all is of a later one, and so are all
-pub third_not : (bs : List Break) (b : Break) → IsFirst b bs → ((a : Break) → Among a bs → 3 ≤ a.rank.family) → (IsOfThirdHundred b → ⊥) → IsFirstIn (Third bs) None
+pub third_not : (bs : List Break) (b : Break) → IsFirst b bs → ((a : Break) → Among a bs → 3 ≤ a.rank.family)
+    → (IsOfThirdHundred b → ⊥) → IsFirstIn (Third bs) None
 third_not bs b f low not = (thirds bs, lists_thirds bs, no_breaks (thirds bs) (λ a i. wrong a (from_thirds bs a i)))
   where
     high : 3 < b.rank.family

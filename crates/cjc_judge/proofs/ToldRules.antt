@@ -1,5 +1,6 @@
 -- What is told of the rules of names, of the language of the card, of limits, of tokens, of types and of ranges.
-use Rattle.std.proofs.Common.{◌≡◌, ℕ, suc, ◌+◌, Bool, true, false, List, [], ◌∷◌, length, Some, refl, sym, ap, subst, ◌∙◌, arith}
+use Rattle.std.proofs.Common.{◌≡◌, ℕ, suc, ◌+◌, Bool, true, false, List, [], ◌∷◌, length, Some, refl, sym, ap, subst}
+use Rattle.std.proofs.Common.{◌∙◌, arith}
 use Rattle.std.specs.Prelude.{slice_get, if◌then◌else◌}
 use Rattle.std.proofs.lemmas.Option.{slice_get_within}
 use Rattle.cjc_bytes.specs.declared.breaks.BrokenAt.{BrokenAt}
@@ -15,9 +16,11 @@ use Rattle.cjc_code.specs.declared.insn.JInsn.{JInsn}
 use Rattle.cjc_code.specs.declared.method_code.MethodCode.{MethodCode}
 use Rattle.cjc_subset.specs.Checks as checks
 use Rattle.cjc_subset.specs.Names.{insn_breaks, catch_breaks, catches_of, method_breaks, code_breaks, name_breaks}
-use Rattle.cjc_subset.specs.Overriding.{is_inherited, method_against, class_against, supertype_breaks, overriding_breaks}
+use Rattle.cjc_subset.specs.Overriding.{is_inherited, method_against, class_against, supertype_breaks}
+use Rattle.cjc_subset.specs.Overriding.{overriding_breaks}
 use Rattle.cjc_subset.specs.Places.{at_class, at_field, at_method}
-use Rattle.cjc_tokens.specs.Rules.{breaks_from, breaks_where, has_high_token, is_few, tested_breaks, token_breaks, at_class as token_at_class}
+use Rattle.cjc_tokens.specs.Rules.{breaks_from, breaks_where, has_high_token, is_few, tested_breaks, token_breaks}
+use Rattle.cjc_tokens.specs.Rules.{at_class as token_at_class}
 use Rattle.cjc_world.specs.Classes.{Class, all_classes, declared, imported}
 use Rattle.cjc_world.specs.Exported.{is_exported}
 use Rattle.cjc_world.specs.Files.{Files}
@@ -25,15 +28,18 @@ use Rattle.cjc_clinit.specs.Rules.{BreaksImage, of_class, of_code}
 use Rattle.cjc_judge.specs.declared.reading.UnsupportedInsn.{UnsupportedInsn}
 use Rattle.cjc_judge.specs.Rules.{unsupported_break, unsupported_breaks, BreaksMethod}
 use Rattle.cjc_judge.proofs.Each.{Each, each_none, each_more, each_append, each_at, each_of, each_code}
-use Rattle.cjc_judge.proofs.Places.{IsTold, IsFileOf, class_files, file_is_of, told_list, told_at_class, told_at_field, told_at_method}
+use Rattle.cjc_judge.proofs.Places.{IsTold, IsFileOf, class_files, file_is_of, told_list, told_at_class, told_at_field}
+use Rattle.cjc_judge.proofs.Places.{told_at_method}
 
 -- Each class has a line.
 module _ (list : List ℕ) (files : Files) (counted : length files.classes ≡ class_files files.lines) where
   abbrev Told : Break → Type 0
   Told = IsTold list files
 
-  there : (number : ℕ) (c : ClassTree) → slice_get files.classes number ≡ Some c → IsFileOf files number c (file_of files.lines number)
-  there number c is = file_is_of files number c (let within = slice_get_within files.classes number c is in omega (arith, within, counted)) is
+  there : (number : ℕ) (c : ClassTree) → slice_get files.classes number ≡ Some c
+      → IsFileOf files number c (file_of files.lines number)
+  there number c is = file_is_of files number c (let within = slice_get_within files.classes number c is
+      in omega (arith, within, counted)) is
 
   -- ---- in a class
 
@@ -42,51 +48,68 @@ module _ (list : List ℕ) (files : Files) (counted : length files.classes ≡ c
     file = file_of files.lines number
 
     own : (broken : Bool) (rule : ℕ) → Each Told (at broken (at_class file c) rule)
-    own broken rule = each_at Told broken (at_class file c) rule (told_at_class list files number c file (there number c is) rule)
+    own broken rule = each_at Told broken (at_class file c) rule (told_at_class list files number c file
+        (there number c is) rule)
 
-    field : (i : ℕ) (m : FieldTree) → slice_get c.fields i ≡ Some m → (broken : Bool) (rule : ℕ) → Each Told (at broken (at_field file c i m) rule)
-    field i m at_i broken rule = each_at Told broken (at_field file c i m) rule (told_at_field list files number c file (there number c is) i m at_i rule)
+    field : (i : ℕ) (m : FieldTree) → slice_get c.fields i ≡ Some m → (broken : Bool) (rule : ℕ)
+        → Each Told (at broken (at_field file c i m) rule)
+    field i m at_i broken rule = each_at Told broken (at_field file c i m) rule (told_at_field list files number c file
+        (there number c is) i m at_i rule)
 
-    method : (i : ℕ) (m : MethodTree) → slice_get c.methods i ≡ Some m → (offset : ℕ) (broken : Bool) (rule : ℕ) → Each Told (at broken (at_method file c i m offset) rule)
-    method i m at_i offset broken rule = each_at Told broken (at_method file c i m offset) rule (told_at_method list files number c file (there number c is) i m at_i offset rule)
+    method : (i : ℕ) (m : MethodTree) → slice_get c.methods i ≡ Some m → (offset : ℕ) (broken : Bool) (rule : ℕ)
+        → Each Told (at broken (at_method file c i m offset) rule)
+    method i m at_i offset broken rule = each_at Told broken (at_method file c i m offset) rule
+        (told_at_method list files number c file (there number c is) i m at_i offset rule)
 
     -- names
-    names_insn : (i : ℕ) (m : MethodTree) → slice_get c.methods i ≡ Some m → (insn : JInsn) → Each Told (insn_breaks files file c i m insn)
+    names_insn : (i : ℕ) (m : MethodTree) → slice_get c.methods i ≡ Some m → (insn : JInsn)
+        → Each Told (insn_breaks files file c i m insn)
     unfolding insn_breaks
     names_insn i m at_i insn =
         each_append Told _ _
-        (each_append Told _ _ (each_append Told _ _ (method i m at_i insn.at _ 203) (method i m at_i insn.at _ 205)) (method i m at_i insn.at _ 205))
+        (each_append Told _ _ (each_append Told _ _ (method i m at_i insn.at _ 203) (method i m at_i insn.at _ 205))
+        (method i m at_i insn.at _ 205))
         (method i m at_i insn.at _ 206)
 
-    names_catch : (i : ℕ) (m : MethodTree) → slice_get c.methods i ≡ Some m → (k : Catch) → Each Told (catch_breaks files file c i m k)
+    names_catch : (i : ℕ) (m : MethodTree) → slice_get c.methods i ≡ Some m → (k : Catch)
+        → Each Told (catch_breaks files file c i m k)
     unfolding catch_breaks
     names_catch i m at_i k = method i m at_i k.target _ 203
 
-    names_method : (i : ℕ) (m : MethodTree) → slice_get c.methods i ≡ Some m → (insns : List JInsn) → Each Told (method_breaks files file c i m insns)
+    names_method : (i : ℕ) (m : MethodTree) → slice_get c.methods i ≡ Some m → (insns : List JInsn)
+        → Each Told (method_breaks files file c i m insns)
     unfolding method_breaks
     names_method i m at_i insns =
-        each_append Told _ _ (each_of Told _ insns (λ _ insn _. names_insn i m at_i insn)) (each_of Told _ (catches_of m.code) (λ _ k _. names_catch i m at_i k))
+        each_append Told _ _ (each_of Told _ insns (λ _ insn _. names_insn i m at_i insn))
+        (each_of Told _ (catches_of m.code) (λ _ k _. names_catch i m at_i k))
 
     -- 301, 302 and 310 of an instruction
-    check_insn : (settings : Settings) (i : ℕ) (m : MethodTree) → slice_get c.methods i ≡ Some m → (insn : JInsn) → Each Told (checks.insn_breaks files settings file c i m insn)
+    check_insn : (settings : Settings) (i : ℕ) (m : MethodTree) → slice_get c.methods i ≡ Some m → (insn : JInsn)
+        → Each Told (checks.insn_breaks files settings file c i m insn)
     unfolding checks.insn_breaks
-    check_insn settings i m at_i insn = each_append Told _ _ (each_append Told _ _ (method i m at_i insn.at _ 301) (method i m at_i insn.at _ 302)) (method i m at_i insn.at _ 310)
+    check_insn settings i m at_i insn = each_append Told _ _ (each_append Told _ _ (method i m at_i insn.at _ 301)
+        (method i m at_i insn.at _ 302)) (method i m at_i insn.at _ 310)
 
-    check_field : (settings : Settings) (i : ℕ) (m : FieldTree) → slice_get c.fields i ≡ Some m → Each Told (checks.field_breaks settings file c i m)
+    check_field : (settings : Settings) (i : ℕ) (m : FieldTree) → slice_get c.fields i ≡ Some m
+        → Each Told (checks.field_breaks settings file c i m)
     unfolding checks.field_breaks
-    check_field settings i m at_i = each_append Told _ _ (each_append Told _ _ (field i m at_i _ 301) (field i m at_i _ 302)) (field i m at_i _ 304)
+    check_field settings i m at_i = each_append Told _ _ (each_append Told _ _ (field i m at_i _ 301)
+        (field i m at_i _ 302)) (field i m at_i _ 304)
 
-    check_method : (settings : Settings) (i : ℕ) (m : MethodTree) → slice_get c.methods i ≡ Some m → Each Told (checks.method_breaks settings file c i m)
+    check_method : (settings : Settings) (i : ℕ) (m : MethodTree) → slice_get c.methods i ≡ Some m
+        → Each Told (checks.method_breaks settings file c i m)
     unfolding checks.method_breaks
     check_method settings i m at_i =
         each_append Told _ _
         (each_append Told _ _
-        (each_append Told _ _ (each_append Told _ _ (method i m at_i 0 _ 301) (method i m at_i 0 _ 302)) (method i m at_i 0 _ 304))
+        (each_append Told _ _ (each_append Told _ _ (method i m at_i 0 _ 301) (method i m at_i 0 _ 302))
+        (method i m at_i 0 _ 304))
         (method i m at_i 0 _ 404))
         (method i m at_i 0 _ 405)
 
     -- 305 to 307
-    against : (d : Class) (i : ℕ) (m : MethodTree) → slice_get c.methods i ≡ Some m → Each Told (method_against file c d i m)
+    against : (d : Class) (i : ℕ) (m : MethodTree) → slice_get c.methods i ≡ Some m
+        → Each Told (method_against file c d i m)
     unfolding method_against
     against d i m at_i = each_append Told _ _ (method i m at_i 0 _ 305) (method i m at_i 0 _ 306)
 
@@ -106,14 +129,17 @@ module _ (list : List ℕ) (files : Files) (counted : length files.classes ≡ c
     unfolding overriding_breaks
     overriding =
         each_append Told _ _
-        (each_append Told _ _ (own _ 307) (each_of Told _ files.classes (λ _ d _. supertypes (all_classes files) (declared 0 d))))
-        (each_of Told _ files.exports (λ _ t _. each_of Told _ t.classes (λ _ d _. supertypes (all_classes files) (imported 0 d))))
+        (each_append Told _ _ (own _ 307) (each_of Told _ files.classes (λ _ d _. supertypes (all_classes files)
+        (declared 0 d))))
+        (each_of Told _ files.exports (λ _ t _. each_of Told _ t.classes (λ _ d _. supertypes (all_classes files)
+        (imported 0 d))))
 
     check_own : (settings : Settings) → Each Told (checks.own_breaks files settings file number c)
     unfolding checks.own_breaks
     check_own settings =
         each_append Told _ _
-        (each_append Told _ _ (each_append Told _ _ (each_append Told _ _ (own _ 301) (own _ 302)) (own _ 304)) (own _ 403))
+        (each_append Told _ _ (each_append Told _ _ (each_append Told _ _ (own _ 301) (own _ 302)) (own _ 304))
+        (own _ 403))
         (own _ 406)
 
     check_class : (settings : Settings) → Each Told (checks.class_breaks files settings file number c)
@@ -121,7 +147,8 @@ module _ (list : List ℕ) (files : Files) (counted : length files.classes ≡ c
     check_class settings =
         each_append Told _ _
         (each_append Told _ _
-        (each_append Told _ _ (check_own settings) (each_of Told _ c.fields (λ i m at_i. check_field settings i m at_i)))
+        (each_append Told _ _ (check_own settings) (each_of Told _ c.fields (λ i m at_i. check_field settings i m
+        at_i)))
         (each_of Told _ c.methods (λ i m at_i. check_method settings i m at_i)))
         overriding
 
@@ -130,13 +157,18 @@ module _ (list : List ℕ) (files : Files) (counted : length files.classes ≡ c
   -- 203, 205 and 206
   pub names_told : (codes : List MethodCode) → Each Told (name_breaks files codes)
   unfolding name_breaks code_breaks
-  names_told codes = each_of Told _ codes (λ _ code _. each_code Told files code.class code.method (λ f c m. method_breaks files f c code.method m code.insns) (λ c m is at_i. names_method code.class c is code.method m at_i code.insns))
+  names_told codes = each_of Told _ codes (λ _ code _. each_code Told files code.class code.method
+      (λ f c m. method_breaks files f c code.method m code.insns) (λ c m is at_i. names_method code.class c is
+      code.method m at_i code.insns))
 
   -- 303
   pub unsupported_insns_told : (xs : List UnsupportedInsn) → Each Told (unsupported_breaks files xs)
   unfolding unsupported_breaks unsupported_break
-  unsupported_insns_told xs = each_of Told _ xs (λ _ x _. each_code Told files x.class x.method (λ f c m. broken_at (at_method f c x.method m x.offset) 303 ∷ [])
-      (λ c m is at_i. each_more Told (broken_at (at_method (file_of files.lines x.class) c x.method m x.offset) 303) [] (told_at_method list files x.class c (file_of files.lines x.class) (there x.class c is) x.method m at_i x.offset 303) (each_none Told)))
+  unsupported_insns_told xs = each_of Told _ xs (λ _ x _. each_code Told files x.class x.method
+      (λ f c m. broken_at (at_method f c x.method m x.offset) 303 ∷ [])
+      (λ c m is at_i. each_more Told (broken_at (at_method (file_of files.lines x.class) c x.method m x.offset) 303) []
+      (told_at_method list files x.class c (file_of files.lines x.class) (there x.class c is) x.method m at_i
+      x.offset 303) (each_none Told)))
 
   by_list : (broken : Bool) (rule : ℕ) → Each Told (at broken (list_spot list) rule)
   by_list broken rule = each_at Told broken (list_spot list) rule (told_list list files rule)
@@ -146,32 +178,40 @@ module _ (list : List ℕ) (files : Files) (counted : length files.classes ≡ c
   check_list settings =
       each_append Told _ _
       (each_append Told _ _
-      (each_append Told _ _ (each_append Told _ _ (each_append Told _ _ (by_list _ 309) (by_list _ 401)) (by_list _ 402)) (by_list _ 407))
+      (each_append Told _ _ (each_append Told _ _ (each_append Told _ _ (by_list _ 309) (by_list _ 401))
+      (by_list _ 402)) (by_list _ 407))
       (by_list _ 408))
       (by_list _ 409)
 
   -- 301 to 310 and 401 to 409
-  pub checks_told : (codes : List MethodCode) (settings : Settings) → Each Told (checks.check_breaks list files codes settings)
+  pub checks_told : (codes : List MethodCode) (settings : Settings)
+      → Each Told (checks.check_breaks list files codes settings)
   unfolding checks.check_breaks checks.code_breaks
   checks_told codes settings =
       each_append Told _ _
-      (each_append Told _ _ (check_list settings) (each_of Told _ files.classes (λ n c is. check_class n c is settings)))
-      (each_of Told _ codes (λ _ code _. each_code Told files code.class code.method (λ f c m. each (λ _ insn. checks.insn_breaks files settings f c code.method m insn) code.insns)
-      (λ c m is at_i. each_of Told _ code.insns (λ _ insn _. check_insn code.class c is settings code.method m at_i insn))))
+      (each_append Told _ _ (check_list settings) (each_of Told _ files.classes (λ n c is. check_class n c is
+      settings)))
+      (each_of Told _ codes (λ _ code _. each_code Told files code.class code.method
+      (λ f c m. each (λ _ insn. checks.insn_breaks files settings f c code.method m insn) code.insns)
+      (λ c m is at_i. each_of Told _ code.insns (λ _ insn _. check_insn code.class c is settings code.method m at_i
+      insn))))
 
-  high : (w : List Class) (applets : Bool) (k : ℕ) (cs : List ClassTree) → ((i : ℕ) (c : ClassTree) → slice_get cs i ≡ Some c → slice_get files.classes (k + i) ≡ Some c)
+  high : (w : List Class) (applets : Bool) (k : ℕ) (cs : List ClassTree) → ((i : ℕ) (c : ClassTree)
+      → slice_get cs i ≡ Some c → slice_get files.classes (k + i) ≡ Some c)
       → Each Told (breaks_from w applets files.lines k cs)
   unfolding breaks_from
   high w applets k [] are = each_none Told
   high w applets k (c ∷ cs) are =
       each_append Told _ _ (by (has_high_token w (is_exported w applets (declared k c)) k c))
-      (high w applets (k + 1) cs (λ i d is. ap (slice_get files.classes) (let e : k + 1 + i ≡ k + suc i = omega arith in e) ∙ are (suc i) d is))
+      (high w applets (k + 1) cs (λ i d is. ap (slice_get files.classes) (let e : k + 1 + i ≡ k + suc i = omega arith
+      in e) ∙ are (suc i) d is))
     where
       is : slice_get files.classes k ≡ Some c
       is = ap (slice_get files.classes) (let e : k ≡ k + 0 = omega arith in e) ∙ are 0 c refl
 
       by : (b : Bool) → Each Told (breaks_where b (token_at_class (file_of files.lines k) c.name))
-      by true = each_more Told _ [] (told_at_class list files k c (file_of files.lines k) (there k c is) 413) (each_none Told)
+      by true = each_more Told _ [] (told_at_class list files k c (file_of files.lines k) (there k c is) 413)
+          (each_none Told)
       by false = each_none Told
 
   -- 413
@@ -179,19 +219,25 @@ module _ (list : List ℕ) (files : Files) (counted : length files.classes ≡ c
   unfolding tested_breaks token_breaks
   tokens_told applets = by (is_few applets files)
     where
-      by : (few : Bool) → Each Told (if few then breaks_from (all_classes files) applets files.lines 0 files.classes else [])
-      by true = high (all_classes files) applets 0 files.classes (λ i c is. ap (slice_get files.classes) (let e : 0 + i ≡ i = omega arith in e) ∙ is)
+      by : (few : Bool) → Each Told (if few then breaks_from (all_classes files) applets files.lines 0 files.classes
+          else [])
+      by true = high (all_classes files) applets 0 files.classes (λ i c is. ap (slice_get files.classes) (let e : 0 + i
+          ≡ i = omega arith in e) ∙ is)
       by false = each_none Told
 
   -- 308
   pub image_told : (codes : List MethodCode) (b : Break) → BreaksImage files codes b → Told b
-  image_told codes b (of_class number c is h) = subst Told (sym h.is) (told_at_class list files number c (file_of files.lines number) (there number c is) 308)
+  image_told codes b (of_class number c is h) = subst Told (sym h.is) (told_at_class list files number c
+      (file_of files.lines number) (there number c is) 308)
   image_told codes b (of_code i code at h) =
       subst Told (sym h.is)
-      (told_at_method list files code.class h.class (file_of files.lines code.class) (there code.class h.class h.is_class) code.method h.method h.is_method h.offset 308)
+      (told_at_method list files code.class h.class (file_of files.lines code.class) (there code.class h.class
+      h.is_class) code.method h.method h.is_method h.offset 308)
 
   -- 501 to 503, 601 to 609
-  pub method_told : (Breaks : Files → Body → BrokenAt → Type 0) (code : MethodCode) (b : Break) → BreaksMethod Breaks files code b → Told b
+  pub method_told : (Breaks : Files → Body → BrokenAt → Type 0) (code : MethodCode) (b : Break)
+      → BreaksMethod Breaks files code b → Told b
   method_told Breaks code b h =
       subst Told (sym h.is)
-      (told_at_method list files code.class h.class (file_of files.lines code.class) (there code.class h.class h.of_package.is_class) code.method h.method h.of_package.is_method h.broken.offset h.broken.rule)
+      (told_at_method list files code.class h.class (file_of files.lines code.class) (there code.class h.class
+      h.of_package.is_class) code.method h.method h.of_package.is_method h.broken.offset h.broken.rule)

@@ -1,5 +1,6 @@
 -- What methods break, as a list.
-use Rattle.std.proofs.Common.{◌≡◌, ◌⊎◌, inl, inr, ℕ, zero, suc, ◌<◌, List, [], ◌∷◌, Option, Some, None, Ok, Err, length, get_or, refl, sym, ap, subst, ◌∙◌, arith}
+use Rattle.std.proofs.Common.{◌≡◌, ◌⊎◌, inl, inr, ℕ, zero, suc, ◌<◌, List, [], ◌∷◌, Option, Some, None, Ok, Err, length}
+use Rattle.std.proofs.Common.{get_or, refl, sym, ap, subst, ◌∙◌, arith}
 use Rattle.std.specs.Prelude.{slice_get}
 use Rattle.std.proofs.lemmas.Option.{slice_get_within}
 use Rattle.cjc_bytes.specs.declared.breaks.BrokenAt.{BrokenAt}
@@ -24,28 +25,44 @@ use Rattle.cjc_judge.proofs.Items.{item_at}
 some_same : {A : Type 0} {o : Option A} (x y : A) → o ≡ Some x → o ≡ Some y → x ≡ y
 some_same x y e f = let g = sym e ∙ f in cc
 
-module _ (Breaks : Files → Body → BrokenAt → Type 0) (files : Files) (code : MethodCode) (class : ClassTree) (method : MethodTree) (tree : CodeTree) (here : IsMethodOf files code class method tree) where
+module _ (Breaks : Files → Body → BrokenAt → Type 0) (files : Files) (code : MethodCode) (class : ClassTree)
+    (method : MethodTree) (tree : CodeTree) (here : IsMethodOf files code class method tree) where
   abbrev IsWrong : BrokenAt → Type 0
   IsWrong x = Breaks files (body_of class method tree code.insns) x
 
   -- a break of the method is by its own class, method and code
-  broken_of : (b : Break) → BreaksMethod Breaks files code b → (x : BrokenAt) × IsWrong x × (b ≡ method_break files code class method x)
+  broken_of : (b : Break) → BreaksMethod Breaks files code b → (x : BrokenAt) × IsWrong x
+      × (b ≡ method_break files code class method x)
   broken_of b h =
       let c : h.class ≡ class = some_same h.class class h.of_package.is_class here.is_class in
-      let m : h.method ≡ method = some_same h.method method h.of_package.is_method (ap (λ (x : ClassTree). slice_get x.methods code.method) c ∙ here.is_method) in
-      let t : h.tree ≡ tree = some_same h.tree tree h.of_package.is_code (ap (λ (x : MethodTree). x.code) m ∙ here.is_code) in
-      let P : ClassTree → MethodTree → CodeTree → Type 0 = λ c m t. Breaks files (body_of c m t code.insns) h.broken in (
+      let m : h.method ≡ method = some_same h.method method h.of_package.is_method
+      (ap (λ (x : ClassTree). slice_get x.methods code.method) c ∙ here.is_method) in
+      let t : h.tree ≡ tree = some_same h.tree tree h.of_package.is_code (ap (λ (x : MethodTree). x.code) m
+      ∙ here.is_code) in
+      let P : ClassTree → MethodTree → CodeTree → Type 0 = λ c m t. Breaks files (body_of c m t code.insns) h.broken
+      in (
         h.broken,
-        subst (λ (t : CodeTree). P class method t) t (subst (λ (m : MethodTree). P class m h.tree) m (subst (λ (c : ClassTree). P c h.method h.tree) c h.breaks)),
-        h.is ∙ ap (λ (c : ClassTree). method_break files code c h.method h.broken) c ∙ ap (λ (m : MethodTree). method_break files code class m h.broken) m,
+        subst (λ (t : CodeTree). P class method t) t (subst (λ (m : MethodTree). P class m h.tree) m
+            (subst (λ (c : ClassTree). P c h.method h.tree) c h.breaks)),
+        h.is ∙ ap (λ (c : ClassTree). method_break files code c h.method h.broken) c
+            ∙ ap (λ (m : MethodTree). method_break files code class m h.broken) m,
       )
 
   -- a method that breaks nothing
   pub unbroken_method : ((x : BrokenAt) → IsWrong x → ⊥) → IsFirstIn (BreaksMethod Breaks files code) None
-  unbroken_method fine = ([], λ b. (λ i. absurd (none_among b i), λ h. absurd (let found = broken_of b h in fine found.0 found.1)), refl)
+  unbroken_method fine = (
+    [],
+    λ b. (
+      λ i. absurd (none_among b i),
+      λ h. absurd (let found = broken_of b h
+          in fine found.0 found.1),
+    ),
+    refl,
+  )
 
   -- a method that breaks this alone
-  pub broken_method : (x : BrokenAt) (b : Break) → b ≡ method_break files code class method x → IsWrong x → ((y : BrokenAt) → IsWrong y → y ≡ x) → IsFirstIn (BreaksMethod Breaks files code) (Some b)
+  pub broken_method : (x : BrokenAt) (b : Break) → b ≡ method_break files code class method x → IsWrong x
+      → ((y : BrokenAt) → IsWrong y → y ≡ x) → IsFirstIn (BreaksMethod Breaks files code) (Some b)
   broken_method x b is this alone = (
     one ∷ [],
     λ b. (λ i. own b i, λ h. same b h),
@@ -60,12 +77,21 @@ module _ (Breaks : Files → Body → BrokenAt → Type 0) (files : Files) (code
       only b (after i) = absurd (none_among b i)
 
       own : (b : Break) → Among b (one ∷ []) → BreaksMethod Breaks files code b
-      own b i = subst (BreaksMethod Breaks files code) (sym (only b i)) (record { class = class; method = method; tree = tree; of_package = here; broken = x; breaks = this; is = refl })
+      own b i = subst (BreaksMethod Breaks files code) (sym (only b i)) (record {
+        class = class;
+        method = method;
+        tree = tree;
+        of_package = here;
+        broken = x;
+        breaks = this;
+        is = refl;
+      })
 
       same : (b : Break) → BreaksMethod Breaks files code b → Among b (one ∷ [])
       same b h =
           let found = broken_of b h in
-          subst (λ (z : Break). Among z (one ∷ [])) (sym (found.2 ∙ ap (method_break files code class method) (alone found.0 found.1))) foremost
+          subst (λ (z : Break). Among z (one ∷ [])) (sym (found.2 ∙ ap (method_break files code class method)
+          (alone found.0 found.1))) foremost
 
 -- where types are inferred nothing is broken
 pub inferred_none : (table : TypeTable) (x : BrokenAt) → IsAnswer (Err (errors.Broken x)) (Ok table) → ⊥
@@ -78,16 +104,20 @@ answered_alone x y (inl e) = let f : x ≡ y = cc in sym f
 answered_alone x y (inr e) = absurd cc
 
 -- what stands at a place of a list, by another name for the list
-pub at_is : {A : Type 0} (xs ys : List A) (i : ℕ) (x y : A) → xs ≡ ys → slice_get ys i ≡ Some y → x ≡ get_or xs i x → x ≡ y
-at_is xs ys i x y same at is = let e = ap (λ zs. slice_get zs i) same ∙ at in some_same x y (item_at xs i x (slice_get_within xs i y e) is) e
+pub at_is : {A : Type 0} (xs ys : List A) (i : ℕ) (x y : A) → xs ≡ ys → slice_get ys i ≡ Some y → x ≡ get_or xs i x
+    → x ≡ y
+at_is xs ys i x y same at is = let e = ap (λ zs. slice_get zs i) same ∙ at
+    in some_same x y (item_at xs i x (slice_get_within xs i y e) is) e
 
 -- the broken rule of an error, where memory did not run out
-pub broken_this : (P : BrokenAt → Type 0) (x : BrokenAt) (e : InferError) → e ≡ errors.Broken x → (e ≡ errors.NoMemory) ⊎ ((y : BrokenAt) × P y × (e ≡ errors.Broken y)) → P x
+pub broken_this : (P : BrokenAt → Type 0) (x : BrokenAt) (e : InferError) → e ≡ errors.Broken x → (e ≡ errors.NoMemory)
+    ⊎ ((y : BrokenAt) × P y × (e ≡ errors.Broken y)) → P x
 broken_this P x e is (inl memory) = absurd (let f = sym is ∙ memory in cc)
 broken_this P x e is (inr (y, p, same)) = let f : y ≡ x = (let g = sym same ∙ is in cc) in subst P f p
 
 -- what is read at a place of a list does not depend on what is read past its end
-pub read_twice : {A : Type 0} (xs : List A) (i : ℕ) (d : A) → i < length xs → get_or xs i d ≡ get_or xs i (get_or xs i d)
+pub read_twice : {A : Type 0} (xs : List A) (i : ℕ) (d : A) → i < length xs
+    → get_or xs i d ≡ get_or xs i (get_or xs i d)
 read_twice [] i d lt = absurd (omega arith)
 read_twice (x ∷ xs) zero d lt = refl
 read_twice (x ∷ xs) (suc i) d lt = by xs i d (get_or xs i d) (omega arith)

@@ -9,7 +9,11 @@ use Rattle.cjc_judge.specs.declared.reading.UnsupportedInsn.{UnsupportedInsn}
 -- the place of the first instruction of a method that is not converted, where 103 is not broken (rule 303)
 abbrev pub unsupported_with : (class method : ℕ) → Result (List JInsn) BrokenAt → List UnsupportedInsn
 unsupported_with class method (Ok insns) = []
-unsupported_with class method (Err broken) = if broken.rule == 303 then record { class = class; method = method; offset = broken.offset } ∷ [] else []
+unsupported_with class method (Err broken) = if broken.rule == 303 then record {
+  class = class;
+  method = method;
+  offset = broken.offset;
+} ∷ [] else []
 
 -- of all classes, in list order, their methods in class file order
 abbrev pub all_unsupported_insns : List ClassTree → List UnsupportedInsn

@@ -12,7 +12,8 @@ use Rattle.cjc_judge.specs.Rules.{Breach, IsFirstBroken, world_files}
 use Rattle.cjc_judge.specs.Trees.{AreRead}
 use Rattle.cjc_judge.specs.Types.{AreTablesWhereNamed}
 
--- The package breaks no rule that was tested. Its world is that of the list with the classes and the export files that the files
+-- The package breaks no rule that was tested. Its world is that of the list with the classes and the export files that
+-- the files
 -- spell, and its codes are the instructions of all methods that break neither 103 nor 303.
 pub record IsJudged (list : ListTree) (files : List (List ℕ)) (tested : List Group) (judged : Judged) : Type 0 where
   pub unbroken : (b : Break) → Breach list files tested b → ⊥
@@ -23,4 +24,5 @@ pub record IsJudged (list : ListTree) (files : List (List ℕ)) (tested : List G
 
 -- The error is that of the first broken rule, or that memory ran out.
 abbrev pub IsStopped : ListTree → List (List ℕ) → List Group → Fault → Type 0
-IsStopped list files tested e = (e ≡ faults.NoMemory) ⊎ ((r : Refusal) × IsFirstBroken list files tested r × (e ≡ faults.Refused r))
+IsStopped list files tested e = (e ≡ faults.NoMemory) ⊎ ((r : Refusal) × IsFirstBroken list files tested r
+    × (e ≡ faults.Refused r))

@@ -5,3 +5,4 @@ pub mod Trees
 pub mod Types
 pub mod Judged
 pub mod Working
+pub mod OutOfRange

@@ -1,5 +1,6 @@
 -- Which rules a package breaks, where each stands in the order of refusals, and which of them is the first.
-use Rattle.std.specs.Prelude.{◌≡◌, ◌⊎◌, ℕ, ◌+◌, List, [], ◌∷◌, length, nat_lt, Bool, true, false, Option, Some, Err, slice_get}
+use Rattle.std.specs.Prelude.{◌≡◌, ◌⊎◌, ℕ, ◌+◌, List, [], ◌∷◌, length, nat_lt, Bool, true, false, Option, Some, Err}
+use Rattle.std.specs.Prelude.{slice_get}
 use Rattle.cjc_bytes.specs.Format.{FileSpells, FileBreaks}
 use Rattle.cjc_bytes.specs.Refused.{refusal}
 use Rattle.cjc_bytes.specs.declared.breaks.BrokenAt.{BrokenAt}
@@ -31,7 +32,7 @@ use Rattle.cjc_tokens.specs.Rules.{tested_breaks}
 use Rattle.cjc_subset.specs.Places.{at_method, of_code}
 use Rattle.cjc_types.specs.Flow.{Body, body_of}
 use Rattle.cjc_types.specs.Tables.{IsMethodOf, IsBrokenBy}
-use Rattle.cjc_range_rules.specs.OutOfRange.{IsOutOfRange}
+use Rattle.cjc_judge.specs.OutOfRange.{IsOutOfRange}
 use Rattle.cjc_code.specs.PackageCodes.{all_codes}
 use Rattle.cjc_judge.specs.Codes.{all_unsupported_insns}
 use Rattle.cjc_judge.specs.declared.groups.Group.{Group}
@@ -41,13 +42,17 @@ use Rattle.cjc_judge.specs.Spelt.{FileTree, SpellTrees, classes_of, exports_of}
 
 -- ---- the rules that one file breaks, whatever the others say
 
--- The code of the method at this place of a class breaks this rule, first at this offset: 103, or 303 where 103 is not broken.
+-- The code of the method at this place of a class breaks this rule, first at this offset: 103, or 303 where 103 is not
+-- broken.
 abbrev pub CodeBreaks : ClassTree → (method rule offset : ℕ) → Type 0
 CodeBreaks tree method rule offset = decoding_at tree method ≡ Err (record { rule = rule; offset = offset })
 
 -- the refusal of this rule at this offset of a method's code, in the file of this line
 abbrev pub code_refusal : (line : FileLine) → ClassTree → (method rule offset : ℕ) → Refusal
-code_refusal line tree method rule offset = decoded.refusal_of line.name tree method (record { rule = rule; offset = offset })
+code_refusal line tree method rule offset = decoded.refusal_of line.name tree method (record {
+  rule = rule;
+  offset = offset;
+})
 
 -- the class itself is 0; then its fields, its methods
 abbrev pub method_rank : ClassTree → ℕ → ℕ
@@ -58,7 +63,8 @@ pub data FileBreach (line : FileLine) (bytes : List ℕ) : Type 0 where
   -- 101 and 102: the bytes spell no class file
   no_class_file : (place : ℕ) → line.class_file ≡ true → FileBreaks class_file bytes place → FileBreach line bytes
   -- 103: the code of a method is no run of instructions
-  no_instructions : (tree : ClassTree) (method offset : ℕ) → line.class_file ≡ true → FileSpells class_file tree bytes → CodeBreaks tree method 103 offset → FileBreach line bytes
+  no_instructions : (tree : ClassTree) (method offset : ℕ) → line.class_file ≡ true → FileSpells class_file tree bytes
+      → CodeBreaks tree method 103 offset → FileBreach line bytes
   -- 104: the bytes spell no export file
   no_export_file : (place : ℕ) → line.class_file ≡ false → FileBreaks export_file bytes place → FileBreach line bytes
 
@@ -70,9 +76,30 @@ file_refusal line bytes (no_export_file place is breaks) = refusal line.name 104
 
 -- where it stands in the order, in the file of the line at this index of the list
 abbrev pub file_rank : (index : ℕ) (line : FileLine) (bytes : List ℕ) → FileBreach line bytes → Rank
-file_rank index line bytes (no_class_file place is breaks) = record { family = 1; file = file_number (keys.Line index); class = 0; member = 0; offset = place; rule = (refusal_at line.name bytes place).rule.0 }
-file_rank index line bytes (no_instructions tree method offset is spelt breaks) = record { family = 1; file = file_number (keys.Line index); class = 1; member = method_rank tree method; offset = offset; rule = 103 }
-file_rank index line bytes (no_export_file place is breaks) = record { family = 1; file = file_number (keys.Line index); class = 0; member = 0; offset = place; rule = 104 }
+file_rank index line bytes (no_class_file place is breaks) = record {
+  family = 1;
+  file = file_number (keys.Line index);
+  class = 0;
+  member = 0;
+  offset = place;
+  rule = (refusal_at line.name bytes place).rule.0;
+}
+file_rank index line bytes (no_instructions tree method offset is spelt breaks) = record {
+  family = 1;
+  file = file_number (keys.Line index);
+  class = 1;
+  member = method_rank tree method;
+  offset = offset;
+  rule = 103;
+}
+file_rank index line bytes (no_export_file place is breaks) = record {
+  family = 1;
+  file = file_number (keys.Line index);
+  class = 0;
+  member = 0;
+  offset = place;
+  rule = 104;
+}
 
 -- The line at this index of the list, and the bytes of its file.
 pub record FileAt (lines : List FileLine) (files : List (List ℕ)) (index : ℕ) : Type 0 where
@@ -85,11 +112,15 @@ pub record FileAt (lines : List FileLine) (files : List (List ℕ)) (index : ℕ
 
 -- 101 to 104: a file by itself
 abbrev pub file_break : (index : ℕ) (line : FileLine) (bytes : List ℕ) → FileBreach line bytes → Break
-file_break index line bytes breach = record { rank = file_rank index line bytes breach; refusal = file_refusal line bytes breach }
+file_break index line bytes breach = record {
+  rank = file_rank index line bytes breach;
+  refusal = file_refusal line bytes breach;
+}
 
 -- a line's file breaks one of 101 to 104 by itself
 abbrev pub BreaksFile : List FileLine → List (List ℕ) → Break → Type 0
-BreaksFile lines files b = (index : ℕ) × (at : FileAt lines files index) × (breach : FileBreach at.line at.bytes) × (b ≡ file_break index at.line at.bytes breach)
+BreaksFile lines files b = (index : ℕ) × (at : FileAt lines files index) × (breach : FileBreach at.line at.bytes)
+    × (b ≡ file_break index at.line at.bytes breach)
 
 -- 201, 202, 203, 204, 207 and 208: the classes and the export files that the files spell
 abbrev pub world_files : ListTree → List ClassTree → List ExportTree → Files
@@ -101,7 +132,8 @@ files_spelt list trees = world_files list (classes_of trees) (exports_of trees)
 
 -- the classes and the export files together break one of 201, 202, 203, 204, 207 and 208
 abbrev pub BreaksWorld : ListTree → List (List ℕ) → Break → Type 0
-BreaksWorld list files b = (trees : List FileTree) × SpellTrees list.lines files trees × Among b (breaks list.name (files_spelt list trees))
+BreaksWorld list files b = (trees : List FileTree) × SpellTrees list.lines files trees
+    × Among b (breaks list.name (files_spelt list trees))
 
 -- The files spell these, and their classes break none of those rules: they are a world.
 abbrev pub AreWorld : ListTree → List (List ℕ) → List FileTree → Type 0
@@ -109,11 +141,13 @@ AreWorld list files trees = SpellTrees list.lines files trees × (breaks list.na
 
 -- 203, 205 and 206 of instructions and catch types, of the methods that break neither 103 nor 303
 abbrev pub BreaksNames : ListTree → List (List ℕ) → Break → Type 0
-BreaksNames list files b = (trees : List FileTree) × AreWorld list files trees × Among b (name_breaks (files_spelt list trees) (all_codes (classes_of trees)))
+BreaksNames list files b = (trees : List FileTree) × AreWorld list files trees
+    × Among b (name_breaks (files_spelt list trees) (all_codes (classes_of trees)))
 
 -- 303: the first instruction of a method that is not converted
 unfoldable pub unsupported_break : Files → UnsupportedInsn → List Break
-unsupported_break files x = of_code files x.class x.method (λ f c m. broken_at (at_method f c x.method m x.offset) 303 ∷ [])
+unsupported_break files x = of_code files x.class x.method (λ f c m. broken_at (at_method f c x.method m x.offset) 303
+    ∷ [])
 
 -- of all methods that have such an instruction
 unfoldable pub unsupported_breaks : Files → List UnsupportedInsn → List Break
@@ -121,7 +155,8 @@ unsupported_breaks files xs = each (λ _ x. unsupported_break files x) xs
 
 -- a method of the package has an instruction that is not converted
 abbrev pub BreaksUnsupported : ListTree → List (List ℕ) → Break → Type 0
-BreaksUnsupported list files b = (trees : List FileTree) × SpellTrees list.lines files trees × Among b (unsupported_breaks (files_spelt list trees) (all_unsupported_insns (classes_of trees)))
+BreaksUnsupported list files b = (trees : List FileTree) × SpellTrees list.lines files trees
+    × Among b (unsupported_breaks (files_spelt list trees) (all_unsupported_insns (classes_of trees)))
 
 -- 301 to 310 but 303, and 401 to 409
 abbrev pub settings_of : ListTree → Settings
@@ -129,7 +164,8 @@ settings_of list = record { ints = list.ints; applets = list.applets }
 
 -- the package breaks one of 301 to 310 but 303, or of 401 to 409, under the settings of its list
 abbrev pub BreaksSubset : ListTree → List (List ℕ) → Break → Type 0
-BreaksSubset list files b = (trees : List FileTree) × AreWorld list files trees × Among b (check_breaks list.name (files_spelt list trees) (all_codes (classes_of trees)) (settings_of list))
+BreaksSubset list files b = (trees : List FileTree) × AreWorld list files trees
+    × Among b (check_breaks list.name (files_spelt list trees) (all_codes (classes_of trees)) (settings_of list))
 
 -- 413, where neither 401 nor 406 is broken
 abbrev pub has_applets : ListTree → Bool
@@ -137,7 +173,8 @@ has_applets list = nat_lt 0 (length list.applets)
 
 -- the package breaks 413
 abbrev pub BreaksTokens : ListTree → List (List ℕ) → Break → Type 0
-BreaksTokens list files b = (trees : List FileTree) × AreWorld list files trees × Among b (tested_breaks (has_applets list) (files_spelt list trees))
+BreaksTokens list files b = (trees : List FileTree) × AreWorld list files trees
+    × Among b (tested_breaks (has_applets list) (files_spelt list trees))
 
 -- 301, 302, 304 to 307, 309 and 310 of these, without the limits
 abbrev pub IsOfThirdHundred : Break → Type 0
@@ -149,7 +186,8 @@ BreaksLanguage list files b = BreaksSubset list files b × IsOfThirdHundred b
 
 -- 308
 abbrev pub BreaksInitialisers : ListTree → List (List ℕ) → Break → Type 0
-BreaksInitialisers list files b = (trees : List FileTree) × AreWorld list files trees × BreaksImage (files_spelt list trees) (all_codes (classes_of trees)) b
+BreaksInitialisers list files b = (trees : List FileTree) × AreWorld list files trees
+    × BreaksImage (files_spelt list trees) (all_codes (classes_of trees)) b
 
 -- some one of these breaks a rule
 abbrev pub AnyBreaks : {A : Type 0} → (A → Break → Type 0) → List A → Break → Type 0
@@ -157,10 +195,12 @@ AnyBreaks {A} Breaks xs b = (i : ℕ) × (x : A) × (slice_get xs i ≡ Some x) 
 
 -- A method breaks this at an instruction.
 abbrev pub method_break : Files → MethodCode → ClassTree → MethodTree → BrokenAt → Break
-method_break files code class method x = broken_at (at_method (file_of files.lines code.class) class code.method method x.offset) x.rule
+method_break files code class method x = broken_at (at_method (file_of files.lines code.class) class code.method method
+    x.offset) x.rule
 
 -- The first that a method breaks of some rules, by what its body breaks in the package.
-pub record BreaksMethod (Breaks : Files → Body → BrokenAt → Type 0) (files : Files) (code : MethodCode) (b : Break) : Type 0 where
+pub record BreaksMethod (Breaks : Files → Body → BrokenAt → Type 0) (files : Files) (code : MethodCode) (b : Break) :
+    Type 0 where
   pub class : ClassTree
   pub method : MethodTree
   pub tree : CodeTree
@@ -183,9 +223,11 @@ BreaksAnyType files codes b = AnyBreaks (BreaksType files) codes b
 
 -- some method of the package breaks one of 501 to 503
 abbrev pub BreaksTypes : ListTree → List (List ℕ) → Break → Type 0
-BreaksTypes list files b = (trees : List FileTree) × AreWorld list files trees × BreaksAnyType (files_spelt list trees) (all_codes (classes_of trees)) b
+BreaksTypes list files b = (trees : List FileTree) × AreWorld list files trees × BreaksAnyType (files_spelt list trees)
+    (all_codes (classes_of trees)) b
 
--- 601 to 609: a method that breaks none of 501 to 503 breaks the first of them at the first of its instructions that breaks one
+-- 601 to 609: a method that breaks none of 501 to 503 breaks the first of them at the first of its instructions that
+-- breaks one
 abbrev pub BreaksRange : Files → MethodCode → Break → Type 0
 BreaksRange files code b = BreaksMethod IsOutOfRange files code b
 
@@ -195,7 +237,8 @@ BreaksAnyRange files codes b = AnyBreaks (BreaksRange files) codes b
 
 -- some method of the package breaks one of 601 to 609
 abbrev pub BreaksRanges : ListTree → List (List ℕ) → Break → Type 0
-BreaksRanges list files b = (trees : List FileTree) × AreWorld list files trees × BreaksAnyRange (files_spelt list trees) (all_codes (classes_of trees)) b
+BreaksRanges list files b = (trees : List FileTree) × AreWorld list files trees
+    × BreaksAnyRange (files_spelt list trees) (all_codes (classes_of trees)) b
 
 -- ---- groups that a command names
 

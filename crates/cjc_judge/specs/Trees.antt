@@ -17,10 +17,12 @@ use Rattle.cjc_world.specs.Files.{Files}
 abbrev pub AreInstructions : ClassTree → Type 0
 AreInstructions tree = (method offset : ℕ) → CodeBreaks tree method 103 offset → ⊥
 
--- The file of the line spells this, and breaks no rule of the first hundred. A class that was read keeps to the widths of
+-- The file of the line spells this, and breaks no rule of the first hundred. A class that was read keeps to the widths
+-- of
 -- its fields, and an export tree that was read can be written.
 abbrev pub FileIs : FileLine → List ℕ → FileTree → Type 0
-FileIs line bytes (of_class tree) = (line.class_file ≡ true) × FileSpells class_file tree bytes × AreInstructions tree × ClassFits tree
+FileIs line bytes (of_class tree) = (line.class_file ≡ true) × FileSpells class_file tree bytes × AreInstructions tree
+    × ClassFits tree
 FileIs line bytes (of_export tree) = (line.class_file ≡ false) × FileSpells export_file tree bytes × IsWritable tree
 
 -- The files of the lines are these, in list order.
@@ -30,9 +32,11 @@ AllSpelt (line ∷ lines) [] trees = ⊥
 AllSpelt (line ∷ lines) (bytes ∷ files) [] = ⊥
 AllSpelt (line ∷ lines) (bytes ∷ files) (tree ∷ trees) = FileIs line bytes tree × AllSpelt lines files trees
 
--- The files spell the classes and export files of this world, each in list order, and these are the instructions of all methods
+-- The files spell the classes and export files of this world, each in list order, and these are the instructions of all
+-- methods
 -- that break neither 103 nor 303, in the order of the classes and of their methods.
-pub record AreRead (lines : List FileLine) (files : List (List ℕ)) (world : Files) (codes : List MethodCode) : Type 0 where
+pub record AreRead (lines : List FileLine) (files : List (List ℕ)) (world : Files) (codes : List MethodCode) :
+    Type 0 where
   pub trees : List FileTree
   pub spelt : AllSpelt lines files trees
   pub classes : world.classes ≡ classes_of trees

@@ -56,7 +56,8 @@ fn world_of<'a>(
 ) -> Result<World<'a>, Fault>
     ensures made { IfOk result (λ w. w ≡ world_files list.now classes.entry exports) }
     ensures unbroken { OnOk result (breaks list.now.name (world_files list.now classes.entry exports) ≡ []) }
-    ensures refused { IfErr result (IsFirstRefusal (breaks list.now.name (world_files list.now classes.entry exports))) }
+    ensures refused { IfErr result (IsFirstRefusal (breaks list.now.name (world_files list.now classes.entry
+        exports))) }
 {
     let lines = lines_of(alloc, list)?;
     World::new(

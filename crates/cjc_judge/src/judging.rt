@@ -1,7 +1,8 @@
 //! The groups of rules that are tested over the world of a package, behind those of names: what the language of
 //! the card leaves out, limits, tokens, types, and ranges. Called by judged.rt.
 
-ghost use Rattle.std.specs.Prelude.{◌≡◌, ◌≤◌, All, IfOk, IfErr, IfNone, OnOk, [], List as Items, length, nat_lt, option_map};
+ghost use Rattle.std.specs.Prelude.{◌≡◌, ◌≤◌, All, IfOk, IfErr, IfNone, OnOk, [], List as Items, length, nat_lt};
+ghost use Rattle.std.specs.Prelude.{option_map};
 ghost use Rattle.cjc_bytes.specs.Told.{break_of};
 ghost use Rattle.cjc_bytes.specs.Breaks.{Among, IsFirstOf, Break as Broken};
 ghost use Rattle.cjc_classfile.specs.Code.{CodeTree};
@@ -9,19 +10,22 @@ ghost use Rattle.cjc_classfile.specs.declared.tree.ClassTree.{ClassTree};
 ghost use Rattle.cjc_classfile.specs.declared.tree.MethodTree.{MethodTree};
 ghost use Rattle.cjc_types.specs.Tables.{IsMethodOf, IsOfPackage};
 ghost use Rattle.cjc_tokens.specs.Rules.{tested_breaks};
-ghost use Rattle.cjc_judge.specs.Rules.{unsupported_break, unsupported_breaks, settings_of, method_break, BreaksType, BreaksAnyType, BreaksRange, BreaksAnyRange, IsFirstIn, IsFirstFault, IsOfThirdHundred};
+ghost use Rattle.cjc_judge.specs.Rules.{unsupported_break, unsupported_breaks, settings_of, method_break, BreaksType};
+ghost use Rattle.cjc_judge.specs.Rules.{BreaksAnyType, BreaksRange, BreaksAnyRange, IsFirstIn, IsFirstFault};
+ghost use Rattle.cjc_judge.specs.Rules.{IsOfThirdHundred};
 ghost use Rattle.cjc_judge.specs.Types.{AreTables, AreTablesWhereNamed, IsTableOf, asks_ranges, asks_types};
 ghost use Rattle.std.specs.List.{list_any};
-ghost use Rattle.cjc_judge.specs.Working.Groups.{EarlyBreaks, EarlyBreaksAny, NamedTypeBreaks, NamedRangeBreaks, WorldBreaksAny, PutsTable};
+ghost use Rattle.cjc_judge.specs.Working.Groups.{EarlyBreaks, EarlyBreaksAny, NamedTypeBreaks, NamedRangeBreaks};
+ghost use Rattle.cjc_judge.specs.Working.Groups.{WorldBreaksAny, PutsTable};
 
 use crate::groups::Group;
+use crate::ranges::first_out_of_range;
 use crate::reading::UnsupportedInsn;
 use cjc_bytes::{
     AppletLine, Break, BrokenAt, Bytes, Fault, NoMemory, Row, Settings, answer, file_of, first,
 };
 use cjc_code::{Codes, MethodCode};
 use cjc_list::List;
-use cjc_range_rules::first_out_of_range;
 use cjc_subset::{class_spot, first_broken, method_spot};
 use cjc_tokens::first_high;
 use cjc_types::{InferError, TypeTable, infer_method};
@@ -90,7 +94,8 @@ fn tokens_break<'w>(
     world: &'w World<'_>,
     settings: &Settings,
 ) -> Result<Option<Break<'w>>, NoMemory>
-    ensures { IfOk result (λ b. IsFirstOf (tested_breaks (nat_lt 0 (length settings.now.applets)) world.now) (option_map break_of b)) }
+    ensures { IfOk result (λ b. IsFirstOf (tested_breaks (nat_lt 0 (length settings.now.applets)) world.now)
+        (option_map break_of b)) }
 {
     match first_high(alloc, world, settings)? {
         None => Ok(None),
@@ -108,7 +113,8 @@ fn tokens_break<'w>(
 // What a method breaks at an instruction, with its place.
 fn method_break<'w>(world: &'w World<'_>, code: &MethodCode, broken: BrokenAt) -> Break<'w>
     requires { IsOfPackage world.now code.now }
-    ensures { (c : ClassTree) (m : MethodTree) (t : CodeTree) → IsMethodOf world.now code.now c m t → break_of result ≡ method_break world.now code.now c m broken }
+    ensures { (c : ClassTree) (m : MethodTree) (t : CodeTree) → IsMethodOf world.now code.now c m t
+        → break_of result ≡ method_break world.now code.now c m broken }
 {
     let class = &world.classes().items()[code.class as usize];
     let place = code.method as usize;
@@ -200,7 +206,8 @@ fn ranges_break<'w>(
 
 // Of the first that is broken of 301 to 310 and 401 to 409, what is of the third hundred.
 fn of_third_hundred<'w>(broken: Option<Break<'w>>) -> Option<Break<'w>>
-    ensures { (bs : Items Broken) → IsFirstOf bs (option_map break_of broken.entry) → ((b : Broken) → Among b bs → 3 ≤ b.rank.family) → IsFirstIn (λ b. Among b bs × IsOfThirdHundred b) (option_map break_of result) }
+    ensures { (bs : Items Broken) → IsFirstOf bs (option_map break_of broken.entry) → ((b : Broken) → Among b bs
+        → 3 ≤ b.rank.family) → IsFirstIn (λ b. Among b bs × IsOfThirdHundred b) (option_map break_of result) }
 {
     match broken {
         Some(found) => {
@@ -227,7 +234,8 @@ fn group_break<'w>(
 ) -> Result<Option<Break<'w>>, NoMemory>
     requires codes { All (IsOfPackage world.now) codes.now }
     requires settings { settings.now ≡ settings_of list.now }
-    ensures { IfOk result (λ b. IsFirstIn (EarlyBreaks list.now world.now codes.now unsupported_insns.now group) (option_map break_of b)) }
+    ensures { IfOk result (λ b. IsFirstIn (EarlyBreaks list.now world.now codes.now unsupported_insns.now group)
+        (option_map break_of b)) }
 {
     match group {
         Group::Unsupported => Ok(unsupported_insns_break(world, unsupported_insns)),
@@ -252,7 +260,8 @@ fn groups_break<'w>(
     groups: &[Group],
 ) -> Result<Option<Break<'w>>, NoMemory>
     requires { All (IsOfPackage world.now) codes.now }
-    ensures { IfOk result (λ b. IsFirstIn (EarlyBreaksAny list.now world.now codes.now unsupported_insns.now groups.now) (option_map break_of b)) }
+    ensures { IfOk result (λ b. IsFirstIn (EarlyBreaksAny list.now world.now codes.now unsupported_insns.now groups.now)
+        (option_map break_of b)) }
 {
     let settings = settings(alloc, list)?;
     let mut least = None;
@@ -368,8 +377,10 @@ pub(crate) fn test(
 ) -> Result<Row<TypeTable>, Fault>
     requires { All (IsOfPackage world.now) codes.now }
     ensures types { IfOk result (AreTablesWhereNamed groups.now world.now codes.now) }
-    ensures unbroken { OnOk result ((b : Broken) → WorldBreaksAny list.now world.now codes.now unsupported_insns.now groups.now b → ⊥) }
-    ensures refused { IfErr result (IsFirstFault (WorldBreaksAny list.now world.now codes.now unsupported_insns.now groups.now)) }
+    ensures unbroken { OnOk result ((b : Broken) → WorldBreaksAny list.now world.now codes.now unsupported_insns.now
+        groups.now b → ⊥) }
+    ensures refused { IfErr result (IsFirstFault (WorldBreaksAny list.now world.now codes.now unsupported_insns.now
+        groups.now)) }
 {
     let broken = groups_break(alloc, list, world, codes, unsupported_insns, groups)?;
     answer(alloc, broken)?;

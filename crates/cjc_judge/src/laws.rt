@@ -11,13 +11,17 @@ ghost use Rattle.cjc_judge.specs.Spelt.{IsRead};
 /// Of the rules that are tested, those that are broken at one place of the order have one refusal; so the first
 /// broken rule of a list, its files and groups of rules is one.
 pub fn one_refusal()
-    ensures at_one_rank { (list : ListTree) (files : List (List ℕ)) (tested : List Group) (a b : Break) → Breach list files tested a → Breach list files tested b → a.rank ≡ b.rank → a.refusal ≡ b.refusal }
-    ensures first { (list : ListTree) (files : List (List ℕ)) (tested : List Group) (r s : Refusal) → IsFirstBroken list files tested r → IsFirstBroken list files tested s → r ≡ s }
+    ensures at_one_rank { (list : ListTree) (files : List (List ℕ)) (tested : List Group) (a b : Break)
+        → Breach list files tested a → Breach list files tested b → a.rank ≡ b.rank → a.refusal ≡ b.refusal }
+    ensures first { (list : ListTree) (files : List (List ℕ)) (tested : List Group) (r s : Refusal)
+        → IsFirstBroken list files tested r → IsFirstBroken list files tested s → r ≡ s }
 {}
 
 /// Rules of single files are of the first hundred, and stand in the list's files; all others are of a later
 /// one. So what a command reads besides the files of its list has its place between them.
 pub fn files_first()
-    ensures files { (list : ListTree) (files : List (List ℕ)) (b : Break) → IsRead list → BreaksFile list.lines files b → (b.rank.family ≡ 1) × (b.rank.file ≤ 2 ^ 32) }
-    ensures others { (list : ListTree) (files : List (List ℕ)) (tested : List Group) (b : Break) → Breach list files tested b → BreaksFile list.lines files b ⊎ (2 ≤ b.rank.family) }
+    ensures files { (list : ListTree) (files : List (List ℕ)) (b : Break) → IsRead list → BreaksFile list.lines files b
+        → (b.rank.family ≡ 1) × (b.rank.file ≤ 2 ^ 32) }
+    ensures others { (list : ListTree) (files : List (List ℕ)) (tested : List Group) (b : Break)
+        → Breach list files tested b → BreaksFile list.lines files b ⊎ (2 ≤ b.rank.family) }
 {}

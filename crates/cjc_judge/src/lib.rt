@@ -6,6 +6,7 @@ mod groups;
 mod judged;
 mod judging;
 mod laws;
+pub mod ranges;
 mod reading;
 
 pub use groups::Group;

@@ -45,7 +45,8 @@ fn decode_method(
     unsupported_insns: &mut Row<UnsupportedInsn>,
 ) -> Result<(), Fault>
     requires { HasCode class.now method }
-    ensures { DecodesMethod file.now number class.now method codes.old codes.new unsupported_insns.old unsupported_insns.new result }
+    ensures { DecodesMethod file.now number class.now method codes.old codes.new unsupported_insns.old
+        unsupported_insns.new result }
 {
     match cjc_code::decode_method(alloc, class, method) {
         Ok(insns) => {
@@ -82,7 +83,8 @@ fn decode_class(
     unsupported_insns: &mut Row<UnsupportedInsn>,
 ) -> Result<(), Fault>
     requires { ClassFits class.now }
-    ensures { DecodesClass file.now number class.now codes.old codes.new unsupported_insns.old unsupported_insns.new result }
+    ensures { DecodesClass file.now number class.now codes.old codes.new unsupported_insns.old unsupported_insns.new
+        result }
 {
     for (method, tree) in class.methods.items().iter().enumerate() {
         if tree.code.is_some() {

@@ -1,2 +1,3 @@
-pub mod Storing
-pub mod Making
+pub mod ActsLaws
+pub mod TurnsLaws
+pub mod RunsLaws

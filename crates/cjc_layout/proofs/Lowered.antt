@@ -1,5 +1,6 @@
 -- What is laid out has the sizes that a layout counts, and handlers stand where a layout has them.
-use Rattle.std.proofs.Common.{◌≡◌, ℕ, zero, suc, ◌+◌, ◌-◌, ◌*◌, ◌<◌, ◌≤◌, refl, sym, ap, subst, ◌∙◌, ⊎_elim, arith, Bool, true, false, List, [], ◌∷◌, length, map, replicate, ℤ, pos}
+use Rattle.std.proofs.Common.{◌≡◌, ℕ, zero, suc, ◌+◌, ◌-◌, ◌*◌, ◌<◌, ◌≤◌, refl, sym, ap, subst, ◌∙◌, ⊎_elim, arith}
+use Rattle.std.proofs.Common.{Bool, true, false, List, [], ◌∷◌, length, map, replicate, ℤ, pos}
 use Rattle.std.proofs.lemmas.Int.{ints}
 use Rattle.std.proofs.lemmas.Bool.{cases_lt}
 use Rattle.std.specs.Prelude.{Option, Some, None, slice_get, if◌then◌else◌, ◌&&◌, ◌==◌, not, ◌+ℤ◌, ◌-ℤ◌}
@@ -8,19 +9,21 @@ use Rattle.cjc_capread.specs.declared.tree.Handler.{Handler as Written}
 use Rattle.cjc_capread.specs.Opcodes.{Operand, Signed2, Form, Fields, Table, Lookup, form, forms, width, widths}
 use Rattle.cjc_capread.specs.Decode.{Instruction, up_to, pairs, size}
 use Rattle.cjc_capread.specs.Decode as Decode
-use Rattle.cjc_bytecode.specs.Meanings.{Meaning, Branches, Ranged, Paired, meanings, meaning, known_meaning}
+use Rattle.cjc_card_semantics.specs.Bytecode.Meanings.{Meaning, Branches, Ranged, Paired, meanings, meaning}
+use Rattle.cjc_card_semantics.specs.Bytecode.Meanings.{known_meaning}
 use Rattle.cjc_ncode.specs.declared.narrow.NCase.{NCase}
 use Rattle.cjc_ncode.specs.declared.narrow.NCatch.{NCatch}
 use Rattle.cjc_ncode.specs.declared.narrow.NInsn.{NInsn}
 use Rattle.cjc_ncode.specs.declared.narrow.NInsn.TheVariants as narrow
-use Rattle.cjc_lower.specs.Naming.{Naming}
-use Rattle.cjc_lower.specs.Laid as Laid
-use Rattle.cjc_lower.specs.Laid.{IsFormed, Tests, wide_jump, class_index}
-use Rattle.cjc_lower.specs.Handlers as Lower
-use Rattle.cjc_lower.specs.Handlers.{meets_any}
-use Rattle.cjc_lower.specs.Placed as Placed
+use Rattle.cjc_ncode.specs.Lowering.Naming.{Naming}
+use Rattle.cjc_ncode.specs.Lowering.Laid as Laid
+use Rattle.cjc_ncode.specs.Lowering.Laid.{IsFormed, Tests, wide_jump, class_index}
+use Rattle.cjc_ncode.specs.Lowering.Handlers as Lower
+use Rattle.cjc_ncode.specs.Lowering.Handlers.{meets_any}
+use Rattle.cjc_ncode.specs.Lowering.Placed as Placed
 use Rattle.cjc_layout.specs.Sizes.{size_by, insn_size, bytes_before}
-use Rattle.cjc_layout.specs.Forms.{HasForm, IsTest, a_class, numbers, references, bare, push, local, increase, words, jump, range, lookup, named, by_interface, new_array, casts, asks}
+use Rattle.cjc_layout.specs.Forms.{HasForm, IsTest, a_class, numbers, references, bare, push, local, increase, words}
+use Rattle.cjc_layout.specs.Forms.{jump, range, lookup, named, by_interface, new_array, casts, asks}
 use Rattle.cjc_layout.specs.Handlers.{handlers_of}
 use Rattle.cjc_layout.specs.OnCard.{handler_on_card}
 use Rattle.cjc_layout.proofs.Opcodes.{same, table_opcode, lookup_opcode}
@@ -34,13 +37,15 @@ module _ (op : ℕ) where
   none_size (Some (Table m)) = omega arith
   none_size (Some (Lookup m)) = omega arith
 
-  one_size : (o : Option Form) (x : ℤ) → Decode.size_by o (record { opcode = op; operands = x ∷ []; table = [] }) ≡ size_by o 0
+  one_size : (o : Option Form) (x : ℤ) → Decode.size_by o (record { opcode = op; operands = x ∷ []; table = [] })
+      ≡ size_by o 0
   one_size None x = refl
   one_size (Some (Fields xs)) x = omega arith
   one_size (Some (Table m)) x = omega arith
   one_size (Some (Lookup m)) x = omega arith
 
-  two_size : (o : Option Form) (x y : ℤ) → ((m : Operand) → o ≡ Some (Lookup m) → ⊥) → Decode.size_by o (record { opcode = op; operands = x ∷ y ∷ []; table = [] }) ≡ size_by o 0
+  two_size : (o : Option Form) (x y : ℤ) → ((m : Operand) → o ≡ Some (Lookup m) → ⊥)
+      → Decode.size_by o (record { opcode = op; operands = x ∷ y ∷ []; table = [] }) ≡ size_by o 0
   two_size None x y away = refl
   two_size (Some (Fields xs)) x y away = omega arith
   two_size (Some (Table m)) x y away = omega arith
@@ -59,16 +64,20 @@ module _ (op : ℕ) where
   as_many (suc c) = let e : pos (suc c) -ℤ pos 1 ≡ pos c = omega (arith, ints) in ap up_to e
 
   range_count : (low : ℤ) (c : ℕ) → up_to (((low +ℤ pos c) -ℤ pos 1) -ℤ low) ≡ c
-  range_count low c = let e : ((low +ℤ pos c) -ℤ pos 1) -ℤ low ≡ pos c -ℤ pos 1 = omega (arith, ints) in ap up_to e ∙ as_many c
+  range_count low c = let e : ((low +ℤ pos c) -ℤ pos 1) -ℤ low ≡ pos c -ℤ pos 1 = omega (arith, ints) in ap up_to e
+      ∙ as_many c
 
-  range_size : (o : Option Form) (x low : ℤ) (c : ℕ) (ts : List ℤ) → ((m : Operand) → o ≡ Some (Lookup m) → ⊥) → Decode.size_by o (record { opcode = op; operands = x ∷ low ∷ ((low +ℤ pos c) -ℤ pos 1) ∷ []; table = ts }) ≡ size_by o c
+  range_size : (o : Option Form) (x low : ℤ) (c : ℕ) (ts : List ℤ) → ((m : Operand) → o ≡ Some (Lookup m) → ⊥)
+      → Decode.size_by o (record { opcode = op; operands = x ∷ low ∷ ((low +ℤ pos c) -ℤ pos 1) ∷ []; table = ts })
+      ≡ size_by o c
   range_size None x low c ts away = refl
   range_size (Some (Fields xs)) x low c ts away = omega arith
   range_size (Some (Table m)) x low c ts away =
       let e = ap (λ n. widths (replicate n Signed2)) (range_count low c) ∙ same_widths c in omega arith
   range_size (Some (Lookup m)) x low c ts away = absurd (away m refl)
 
-  pairs_size : (o : Option Form) (x : ℤ) (c : ℕ) (ts : List ℤ) → ((m : Operand) → o ≡ Some (Table m) → ⊥) → Decode.size_by o (record { opcode = op; operands = x ∷ pos c ∷ []; table = ts }) ≡ size_by o c
+  pairs_size : (o : Option Form) (x : ℤ) (c : ℕ) (ts : List ℤ) → ((m : Operand) → o ≡ Some (Table m) → ⊥)
+      → Decode.size_by o (record { opcode = op; operands = x ∷ pos c ∷ []; table = ts }) ≡ size_by o c
   pairs_size None x c ts away = refl
   pairs_size (Some (Fields xs)) x c ts away = omega arith
   pairs_size (Some (Table m)) x c ts away = absurd (away m refl)
@@ -111,7 +120,8 @@ no_table op away m e = let clash : true ≡ false = sym (table_ranged op m e) �
 -- a jump that has both forms has offsets of one byte and of two
 abbrev jump_fine : ℕ → Bool
 jump_fine op =
-    if is_branch (meaning op) then (if is_branch (meaning (wide_jump op)) then (size_by (form op) 0 == 2) && (size_by (form (wide_jump op)) 0 == 3) else true) else true
+    if is_branch (meaning op) then (if is_branch (meaning (wide_jump op)) then (size_by (form op) 0 == 2)
+    && (size_by (form (wide_jump op)) 0 == 3) else true) else true
 
 abbrev all_fine : ℕ → Bool
 all_fine zero = true
@@ -130,7 +140,8 @@ fine_below : (n op : ℕ) → all_fine n ≡ true → op < n → jump_fine op �
 fine_below zero op e h = absurd (omega arith)
 fine_below (suc n) op e h =
     let p = both (jump_fine n) (all_fine n) e in
-    ⊎_elim (λ lt. fine_below n op p.1 lt) (λ le. let s : n ≡ op = omega arith in subst (λ k. jump_fine k ≡ true) s p.0) (cases_lt op n)
+    ⊎_elim (λ lt. fine_below n op p.1 lt) (λ le. let s : n ≡ op = omega arith in subst (λ k. jump_fine k ≡ true) s p.0)
+    (cases_lt op n)
 
 get_past : {A : Type 0} (xs : List A) (k : ℕ) → length xs ≤ k → slice_get xs k ≡ None
 get_past [] k h = refl
@@ -141,14 +152,17 @@ nothing_past : (op : ℕ) → 185 ≤ op → is_branch (meaning op) ≡ false
 unfolding meaning
 nothing_past op h = ap (λ o. is_branch (known_meaning o)) (get_past meanings op h)
 
-branch_sizes : (op : ℕ) → is_branch (meaning op) ≡ true → is_branch (meaning (wide_jump op)) ≡ true → (size_by (form op) 0 ≡ 2) × (size_by (form (wide_jump op)) 0 ≡ 3)
-branch_sizes op e f = ⊎_elim (λ lt. found (fine_below 185 op jumps_fine lt)) (λ le. let clash : true ≡ false = sym e ∙ nothing_past op le in cc) (cases_lt op 185)
+branch_sizes : (op : ℕ) → is_branch (meaning op) ≡ true → is_branch (meaning (wide_jump op)) ≡ true
+    → (size_by (form op) 0 ≡ 2) × (size_by (form (wide_jump op)) 0 ≡ 3)
+branch_sizes op e f = ⊎_elim (λ lt. found (fine_below 185 op jumps_fine lt)) (λ le. let clash : true ≡ false = sym e
+    ∙ nothing_past op le in cc) (cases_lt op 185)
   where
     found : jump_fine op ≡ true → (size_by (form op) 0 ≡ 2) × (size_by (form (wide_jump op)) 0 ≡ 3)
     found g =
         let h : ((size_by (form op) 0 == 2) && (size_by (form (wide_jump op)) 0 == 3)) ≡ true =
         ap (λ b. if b then (size_by (form op) 0 == 2) && (size_by (form (wide_jump op)) 0 == 3) else true) (sym f)
-        ∙ ap (λ b. if b then (if is_branch (meaning (wide_jump op)) then (size_by (form op) 0 == 2) && (size_by (form (wide_jump op)) 0 == 3) else true) else true) (sym e)
+        ∙ ap (λ b. if b then (if is_branch (meaning (wide_jump op)) then (size_by (form op) 0 == 2)
+        && (size_by (form (wide_jump op)) 0 == 3) else true) else true) (sym e)
         ∙ g in
         let p = both (size_by (form op) 0 == 2) (size_by (form (wide_jump op)) 0 == 3) h in
         (same _ 2 p.0, same _ 3 p.1)
@@ -179,11 +193,13 @@ has_form n (narrow.TypeTest op kind class) (Laid.asks e t) = asks e (test_has n 
 -- ---- of instructions of their forms
 
 module _ (n : Naming) (w : Bool) where
-  jump_size : (w : Bool) (op target : ℕ) → is_branch (meaning op) ≡ true → is_branch (meaning (wide_jump op)) ≡ true → Placed.insn_size n w (narrow.Jump op target) ≡ (if w then 3 else 2)
+  jump_size : (w : Bool) (op target : ℕ) → is_branch (meaning op) ≡ true → is_branch (meaning (wide_jump op)) ≡ true
+      → Placed.insn_size n w (narrow.Jump op target) ≡ (if w then 3 else 2)
   jump_size true op target e f = one_size (wide_jump op) (form (wide_jump op)) _ ∙ (branch_sizes op e f).1
   jump_size false op target e f = one_size op (form op) _ ∙ (branch_sizes op e f).0
 
-  interface_size : (nargs : ℕ) (m : MemberId) → Placed.insn_size n w (narrow.Interface nargs m) ≡ insn_size w (narrow.Interface nargs m)
+  interface_size : (nargs : ℕ) (m : MemberId) → Placed.insn_size n w (narrow.Interface nargs m)
+      ≡ insn_size w (narrow.Interface nargs m)
   unfolding form forms
   interface_size nargs m = refl
 
@@ -191,12 +207,14 @@ module _ (n : Naming) (w : Bool) where
   unfolding form forms
   array_size kind = refl
 
-  switch_range : (op other : ℕ) (low : ℤ) (cases : List NCase) (is_int : Bool) → meaning op ≡ Ranged is_int → Placed.insn_size n w (narrow.Switch op other low cases) ≡ size_by (form op) (length cases)
+  switch_range : (op other : ℕ) (low : ℤ) (cases : List NCase) (is_int : Bool) → meaning op ≡ Ranged is_int
+      → Placed.insn_size n w (narrow.Switch op other low cases) ≡ size_by (form op) (length cases)
   switch_range op other low cases is_int e =
       ap (λ m. size (Laid.switch_as n (λ label. 0) m 0 op other low cases)) e
       ∙ range_size op (form op) _ low (length cases) _ (no_lookup op (ap is_paired e))
 
-  switch_lookup : (op other : ℕ) (low : ℤ) (cases : List NCase) (is_int : Bool) → meaning op ≡ Paired is_int → Placed.insn_size n w (narrow.Switch op other low cases) ≡ size_by (form op) (length cases)
+  switch_lookup : (op other : ℕ) (low : ℤ) (cases : List NCase) (is_int : Bool) → meaning op ≡ Paired is_int
+      → Placed.insn_size n w (narrow.Switch op other low cases) ≡ size_by (form op) (length cases)
   switch_lookup op other low cases is_int e =
       ap (λ m. size (Laid.switch_as n (λ label. 0) m 0 op other low cases)) e
       ∙ pairs_size op (form op) _ (length cases) _ (no_table op (ap is_ranged e))
@@ -217,7 +235,8 @@ module _ (n : Naming) (w : Bool) where
   size_same (narrow.TypeTest op kind class) (asks e t) = two_size op (form op) _ _ (no_lookup op (ap is_paired e))
 
 -- the offsets of labels are the same
-pub before_same : (n : Naming) (insns : List NInsn) (wide : List Bool) → ((k : ℕ) (i : NInsn) → slice_get insns k ≡ Some i → HasForm i) → (k : ℕ) → Placed.bytes_before n insns wide k ≡ bytes_before insns wide k
+pub before_same : (n : Naming) (insns : List NInsn) (wide : List Bool) → ((k : ℕ) (i : NInsn)
+    → slice_get insns k ≡ Some i → HasForm i) → (k : ℕ) → Placed.bytes_before n insns wide k ≡ bytes_before insns wide k
 before_same n insns wide formed zero = refl
 before_same n [] wide formed (suc k) = refl
 before_same n (i ∷ insns) [] formed (suc k) = refl
@@ -228,9 +247,16 @@ before_same n (i ∷ insns) (w ∷ wide) formed (suc k) =
 -- ---- handlers
 
 abbrev with_length : Naming → (first : ℕ) → (to : ℕ → ℕ) → NCatch → List NCatch → ℕ → Written
-with_length n first to c cs len = record { start = first + to c.start; stop = not (meets_any c cs); length = len; handler = first + to c.target; catch_index = class_index n c.class }
+with_length n first to c cs len = record {
+  start = first + to c.start;
+  stop = not (meets_any c cs);
+  length = len;
+  handler = first + to c.target;
+  catch_index = class_index n c.class;
+}
 
-pub handlers_placed : (n : Naming) (first : ℕ) (to : ℕ → ℕ) (cs : List NCatch) → map (handler_on_card n first) (handlers_of to cs) ≡ Lower.handlers_of n (λ k. first + to k) cs
+pub handlers_placed : (n : Naming) (first : ℕ) (to : ℕ → ℕ) (cs : List NCatch)
+    → map (handler_on_card n first) (handlers_of to cs) ≡ Lower.handlers_of n (λ k. first + to k) cs
 handlers_placed n first to [] = refl
 handlers_placed n first to (c ∷ cs) =
     let e : to c.end - to c.start ≡ (first + to c.end) - (first + to c.start) = omega arith in

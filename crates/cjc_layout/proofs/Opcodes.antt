@@ -1,8 +1,10 @@
 -- What the table of opcodes says of an instruction's size.
-use Rattle.std.proofs.Common.{◌≡◌, ℕ, zero, suc, ◌+◌, ◌*◌, refl, sym, ap, subst, ◌∙◌, arith, Bool, true, false, List, [], ◌∷◌, Option, Some, None, inl, inr}
+use Rattle.std.proofs.Common.{◌≡◌, ℕ, zero, suc, ◌+◌, ◌*◌, refl, sym, ap, subst, ◌∙◌, arith, Bool, true, false, List}
+use Rattle.std.proofs.Common.{[], ◌∷◌, Option, Some, None, inl, inr}
 use Rattle.std.specs.Prelude.{◌⊎◌, ◌&&◌, ◌==◌, slice_get, option_map, option_and_then, if◌then◌else◌}
 use Rattle.std.proofs.lemmas.Bool.Decides.{nat_tests}
-use Rattle.cjc_capread.specs.Opcodes.{Operand, Byte, Signed1, Signed2, Signed4, Index1, Index2, Form, Fields, Table, Lookup, form, forms, info, op_info, widths}
+use Rattle.cjc_capread.specs.Opcodes.{Operand, Byte, Signed1, Signed2, Signed4, Index1, Index2, Form, Fields, Table}
+use Rattle.cjc_capread.specs.Opcodes.{Lookup, form, forms, info, op_info, widths}
 use Rattle.cjc_layout.specs.Sizes.{size_by}
 use Rattle.cjc_layout.specs.Working.{switch_size, length_by}
 
@@ -36,7 +38,8 @@ both true true e = (refl, refl)
 both true false e = cc
 both false b e = cc
 
-fine_at : (op k : ℕ) (fs : List (Option Form)) → all_fine op fs ≡ true → (f : Option Form) → slice_get fs k ≡ Some f → is_fine (op + k) f ≡ true
+fine_at : (op k : ℕ) (fs : List (Option Form)) → all_fine op fs ≡ true → (f : Option Form) → slice_get fs k ≡ Some f
+    → is_fine (op + k) f ≡ true
 fine_at op k [] e f g = cc
 fine_at op zero (x ∷ fs) e f g =
     let h = both (is_fine op x) (all_fine (suc op) fs) e in
@@ -48,13 +51,15 @@ fine_at op (suc k) (x ∷ fs) e f g =
     let z : suc op + k ≡ op + suc k = omega arith in
     subst (λ n. is_fine n f ≡ true) z (fine_at (suc op) k fs h.1 f g)
 
-found : (op : ℕ) (o : Option (Option Form)) → slice_get forms op ≡ o → (f : Form) → option_and_then (λ f. f) o ≡ Some f → is_switch_of op f ≡ true
+found : (op : ℕ) (o : Option (Option Form)) → slice_get forms op ≡ o → (f : Form) → option_and_then (λ f. f) o ≡ Some f
+    → is_switch_of op f ≡ true
 found op None e f g = cc
 found op (Some None) e f g = cc
 found op (Some (Some x)) e f g =
     let s : x ≡ f = cc in
     let z : 0 + op ≡ op = omega arith in
-    subst (λ y. is_switch_of op y ≡ true) s (subst (λ n. is_switch_of n x ≡ true) z (fine_at 0 op forms forms_fine (Some x) e))
+    subst (λ y. is_switch_of op y ≡ true) s (subst (λ n. is_switch_of n x ≡ true) z (fine_at 0 op forms forms_fine
+    (Some x) e))
 
 pub switch_fine : (op : ℕ) (f : Form) → form op ≡ Some f → is_switch_of op f ≡ true
 unfolding form
@@ -62,16 +67,21 @@ switch_fine op f e = found op (slice_get forms op) refl f e
 
 -- ---- sizes
 
-by_switch : (op cases : ℕ) (f : Form) → is_switch_of op f ≡ true → (let i = info f in i.length ≡ 0) → size_by (Some f) cases ≡ switch_size op cases
+by_switch : (op cases : ℕ) (f : Form) → is_switch_of op f ≡ true → (let i = info f in i.length ≡ 0)
+    → size_by (Some f) cases ≡ switch_size op cases
 by_switch op cases (Fields xs) e z = absurd (omega arith)
-by_switch op cases (Table Signed2) e z = let s : op ≡ 0x73 = same op 0x73 e in let r : 7 + 2 * cases ≡ switch_size op cases = subst (λ n. 7 + 2 * cases ≡ switch_size n cases) (sym s) refl in omega arith
-by_switch op cases (Table Signed4) e z = let s : op ≡ 0x74 = same op 0x74 e in let r : 11 + 2 * cases ≡ switch_size op cases = subst (λ n. 11 + 2 * cases ≡ switch_size n cases) (sym s) refl in omega arith
+by_switch op cases (Table Signed2) e z = let s : op ≡ 0x73 = same op 0x73 e in let r : 7 + 2 * cases
+    ≡ switch_size op cases = subst (λ n. 7 + 2 * cases ≡ switch_size n cases) (sym s) refl in omega arith
+by_switch op cases (Table Signed4) e z = let s : op ≡ 0x74 = same op 0x74 e in let r : 11 + 2 * cases
+    ≡ switch_size op cases = subst (λ n. 11 + 2 * cases ≡ switch_size n cases) (sym s) refl in omega arith
 by_switch op cases (Table Byte) e z = cc
 by_switch op cases (Table Signed1) e z = cc
 by_switch op cases (Table Index1) e z = cc
 by_switch op cases (Table Index2) e z = cc
-by_switch op cases (Lookup Signed2) e z = let s : op ≡ 0x75 = same op 0x75 e in let r : 5 + 4 * cases ≡ switch_size op cases = subst (λ n. 5 + 4 * cases ≡ switch_size n cases) (sym s) refl in omega arith
-by_switch op cases (Lookup Signed4) e z = let s : op ≡ 0x76 = same op 0x76 e in let r : 5 + 6 * cases ≡ switch_size op cases = subst (λ n. 5 + 6 * cases ≡ switch_size n cases) (sym s) refl in omega arith
+by_switch op cases (Lookup Signed2) e z = let s : op ≡ 0x75 = same op 0x75 e in let r : 5 + 4 * cases
+    ≡ switch_size op cases = subst (λ n. 5 + 4 * cases ≡ switch_size n cases) (sym s) refl in omega arith
+by_switch op cases (Lookup Signed4) e z = let s : op ≡ 0x76 = same op 0x76 e in let r : 5 + 6 * cases
+    ≡ switch_size op cases = subst (λ n. 5 + 6 * cases ≡ switch_size n cases) (sym s) refl in omega arith
 by_switch op cases (Lookup Byte) e z = cc
 by_switch op cases (Lookup Signed1) e z = cc
 by_switch op cases (Lookup Index1) e z = cc
@@ -80,13 +90,16 @@ by_switch op cases (Lookup Index2) e z = cc
 some_bytes : (n : ℕ) → ((1 + n) == 0) ≡ false
 some_bytes n = grind (arith, nat_tests)
 
-size_found : (op cases : ℕ) (o : Option Form) → form op ≡ o → size_by o cases ≡ (if length_by (option_map info o) == 0 then switch_size op cases else length_by (option_map info o))
+size_found : (op cases : ℕ) (o : Option Form) → form op ≡ o → size_by o cases ≡ (if length_by (option_map info o) == 0
+    then switch_size op cases else length_by (option_map info o))
 size_found op cases None f = refl
-size_found op cases (Some (Fields xs)) f = sym (ap (λ b. if b then switch_size op cases else 1 + widths xs) (some_bytes (widths xs)))
+size_found op cases (Some (Fields xs)) f = sym (ap (λ b. if b then switch_size op cases else 1 + widths xs)
+    (some_bytes (widths xs)))
 size_found op cases (Some (Table m)) f = by_switch op cases (Table m) (switch_fine op (Table m) f) refl
 size_found op cases (Some (Lookup m)) f = by_switch op cases (Lookup m) (switch_fine op (Lookup m) f) refl
 
-pub size_at : (op cases : ℕ) → size_by (form op) cases ≡ (if length_by (op_info op) == 0 then switch_size op cases else length_by (op_info op))
+pub size_at : (op cases : ℕ) → size_by (form op) cases ≡ (if length_by (op_info op) == 0 then switch_size op cases
+    else length_by (op_info op))
 unfolding op_info
 size_at op cases = size_found op cases (form op) refl
 
@@ -96,7 +109,8 @@ size_zero op cases n e z = size_at op cases ∙ ap (λ m. if m == 0 then switch_
 pub size_some : (op cases n : ℕ) → n ≡ length_by (op_info op) → (n ≡ 0 → ⊥) → size_by (form op) cases ≡ n
 size_some op cases n e z =
     let f : (n == 0) ≡ false = grind (arith, nat_tests) in
-    size_at op cases ∙ ap (λ m. if m == 0 then switch_size op cases else m) (sym e) ∙ ap (λ b. if b then switch_size op cases else n) f
+    size_at op cases ∙ ap (λ m. if m == 0 then switch_size op cases else m) (sym e)
+    ∙ ap (λ b. if b then switch_size op cases else n) f
 
 -- ---- the opcodes of switches
 

@@ -30,13 +30,16 @@ or_false false false e = (refl, refl)
 or_false true b e = cc
 or_false false true e = cc
 
-split_last : (es : List NCatch) (c : NCatch) (ds : List NCatch) → AllBefore (es ++ c ∷ []) ds → AllBefore es ds × NoneBefore c ds
+split_last : (es : List NCatch) (c : NCatch) (ds : List NCatch) → AllBefore (es ++ c ∷ []) ds → AllBefore es ds
+    × NoneBefore c ds
 split_last [] c ds a = (tt, a.0)
 split_last (e ∷ es) c ds a = let r = split_last es c ds a.1 in ((a.0, r.0), r.1)
 
-joined : (es : List NCatch) (c : NCatch) (ds : List NCatch) → overtakes_any c es ≡ false → AllBefore es ds → AllBefore es (c ∷ ds)
+joined : (es : List NCatch) (c : NCatch) (ds : List NCatch) → overtakes_any c es ≡ false → AllBefore es ds
+    → AllBefore es (c ∷ ds)
 joined [] c ds e a = tt
-joined (d ∷ es) c ds e a = let o = or_false (overtakes c d) (overtakes_any c es) e in ((o.0, a.0), joined es c ds o.1 a.1)
+joined (d ∷ es) c ds e a = let o = or_false (overtakes c d) (overtakes_any c es) e
+    in ((o.0, a.0), joined es c ds o.1 a.1)
 
 all_empty : (es : List NCatch) → AllBefore es []
 all_empty [] = tt
@@ -46,7 +49,9 @@ unbroken_of : (es cs : List NCatch) → overtaking es cs ≡ [] → IsUnbroken c
 unbroken_of es [] e = (tt, all_empty es)
 unbroken_of es (c ∷ cs) e = by (λ g. unbroken_of (es ++ c ∷ []) cs g) (overtakes_any c es) refl e
   where
-    by : (overtaking (es ++ c ∷ []) cs ≡ [] → IsUnbroken cs × AllBefore (es ++ c ∷ []) cs) → (t : Bool) → overtakes_any c es ≡ t → (if t then c.at ∷ overtaking (es ++ c ∷ []) cs else overtaking (es ++ c ∷ []) cs) ≡ [] → IsUnbroken (c ∷ cs) × AllBefore es (c ∷ cs)
+    by : (overtaking (es ++ c ∷ []) cs ≡ [] → IsUnbroken cs × AllBefore (es ++ c ∷ []) cs) → (t : Bool)
+        → overtakes_any c es ≡ t → (if t then c.at ∷ overtaking (es ++ c ∷ []) cs else overtaking (es ++ c ∷ []) cs)
+        ≡ [] → IsUnbroken (c ∷ cs) × AllBefore es (c ∷ cs)
     by rest true f g = cc
     by rest false f g =
         let r = rest g in
@@ -55,7 +60,8 @@ unbroken_of es (c ∷ cs) e = by (λ g. unbroken_of (es ++ c ∷ []) cs g) (over
 
 -- ---- sorting
 
-before_insert : (c d : NCatch) (ds : List NCatch) → overtakes d c ≡ false → NoneBefore c ds → NoneBefore c (inserted d ds)
+before_insert : (c d : NCatch) (ds : List NCatch) → overtakes d c ≡ false → NoneBefore c ds
+    → NoneBefore c (inserted d ds)
 before_insert c d [] h n = (h, tt)
 before_insert c d (e ∷ ds) h n = by (nat_le d.target e.target) (before_insert c d ds h n.1)
   where
@@ -67,7 +73,8 @@ before_ordered : (c : NCatch) (cs : List NCatch) → NoneBefore c cs → NoneBef
 before_ordered c [] n = tt
 before_ordered c (d ∷ cs) n = by (has_range d) (before_ordered c cs n.1)
   where
-    by : (t : Bool) → NoneBefore c (table_order cs) → NoneBefore c (by_target (if t then d ∷ filter has_range cs else filter has_range cs))
+    by : (t : Bool) → NoneBefore c (table_order cs) → NoneBefore c (by_target (if t then d ∷ filter has_range cs
+        else filter has_range cs))
     by true rest = before_insert c d (table_order cs) n.0 rest
     by false rest = rest
 
@@ -85,26 +92,32 @@ module _ (l : Named) (k : ℕ) (kind : Shape (List ℕ)) where
   here_has_range : (c : NCatch) → here c ≡ true → has_range c ≡ true
   here_has_range c e = grind (arith, nat_tests)
 
-  swap : (c d : NCatch) (rest : Option ℕ) → (here c ≡ true → here d ≡ true → ⊥) → tried d (tried c rest) ≡ tried c (tried d rest)
+  swap : (c d : NCatch) (rest : Option ℕ) → (here c ≡ true → here d ≡ true → ⊥) → tried d (tried c rest)
+      ≡ tried c (tried d rest)
   swap c d rest apart = by (here c) refl (here d) refl (takes l c.class kind) (takes l d.class kind)
     where
-      by : (s : Bool) → here c ≡ s → (t : Bool) → here d ≡ t → (a b : Bool) → (if t && b then Some d.target else (if s && a then Some c.target else rest)) ≡ (if s && a then Some c.target else (if t && b then Some d.target else rest))
+      by : (s : Bool) → here c ≡ s → (t : Bool) → here d ≡ t → (a b : Bool) → (if t && b then Some d.target
+          else (if s && a then Some c.target else rest)) ≡ (if s && a then Some c.target
+          else (if t && b then Some d.target else rest))
       by false e t f a b = refl
       by true e false f a b = refl
       by true e true f a b = absurd (apart e f)
 
   -- a lower target under a common instruction would be out of order
-  no_swap : (c d : NCatch) → overtakes d c ≡ false → nat_le c.target d.target ≡ false → here c ≡ true → here d ≡ true → ⊥
+  no_swap : (c d : NCatch) → overtakes d c ≡ false → nat_le c.target d.target ≡ false → here c ≡ true → here d ≡ true
+      → ⊥
   no_swap c d o t e f =
       let s = both_share c d e f in
       let g : nat_lt d.target c.target ≡ true = grind (arith, nat_tests) in
       let clash : true ≡ false = sym (ap (λ b. b && nat_lt d.target c.target) s ∙ g) ∙ o in cc
 
-  insert_same : (c : NCatch) (ds : List NCatch) → NoneBefore c ds → handler l (inserted c ds) k kind ≡ handler l (c ∷ ds) k kind
+  insert_same : (c : NCatch) (ds : List NCatch) → NoneBefore c ds → handler l (inserted c ds) k kind
+      ≡ handler l (c ∷ ds) k kind
   insert_same c [] n = refl
   insert_same c (d ∷ ds) n = by (nat_le c.target d.target) refl (insert_same c ds n.1)
     where
-      by : (t : Bool) → nat_le c.target d.target ≡ t → handler l (inserted c ds) k kind ≡ handler l (c ∷ ds) k kind → handler l (if t then c ∷ d ∷ ds else d ∷ inserted c ds) k kind ≡ handler l (c ∷ d ∷ ds) k kind
+      by : (t : Bool) → nat_le c.target d.target ≡ t → handler l (inserted c ds) k kind ≡ handler l (c ∷ ds) k kind
+          → handler l (if t then c ∷ d ∷ ds else d ∷ inserted c ds) k kind ≡ handler l (c ∷ d ∷ ds) k kind
       by true e rest = refl
       by false e rest = ap (tried d) rest ∙ swap c d (handler l ds k kind) (no_swap c d n.0 e)
 
@@ -116,9 +129,13 @@ module _ (l : Named) (k : ℕ) (kind : Shape (List ℕ)) where
       not_here e true f = let clash : true ≡ false = sym (here_has_range c f) ∙ e in cc
       not_here e false f = f
 
-      by : (t : Bool) → has_range c ≡ t → handler l (table_order cs) k kind ≡ handler l cs k kind → handler l (by_target (if t then c ∷ filter has_range cs else filter has_range cs)) k kind ≡ handler l (c ∷ cs) k kind
+      by : (t : Bool) → has_range c ≡ t → handler l (table_order cs) k kind ≡ handler l cs k kind
+          → handler l (by_target (if t then c ∷ filter has_range cs else filter has_range cs)) k kind
+          ≡ handler l (c ∷ cs) k kind
       by true e rest = insert_same c (table_order cs) (before_ordered c cs u.0) ∙ ap (tried c) rest
-      by false e rest = rest ∙ sym (ap (λ t. if t && takes l c.class kind then Some c.target else handler l cs k kind) (not_here e (here c) refl))
+      by false e rest = rest ∙ sym (ap (λ t. if t && takes l c.class kind then Some c.target else handler l cs k kind)
+          (not_here e (here c) refl))
 
-  pub ordered_same : (cs : List NCatch) → overtaking [] cs ≡ [] → handler l (table_order cs) k kind ≡ handler l cs k kind
+  pub ordered_same : (cs : List NCatch) → overtaking [] cs ≡ [] → handler l (table_order cs) k kind
+      ≡ handler l cs k kind
   ordered_same cs e = ordered_by cs (unbroken_of [] cs e).0

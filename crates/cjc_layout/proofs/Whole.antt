@@ -13,15 +13,22 @@ use Rattle.cjc_layout.proofs.Orders.{handlers_same, lie_ordered, offset_same}
 abbrev pub layout_of : List ℕ → List Bool → ℕ → List Handler → Layout
 layout_of places wide length handlers = record { places = places; wide = wide; length = length; handlers = handlers }
 
-pub is_layout : (m : NMethod) (places : List ℕ) (wide : List Bool) (end : ℕ) → IsLeast m.insns wide → HasPlaces m.insns (bytes_before m.insns wide) places → end ≡ code_size m.insns wide → AllLie (length m.insns) m.catches → IsLayout m (layout_of places wide end (handlers_of (offset_at places end) (table_order m.catches)))
+pub is_layout : (m : NMethod) (places : List ℕ) (wide : List Bool) (end : ℕ) → IsLeast m.insns wide
+    → HasPlaces m.insns (bytes_before m.insns wide) places → end ≡ code_size m.insns wide
+    → AllLie (length m.insns) m.catches
+    → IsLayout m (layout_of places wide end (handlers_of (offset_at places end) (table_order m.catches)))
 is_layout m places wide end least has last lies = record {
   wide = least;
   places = has;
   length = last;
-  handlers = handlers_same (length m.insns) (offset_at places end) (bytes_before m.insns wide) (offset_same m.insns (bytes_before m.insns wide) places end has last) (table_order m.catches) (lie_ordered (length m.insns) m.catches lies);
+  handlers = handlers_same (length m.insns) (offset_at places end) (bytes_before m.insns wide)
+      (offset_same m.insns (bytes_before m.insns wide) places end has last) (table_order m.catches)
+      (lie_ordered (length m.insns) m.catches lies);
 }
 
-pub same_layout : (m : NMethod) (places other : List ℕ) (wide wides : List Bool) (end : ℕ) (handlers hs : List Handler) → other ≡ places → wides ≡ wide → hs ≡ handlers → IsLayout m (layout_of places wide end handlers) → IsLayout m (layout_of other wides end hs)
+pub same_layout : (m : NMethod) (places other : List ℕ) (wide wides : List Bool) (end : ℕ) (handlers hs : List Handler)
+    → other ≡ places → wides ≡ wide → hs ≡ handlers → IsLayout m (layout_of places wide end handlers)
+    → IsLayout m (layout_of other wides end hs)
 same_layout m places other wide wides end handlers hs e f g l =
     subst (λ x. IsLayout m (layout_of x wides end hs)) (sym e)
     (subst (λ x. IsLayout m (layout_of places x end hs)) (sym f)

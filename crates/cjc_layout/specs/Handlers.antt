@@ -1,7 +1,8 @@
--- A method's handlers as they stand in the handler table, at offsets from the first instruction (Java Card Virtual Machine Specification 2.2.2, section 6.9.2).
+-- A method's handlers as they stand in the handler table, at offsets from the first instruction (Java Card Virtual
+-- Machine Specification 2.2.2, section 6.9.2).
 use Rattle.std.specs.Prelude.{ℕ, ◌-◌, ◌<◌, ◌≤◌, List, [], ◌∷◌, filter, Bool, not, nat_le, nat_lt, if◌then◌else◌}
 use Rattle.cjc_ncode.specs.declared.narrow.NCatch.{NCatch}
-use Rattle.cjc_lower.specs.Handlers.{meets_any}
+use Rattle.cjc_ncode.specs.Lowering.Handlers.{meets_any}
 use Rattle.cjc_layout.specs.declared.layout.Handler.{Handler}
 
 -- ---- their order
@@ -20,7 +21,8 @@ abbrev pub by_target : List NCatch → List NCatch
 by_target [] = []
 by_target (c ∷ catches) = inserted c (by_target catches)
 
--- The handlers that are written, in order: by target and then in class file order, those without an instruction in their range left out.
+-- The handlers that are written, in order: by target and then in class file order, those without an instruction in
+-- their range left out.
 abbrev pub table_order : List NCatch → List NCatch
 table_order catches = by_target (filter has_range catches)
 
@@ -28,7 +30,13 @@ table_order catches = by_target (filter has_range catches)
 
 -- a handler at its offsets, before these; its stop bit is set where its range meets that of no later one
 abbrev pub handler_of : (to : ℕ → ℕ) → NCatch → (later : List NCatch) → Handler
-handler_of to c later = record { start = to c.start; stop = not (meets_any c later); length = to c.end - to c.start; target = to c.target; class = c.class }
+handler_of to c later = record {
+  start = to c.start;
+  stop = not (meets_any c later);
+  length = to c.end - to c.start;
+  target = to c.target;
+  class = c.class;
+}
 
 -- handlers in order, where labels stand at `to`
 abbrev pub handlers_of : (to : ℕ → ℕ) → List NCatch → List Handler

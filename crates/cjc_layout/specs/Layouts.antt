@@ -12,14 +12,16 @@ pub record HasPlaces (insns : List NInsn) (to : ℕ → ℕ) (places : List ℕ)
   pub count : length places ≡ length insns
   pub each : (k : ℕ) → k < length insns → slice_index places k ≡ to k
 
--- The layout of a method: the least choice of wide jumps, offsets from the first instruction by this choice, and the handlers that are written.
+-- The layout of a method: the least choice of wide jumps, offsets from the first instruction by this choice, and the
+-- handlers that are written.
 pub record IsLayout (m : NMethod) (l : Layout) : Type 0 where
   pub wide : IsLeast m.insns l.wide
   pub places : HasPlaces m.insns (bytes_before m.insns l.wide) l.places
   pub length : l.length ≡ code_size m.insns l.wide
   pub handlers : l.handlers ≡ handlers_of (bytes_before m.insns l.wide) (table_order m.catches)
 
--- A method that can be laid out: jumps and handlers have their places in the list, and with every jump wide its instructions have no more bytes than the widest count.
+-- A method that can be laid out: jumps and handlers have their places in the list, and with every jump wide its
+-- instructions have no more bytes than the widest count.
 pub record IsWhole (m : NMethod) : Type 0 where
   pub leads : AllLead (length m.insns) m.insns
   pub lies : AllLie (length m.insns) m.catches

@@ -8,10 +8,12 @@ use Rattle.cjc_layout.specs.Sizes.{bytes_before}
 abbrev pub is_near : (from to : ℕ) → Bool
 is_near from to = nat_le to (from + 127) && nat_le from (to + 128)
 
--- A choice of wide jumps, true or false for each instruction, is legal: the target of each narrow jump is near under this very choice. An offset counts from the jump's own opcode.
+-- A choice of wide jumps, true or false for each instruction, is legal: the target of each narrow jump is near under
+-- this very choice. An offset counts from the jump's own opcode.
 pub record IsLegal (insns : List NInsn) (wide : List Bool) : Type 0 where
   pub count : length wide ≡ length insns
-  pub near : (k op to : ℕ) → slice_get insns k ≡ Some (narrow.Jump op to) → slice_get wide k ≡ Some false → is_near (bytes_before insns wide k) (bytes_before insns wide to) ≡ true
+  pub near : (k op to : ℕ) → slice_get insns k ≡ Some (narrow.Jump op to) → slice_get wide k ≡ Some false
+      → is_near (bytes_before insns wide k) (bytes_before insns wide to) ≡ true
 
 -- what is wide in the first is wide in the second
 abbrev pub IsWithin : (wide other : List Bool) → Type 0

@@ -1,5 +1,6 @@
 -- The rules that a method's layout may break, and which of them is answered.
-use Rattle.std.specs.Prelude.{◌≡◌, ◌⊎◌, ℕ, List, [], ◌∷◌, ◌++◌, Option, Some, None, Bool, false, nat_le, nat_lt, ◌&&◌, ◌||◌, if◌then◌else◌}
+use Rattle.std.specs.Prelude.{◌≡◌, ◌⊎◌, ℕ, List, [], ◌∷◌, ◌++◌, Option, Some, None, Bool, false, nat_le, nat_lt, ◌&&◌}
+use Rattle.std.specs.Prelude.{◌||◌, if◌then◌else◌}
 use Rattle.cjc_bytes.specs.declared.fault.Fault.{Fault}
 use Rattle.cjc_bytes.specs.declared.fault.Fault.TheVariants as faults
 use Rattle.cjc_bytes.specs.declared.fault.MemberId.{MemberId}
@@ -7,7 +8,7 @@ use Rattle.cjc_bytes.specs.declared.fault.Refusal.{Refusal}
 use Rattle.cjc_bytes.specs.Refused.{refused_at, in_class, method_text}
 use Rattle.cjc_ncode.specs.declared.narrow.NCatch.{NCatch}
 use Rattle.cjc_ncode.specs.declared.narrow.NMethod.{NMethod}
-use Rattle.cjc_lower.specs.Handlers.{meets}
+use Rattle.cjc_ncode.specs.Lowering.Handlers.{meets}
 use Rattle.cjc_layout.specs.Handlers.{has_range}
 
 -- ---- the order of handlers
@@ -28,7 +29,8 @@ overtakes_any c (d ∷ earlier) = overtakes c d || overtakes_any c earlier
 -- where in the class file the targets are of those of the second list that do so, behind the first
 abbrev pub overtaking : (earlier : List NCatch) → List NCatch → List ℕ
 overtaking earlier [] = []
-overtaking earlier (c ∷ catches) = let more = overtaking (earlier ++ c ∷ []) catches in if overtakes_any c earlier then c.at ∷ more else more
+overtaking earlier (c ∷ catches) = let more = overtaking (earlier ++ c ∷ []) catches in if overtakes_any c earlier
+    then c.at ∷ more else more
 
 -- the lesser of two
 abbrev pub lesser : ℕ → Option ℕ → ℕ
@@ -55,7 +57,8 @@ abbrev pub first_of : (file : List ℕ) → MemberId → Option ℕ → (widest 
 first_of file id (Some offset) widest = Some (of_method file id 311 offset)
 first_of file id None widest = if_too_long file id widest
 
--- What a method's layout is refused for: a handler that stands in the class file in another order than in the table, though an instruction is under both, the first by its offset; or else the method's length.
+-- What a method's layout is refused for: a handler that stands in the class file in another order than in the table,
+-- though an instruction is under both, the first by its offset; or else the method's length.
 abbrev pub refusal_of : (file : List ℕ) → MemberId → NMethod → Option Refusal
 refusal_of file id m = first_of file id (least (overtaking [] m.catches)) m.widest
 

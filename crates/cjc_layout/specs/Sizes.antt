@@ -1,12 +1,15 @@
--- The bytes of narrow instructions, and the offsets of their labels (Java Card Virtual Machine Specification 2.2.2, chapter 7).
-use Rattle.std.specs.Prelude.{ℕ, zero, suc, ◌+◌, ◌*◌, ◌<◌, List, [], ◌∷◌, length, replicate, Option, Some, None, Bool, true, if◌then◌else◌}
+-- The bytes of narrow instructions, and the offsets of their labels (Java Card Virtual Machine Specification 2.2.2,
+-- chapter 7).
+use Rattle.std.specs.Prelude.{ℕ, zero, suc, ◌+◌, ◌*◌, ◌<◌, List, [], ◌∷◌, length, replicate, Option, Some, None, Bool}
+use Rattle.std.specs.Prelude.{true, if◌then◌else◌}
 use Rattle.cjc_capread.specs.Opcodes.{Form, Fields, Table, Lookup, form, width, widths}
 use Rattle.cjc_ncode.specs.declared.narrow.NCase.{NCase}
 use Rattle.cjc_ncode.specs.declared.narrow.NInsn.{NInsn}
 use Rattle.cjc_ncode.specs.declared.narrow.NInsn.TheVariants as narrow
 use Rattle.cjc_capread.specs.Card.{invokeinterface, newarray}
 
--- The bytes of an instruction of this form: its opcode and its operands; of a switch the default's offset, its bounds or the number of its cases, and an offset for each case, in a lookup switch behind its match.
+-- The bytes of an instruction of this form: its opcode and its operands; of a switch the default's offset, its bounds
+-- or the number of its cases, and an offset for each case, in a lookup switch behind its match.
 abbrev pub size_by : Option Form → (cases : ℕ) → ℕ
 size_by None cases = 1
 size_by (Some (Fields operands)) cases = 1 + widths operands
@@ -27,7 +30,8 @@ insn_size wide (narrow.Interface nargs method) = size_by (form invokeinterface) 
 insn_size wide (narrow.NewArray kind) = size_by (form newarray) 0
 insn_size wide (narrow.TypeTest op kind class) = size_by (form op) 0
 
--- The offset of a label from the first instruction: the sum of the sizes before it. That of the list's length is the end of the code.
+-- The offset of a label from the first instruction: the sum of the sizes before it. That of the list's length is the
+-- end of the code.
 abbrev pub bytes_before : List NInsn → (wide : List Bool) → (label : ℕ) → ℕ
 bytes_before insns wide zero = 0
 bytes_before [] wide (suc k) = 0

@@ -23,11 +23,13 @@ looks_up =
 
 -- a switch of which no case is left: sload_0 pop goto; two numbers that are returned
 abbrev pub leaps : List NInsn
-leaps = narrow.Op 0x1C ∷ narrow.Op 0x3B ∷ narrow.Jump 0x70 5 ∷ narrow.Op 0x04 ∷ narrow.Op 0x78 ∷ narrow.Op 0x03 ∷ narrow.Op 0x78 ∷ []
+leaps = narrow.Op 0x1C ∷ narrow.Op 0x3B ∷ narrow.Jump 0x70 5 ∷ narrow.Op 0x04 ∷ narrow.Op 0x78 ∷ narrow.Op 0x03
+    ∷ narrow.Op 0x78 ∷ []
 
 -- each of the four switches with two cases
 abbrev pub switch : (op : ℕ) → NInsn
-switch op = narrow.Switch op 0 (pos 0) (record { value = pos 0; target = 0 } ∷ record { value = pos 1; target = 0 } ∷ [])
+switch op = narrow.Switch op 0 (pos 0) (record { value = pos 0; target = 0 } ∷ record { value = pos 1; target = 0 }
+    ∷ [])
 
 -- ---- jumps
 
@@ -37,7 +39,8 @@ goto_over n = narrow.Jump 0x70 (n + 1) ∷ (replicate n (narrow.Op 0x00) ++ narr
 
 -- sload_0, ifeq to the end, so many bytes, goto to the start; return
 abbrev pub loop_over : ℕ → List NInsn
-loop_over n = narrow.Op 0x1C ∷ narrow.Jump 0x60 (n + 3) ∷ (replicate n (narrow.Op 0x00) ++ narrow.Jump 0x70 0 ∷ narrow.Op 0x7A ∷ [])
+loop_over n = narrow.Op 0x1C ∷ narrow.Jump 0x60 (n + 3) ∷ (replicate n (narrow.Op 0x00) ++ narrow.Jump 0x70 0
+    ∷ narrow.Op 0x7A ∷ [])
 
 -- the loop with its ifeq and its goto narrow or wide
 abbrev pub loop_wide : ℕ → (ifeq goto : Bool) → List Bool

@@ -1,5 +1,6 @@
 -- Sizes, offsets and the choice of wide jumps as the private functions of the layout give them.
-use Rattle.std.specs.Prelude.{◌≡◌, ℕ, zero, suc, ◌+◌, ◌*◌, ◌<◌, ◌≤◌, List, [], ◌∷◌, length, Option, Some, None, Bool, true, false, not, nat_le, nat_lt, ◌==◌, if◌then◌else◌, slice_get, slice_index}
+use Rattle.std.specs.Prelude.{◌≡◌, ℕ, zero, suc, ◌+◌, ◌*◌, ◌<◌, ◌≤◌, List, [], ◌∷◌, length, Option, Some, None, Bool}
+use Rattle.std.specs.Prelude.{true, false, not, nat_le, nat_lt, ◌==◌, if◌then◌else◌, slice_get, slice_index}
 use Rattle.cjc_capread.specs.declared.opcode.OpInfo.{OpInfo}
 use Rattle.cjc_capread.specs.Card as card
 use Rattle.cjc_ncode.specs.declared.narrow.NInsn.{NInsn}
@@ -9,7 +10,8 @@ use Rattle.cjc_layout.specs.Legal.{is_near, IsLegal, IsWithin}
 
 -- the bytes of a switch
 abbrev pub switch_size : (op cases : ℕ) → ℕ
-switch_size op cases = if op == card.stableswitch then 7 + 2 * cases else (if op == card.itableswitch then 11 + 2 * cases else (if op == card.slookupswitch then 5 + 4 * cases else 5 + 6 * cases))
+switch_size op cases = if op == card.stableswitch then 7 + 2 * cases else (if op == card.itableswitch
+    then 11 + 2 * cases else (if op == card.slookupswitch then 5 + 4 * cases else 5 + 6 * cases))
 
 -- the length that the table of opcodes says, and 1 of what is no opcode
 abbrev pub length_by : Option OpInfo → ℕ
@@ -49,10 +51,12 @@ abbrev pub offset_at : List ℕ → (end label : ℕ) → ℕ
 offset_at places end label = if nat_lt label (length places) then slice_index places label else end
 
 -- what a pass that makes jumps wide keeps, when it has seen so many instructions
-pub record Widening (insns : List NInsn) (old wide : List Bool) (places : List ℕ) (changed : Bool) (k : ℕ) : Type 0 where
+pub record Widening (insns : List NInsn) (old wide : List Bool) (places : List ℕ) (changed : Bool) (k : ℕ) :
+    Type 0 where
   pub count : length wide ≡ length insns
   pub below : (other : List Bool) → IsLegal insns other → IsWithin old other → IsWithin wide other
   pub fewer : narrow_count wide ≤ narrow_count old
   pub less : changed ≡ true → narrow_count wide < narrow_count old
   pub same : changed ≡ false → wide ≡ old
-  pub near : changed ≡ false → (j : ℕ) (i : NInsn) → j < k → slice_get insns j ≡ Some i → slice_get old j ≡ Some false → is_far (slice_index places) j i ≡ false
+  pub near : changed ≡ false → (j : ℕ) (i : NInsn) → j < k → slice_get insns j ≡ Some i → slice_get old j ≡ Some false
+      → is_far (slice_index places) j i ≡ false

@@ -2,7 +2,7 @@
 //! the layout. A package has at most 255 handlers, so each is compared with each.
 
 ghost use Rattle.std.specs.Prelude.{◌≡◌, [], ◌≤◌, length, map, IfOk};
-ghost use Rattle.cjc_lower.specs.Handlers.{meets, meets_any};
+ghost use Rattle.cjc_ncode.specs.Lowering.Handlers.{meets, meets_any};
 ghost use Rattle.cjc_layout.specs.Handlers.{has_range, inserted, table_order, handler_of, handlers_of};
 ghost use Rattle.cjc_layout.specs.Refusals.{shares, overtakes, overtakes_any, overtaking, lesser, least};
 ghost use Rattle.cjc_layout.specs.Working.{place_for, offset_at};

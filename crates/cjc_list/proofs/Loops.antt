@@ -1,25 +1,30 @@
 -- Reading the lines behind the package line one after the other.
-use Rattle.std.proofs.Common.{◌≡◌, ℕ, ◌+◌, ◌<◌, ◌≤◌, List, length, get_or, drop, Result, Ok, Err, refl, sym, ◌∙◌, add-one, drop-cons}
+use Rattle.std.proofs.Common.{◌≡◌, ℕ, ◌+◌, ◌<◌, ◌≤◌, List, length, get_or, drop, Result, Ok, Err, refl, sym, ◌∙◌}
+use Rattle.std.proofs.Common.{add-one, drop-cons}
 use Rattle.std.proofs.lemmas.List.{drop_all}
 use Rattle.cjc_bytes.specs.Text.{TextLine}
 use Rattle.cjc_list.specs.declared.listing.List.{List as Listing}
 use Rattle.cjc_list.specs.Grammar.{with_line}
 use Rattle.cjc_list.specs.Listed.{said, with_lines}
 
-pub with_lines_next : (list more : Listing) (lines : List TextLine) (i : ℕ) (d : TextLine) (total : Result Listing ℕ) → i < length lines → said (with_line list) (get_or lines i d) ≡ Ok more
+pub with_lines_next : (list more : Listing) (lines : List TextLine) (i : ℕ) (d : TextLine) (total : Result Listing ℕ)
+    → i < length lines → said (with_line list) (get_or lines i d) ≡ Ok more
     → with_lines list (drop i lines) ≡ total → with_lines more (drop (i + 1) lines) ≡ total
 unfolding with_lines
 with_lines_next list more lines i d total lt one so_far =
-    let step : with_lines list (drop i lines) ≡ with_lines more (drop (i + 1) lines) = rw (add-one, drop-cons lines i d lt, one) refl in
+    let step : with_lines list (drop i lines) ≡ with_lines more (drop (i + 1) lines) =
+    rw (add-one, drop-cons lines i d lt, one) refl in
     sym step ∙ so_far
 
-pub with_lines_breaks : (list : Listing) (lines : List TextLine) (i : ℕ) (d : TextLine) (k : ℕ) (total : Result Listing ℕ) → i < length lines → said (with_line list) (get_or lines i d) ≡ Err k
+pub with_lines_breaks : (list : Listing) (lines : List TextLine) (i : ℕ) (d : TextLine) (k : ℕ) (total : Result Listing
+    ℕ) → i < length lines → said (with_line list) (get_or lines i d) ≡ Err k
     → with_lines list (drop i lines) ≡ total → total ≡ Err k
 unfolding with_lines
 with_lines_breaks list lines i d k total lt one so_far =
     let step : with_lines list (drop i lines) ≡ Err k = rw (drop-cons lines i d lt, one) refl in
     sym so_far ∙ step
 
-pub with_lines_ends : (list : Listing) (lines : List TextLine) (i : ℕ) (total : Result Listing ℕ) → length lines ≤ i → with_lines list (drop i lines) ≡ total → total ≡ Ok list
+pub with_lines_ends : (list : Listing) (lines : List TextLine) (i : ℕ) (total : Result Listing ℕ) → length lines ≤ i
+    → with_lines list (drop i lines) ≡ total → total ≡ Ok list
 unfolding with_lines
 with_lines_ends list lines i total le so_far = sym so_far ∙ rw (drop_all i lines le) refl

@@ -1,5 +1,6 @@
 -- What a text spells or breaks, as a relation and as a function.
-use Rattle.std.proofs.Common.{◌≡◌, ℕ, ◌⊎◌, inl, inr, Bool, false, List, [], ◌∷◌, ◌++◌, Result, Ok, Err, refl, sym, ap, ◌∙◌, subst, arith}
+use Rattle.std.proofs.Common.{◌≡◌, ℕ, ◌⊎◌, inl, inr, Bool, false, List, [], ◌∷◌, ◌++◌, Result, Ok, Err, refl, sym, ap}
+use Rattle.std.proofs.Common.{◌∙◌, subst, arith}
 use Rattle.cjc_bytes.specs.Found.{◌>>=◌}
 use Rattle.cjc_bytes.specs.Text.{TextLine}
 use Rattle.cjc_bytes.specs.declared.settings.FileLine.{FileLine}
@@ -12,14 +13,16 @@ use Rattle.cjc_list.proofs.Items.{fresh, package_says, package_of-says}
 use Rattle.cjc_list.proofs.Wholes.{gathered, said_ok, said_is, said_err, onward_ok, with_lines_add, with_lines_are}
 
 -- the lines spell the list that they are read as
-pub lines_spell : (name : List ℕ) (end : ℕ) (first : TextLine) (rest : List TextLine) (t : Listing) → of_lines name end (first ∷ rest) ≡ Ok t → Spelt name t first rest
+pub lines_spell : (name : List ℕ) (end : ℕ) (first : TextLine) (rest : List TextLine) (t : Listing)
+    → of_lines name end (first ∷ rest) ≡ Ok t → Spelt name t first rest
 unfolding of_lines
 lines_spell name end first rest t e =
     let one = onward_ok (said (package_of name) first) (λ list. with_lines list rest) t e in
     let begun : Listing = one.0 in
     let line = said_ok (package_of name) first begun one.1 in
     let says = package_says name line.0 begun line.2 in
-    let none : Within begun.lines = subst (λ (z : Listing). Within z.lines) (sym says.1) (record { classes = omega arith; exports = omega arith }) in
+    let none : Within begun.lines = subst (λ (z : Listing). Within z.lines) (sym says.1)
+    (record { classes = omega arith; exports = omega arith }) in
     let rest = with_lines_add begun t rest one.2 none in
     let P : Listing → Type 0 = λ z. SaysPackage z line.0 in
     record {
@@ -34,33 +37,45 @@ lines_spell name end first rest t e =
     }
 
 -- and are read as the list that they spell
-pub lines_are : (name : List ℕ) (end : ℕ) (first : TextLine) (rest : List TextLine) (t : Listing) → Spelt name t first rest → of_lines name end (first ∷ rest) ≡ Ok t
+pub lines_are : (name : List ℕ) (end : ℕ) (first : TextLine) (rest : List TextLine) (t : Listing)
+    → Spelt name t first rest → of_lines name end (first ∷ rest) ≡ Ok t
 unfolding of_lines
 lines_are name end first rest t s =
     let begins = s.begins in
-    let one : said (package_of name) first ≡ Ok (fresh name t) = said_is (package_of name) first begins.0 (fresh name t) begins.1 (package_of-says name t begins.0 begins.2) in
-    let made : List ℕ → Bool → List AppletLine → List FileLine → Listing = λ n b a f. record t { name = n; ints = b; applets = a; lines = f } in
+    let one : said (package_of name) first ≡ Ok (fresh name t) = said_is (package_of name) first begins.0 (fresh name t)
+    begins.1 (package_of-says name t begins.0 begins.2) in
+    let made : List ℕ → Bool → List AppletLine → List FileLine → Listing = λ n b a f. record t {
+      name = n;
+      ints = b;
+      applets = a;
+      lines = f;
+    } in
     let same : gathered (fresh name t) s.items ≡ t =
     ap (λ (n : List ℕ). made n false (applets_of s.items) (files_of s.items)) (sym s.named)
     ∙ ap (λ (b : Bool). made t.name b (applets_of s.items) (files_of s.items)) (sym s.no_ints)
     ∙ ap (λ (a : List AppletLine). made t.name t.ints a (files_of s.items)) (sym s.applets)
     ∙ ap (λ (f : List FileLine). made t.name t.ints t.applets f) (sym s.files) in
     let W : List FileLine → Type 0 = Within in
-    let more : with_lines (fresh name t) rest ≡ Ok (gathered (fresh name t) s.items) = with_lines_are (fresh name t) s.items rest s.says (subst W s.files s.within) in
+    let more : with_lines (fresh name t) rest ≡ Ok (gathered (fresh name t) s.items) =
+    with_lines_are (fresh name t) s.items rest s.says (subst W s.files s.within) in
     rw one (more ∙ ap Ok same)
 
-bind_same : (one : Result Listing ℕ) (f g h : Listing → Result Listing ℕ) → ((t : Listing) → f t ≡ (g t >>= h)) → (one >>= f) ≡ ((one >>= g) >>= h)
+bind_same : (one : Result Listing ℕ) (f g h : Listing → Result Listing ℕ) → ((t : Listing) → f t ≡ (g t >>= h))
+    → (one >>= f) ≡ ((one >>= g) >>= h)
 bind_same (Ok t) f g h e = e t
 bind_same (Err k) f g h e = refl
 
 -- lines, and then more of them
-with_lines-append : (list : Listing) (before after : List TextLine) → with_lines list (before ++ after) ≡ (with_lines list before >>= λ t. with_lines t after)
+with_lines-append : (list : Listing) (before after : List TextLine) → with_lines list (before ++ after)
+    ≡ (with_lines list before >>= λ t. with_lines t after)
 unfolding with_lines
 with_lines-append list [] after = refl
 with_lines-append list (l ∷ before) after =
-    bind_same (said (with_line list) l) (λ t. with_lines t (before ++ after)) (λ t. with_lines t before) (λ t. with_lines t after) (λ t. with_lines-append t before after)
+    bind_same (said (with_line list) l) (λ t. with_lines t (before ++ after)) (λ t. with_lines t before)
+    (λ t. with_lines t after) (λ t. with_lines-append t before after)
 
-of_lines-append : (name : List ℕ) (end : ℕ) (first : TextLine) (before after : List TextLine) (t : Listing) → of_lines name end (first ∷ before) ≡ Ok t
+of_lines-append : (name : List ℕ) (end : ℕ) (first : TextLine) (before after : List TextLine) (t : Listing)
+    → of_lines name end (first ∷ before) ≡ Ok t
     → of_lines name end (first ∷ (before ++ after)) ≡ with_lines t after
 unfolding of_lines
 of_lines-append name end first before after t e =
@@ -72,19 +87,23 @@ one_line_ok : (list t : Listing) (l : TextLine) → said (with_line list) l ≡ 
 unfolding with_lines
 one_line_ok list t l e = rw e refl
 
-one_line_err : (list : Listing) (l : TextLine) (after : List TextLine) (k : ℕ) → said (with_line list) l ≡ Err k → with_lines list (l ∷ after) ≡ Err k
+one_line_err : (list : Listing) (l : TextLine) (after : List TextLine) (k : ℕ) → said (with_line list) l ≡ Err k
+    → with_lines list (l ∷ after) ≡ Err k
 unfolding with_lines
 one_line_err list l after k e = rw e refl
 
-first_line_ok : (name : List ℕ) (end : ℕ) (t : Listing) (l : TextLine) → said (package_of name) l ≡ Ok t → of_lines name end (l ∷ []) ≡ Ok t
+first_line_ok : (name : List ℕ) (end : ℕ) (t : Listing) (l : TextLine) → said (package_of name) l ≡ Ok t
+    → of_lines name end (l ∷ []) ≡ Ok t
 unfolding of_lines with_lines
 first_line_ok name end t l e = rw e refl
 
-first_line_err : (name : List ℕ) (end : ℕ) (l : TextLine) (after : List TextLine) (k : ℕ) → said (package_of name) l ≡ Err k → of_lines name end (l ∷ after) ≡ Err k
+first_line_err : (name : List ℕ) (end : ℕ) (l : TextLine) (after : List TextLine) (k : ℕ) → said (package_of name) l
+    ≡ Err k → of_lines name end (l ∷ after) ≡ Err k
 unfolding of_lines
 first_line_err name end l after k e = rw e refl
 
-first_line_on : (name : List ℕ) (end : ℕ) (l : TextLine) (after : List TextLine) (t : Listing) → said (package_of name) l ≡ Ok t → of_lines name end (l ∷ after) ≡ with_lines t after
+first_line_on : (name : List ℕ) (end : ℕ) (l : TextLine) (after : List TextLine) (t : Listing)
+    → said (package_of name) l ≡ Ok t → of_lines name end (l ∷ after) ≡ with_lines t after
 unfolding of_lines
 first_line_on name end l after t e = rw e refl
 
@@ -95,7 +114,8 @@ ok_or_err : {A : Type 0} (x : Result A ℕ) → ((a : A) × (x ≡ Ok a)) ⊎ ((
 ok_or_err (Ok a) = inl (a, refl)
 ok_or_err (Err k) = inr (k, refl)
 
-onward_err : {A B : Type 0} (x : Result B ℕ) (f : B → Result A ℕ) (k : ℕ) → (x >>= f) ≡ Err k → (x ≡ Err k) ⊎ ((z : B) × (x ≡ Ok z) × (f z ≡ Err k))
+onward_err : {A B : Type 0} (x : Result B ℕ) (f : B → Result A ℕ) (k : ℕ) → (x >>= f) ≡ Err k → (x ≡ Err k)
+    ⊎ ((z : B) × (x ≡ Ok z) × (f z ≡ Err k))
 onward_err (Ok z) f k e = inr (z, refl, e)
 onward_err (Err j) f k e = inl cc
 
@@ -128,30 +148,46 @@ stops list (l ∷ ls) k e = elim (onward_err (said (with_line list) l) (λ t. wi
 ]
 
 -- lines that are read as no list are malformed at that place
-malformed_first : (name : List ℕ) (end : ℕ) (first : TextLine) (rest : List TextLine) (k : ℕ) → said (package_of name) first ≡ Err k → IsMalformedAt name (first ∷ rest) k
+malformed_first : (name : List ℕ) (end : ℕ) (first : TextLine) (rest : List TextLine) (k : ℕ)
+    → said (package_of name) first ≡ Err k → IsMalformedAt name (first ∷ rest) k
 malformed_first name end first rest k e =
-    let no : ¬ IsBeginning name (first ∷ []) = λ h. not_both (of_lines name end (first ∷ [])) h.0 k (lines_are name end first [] h.0 h.1) (first_line_err name end first [] k e) in
+    let no : ¬ IsBeginning name (first ∷ []) = λ h. not_both (of_lines name end (first ∷ [])) h.0 k
+    (lines_are name end first [] h.0 h.1) (first_line_err name end first [] k e) in
     ([], rest, first, refl, tt, no, said_err (package_of name) first k e)
 
-malformed_later : (name : List ℕ) (end : ℕ) (first : TextLine) (rest : List TextLine) (z : Listing) (k : ℕ) → said (package_of name) first ≡ Ok z → with_lines z rest ≡ Err k
+malformed_later : (name : List ℕ) (end : ℕ) (first : TextLine) (rest : List TextLine) (z : Listing) (k : ℕ)
+    → said (package_of name) first ≡ Ok z → with_lines z rest ≡ Err k
     → IsMalformedAt name (first ∷ rest) k
 malformed_later name end first rest z k e f =
     let s = stops z rest k f in
     let good : of_lines name end (first ∷ s.before) ≡ Ok s.upto = first_line_on name end first s.before z e ∙ s.good in
-    let bad : of_lines name end (first ∷ (s.before ++ s.line ∷ [])) ≡ Err k = of_lines-append name end first s.before (s.line ∷ []) s.upto good ∙ one_line_err s.upto s.line [] k s.bad in
-    let no : ¬ IsBeginning name (first ∷ (s.before ++ s.line ∷ [])) = λ h. not_both (of_lines name end (first ∷ (s.before ++ s.line ∷ []))) h.0 k (lines_are name end first (s.before ++ s.line ∷ []) h.0 h.1) bad in
-    (first ∷ s.before, s.after, s.line, ap (λ (xs : List TextLine). first ∷ xs) s.parts, (s.upto, lines_spell name end first s.before s.upto good), no, said_err (with_line s.upto) s.line k s.bad)
+    let bad : of_lines name end (first ∷ (s.before ++ s.line ∷ [])) ≡ Err k = of_lines-append name end first s.before
+    (s.line ∷ []) s.upto good ∙ one_line_err s.upto s.line [] k s.bad in
+    let no : ¬ IsBeginning name (first ∷ (s.before ++ s.line ∷ [])) =
+    λ h. not_both (of_lines name end (first ∷ (s.before ++ s.line ∷ []))) h.0 k (lines_are name end first (s.before
+    ++ s.line ∷ []) h.0 h.1) bad in (
+      first ∷ s.before,
+      s.after,
+      s.line,
+      ap (λ (xs : List TextLine). first ∷ xs) s.parts,
+      (s.upto, lines_spell name end first s.before s.upto good),
+      no,
+      said_err (with_line s.upto) s.line k s.bad,
+    )
 
-pub lines_malformed : (name : List ℕ) (end : ℕ) (ls : List TextLine) (k : ℕ) → of_lines name end ls ≡ Err k → IsMalformedAt name ls k ⊎ ((ls ≡ []) × (k ≡ end))
+pub lines_malformed : (name : List ℕ) (end : ℕ) (ls : List TextLine) (k : ℕ) → of_lines name end ls ≡ Err k
+    → IsMalformedAt name ls k ⊎ ((ls ≡ []) × (k ≡ end))
 unfolding of_lines
 lines_malformed name end [] k e = inr (refl, cc)
-lines_malformed name end (first ∷ rest) k e = inl (elim (onward_err (said (package_of name) first) (λ t. with_lines t rest) k e) [
-  | inl bad ↦ malformed_first name end first rest k bad
-  | inr more ↦ malformed_later name end first rest more.0 k more.1 more.2
-])
+lines_malformed name end (first ∷ rest) k e =
+    inl (elim (onward_err (said (package_of name) first) (λ t. with_lines t rest) k e) [
+      | inl bad ↦ malformed_first name end first rest k bad
+      | inr more ↦ malformed_later name end first rest more.0 k more.1 more.2
+    ])
 
 -- and the other way round
-malformed_breaks_at : (name : List ℕ) (end : ℕ) (before after : List TextLine) (l : TextLine) (k : ℕ) → IsBeginning name before → (¬ IsBeginning name (before ++ l ∷ [])) → k ≡ l.at
+malformed_breaks_at : (name : List ℕ) (end : ℕ) (before after : List TextLine) (l : TextLine) (k : ℕ)
+    → IsBeginning name before → (¬ IsBeginning name (before ++ l ∷ [])) → k ≡ l.at
     → of_lines name end (before ++ l ∷ after) ≡ Err k
 malformed_breaks_at name end [] after l k good bad at = elim (ok_or_err (said (package_of name) l)) [
   | inl ok ↦ absurd (bad (ok.0, lines_spell name end l [] ok.0 (first_line_ok name end ok.0 l ok.1)))
@@ -160,9 +196,15 @@ malformed_breaks_at name end [] after l k good bad at = elim (ok_or_err (said (p
 malformed_breaks_at name end (first ∷ before) after l k good bad at =
     let read : of_lines name end (first ∷ before) ≡ Ok good.0 = lines_are name end first before good.0 good.1 in
     elim (ok_or_err (said (with_line good.0) l)) [
-      | inl ok ↦ absurd (bad (ok.0, lines_spell name end first (before ++ l ∷ []) ok.0 (of_lines-append name end first before (l ∷ []) good.0 read ∙ one_line_ok good.0 ok.0 l ok.1)))
-      | inr err ↦ of_lines-append name end first before (l ∷ after) good.0 read ∙ one_line_err good.0 l after err.0 err.1 ∙ ap Err (said_err (with_line good.0) l err.0 err.1 ∙ sym at)
+      | inl ok ↦ absurd (bad (
+        ok.0,
+        lines_spell name end first (before ++ l ∷ []) ok.0 (of_lines-append name end first
+            before (l ∷ []) good.0 read ∙ one_line_ok good.0 ok.0 l ok.1),
+      ))
+      | inr err ↦ of_lines-append name end first before (l ∷ after) good.0 read
+          ∙ one_line_err good.0 l after err.0 err.1 ∙ ap Err (said_err (with_line good.0) l err.0 err.1 ∙ sym at)
     ]
 
-pub malformed_breaks : (name : List ℕ) (end : ℕ) (ls : List TextLine) (k : ℕ) → IsMalformedAt name ls k → of_lines name end ls ≡ Err k
+pub malformed_breaks : (name : List ℕ) (end : ℕ) (ls : List TextLine) (k : ℕ) → IsMalformedAt name ls k
+    → of_lines name end ls ≡ Err k
 malformed_breaks name end ls k h = rw h.3 (malformed_breaks_at name end h.0 h.1 h.2 k h.4 h.5 h.6)

@@ -1,5 +1,6 @@
 -- The lines behind the package line, as items and as a function.
-use Rattle.std.proofs.Common.{◌≡◌, ℕ, ◌+◌, Bool, true, false, not, cond, List, [], ◌∷◌, ◌++◌, Option, Some, None, Result, Ok, Err, refl, sym, ap, ◌∙◌, subst, arith, append_assoc}
+use Rattle.std.proofs.Common.{◌≡◌, ℕ, ◌+◌, Bool, true, false, not, cond, List, [], ◌∷◌, ◌++◌, Option, Some, None}
+use Rattle.std.proofs.Common.{Result, Ok, Err, refl, sym, ap, ◌∙◌, subst, arith, append_assoc}
 use Rattle.std.specs.Prelude.{option_and_then}
 use Rattle.std.proofs.lemmas.List.{append-nil}
 use Rattle.std.proofs.lemmas.List.Sums.{sum_by-append, sum_by-cons}
@@ -22,7 +23,8 @@ gathered list items = record list { applets = list.applets ++ applets_of items; 
 pub gathered-none : (list : Listing) → gathered list [] ≡ list
 gathered-none list = rw (append-nil list.applets, append-nil list.lines) refl
 
-pub gathered-more : (list : Listing) (i : Item) (items : List Item) → gathered (gathered list (i ∷ [])) items ≡ gathered list (i ∷ items)
+pub gathered-more : (list : Listing) (i : Item) (items : List Item) → gathered (gathered list (i ∷ [])) items
+    ≡ gathered list (i ∷ items)
 gathered-more list (Applet a) items = simp (append_assoc, append-nil)
 gathered-more list (File f) items = simp (append_assoc, append-nil)
 
@@ -36,11 +38,13 @@ export_count-append xs ys = sum_by-append (λ (f : FileLine). cond (not f.class_
 class_count-cons : (f : FileLine) (fs : List FileLine) → class_count (f ∷ fs) ≡ cond f.class_file 1 0 + class_count fs
 class_count-cons f fs = sum_by-cons (λ (f : FileLine). cond f.class_file 1 0) f fs
 
-export_count-cons : (f : FileLine) (fs : List FileLine) → export_count (f ∷ fs) ≡ cond (not f.class_file) 1 0 + export_count fs
+export_count-cons : (f : FileLine) (fs : List FileLine) → export_count (f ∷ fs) ≡ cond (not f.class_file) 1 0 +
+    export_count fs
 export_count-cons f fs = sum_by-cons (λ (f : FileLine). cond (not f.class_file) 1 0) f fs
 
 -- a file more is within the limits where there was room
-one_more : (b : Bool) (name : List ℕ) (fs : List FileLine) → has_room b fs ≡ true → Within fs → Within (fs ++ record { class_file = b; name = name } ∷ [])
+one_more : (b : Bool) (name : List ℕ) (fs : List FileLine) → has_room b fs ≡ true → Within fs
+    → Within (fs ++ record { class_file = b; name = name } ∷ [])
 one_more true name fs room w = record {
   classes = omega (arith, ltb-true _ _ room, class_count-append fs (record { class_file = true; name = name } ∷ []));
   exports = omega (arith, w.exports, export_count-append fs (record { class_file = true; name = name } ∷ []));
@@ -51,7 +55,8 @@ one_more false name fs room w = record {
 }
 
 -- and there is room where it is within the limits with more behind it
-room_for : (b : Bool) (name : List ℕ) (fs gs : List FileLine) → Within (fs ++ record { class_file = b; name = name } ∷ gs) → has_room b fs ≡ true
+room_for : (b : Bool) (name : List ℕ) (fs gs : List FileLine) → Within (fs ++ record { class_file = b; name = name }
+    ∷ gs) → has_room b fs ≡ true
 room_for true name fs gs w =
     let f : FileLine = record { class_file = true; name = name } in
     lt-ltb _ _ (omega (arith, w.classes, class_count-append fs (f ∷ gs), class_count-cons f gs))
@@ -60,7 +65,8 @@ room_for false name fs gs w =
     lt-ltb _ _ (omega (arith, w.exports, export_count-append fs (f ∷ gs), export_count-cons f gs))
 
 -- what one item does to a list
-pub with_item_is : (list : Listing) (i : Item) (t : Listing) → with_item list i ≡ Some t → Within list.lines → (t ≡ gathered list (i ∷ [])) × Within t.lines
+pub with_item_is : (list : Listing) (i : Item) (t : Listing) → with_item list i ≡ Some t → Within list.lines
+    → (t ≡ gathered list (i ∷ [])) × Within t.lines
 unfolding with_item
 with_item_is list (Applet a) t e w =
     let P : Listing → Type 0 = λ t. (t ≡ gathered list (Applet a ∷ [])) × Within t.lines in
@@ -71,12 +77,17 @@ with_item_is list (File f) t e w =
     let P : Listing → Type 0 = λ t. (t ≡ gathered list (File f ∷ [])) × Within t.lines in
     subst P p.1 (rw (append-nil list.applets) refl, one_more f.class_file f.name list.lines p.0 w)
 
-pub with_item-fits : (list : Listing) (i : Item) (items : List Item) → Within (gathered list (i ∷ items)).lines → with_item list i ≡ Some (gathered list (i ∷ []))
+pub with_item-fits : (list : Listing) (i : Item) (items : List Item) → Within (gathered list (i ∷ items)).lines
+    → with_item list i ≡ Some (gathered list (i ∷ []))
 unfolding with_item
 with_item-fits list (Applet a) items w = rw (append-nil list.lines) refl
-with_item-fits list (File f) items w = rw (room_for f.class_file f.name list.lines (files_of items) w, append-nil list.applets) refl
+with_item-fits list (File f) items w = rw (
+  room_for f.class_file f.name list.lines (files_of items) w,
+  append-nil list.applets,
+) refl
 
-pub onward_ok : {A B : Type 0} (x : Result B ℕ) (f : B → Result A ℕ) (y : A) → (x >>= f) ≡ Ok y → (z : B) × (x ≡ Ok z) × (f z ≡ Ok y)
+pub onward_ok : {A B : Type 0} (x : Result B ℕ) (f : B → Result A ℕ) (y : A) → (x >>= f) ≡ Ok y → (z : B) × (x ≡ Ok z)
+    × (f z ≡ Ok y)
 onward_ok (Ok z) f y e = (z, refl, e)
 onward_ok (Err k) f y e = absurd cc
 
@@ -89,15 +100,18 @@ kept_err (Some x) place k e = absurd cc
 kept_err None place k e = cc
 
 -- a line that says something, or nothing
-said_ok_at : (o : Option (List (List ℕ))) (reading : List (List ℕ) → Option Listing) (at : ℕ) (t : Listing) → kept at (option_and_then reading o) ≡ Ok t
+said_ok_at : (o : Option (List (List ℕ))) (reading : List (List ℕ) → Option Listing) (at : ℕ) (t : Listing)
+    → kept at (option_and_then reading o) ≡ Ok t
     → (ws : List (List ℕ)) × (o ≡ Some ws) × (reading ws ≡ Some t)
 said_ok_at (Some ws) reading at t e = (ws, refl, kept_ok (reading ws) at t e)
 said_ok_at None reading at t e = absurd cc
 
-pub said_ok : (reading : List (List ℕ) → Option Listing) (l : TextLine) (t : Listing) → said reading l ≡ Ok t → HasWords l (λ ws. reading ws ≡ Some t)
+pub said_ok : (reading : List (List ℕ) → Option Listing) (l : TextLine) (t : Listing) → said reading l ≡ Ok t
+    → HasWords l (λ ws. reading ws ≡ Some t)
 said_ok reading l t e = said_ok_at (words l.text) reading l.at t e
 
-pub said_is : (reading : List (List ℕ) → Option Listing) (l : TextLine) (ws : List (List ℕ)) (t : Listing) → words l.text ≡ Some ws → reading ws ≡ Some t → said reading l ≡ Ok t
+pub said_is : (reading : List (List ℕ) → Option Listing) (l : TextLine) (ws : List (List ℕ)) (t : Listing)
+    → words l.text ≡ Some ws → reading ws ≡ Some t → said reading l ≡ Ok t
 said_is reading l ws t e f =
     let step : option_and_then reading (words l.text) ≡ Some t = ap (option_and_then reading) e ∙ f in
     ap (kept l.at) step
@@ -112,7 +126,8 @@ pub record Added (list t : Listing) (ls : List TextLine) : Type 0 where
   pub is : t ≡ gathered list items
   pub within : Within t.lines
 
-pub with_lines_add : (list t : Listing) (ls : List TextLine) → with_lines list ls ≡ Ok t → Within list.lines → Added list t ls
+pub with_lines_add : (list t : Listing) (ls : List TextLine) → with_lines list ls ≡ Ok t → Within list.lines
+    → Added list t ls
 unfolding with_lines with_line
 with_lines_add list t [] e w =
     let is : list ≡ t = cc in
@@ -131,15 +146,18 @@ with_lines_add list t (l ∷ ls) e w =
       within = rest.within;
     }
 
-pub with_lines_are : (list : Listing) (items : List Item) (ls : List TextLine) → AllSay items ls → Within (gathered list items).lines → with_lines list ls ≡ Ok (gathered list items)
+pub with_lines_are : (list : Listing) (items : List Item) (ls : List TextLine) → AllSay items ls
+    → Within (gathered list items).lines → with_lines list ls ≡ Ok (gathered list items)
 unfolding with_lines with_line
 with_lines_are list [] [] says w = ap Ok (sym (gathered-none list))
 with_lines_are list [] (l ∷ ls) says w = absurd says
 with_lines_are list (i ∷ items) [] says w = absurd says
 with_lines_are list (i ∷ items) (l ∷ ls) says w =
     let ws : List (List ℕ) = says.0.0 in
-    let read : with_line list ws ≡ Some (gathered list (i ∷ [])) = rw (item_of-says i ws says.0.2) (with_item-fits list i items w) in
-    let one : said (with_line list) l ≡ Ok (gathered list (i ∷ [])) = said_is (with_line list) l ws (gathered list (i ∷ [])) says.0.1 read in
+    let read : with_line list ws ≡ Some (gathered list (i ∷ [])) =
+    rw (item_of-says i ws says.0.2) (with_item-fits list i items w) in
+    let one : said (with_line list) l ≡ Ok (gathered list (i ∷ [])) =
+    said_is (with_line list) l ws (gathered list (i ∷ [])) says.0.1 read in
     let W : Listing → Type 0 = λ t. Within t.lines in
     let rest = with_lines_are (gathered list (i ∷ [])) items ls says.1 (subst W (sym (gathered-more list i items)) w) in
     rw one (rest ∙ ap Ok (gathered-more list i items))

@@ -1,5 +1,7 @@
 -- The grammar of one line of a list: what the words of a line say.
-use Rattle.std.specs.Prelude.{Bool, true, false, not, ◌&&◌, ◌||◌, if◌then◌else◌, ◌==◌, nat_le, nat_lt, ℕ, ◌+◌, List, [], ◌∷◌, ◌++◌, length, take, drop, position, count_by, codes, Option, Some, None, Result, Ok, Err}
+use Rattle.std.specs.Prelude.{Bool, true, false, not, ◌&&◌, ◌||◌, if◌then◌else◌, ◌==◌, nat_le, nat_lt, ℕ, ◌+◌, List, []}
+use Rattle.std.specs.Prelude.{◌∷◌, ◌++◌, length, take, drop, position, count_by, codes, Option, Some, None, Result, Ok}
+use Rattle.std.specs.Prelude.{Err}
 use Rattle.std.specs.List.{slice_split, list_all}
 use Rattle.std.specs.Str.{bytes_eq}
 use Rattle.hex.specs.Hex.{decode_of}
@@ -50,11 +52,21 @@ unfoldable pub begun : List ℕ → List ℕ → List ℕ → List ℕ → Optio
 begun name owner digits numbers = do
   aid ← aid_of digits
   version ← version_of numbers
-  if is_name owner then Some (record { name = name; «package» = owner; aid = aid; major = version.0; minor = version.1; ints = false; applets = []; lines = [] }) else None
+  if is_name owner then Some (record {
+    name = name;
+    «package» = owner;
+    aid = aid;
+    major = version.0;
+    minor = version.1;
+    ints = false;
+    applets = [];
+    lines = [];
+  }) else None
 
 -- the list of this name that begins with a package line of these words: the package, its AID and its version
 unfoldable pub package_of : List ℕ → List (List ℕ) → Option Listing
-package_of name (keyword ∷ owner ∷ digits ∷ numbers ∷ []) = if bytes_eq keyword (codes "package") then begun name owner digits numbers else None
+package_of name (keyword ∷ owner ∷ digits ∷ numbers ∷ []) = if bytes_eq keyword (codes "package")
+    then begun name owner digits numbers else None
 package_of name _ = None
 
 -- what an applet line says
@@ -88,7 +100,8 @@ has_room false files = nat_lt (export_count files) 128
 -- the list with what a further line says, where that line is within the limits
 unfoldable pub with_item : Listing → Item → Option Listing
 with_item list (Applet a) = Some (record list { applets = list.applets ++ a ∷ [] })
-with_item list (File f) = if has_room f.class_file list.lines then Some (record list { lines = list.lines ++ f ∷ [] }) else None
+with_item list (File f) = if has_room f.class_file list.lines then Some (record list { lines = list.lines ++ f ∷ [] })
+    else None
 
 -- the list with one line more
 unfoldable pub with_line : Listing → List (List ℕ) → Option Listing

@@ -19,11 +19,13 @@ IsAid bytes digits = (decode_of digits ≡ Ok bytes) × (5 ≤ length bytes) × 
 
 -- The text is MAJOR.MINOR, two decimal numbers of at most 255 around a dot (46).
 abbrev pub IsVersion : ℕ → ℕ → List ℕ → Type 0
-IsVersion major minor text = (front back : List ℕ) × (text ≡ front ++ 46 ∷ back) × (decimal 255 front ≡ Some major) × (decimal 255 back ≡ Some minor)
+IsVersion major minor text = (front back : List ℕ) × (text ≡ front ++ 46 ∷ back) × (decimal 255 front ≡ Some major)
+    × (decimal 255 back ≡ Some minor)
 
 -- The words are `package NAME AID MAJOR.MINOR` of the list.
 abbrev pub SaysPackage : Listing → List (List ℕ) → Type 0
-SaysPackage list ws = (digits numbers : List ℕ) × (ws ≡ codes "package" ∷ list.package ∷ digits ∷ numbers ∷ []) × (is_name list.package ≡ true) × IsAid list.aid digits × IsVersion list.major list.minor numbers
+SaysPackage list ws = (digits numbers : List ℕ) × (ws ≡ codes "package" ∷ list.package ∷ digits ∷ numbers ∷ [])
+    × (is_name list.package ≡ true) × IsAid list.aid digits × IsVersion list.major list.minor numbers
 
 -- `class` for a class file and `export` for an export file
 abbrev pub keyword : Bool → List ℕ
@@ -32,7 +34,8 @@ keyword false = codes "export"
 
 -- The words are `applet CLASS AID`, `class FILE` or `export FILE`, and say this.
 abbrev pub Says : Item → List (List ℕ) → Type 0
-Says (Applet a) ws = (digits : List ℕ) × (ws ≡ codes "applet" ∷ a.class ∷ digits ∷ []) × (is_name a.class ≡ true) × IsAid a.aid digits
+Says (Applet a) ws = (digits : List ℕ) × (ws ≡ codes "applet" ∷ a.class ∷ digits ∷ []) × (is_name a.class ≡ true)
+    × IsAid a.aid digits
 Says (File f) ws = ws ≡ keyword f.class_file ∷ f.name ∷ []
 
 -- The words of the line have the property.
@@ -82,11 +85,13 @@ IsBeginning name (first ∷ rest) = (list : Listing) × Spelt name list first re
 -- The line at k is the first with which the lines are no longer the beginning of a list.
 abbrev pub IsMalformedAt : List ℕ → List TextLine → ℕ → Type 0
 IsMalformedAt name lines k =
-    (before after : List TextLine) × (l : TextLine) × (lines ≡ before ++ l ∷ after) × IsBeginning name before × (¬ IsBeginning name (before ++ l ∷ [])) × (k ≡ l.at)
+    (before after : List TextLine) × (l : TextLine) × (lines ≡ before ++ l ∷ after) × IsBeginning name before
+    × (¬ IsBeginning name (before ++ l ∷ [])) × (k ≡ l.at)
 
 -- The text spells the list, but for a class line.
 abbrev pub TextSpells : List ℕ → Listing → List ℕ → Type 0
-TextSpells name list text = (first : TextLine) × (rest : List TextLine) × (kept_lines text ≡ first ∷ rest) × Spelt name list first rest
+TextSpells name list text = (first : TextLine) × (rest : List TextLine) × (kept_lines text ≡ first ∷ rest)
+    × Spelt name list first rest
 
 -- The text spells the list.
 abbrev pub IsSpelt : List ℕ → Listing → List ℕ → Type 0
@@ -98,7 +103,8 @@ abbrev pub IsBroken : List ℕ → List ℕ → Refusal → Type 0
 IsBroken name text r =
     ((k : ℕ) × IsMalformedAt name (kept_lines text) k × (r ≡ refusal name 107 k))
     ⊎ (((kept_lines text ≡ []) × (r ≡ refusal name 107 (length text)))
-    ⊎ ((list : Listing) × TextSpells name list text × (class_count list.lines ≡ 0) × (r ≡ refusal name 108 (length text))))
+    ⊎ ((list : Listing) × TextSpells name list text × (class_count list.lines ≡ 0)
+    × (r ≡ refusal name 108 (length text))))
 
 -- The error says which rule the text breaks, or that memory ran out.
 abbrev pub SaysBroken : List ℕ → List ℕ → Fault → Type 0

@@ -3,7 +3,8 @@
 ghost use Rattle.std.specs.Prelude.{◌≡◌, ◌==◌, position};
 ghost use Rattle.std.specs.List.{list_all};
 ghost use Rattle.cjc_bytes.specs.Found.{Finds, kept};
-ghost use Rattle.cjc_list.specs.Grammar.{is_name_byte, is_name_part, is_name, aid_of, version_of, begun, package_of, applet_of, item_of, class_count, export_count, has_room, with_item, with_line};
+ghost use Rattle.cjc_list.specs.Grammar.{is_name_byte, is_name_part, is_name, aid_of, version_of, begun, package_of};
+ghost use Rattle.cjc_list.specs.Grammar.{applet_of, item_of, class_count, export_count, has_room, with_item, with_line};
 ghost use Rattle.cjc_list.specs.Listed.{said};
 
 use crate::listing::List;

@@ -95,5 +95,6 @@ pub fn listings()
     ensures list { (name text : Codes) (s t : ListTree) → IsSpelt name s text → IsSpelt name t text → s ≡ t }
     ensures refusal { (name text : Codes) (r s : Refused) → IsBroken name text r → IsBroken name text s → r ≡ s }
     ensures both { (name text : Codes) (t : ListTree) (r : Refused) → IsSpelt name t text → IsBroken name text r → ⊥ }
-    ensures either { (name text : Codes) → ((t : ListTree) × IsSpelt name t text) ⊎ ((r : Refused) × IsBroken name text r) }
+    ensures either { (name text : Codes) → ((t : ListTree) × IsSpelt name t text)
+        ⊎ ((r : Refused) × IsBroken name text r) }
 {}

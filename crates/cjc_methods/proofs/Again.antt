@@ -7,24 +7,28 @@ use Rattle.cjc_types.specs.declared.state.State.{State}
 use Rattle.cjc_world.specs.declared.found.Found.{Found}
 use Rattle.cjc_world.specs.Classes.{all_classes}
 use Rattle.cjc_world.specs.Files.{Files}
-use Rattle.cjc_by_name.specs.Linked.{Method}
-use Rattle.cjc_by_name.specs.OnePackage.{method_at}
+use Rattle.cjc_jvm_semantics.specs.Linked.{Method}
+use Rattle.cjc_jvm_semantics.specs.OnePackage.{method_at}
 use Rattle.cjc_ncode.specs.declared.narrow.NMethod.{NMethod}
 use Rattle.cjc_ncode.specs.PoolOrder.{class_key, has_catch_type, insn_keys, is_some, method_keys, pool_order}
 use Rattle.cjc_ncode.specs.Written.{reached}
-use Rattle.cjc_keys.proofs.Indices.{same_pool}
-use Rattle.cjc_narrow.specs.Forms.{FormsOnly}
-use Rattle.cjc_narrow.specs.Package.{code_of}
-use Rattle.cjc_narrow.specs.Resolved.{is_near, resolution}
-use Rattle.cjc_narrow.specs.Selected.{near_fields}
-use Rattle.cjc_narrow.proofs.Keys.{forms_only}
+use Rattle.cjc_narrow.proofs.KeysLaws.Indices.{same_pool}
+use Rattle.cjc_narrow.specs.Rows.Forms.{FormsOnly}
+use Rattle.cjc_narrow.specs.Rows.Package.{code_of}
+use Rattle.cjc_narrow.specs.Rows.Resolved.{is_near, resolution}
+use Rattle.cjc_narrow.specs.Rows.Selected.{near_fields}
+use Rattle.cjc_narrow.proofs.RowsLaws.Keys.{forms_only}
 use Rattle.cjc_components.specs.Written.{code_at, code_by}
 
 module _ (files : Files) (rows : Method → List (Option State)) (before after : List MemberId) where
-  only_forms : (m : Method) → (let id = m.id in FormsOnly (resolution files before id.class) (is_near (all_classes files) after) (reached m.insns (rows m)))
-  only_forms m = let id = m.id in forms_only (resolution files before id.class) (is_near (all_classes files) after) (reached m.insns (rows m))
+  only_forms : (m : Method)
+      → (let id = m.id in FormsOnly (resolution files before id.class) (is_near (all_classes files) after)
+      (reached m.insns (rows m)))
+  only_forms m = let id = m.id in forms_only (resolution files before id.class) (is_near (all_classes files) after)
+      (reached m.insns (rows m))
 
-  same_insns : (m : Method) → flat_map insn_keys (code_of files before rows m).insns ≡ flat_map insn_keys (code_of files after rows m).insns
+  same_insns : (m : Method) → flat_map insn_keys (code_of files before rows m).insns
+      ≡ flat_map insn_keys (code_of files after rows m).insns
   unfolding resolution
   same_insns m = sym (only_forms m).keys
 
@@ -32,35 +36,45 @@ module _ (files : Files) (rows : Method → List (Option State)) (before after :
   unfolding resolution
   same_catches m = sym ((only_forms m).catches m.catches)
 
-  keys_of : (f : Found) (o : Option Method) → method_keys (code_by files before rows f o) ≡ method_keys (code_by files after rows f o)
+  keys_of : (f : Found) (o : Option Method) → method_keys (code_by files before rows f o)
+      ≡ method_keys (code_by files after rows f o)
   keys_of f None = refl
   keys_of f (Some m) =
       ap (λ ks. ks ++ flat_map (λ c. class_key c.class) (code_of files before rows m).catches) (same_insns m)
-      ∙ ap (λ cs. flat_map insn_keys (code_of files after rows m).insns ++ flat_map (λ c. class_key c.class) cs) (same_catches m)
+      ∙ ap (λ cs. flat_map insn_keys (code_of files after rows m).insns ++ flat_map (λ c. class_key c.class) cs)
+      (same_catches m)
 
-  types_of : (f : Found) (o : Option Method) → has_catch_type (code_by files before rows f o) ≡ has_catch_type (code_by files after rows f o)
+  types_of : (f : Found) (o : Option Method) → has_catch_type (code_by files before rows f o)
+      ≡ has_catch_type (code_by files after rows f o)
   types_of f None = refl
   types_of f (Some m) = ap (λ cs. list_any (λ c. is_some c.class) cs) (same_catches m)
 
-  all_keys : (fs : List Found) → map method_keys (map (code_at files before rows) fs) ≡ map method_keys (map (code_at files after rows) fs)
+  all_keys : (fs : List Found) → map method_keys (map (code_at files before rows) fs)
+      ≡ map method_keys (map (code_at files after rows) fs)
   all_keys [] = refl
   all_keys (f ∷ fs) =
       ap (λ ks. ks ∷ map method_keys (map (code_at files before rows) fs)) (keys_of f (method_at files f))
       ∙ ap (λ rest. method_keys (code_at files after rows f) ∷ rest) (all_keys fs)
 
-  all_types : (fs : List Found) → map has_catch_type (map (code_at files before rows) fs) ≡ map has_catch_type (map (code_at files after rows) fs)
+  all_types : (fs : List Found) → map has_catch_type (map (code_at files before rows) fs)
+      ≡ map has_catch_type (map (code_at files after rows) fs)
   all_types [] = refl
   all_types (f ∷ fs) =
       ap (λ b. b ∷ map has_catch_type (map (code_at files before rows) fs)) (types_of f (method_at files f))
       ∙ ap (λ rest. has_catch_type (code_at files after rows f) ∷ rest) (all_types fs)
 
-  pub same_pools : (fs : List Found) → pool_order (map (code_at files before rows) fs) ≡ pool_order (map (code_at files after rows) fs)
-  same_pools fs = same_pool (map (code_at files before rows) fs) (map (code_at files after rows) fs) (all_keys fs) (all_types fs)
+  pub same_pools : (fs : List Found) → pool_order (map (code_at files before rows) fs)
+      ≡ pool_order (map (code_at files after rows) fs)
+  same_pools fs = same_pool (map (code_at files before rows) fs) (map (code_at files after rows) fs) (all_keys fs)
+      (all_types fs)
 
 -- Code that is selected by its own pool.
-pub by_own_pool : (files : Files) (rows : Method → List (Option State)) (fs : List Found) (before : List MemberId) (first last : List NMethod) → first ≡ map (code_at files before rows) fs
-    → last ≡ map (code_at files (near_fields (pool_order first)) rows) fs → last ≡ map (code_at files (near_fields (pool_order last)) rows) fs
+pub by_own_pool : (files : Files) (rows : Method → List (Option State)) (fs : List Found) (before : List MemberId)
+    (first last : List NMethod) → first ≡ map (code_at files before rows) fs
+    → last ≡ map (code_at files (near_fields (pool_order first)) rows) fs
+    → last ≡ map (code_at files (near_fields (pool_order last)) rows) fs
 by_own_pool files rows fs before first last e f =
     let near = near_fields (pool_order first) in
-    let pools : pool_order first ≡ pool_order last = ap pool_order e ∙ same_pools files rows before near fs ∙ ap pool_order (sym f) in
+    let pools : pool_order first ≡ pool_order last = ap pool_order e ∙ same_pools files rows before near fs
+    ∙ ap pool_order (sym f) in
     f ∙ ap (λ pool. map (code_at files (near_fields pool) rows) fs) pools

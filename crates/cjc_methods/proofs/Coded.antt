@@ -13,13 +13,13 @@ use Rattle.cjc_types.specs.declared.table.TypeTable.{TypeTable}
 use Rattle.cjc_world.specs.declared.found.Found.{Found}
 use Rattle.cjc_world.specs.Classes.{Class, Member, declared, all_classes, class_at}
 use Rattle.cjc_world.specs.Files.{Files}
-use Rattle.cjc_by_name.specs.Linked.{Method}
-use Rattle.cjc_by_name.specs.OnePackage.{method_at, method_by, method_in}
-use Rattle.cjc_narrow.specs.Package.{code_of, flags_of}
-use Rattle.cjc_narrow.specs.Resolved.{argument_words, method_found, resolution}
-use Rattle.cjc_narrow.specs.Selected.{selected_code}
+use Rattle.cjc_jvm_semantics.specs.Linked.{Method}
+use Rattle.cjc_jvm_semantics.specs.OnePackage.{method_at, method_by, method_in}
+use Rattle.cjc_narrow.specs.Rows.Package.{code_of, flags_of}
+use Rattle.cjc_narrow.specs.Rows.Resolved.{argument_words, method_found, resolution}
+use Rattle.cjc_narrow.specs.Rows.Selected.{selected_code}
 use Rattle.cjc_ncode.specs.Written.{narrow_method}
-use Rattle.cjc_written.specs.Rows.{by_rows_there, has_rows, rows_by}
+use Rattle.cjc_narrow.specs.Written.Rows.{by_rows_there, has_rows, rows_by}
 use Rattle.cjc_components.specs.Descriptor as Descriptor
 use Rattle.cjc_components.specs.Written.{added_words, code_at, code_by, no_code}
 use Rattle.cjc_methods.specs.Ready.{AreReady, AreRows, states}
@@ -28,7 +28,8 @@ use Rattle.cjc_methods.proofs.Owned.{own_method}
 
 -- ---- the method of a member
 
-found_at : (files : Files) (f : Found) (t : ClassTree) (o : Option MethodTree) → f.imported ≡ false → slice_get files.classes f.class ≡ Some t → slice_get t.methods (f.member - length t.fields) ≡ o
+found_at : (files : Files) (f : Found) (t : ClassTree) (o : Option MethodTree) → f.imported ≡ false
+    → slice_get files.classes f.class ≡ Some t → slice_get t.methods (f.member - length t.fields) ≡ o
     → method_at files f ≡ option_map (λ (m : MethodTree). method_by t m m.code) o
 found_at files f t o own is e =
     ap (λ b. if b then None else option_and_then (method_in f.member) (slice_get files.classes f.class)) own
@@ -37,54 +38,101 @@ found_at files f t o own is e =
 
 -- ---- one with code
 
-insns_are : (files : Files) (code : MethodCode) (class : ClassTree) (method : MethodTree) (tree : CodeTree) → IsMethodOf files code class method tree → decoded class method tree ≡ code.insns
+insns_are : (files : Files) (code : MethodCode) (class : ClassTree) (method : MethodTree) (tree : CodeTree)
+    → IsMethodOf files code class method tree → decoded class method tree ≡ code.insns
 unfolding decoded
 insns_are files code class method tree of =
-    let e : decoding class method tree ≡ Ok code.insns = sym (ap (of_method class) of.is_method ∙ ap (of_code class method) of.is_code) ∙ of.insns in
+    let e : decoding class method tree ≡ Ok code.insns = sym (ap (of_method class) of.is_method
+    ∙ ap (of_code class method) of.is_code) ∙ of.insns in
     ap insns_of e
 
 module _ (files : Files) (near : List MemberId) (rows : Method → List (Option State)) where
   selected_for : (code : MethodCode) (class : ClassTree) (method : MethodTree) (tree : CodeTree) (table : TypeTable)
-      → flags_of (method_found (all_classes files) (record { class = class.name; name = method.name; desc = method.desc })) ≡ method.flags
-      → decoded class method tree ≡ code.insns → rows (method_by class method (Some tree)) ≡ states code class method tree table
-      → code_of files near rows (method_by class method (Some tree)) ≡ selected_code files near class method tree code.insns (rows_by (has_rows (states code class method tree table)))
+      → flags_of (method_found (all_classes files) (record {
+        class = class.name;
+        name = method.name;
+        desc = method.desc;
+      })) ≡ method.flags
+      → decoded class method tree ≡ code.insns → rows (method_by class method (Some tree)) ≡ states code class method
+      tree table
+      → code_of files near rows (method_by class method (Some tree)) ≡ selected_code files near class method tree
+      code.insns (rows_by (has_rows (states code class method tree table)))
   selected_for code class method tree table found insns same =
       let r = resolution files near class.name in
       let n = argument_words method.flags method.desc in
-      ap (λ flags. narrow_method r tree (argument_words flags method.desc) (decoded class method tree) (rows (method_by class method (Some tree)))) found
+      ap (λ flags. narrow_method r tree (argument_words flags method.desc) (decoded class method tree)
+      (rows (method_by class method (Some tree)))) found
       ∙ ap (λ is. narrow_method r tree n is (rows (method_by class method (Some tree)))) insns
       ∙ ap (λ rs. narrow_method r tree n code.insns rs) same
       ∙ by_rows_there r tree n code.insns (states code class method tree table)
 
-  pub with_code : (codes : List MethodCode) (types : List TypeTable) → AreReady files codes types → AreRows files codes types rows → (f : Found) (t : ClassTree) (k : ℕ) → f.imported ≡ false → slice_get files.classes f.class ≡ Some t
-      → (h : HasPlace files codes f.class (f.member - length t.fields) k) → (table : TypeTable) → slice_get types k ≡ Some table
-      → code_at files near rows f ≡ selected_code files near h.class h.method h.tree h.code.insns (rows_by (has_rows (states h.code h.class h.method h.tree table)))
+  pub with_code : (codes : List MethodCode) (types : List TypeTable) → AreReady files codes types
+      → AreRows files codes types rows → (f : Found) (t : ClassTree) (k : ℕ) → f.imported ≡ false
+      → slice_get files.classes f.class ≡ Some t
+      → (h : HasPlace files codes f.class (f.member - length t.fields) k) → (table : TypeTable)
+      → slice_get types k ≡ Some table
+      → code_at files near rows f ≡ selected_code files near h.class h.method h.tree h.code.insns
+      (rows_by (has_rows (states h.code h.class h.method h.tree table)))
   with_code codes types ready are f t k own is h table is_table =
       let same : h.class ≡ t = (let p = sym h.is_class ∙ is in cc) in
-      let there : slice_get h.class.methods (f.member - length h.class.fields) ≡ Some h.method = ap (λ (x : ClassTree). slice_get h.class.methods (f.member - length x.fields)) same ∙ h.is_method in
-      ap (code_by files near rows f) (found_at files f h.class (Some h.method) own h.is_class there ∙ ap (λ o. Some (method_by h.class h.method o)) h.is_tree)
-      ∙ selected_for h.code h.class h.method h.tree table (ready.found f.class (f.member - length t.fields) h.class h.method h.is_class h.is_method)
-      (insns_are files h.code h.class h.method h.tree h.is_own) (are k h.code table h.is_code is_table h.class h.method h.tree h.is_own)
+      let there : slice_get h.class.methods (f.member - length h.class.fields) ≡ Some h.method =
+      ap (λ (x : ClassTree). slice_get h.class.methods (f.member - length x.fields)) same ∙ h.is_method in
+      ap (code_by files near rows f) (found_at files f h.class (Some h.method) own h.is_class there
+      ∙ ap (λ o. Some (method_by h.class h.method o)) h.is_tree)
+      ∙ selected_for h.code h.class h.method h.tree table (ready.found f.class (f.member - length t.fields) h.class
+      h.method h.is_class h.is_method)
+      (insns_are files h.code h.class h.method h.tree h.is_own) (are k h.code table h.is_code is_table h.class h.method
+      h.tree h.is_own)
 
   -- ---- one without
 
   zero_minus : (n : ℕ) → 0 - n ≡ 0
   zero_minus n = omega arith
 
-  nothing_written : (class : ClassTree) (method : MethodTree) → flags_of (method_found (all_classes files) (record { class = class.name; name = method.name; desc = method.desc })) ≡ method.flags
+  nothing_written : (class : ClassTree) (method : MethodTree)
+      → flags_of (method_found (all_classes files) (record {
+        class = class.name;
+        name = method.name;
+        desc = method.desc;
+      })) ≡ method.flags
       → code_of files near rows (method_by class method None) ≡ no_code (argument_words method.flags method.desc)
   nothing_written class method found =
-      ap (λ l. record { insns = []; from = []; catches = []; max_stack = 0; nargs = argument_words (flags_of (method_found (all_classes files) (record { class = class.name; name = method.name; desc = method.desc }))) method.desc; max_locals = l; widest = 0 })
-      (zero_minus (argument_words (flags_of (method_found (all_classes files) (record { class = class.name; name = method.name; desc = method.desc }))) method.desc))
+      ap (λ l. record {
+        insns = [];
+        from = [];
+        catches = [];
+        max_stack = 0;
+        nargs = argument_words (flags_of (method_found (all_classes files) (record {
+          class = class.name;
+          name = method.name;
+          desc = method.desc;
+        }))) method.desc;
+        max_locals = l;
+        widest = 0;
+      })
+      (zero_minus (argument_words (flags_of (method_found (all_classes files) (record {
+        class = class.name;
+        name = method.name;
+        desc = method.desc;
+      }))) method.desc))
       ∙ ap (λ flags. no_code (argument_words flags method.desc)) found
 
-  pub without_code : (codes : List MethodCode) (types : List TypeTable) → AreReady files codes types → (f : Found) (t : ClassTree) (c : Class) → f.imported ≡ false → slice_get files.classes f.class ≡ Some t → class_at (all_classes files) f.imported f.class ≡ Some c → c ≡ declared f.class t
-      → HasNone files f.class (f.member - length t.fields) → (let m = Descriptor.method_in (all_classes files) c f.member in code_at files near rows f ≡ no_code (argument_words m.flags m.desc))
+  pub without_code : (codes : List MethodCode) (types : List TypeTable) → AreReady files codes types
+      → (f : Found) (t : ClassTree) (c : Class) → f.imported ≡ false → slice_get files.classes f.class ≡ Some t
+      → class_at (all_classes files) f.imported f.class ≡ Some c → c ≡ declared f.class t
+      → HasNone files f.class (f.member - length t.fields)
+      → (let m = Descriptor.method_in (all_classes files) c f.member in code_at files near rows f
+      ≡ no_code (argument_words m.flags m.desc))
   without_code codes types ready f t c own is at class none = by (slice_get t.methods (f.member - length t.fields)) refl
     where
-      by : (o : Option MethodTree) → slice_get t.methods (f.member - length t.fields) ≡ o → (let m = Descriptor.method_in (all_classes files) c f.member in code_at files near rows f ≡ no_code (argument_words m.flags m.desc))
-      by None e = ap (code_by files near rows f) (found_at files f t None own is e) ∙ ap (λ o. no_code (added_words (all_classes files) f o)) at
+      by : (o : Option MethodTree) → slice_get t.methods (f.member - length t.fields) ≡ o
+          → (let m = Descriptor.method_in (all_classes files) c f.member in code_at files near rows f
+          ≡ no_code (argument_words m.flags m.desc))
+      by None e = ap (code_by files near rows f) (found_at files f t None own is e)
+          ∙ ap (λ o. no_code (added_words (all_classes files) f o)) at
       by (Some method) e =
-          ap (code_by files near rows f) (found_at files f t (Some method) own is e ∙ ap (λ o. Some (method_by t method o)) (none t method is e))
+          ap (code_by files near rows f) (found_at files f t (Some method) own is e
+          ∙ ap (λ o. Some (method_by t method o)) (none t method is e))
           ∙ nothing_written t method (ready.found f.class (f.member - length t.fields) t method is e)
-          ∙ ap (λ (m : Member). no_code (argument_words m.flags m.desc)) (sym (own_method (all_classes files) f.class t c f.member method class e))
+          ∙ ap (λ (m : Member). no_code (argument_words m.flags m.desc)) (sym (own_method (all_classes files) f.class t
+          c f.member method class e))

@@ -11,3 +11,5 @@ pub mod Ownership
 mod Spotted
 pub mod Alike
 mod Laid
+pub mod LayoutsLaws
+pub mod ComponentLaws

@@ -12,7 +12,7 @@ use Rattle.cjc_types.specs.declared.table.TypeTable.{TypeTable}
 use Rattle.cjc_world.specs.declared.found.Found.{Found}
 use Rattle.cjc_world.specs.Classes.{Member, Class, declared, all_classes, class_at}
 use Rattle.cjc_world.specs.Files.{Files}
-use Rattle.cjc_narrow.specs.Resolved.{argument_words}
+use Rattle.cjc_narrow.specs.Rows.Resolved.{argument_words}
 use Rattle.cjc_vtable.proofs.Numbers.{at-tree}
 use Rattle.cjc_methods.specs.declared.method.Signature.{Signature}
 use Rattle.cjc_methods.specs.Ready.{AreReady, IsOwn}
@@ -26,30 +26,41 @@ if_more f (Ok x) p = f x p
 if_more f (Err e) p = tt
 
 -- the class file of a member's class
-pub tree_at : (files : Files) (f : Found) → IsOwn files f → (t : ClassTree) × (slice_get files.classes f.class ≡ Some t) × ((c : Class) → class_at (all_classes files) f.imported f.class ≡ Some c → c ≡ declared f.class t)
+pub tree_at : (files : Files) (f : Found) → IsOwn files f → (t : ClassTree) × (slice_get files.classes f.class ≡ Some t)
+    × ((c : Class) → class_at (all_classes files) f.imported f.class ≡ Some c → c ≡ declared f.class t)
 tree_at files f o =
-    let e : class_at (all_classes files) false f.class ≡ Some o.class = ap (λ b. class_at (all_classes files) b f.class) (sym o.own) ∙ o.is_class in
+    let e : class_at (all_classes files) false f.class ≡ Some o.class = ap (λ b. class_at (all_classes files) b f.class)
+    (sym o.own) ∙ o.is_class in
     let (t, is, same) = at-tree files f.class o.class e in
     (t, is, λ c h. (let g : c ≡ o.class = (let p = sym h ∙ o.is_class in cc) in g ∙ same))
 
 -- the place of a method in its class file
-pub place_is : (p i : ℕ) (fields : List FieldTree) (class t : ClassTree) → i ≡ p - length fields → fields ≡ class.fields → class ≡ t → i ≡ p - length t.fields
-place_is p i fields class t e f g = e ∙ ap (λ (fs : List FieldTree). p - length fs) (f ∙ ap (λ (x : ClassTree). x.fields) g)
+pub place_is : (p i : ℕ) (fields : List FieldTree) (class t : ClassTree) → i ≡ p - length fields → fields ≡ class.fields
+    → class ≡ t → i ≡ p - length t.fields
+place_is p i fields class t e f g = e ∙ ap (λ (fs : List FieldTree). p - length fs) (f
+    ∙ ap (λ (x : ClassTree). x.fields) g)
 
 -- a method that is read
-pub method_read : (ms : List MethodTree) (class t : ClassTree) (i j : ℕ) (m : MethodTree) → ms ≡ class.methods → class ≡ t → i ≡ j → i < length ms → m ≡ get_or ms i m → slice_get t.methods j ≡ Some m
+pub method_read : (ms : List MethodTree) (class t : ClassTree) (i j : ℕ) (m : MethodTree) → ms ≡ class.methods
+    → class ≡ t → i ≡ j → i < length ms → m ≡ get_or ms i m → slice_get t.methods j ≡ Some m
 method_read ms class t i j m e g at lt is =
-    ap (slice_get t.methods) (sym at) ∙ ap (λ (xs : List MethodTree). slice_get xs i) (sym (e ∙ ap (λ (x : ClassTree). x.methods) g)) ∙ slice_get-get_or ms i m lt ∙ ap Some (sym is)
+    ap (slice_get t.methods) (sym at) ∙ ap (λ (xs : List MethodTree). slice_get xs i) (sym (e
+    ∙ ap (λ (x : ClassTree). x.methods) g)) ∙ slice_get-get_or ms i m lt ∙ ap Some (sym is)
 
-pub no_method_read : (ms : List MethodTree) (class t : ClassTree) (i j : ℕ) → ms ≡ class.methods → class ≡ t → i ≡ j → length ms ≤ i → slice_get t.methods j ≡ None
-no_method_read ms class t i j e g at le = ap (slice_get t.methods) (sym at) ∙ ap (λ (xs : List MethodTree). slice_get xs i) (sym (e ∙ ap (λ (x : ClassTree). x.methods) g)) ∙ slice_get_past ms i le
+pub no_method_read : (ms : List MethodTree) (class t : ClassTree) (i j : ℕ) → ms ≡ class.methods → class ≡ t → i ≡ j
+    → length ms ≤ i → slice_get t.methods j ≡ None
+no_method_read ms class t i j e g at le = ap (slice_get t.methods) (sym at)
+    ∙ ap (λ (xs : List MethodTree). slice_get xs i) (sym (e ∙ ap (λ (x : ClassTree). x.methods) g))
+    ∙ slice_get_past ms i le
 
 -- ---- the code of a member
 
-module _ (files : Files) (codes : List MethodCode) (types : List TypeTable) (n i j : ℕ) (t : ClassTree) (rows : List (List (Option ℕ))) (ready : AreReady files codes types) (is : slice_get files.classes n ≡ Some t)
+module _ (files : Files) (codes : List MethodCode) (types : List TypeTable) (n i j : ℕ) (t : ClassTree)
+    (rows : List (List (Option ℕ))) (ready : AreReady files codes types) (is : slice_get files.classes n ≡ Some t)
     (at : i ≡ j) (kept : rows ≡ class_places 0 files.classes) where
   kept_place : (o : Option ℕ) → o ≡ place_in rows n i → IsPlaced files codes n j o
-  kept_place o e = subst (IsPlaced files codes n j) (sym (e ∙ ap (place_in rows n) at ∙ ap (λ rs. place_in rs n j) kept)) (placed files codes types n j t ready is)
+  kept_place o e = subst (IsPlaced files codes n j) (sym (e ∙ ap (place_in rows n) at
+      ∙ ap (λ rs. place_in rs n j) kept)) (placed files codes types n j t ready is)
 
   pub has_place : (k : ℕ) → Some k ≡ place_in rows n i → HasPlace files codes n j k
   has_place k e = kept_place (Some k) e
@@ -58,7 +69,8 @@ module _ (files : Files) (codes : List MethodCode) (types : List TypeTable) (n i
   has_none e = kept_place None e
 
 -- the same place with the code that is read there
-abbrev pub with_read : {files : Files} {codes : List MethodCode} {n i k : ℕ} (x : MethodCode) → slice_get codes k ≡ Some x → HasPlace files codes n i k → HasPlace files codes n i k
+abbrev pub with_read : {files : Files} {codes : List MethodCode} {n i k : ℕ} (x : MethodCode)
+    → slice_get codes k ≡ Some x → HasPlace files codes n i k → HasPlace files codes n i k
 with_read {files} {codes} x e h = record {
   class = h.class;
   method = h.method;
@@ -68,12 +80,14 @@ with_read {files} {codes} x e h = record {
   is_method = h.is_method;
   is_tree = h.is_tree;
   is_code = e;
-  is_own = subst (λ (y : MethodCode). IsMethodOf files y h.class h.method h.tree) (let p = sym h.is_code ∙ e in cc) h.is_own;
+  is_own = subst (λ (y : MethodCode). IsMethodOf files y h.class h.method h.tree) (let p = sym h.is_code ∙ e
+      in cc) h.is_own;
 }
 
 -- ---- words
 
-pub words_like : (s : Signature) (m : Member) → IsLike s m → argument_words s.flags s.desc.now ≡ argument_words m.flags m.desc
+pub words_like : (s : Signature) (m : Member) → IsLike s m → argument_words s.flags s.desc.now ≡ argument_words m.flags
+    m.desc
 words_like s m like = ap (λ flags. argument_words flags s.desc.now) like.flags ∙ ap (argument_words m.flags) like.desc
 
 pub few_words : (words n : ℕ) → words ≡ n → nat_lt 255 n ≡ false → words < 256
@@ -88,5 +102,7 @@ like_on s a b m like e q = record {
   desc = like.desc ∙ ap (λ (x : Member). x.desc) e ∙ q.2;
 }
 
-pub added_read : (files : Files) (n : ℕ) (ms : List MethodTree) (class t : ClassTree) (i j : ℕ) → ms ≡ class.methods → class ≡ t → i ≡ j → added_in files n (i - length ms) ≡ added_in files n (j - length t.methods)
-added_read files n ms class t i j e g at = ap (λ (xs : List MethodTree). added_in files n (i - length xs)) (e ∙ ap (λ (x : ClassTree). x.methods) g) ∙ ap (λ k. added_in files n (k - length t.methods)) at
+pub added_read : (files : Files) (n : ℕ) (ms : List MethodTree) (class t : ClassTree) (i j : ℕ) → ms ≡ class.methods
+    → class ≡ t → i ≡ j → added_in files n (i - length ms) ≡ added_in files n (j - length t.methods)
+added_read files n ms class t i j e g at = ap (λ (xs : List MethodTree). added_in files n (i - length xs)) (e
+    ∙ ap (λ (x : ClassTree). x.methods) g) ∙ ap (λ k. added_in files n (k - length t.methods)) at

@@ -7,19 +7,26 @@ use Rattle.cjc_classfile.specs.declared.tree.ClassTree.{ClassTree}
 use Rattle.cjc_classfile.specs.declared.tree.MethodTree.{MethodTree}
 use Rattle.cjc_code.specs.declared.insn.JInsn.{JInsn}
 use Rattle.cjc_world.specs.Files.{Files}
-use Rattle.cjc_narrow.specs.Selected.{selected_code}
-use Rattle.cjc_written.specs.Rows.{rows_by}
-use Rattle.cjc_select.specs.Select.{IsSelectable}
+use Rattle.cjc_narrow.specs.Rows.Selected.{selected_code}
+use Rattle.cjc_narrow.specs.Written.Rows.{rows_by}
+use Rattle.cjc_narrow.specs.Select.Select.{IsSelectable}
 
-pub tree_same : (method m : MethodTree) (tree t : CodeTree) → method.code ≡ Some tree → method ≡ m → m.code ≡ Some t → tree ≡ t
-tree_same method m tree t e same f = let both : Some tree ≡ Some t = sym e ∙ ap (λ (x : MethodTree). x.code) same ∙ f in cc
+pub tree_same : (method m : MethodTree) (tree t : CodeTree) → method.code ≡ Some tree → method ≡ m → m.code ≡ Some t
+    → tree ≡ t
+tree_same method m tree t e same f = let both : Some tree ≡ Some t = sym e ∙ ap (λ (x : MethodTree). x.code) same ∙ f
+    in cc
 
-pub selectable_here : (method m : MethodTree) (tree t : CodeTree) (insns is : List JInsn) (flags fs : List Bool) → method ≡ m → tree ≡ t → insns ≡ is → flags ≡ fs → IsSelectable m t is fs → IsSelectable method tree insns flags
+pub selectable_here : (method m : MethodTree) (tree t : CodeTree) (insns is : List JInsn) (flags fs : List Bool)
+    → method ≡ m → tree ≡ t → insns ≡ is → flags ≡ fs → IsSelectable m t is fs → IsSelectable method tree insns flags
 selectable_here method m tree t insns is flags fs a b c d s =
-    subst (λ (x : MethodTree). IsSelectable x tree insns flags) (sym a) (subst (λ (x : CodeTree). IsSelectable m x insns flags) (sym b)
-    (subst (λ (xs : List JInsn). IsSelectable m t xs flags) (sym c) (subst (λ (xs : List Bool). IsSelectable m t is xs) (sym d) s)))
+    subst (λ (x : MethodTree). IsSelectable x tree insns flags) (sym a) (subst (λ (x : CodeTree). IsSelectable m x insns
+    flags) (sym b)
+    (subst (λ (xs : List JInsn). IsSelectable m t xs flags) (sym c) (subst (λ (xs : List Bool). IsSelectable m t is xs)
+    (sym d) s)))
 
-pub selected_here : (files : Files) (near : List MemberId) (class k : ClassTree) (method m : MethodTree) (tree t : CodeTree) (insns is : List JInsn) (flags fs : List Bool) → class ≡ k → method ≡ m → tree ≡ t → insns ≡ is → flags ≡ fs
+pub selected_here : (files : Files) (near : List MemberId) (class k : ClassTree) (method m : MethodTree)
+    (tree t : CodeTree) (insns is : List JInsn) (flags fs : List Bool) → class ≡ k → method ≡ m → tree ≡ t → insns ≡ is
+    → flags ≡ fs
     → selected_code files near class method tree insns (rows_by flags) ≡ selected_code files near k m t is (rows_by fs)
 selected_here files near class k method m tree t insns is flags fs o a b c d =
     ap (λ (x : ClassTree). selected_code files near x method tree insns (rows_by flags)) o

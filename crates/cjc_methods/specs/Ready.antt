@@ -1,4 +1,5 @@
--- What is known of a package whose methods are written: the instructions and the types of each, and that it can be selected and laid out.
+-- What is known of a package whose methods are written: the instructions and the types of each, and that it can be
+-- selected and laid out.
 use Rattle.std.specs.Prelude.{◌≡◌, ℕ, ◌≤◌, List, length, map, slice_get, false, Option, Some, Ok}
 use Rattle.cjc_bytes.specs.declared.fault.MemberId.{MemberId}
 use Rattle.cjc_classfile.specs.Code.{CodeTree}
@@ -16,13 +17,13 @@ use Rattle.cjc_world.specs.declared.found.Found.{Found}
 use Rattle.cjc_world.specs.Classes.{Class, all_classes, class_at}
 use Rattle.cjc_world.specs.Files.{Files}
 use Rattle.cjc_world.specs.Order.{in_order}
-use Rattle.cjc_by_name.specs.Linked.{Method}
-use Rattle.cjc_by_name.specs.OnePackage.{method_by}
-use Rattle.cjc_narrow.specs.Package.{flags_of}
-use Rattle.cjc_narrow.specs.Resolved.{method_found}
-use Rattle.cjc_narrow.specs.Selected.{selected_code}
-use Rattle.cjc_written.specs.Rows.{has_rows, rows_by}
-use Rattle.cjc_select.specs.Select.{IsSelectable}
+use Rattle.cjc_jvm_semantics.specs.Linked.{Method}
+use Rattle.cjc_jvm_semantics.specs.OnePackage.{method_by}
+use Rattle.cjc_narrow.specs.Rows.Package.{flags_of}
+use Rattle.cjc_narrow.specs.Rows.Resolved.{method_found}
+use Rattle.cjc_narrow.specs.Rows.Selected.{selected_code}
+use Rattle.cjc_narrow.specs.Written.Rows.{has_rows, rows_by}
+use Rattle.cjc_narrow.specs.Select.Select.{IsSelectable}
 use Rattle.cjc_layout.specs.Layouts.{IsWhole}
 
 -- ---- classes and members
@@ -49,24 +50,38 @@ pub record IsDecoded (class : ClassTree) (method : MethodTree) (tree : CodeTree)
   pub insns : List JInsn
   pub decodes : decoding class method tree ≡ Ok insns
 
--- The table is of the types of the method, and what is selected by it can be laid out, whichever field instructions have an index of one byte.
-pub record IsReady (files : Files) (code : MethodCode) (class : ClassTree) (method : MethodTree) (tree : CodeTree) (table : TypeTable) : Type 0 where
+-- The table is of the types of the method, and what is selected by it can be laid out, whichever field instructions
+-- have an index of one byte.
+pub record IsReady (files : Files) (code : MethodCode) (class : ClassTree) (method : MethodTree) (tree : CodeTree)
+    (table : TypeTable) : Type 0 where
   pub types : IsTypeTable (all_classes files) (body_of class method tree code.insns) table
   pub selectable : IsSelectable method tree code.insns (has_rows (states code class method tree table))
-  pub whole : (near : List MemberId) → IsWhole (selected_code files near class method tree code.insns (rows_by (has_rows (states code class method tree table))))
+  pub whole : (near : List MemberId)
+      → IsWhole (selected_code files near class method tree code.insns
+      (rows_by (has_rows (states code class method tree table))))
 
--- The instructions of all methods with code, and the types of each. A look-up of a method's own name finds one with its flags.
+-- The instructions of all methods with code, and the types of each. A look-up of a method's own name finds one with its
+-- flags.
 pub record AreReady (files : Files) (codes : List MethodCode) (types : List TypeTable) : Type 0 where
   pub codes_are : codes ≡ all_codes files.classes
-  pub decoded : (n i : ℕ) (class : ClassTree) (method : MethodTree) (tree : CodeTree) → slice_get files.classes n ≡ Some class → slice_get class.methods i ≡ Some method → method.code ≡ Some tree → IsDecoded class method tree
-  pub found : (n i : ℕ) (class : ClassTree) (method : MethodTree) → slice_get files.classes n ≡ Some class → slice_get class.methods i ≡ Some method
-      → flags_of (method_found (all_classes files) (record { class = class.name; name = method.name; desc = method.desc })) ≡ method.flags
+  pub decoded : (n i : ℕ) (class : ClassTree) (method : MethodTree) (tree : CodeTree) → slice_get files.classes n
+      ≡ Some class → slice_get class.methods i ≡ Some method → method.code ≡ Some tree → IsDecoded class method tree
+  pub found : (n i : ℕ) (class : ClassTree) (method : MethodTree) → slice_get files.classes n ≡ Some class
+      → slice_get class.methods i ≡ Some method
+      → flags_of (method_found (all_classes files) (record {
+        class = class.name;
+        name = method.name;
+        desc = method.desc;
+      })) ≡ method.flags
   pub count : length types ≡ length codes
-  pub each : (k : ℕ) (code : MethodCode) (table : TypeTable) → slice_get codes k ≡ Some code → slice_get types k ≡ Some table
-      → (class : ClassTree) (method : MethodTree) (tree : CodeTree) → IsMethodOf files code class method tree → IsReady files code class method tree table
+  pub each : (k : ℕ) (code : MethodCode) (table : TypeTable) → slice_get codes k ≡ Some code
+      → slice_get types k ≡ Some table
+      → (class : ClassTree) (method : MethodTree) (tree : CodeTree) → IsMethodOf files code class method tree
+      → IsReady files code class method tree table
 
 -- Of each method the rows are the states that its types stand for.
 abbrev pub AreRows : Files → List MethodCode → List TypeTable → (Method → List (Option State)) → Type 0
 AreRows files codes types rows =
     (k : ℕ) (code : MethodCode) (table : TypeTable) → slice_get codes k ≡ Some code → slice_get types k ≡ Some table
-    → (class : ClassTree) (method : MethodTree) (tree : CodeTree) → IsMethodOf files code class method tree → rows (method_by class method (Some tree)) ≡ states code class method tree table
+    → (class : ClassTree) (method : MethodTree) (tree : CodeTree) → IsMethodOf files code class method tree
+    → rows (method_by class method (Some tree)) ≡ states code class method tree table

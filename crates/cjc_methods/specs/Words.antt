@@ -8,4 +8,5 @@ use Rattle.cjc_components.specs.Limits.{has_many_words}
 
 -- The parameters, with the receiver, need at most 255 words.
 abbrev pub HasRoom : Files → Found → Type 0
-HasRoom files f = (c : Class) → class_at (all_classes files) f.imported f.class ≡ Some c → has_many_words (method_in (all_classes files) c f.member) ≡ false
+HasRoom files f = (c : Class) → class_at (all_classes files) f.imported f.class ≡ Some c
+    → has_many_words (method_in (all_classes files) c f.member) ≡ false

@@ -3,9 +3,9 @@
 
 ghost use Rattle.std.specs.Prelude.{◌≡◌, List, Option, All, map, IfOk};
 ghost use Rattle.cjc_types.specs.declared.state.State.{State as Before};
-ghost use Rattle.cjc_by_name.specs.Linked.{Method};
+ghost use Rattle.cjc_jvm_semantics.specs.Linked.{Method};
 ghost use Rattle.cjc_ncode.specs.PoolOrder.{pool_order};
-ghost use Rattle.cjc_narrow.specs.Selected.{near_fields};
+ghost use Rattle.cjc_narrow.specs.Rows.Selected.{near_fields};
 ghost use Rattle.cjc_components.specs.Written.{code_at};
 ghost use Rattle.cjc_methods.specs.Ready.{AreReady, AreRows, IsOwn};
 ghost use Rattle.cjc_methods.specs.Words.{HasRoom};
@@ -14,7 +14,7 @@ use crate::places::class_places;
 use crate::selecting::{Sources, codes_at};
 use cjc_bytes::{NoMemory, Row};
 use cjc_code::MethodCode;
-use cjc_keys::{Numbers, number};
+use cjc_narrow::keys::{Numbers, number};
 use cjc_ncode::NMethod;
 use cjc_types::TypeTable;
 use cjc_world::{Found, World};
@@ -33,7 +33,8 @@ pub fn narrow_codes(
     requires ready { AreReady world.now codes.now types.now }
     requires own { All (IsOwn world.now) members.now }
     requires room { All (HasRoom world.now) members.now }
-    ensures { (rows : Method → List (Option Before)) → AreRows world.now codes.now types.now rows → IfOk result (λ ns. ns ≡ map (code_at world.now (near_fields (pool_order ns)) rows) members.now) }
+    ensures { (rows : Method → List (Option Before)) → AreRows world.now codes.now types.now rows
+        → IfOk result (λ ns. ns ≡ map (code_at world.now (near_fields (pool_order ns)) rows) members.now) }
 {
     let places = class_places(alloc, world.classes().items())?;
     let sources = Sources {

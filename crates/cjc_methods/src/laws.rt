@@ -11,10 +11,10 @@ ghost use Rattle.cjc_world.specs.declared.found.Found.{Found};
 ghost use Rattle.cjc_world.specs.Classes.{all_classes};
 ghost use Rattle.cjc_world.specs.Files.{Files};
 ghost use Rattle.cjc_world.specs.Order.{method_order};
-ghost use Rattle.cjc_by_name.specs.Linked.{Method};
+ghost use Rattle.cjc_jvm_semantics.specs.Linked.{Method};
 ghost use Rattle.cjc_ncode.specs.declared.narrow.NMethod.{NMethod};
 ghost use Rattle.cjc_ncode.specs.PoolOrder.{pool_order};
-ghost use Rattle.cjc_narrow.specs.Selected.{near_fields};
+ghost use Rattle.cjc_narrow.specs.Rows.Selected.{near_fields};
 ghost use Rattle.cjc_layout.specs.Layouts.{IsWhole};
 ghost use Rattle.cjc_components.specs.Package.{Package, codes};
 ghost use Rattle.cjc_components.specs.Written.{IsPackage, code_at};
@@ -25,11 +25,14 @@ ghost use Rattle.cjc_methods.specs.Ready.{AreReady, AreRows, IsOwn};
 pub fn methods_can_be_laid_out()
     ensures { (files : Files) (codes : List MethodCode) (types : List TypeTable) → AreReady files codes types
         → (rows : Method → List (Option State)) → AreRows files codes types rows
-        → (near : List MemberId) (members : List Found) → All (IsOwn files) members → All IsWhole (map (code_at files near rows) members) }
+        → (near : List MemberId) (members : List Found) → All (IsOwn files) members
+        → All IsWhole (map (code_at files near rows) members) }
 {}
 
 /// A package has the narrow code that is selected by its own pool, and no other.
 pub fn codes_are_by_their_own_pool()
-    ensures { (list : ListTree) (files : Files) (insns : List MethodCode) (rows : Method → List (Option State)) (p : Package) → IsPackage list files insns rows p
-        → (narrow : List NMethod) → narrow ≡ map (code_at files (near_fields (pool_order narrow)) rows) (method_order (all_classes files)) → codes p ≡ narrow }
+    ensures { (list : ListTree) (files : Files) (insns : List MethodCode) (rows : Method
+        → List (Option State)) (p : Package) → IsPackage list files insns rows p
+        → (narrow : List NMethod) → narrow ≡ map (code_at files (near_fields (pool_order narrow)) rows)
+        (method_order (all_classes files)) → codes p ≡ narrow }
 {}

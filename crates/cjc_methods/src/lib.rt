@@ -4,7 +4,9 @@
 #![tactic(auto)]
 
 mod codes;
+pub mod component;
 mod laws;
+pub mod layouts;
 mod method;
 mod order;
 mod places;

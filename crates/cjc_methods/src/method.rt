@@ -40,7 +40,8 @@ fn added<'w>(world: &'w World<'_>, class: u32, place: usize) -> Signature<'w>
 /// The method that a member of a class of the package is.
 pub(crate) fn method_in<'w>(world: &'w World<'_>, member: Found) -> Signature<'w>
     requires { IsOwn world.now member }
-    ensures { (c : Class) → class_at (all_classes world.now) member.imported member.class ≡ Some c → IsLike result (method_in (all_classes world.now) c member.member) }
+    ensures { (c : Class) → class_at (all_classes world.now) member.imported member.class ≡ Some c
+        → IsLike result (method_in (all_classes world.now) c member.member) }
 {
     let class = &world.classes().items()[member.class as usize];
     let methods = class.methods.items();

@@ -59,7 +59,8 @@ fn put_methods(
     class: &ClassTree<'_>,
     added: usize,
 ) -> Result<(), NoMemory>
-    ensures { OnOk result (out.new ≡ (out.old ++ written number (length class.now.fields) class.now.methods) ++ places number (length class.now.fields + length class.now.methods) added) }
+    ensures { OnOk result (out.new ≡ (out.old ++ written number (length class.now.fields) class.now.methods)
+        ++ places number (length class.now.fields + length class.now.methods) added) }
 {
     let first = class.fields.items().len();
     let behind = first + class.methods.items().len();
@@ -73,7 +74,8 @@ fn put_methods(
 /// Puts the methods of the class of a number at the end.
 fn put_class(out: &mut Row<Found>, world: &World<'_>, number: u32) -> Result<(), NoMemory>
     requires { (c : Class) × (class_at (all_classes world.now) false number ≡ Some c) }
-    ensures { (c : Class) → class_at (all_classes world.now) false number ≡ Some c → OnOk result (out.new ≡ out.old ++ methods_of_class (all_classes world.now) c) }
+    ensures { (c : Class) → class_at (all_classes world.now) false number ≡ Some c → OnOk result (out.new ≡ out.old
+        ++ methods_of_class (all_classes world.now) c) }
 {
     let class = &world.classes().items()[number as usize];
     put_methods(out, number, class, world.added(number).items().len())
@@ -94,5 +96,6 @@ pub fn method_order(alloc: Global, world: &World<'_>, order: &[u32]) -> Result<R
 
 /// The methods of a package are members of its classes. For whoever goes through them.
 pub fn methods_are_own()
-    ensures { (files : Files) (order : List ℕ) → AreOrdered files order → All (IsOwn files) (method_order (all_classes files)) }
+    ensures { (files : Files) (order : List ℕ) → AreOrdered files order
+        → All (IsOwn files) (method_order (all_classes files)) }
 {}

@@ -7,7 +7,7 @@ ghost use Rattle.cjc_classfile.specs.declared.tree.MethodTree.{MethodTree as Cla
 ghost use Rattle.cjc_types.specs.Flow.{body_of};
 ghost use Rattle.cjc_types.specs.Tables.{IsMethodOf, IsOfPackage, IsTypeTable, rows_of};
 ghost use Rattle.cjc_world.specs.Classes.{Class, all_classes};
-ghost use Rattle.cjc_written.specs.Rows.{has_rows};
+ghost use Rattle.cjc_narrow.specs.Written.Rows.{has_rows};
 
 use cjc_bytes::{NoMemory, Row};
 use cjc_code::MethodCode;
@@ -41,8 +41,10 @@ pub(crate) fn reached(
     types: &TypeTable,
 ) -> Result<Row<bool>, NoMemory>
     requires code { IsOfPackage world.now code.now }
-    requires types { (c : ClassFile) (m : ClassMethod) (t : CodeTree) → IsMethodOf world.now code.now c m t → IsTypeTable (all_classes world.now) (body_of c m t code.now.insns) types.now }
-    ensures { (c : ClassFile) (m : ClassMethod) (t : CodeTree) → IsMethodOf world.now code.now c m t → IfOk result (λ row. row ≡ has_rows (rows_of (body_of c m t code.now.insns) types.now)) }
+    requires types { (c : ClassFile) (m : ClassMethod) (t : CodeTree) → IsMethodOf world.now code.now c m t
+        → IsTypeTable (all_classes world.now) (body_of c m t code.now.insns) types.now }
+    ensures { (c : ClassFile) (m : ClassMethod) (t : CodeTree) → IsMethodOf world.now code.now c m t
+        → IfOk result (λ row. row ≡ has_rows (rows_of (body_of c m t code.now.insns) types.now)) }
 {
     let method = Method::new(world, code);
     rows_reached(alloc, &method, types)

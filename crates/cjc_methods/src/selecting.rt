@@ -10,9 +10,9 @@ ghost use Rattle.cjc_types.specs.declared.state.State.{State as Before};
 ghost use Rattle.cjc_types.specs.declared.table.TypeTable.{TypeTable as Types};
 ghost use Rattle.cjc_types.specs.Tables.{IsMethodOf, IsOfPackage};
 ghost use Rattle.cjc_world.specs.Classes.{Class, all_classes, class_at};
-ghost use Rattle.cjc_by_name.specs.Linked.{Method};
-ghost use Rattle.cjc_narrow.specs.Selected.{near_fields, selected_code};
-ghost use Rattle.cjc_written.specs.Rows.{has_rows, rows_by};
+ghost use Rattle.cjc_jvm_semantics.specs.Linked.{Method};
+ghost use Rattle.cjc_narrow.specs.Rows.Selected.{near_fields, selected_code};
+ghost use Rattle.cjc_narrow.specs.Written.Rows.{has_rows, rows_by};
 ghost use Rattle.cjc_components.specs.Descriptor.{method_in};
 ghost use Rattle.cjc_components.specs.Limits.{has_many_words};
 ghost use Rattle.cjc_components.specs.Written.{code_at, no_code};
@@ -25,9 +25,9 @@ use crate::places::place_in;
 use crate::reached::reached;
 use cjc_bytes::{NoMemory, Row};
 use cjc_code::MethodCode;
-use cjc_keys::Numbers;
+use cjc_narrow::keys::Numbers;
+use cjc_narrow::select::{argument_words, select};
 use cjc_ncode::NMethod;
-use cjc_select::{argument_words, select};
 use cjc_types::TypeTable;
 use cjc_world::{Found, World};
 use std::alloc::Global;
@@ -41,9 +41,11 @@ fn selected(
     pool: &Numbers,
 ) -> Result<NMethod, NoMemory>
     requires code { IsOfPackage world.now code.now }
-    requires ready { (c : ClassFile) (m : ClassMethod) (t : CodeTree) → IsMethodOf world.now code.now c m t → IsReady world.now code.now c m t types.now }
+    requires ready { (c : ClassFile) (m : ClassMethod) (t : CodeTree) → IsMethodOf world.now code.now c m t
+        → IsReady world.now code.now c m t types.now }
     ensures { (c : ClassFile) (m : ClassMethod) (t : CodeTree) → IsMethodOf world.now code.now c m t
-        → IfOk result (λ n. n ≡ selected_code world.now (near_fields pool.now) c m t code.now.insns (rows_by (has_rows (states code.now c m t types.now)))) }
+        → IfOk result (λ n. n ≡ selected_code world.now (near_fields pool.now) c m t code.now.insns
+        (rows_by (has_rows (states code.now c m t types.now)))) }
 {
     let class = &world.classes().items()[code.class as usize];
     let method = &class.methods.items()[code.method as usize];
@@ -101,7 +103,8 @@ fn code_at(
     requires places { sources.places.now ≡ class_places 0 world.now.classes }
     requires own { IsOwn world.now member }
     requires room { HasRoom world.now member }
-    ensures { (rows : Method → List (Option Before)) → AreRows world.now sources.entry.codes.now sources.entry.types.now rows → IfOk result (λ n. n ≡ code_at world.now (near_fields pool.now) rows member) }
+    ensures { (rows : Method → List (Option Before)) → AreRows world.now sources.entry.codes.now sources.entry.types.now
+        rows → IfOk result (λ n. n ≡ code_at world.now (near_fields pool.now) rows member) }
 {
     let class = &world.classes().items()[member.class as usize];
     let method = (member.member as usize).saturating_sub(class.fields.items().len());
@@ -136,7 +139,8 @@ pub(crate) fn codes_at(
     requires places { sources.places.now ≡ class_places 0 world.now.classes }
     requires own { All (IsOwn world.now) members.now }
     requires room { All (HasRoom world.now) members.now }
-    ensures { (rows : Method → List (Option Before)) → AreRows world.now sources.entry.codes.now sources.entry.types.now rows → IfOk result (λ ns. ns ≡ map (code_at world.now (near_fields pool.now) rows) members.now) }
+    ensures { (rows : Method → List (Option Before)) → AreRows world.now sources.entry.codes.now sources.entry.types.now
+        rows → IfOk result (λ ns. ns ≡ map (code_at world.now (near_fields pool.now) rows) members.now) }
 {
     let mut out = Row::new(alloc);
     for member in members {

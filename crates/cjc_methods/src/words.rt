@@ -17,7 +17,7 @@ use crate::method::{Signature, method_in};
 use cjc_bytes::{
     Break, Fault, NoMemory, Part, PlaceRef, RulePlace, answer, broken, file_of, first,
 };
-use cjc_select::argument_words;
+use cjc_narrow::select::argument_words;
 use cjc_world::{Found, World};
 use std::alloc::Global;
 
@@ -32,7 +32,8 @@ fn spot_in<'w>(
     offset: u32,
 ) -> RulePlace<'w>
     requires { IsOwn world.now member }
-    ensures { (c : Class) (m : Member) → class_at (all_classes world.now) member.imported member.class ≡ Some c → IsLike method.entry m → spot_of result ≡ spot_in world.now c member m offset }
+    ensures { (c : Class) (m : Member) → class_at (all_classes world.now) member.imported member.class ≡ Some c
+        → IsLike method.entry m → spot_of result ≡ spot_in world.now c member m offset }
 {
     let class = &world.classes().items()[member.class as usize];
     let file = file_of(world.lines().items(), member.class as usize);
@@ -66,7 +67,8 @@ fn words_break<'w>(world: &'w World<'_>, member: Found) -> Result<Option<Break<'
 /// The first of the methods that break rule 417.
 fn first_break<'w>(world: &'w World<'_>, members: &[Found]) -> Result<Option<Break<'w>>, NoMemory>
     requires { All (IsOwn world.now) members.now }
-    ensures { IfOk result (λ b. IsFirstOf (each (λ _ f. word_breaks_in world.now f) members.now) (option_map break_of b)) }
+    ensures { IfOk result (λ b. IsFirstOf (each (λ _ f. word_breaks_in world.now f) members.now)
+        (option_map break_of b)) }
 {
     let mut least = None;
     for member in members {
@@ -84,8 +86,10 @@ fn first_break<'w>(world: &'w World<'_>, members: &[Found]) -> Result<Option<Bre
 pub fn test_words(alloc: Global, world: &World<'_>, members: &[Found]) -> Result<(), Fault>
     requires own { All (IsOwn world.now) members.now }
     ensures room { OnOk result (All (HasRoom world.now) members.now) }
-    ensures unbroken { (p : Package) → p.files ≡ world.now → map (λ m. m.member) p.methods ≡ members.now → OnOk result (of_methods p (word_breaks p) ≡ []) }
-    ensures refused { (p : Package) → p.files ≡ world.now → map (λ m. m.member) p.methods ≡ members.now → IfErr result (IsFirstRefusal (of_methods p (word_breaks p))) }
+    ensures unbroken { (p : Package) → p.files ≡ world.now → map (λ m. m.member) p.methods ≡ members.now
+        → OnOk result (of_methods p (word_breaks p) ≡ []) }
+    ensures refused { (p : Package) → p.files ≡ world.now → map (λ m. m.member) p.methods ≡ members.now
+        → IfErr result (IsFirstRefusal (of_methods p (word_breaks p))) }
 {
     let broken = first_break(world, members)?;
     answer(alloc, broken)
@@ -95,7 +99,9 @@ pub fn test_words(alloc: Global, world: &World<'_>, members: &[Found]) -> Result
 /// its class gets has no place of its own, and stands at the class.
 pub fn method_spot<'w>(world: &'w World<'_>, member: Found, offset: u32) -> RulePlace<'w>
     requires { IsOwn world.now member }
-    ensures { (p : Package) (c : Class) → p.files ≡ world.now → class_at (all_classes world.now) member.imported member.class ≡ Some c → spot_of result ≡ method_spot p c member (method_in (all_classes world.now) c member.member) offset }
+    ensures { (p : Package) (c : Class) → p.files ≡ world.now → class_at (all_classes world.now) member.imported
+        member.class ≡ Some c → spot_of result ≡ method_spot p c member (method_in (all_classes world.now) c
+        member.member) offset }
 {
     let method = method_in(world, member);
     spot_in(world, member, method, offset)

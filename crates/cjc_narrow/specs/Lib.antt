@@ -1,6 +1,4 @@
-pub mod Resolved
-pub mod Selected
-pub mod Package
-pub mod Forms
-pub mod Names
-pub mod Working
+pub mod Keys
+pub mod Rows
+pub mod Written
+pub mod Select

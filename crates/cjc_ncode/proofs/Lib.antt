@@ -1,0 +1,2 @@
+pub mod LoweringLaws
+pub mod IntCode

@@ -1,16 +1,22 @@
 -- The run of narrow code by label and name, on words of 16 bits: the machine of its look-ups.
-use Rattle.std.specs.Prelude.{ℕ, ◌+◌, ◌*◌, List, [], ◌∷◌, map, Option, Some, None, option_map, option_and_then, Bool, true, false, nat_le, nat_lt, ◌==◌, ◌&&◌, if◌then◌else◌, slice_get, ℤ, pos, ◌+ℤ◌}
+use Rattle.std.specs.Prelude.{ℕ, ◌+◌, ◌*◌, List, [], ◌∷◌, map, Option, Some, None, option_map, option_and_then, Bool}
+use Rattle.std.specs.Prelude.{true, false, nat_le, nat_lt, ◌==◌, ◌&&◌, if◌then◌else◌, slice_get, ℤ, pos, ◌+ℤ◌}
 use Rattle.cjc_bytes.specs.declared.fault.MemberId.{MemberId}
 use Rattle.cjc_script.specs.declared.value.Value.{Value}
 use Rattle.cjc_script.specs.declared.script.Script.{Script}
 use Rattle.cjc_script.specs.declared.report.FieldValue.{FieldValue}
 use Rattle.cjc_script.specs.declared.report.Report.{Report}
-use Rattle.cjc_script.specs.Sorts.{Element, Booleans, Bytes, Shorts, Ints, Shape, OfClass, OfNumbers, OfReferences, field_sort, zero_of}
-use Rattle.cjc_bytecode.specs.Calculations.{Fault}
-use Rattle.cjc_bytecode.specs.Effects.{Arm, Slot, Memory, Classes, Operation, Do, Branch, Pick, Touch, Get, Put, GetStatic, PutStatic, Call, New, NewNumbers, NewReferences, Cast, Ask, Undone, same_kind, slot_of, slots_with}
-use Rattle.cjc_bytecode.specs.Meanings.{Meaning, Plain, Branches, Ranged, Paired, Touches, Uses, Casts, Asks, Use, Gets, Puts, GetsStatic, PutsStatic, Calls, Makes, MakesReferences, Mode, Virtual, Special, Static, meaning}
-use Rattle.cjc_bytecode.specs.Machine.{Start, Reached, Nowhere, Within, Abroad, Fetched, Setting, State}
-use Rattle.cjc_bytecode.specs.Machine
+use Rattle.cjc_script.specs.Sorts.{Element, Booleans, Bytes, Shorts, Ints, Shape, OfClass, OfNumbers, OfReferences}
+use Rattle.cjc_script.specs.Sorts.{field_sort, zero_of}
+use Rattle.cjc_card_semantics.specs.Bytecode.Calculations.{Fault}
+use Rattle.cjc_card_semantics.specs.Bytecode.Effects.{Arm, Slot, Memory, Classes, Operation, Do, Branch, Pick, Touch}
+use Rattle.cjc_card_semantics.specs.Bytecode.Effects.{Get, Put, GetStatic, PutStatic, Call, New, NewNumbers}
+use Rattle.cjc_card_semantics.specs.Bytecode.Effects.{NewReferences, Cast, Ask, Undone, same_kind, slot_of, slots_with}
+use Rattle.cjc_card_semantics.specs.Bytecode.Meanings.{Meaning, Plain, Branches, Ranged, Paired, Touches, Uses, Casts}
+use Rattle.cjc_card_semantics.specs.Bytecode.Meanings.{Asks, Use, Gets, Puts, GetsStatic, PutsStatic, Calls, Makes}
+use Rattle.cjc_card_semantics.specs.Bytecode.Meanings.{MakesReferences, Mode, Virtual, Special, Static, meaning}
+use Rattle.cjc_card_semantics.specs.Bytecode.Machine.{Start, Reached, Nowhere, Within, Abroad, Fetched, Setting, State}
+use Rattle.cjc_card_semantics.specs.Bytecode.Machine
 use Rattle.cjc_ncode.specs.declared.narrow.NCase.{NCase}
 use Rattle.cjc_ncode.specs.declared.narrow.NInsn.{NInsn}
 use Rattle.cjc_ncode.specs.declared.narrow.NInsn.TheVariants as insns
@@ -35,7 +41,8 @@ pub record Named : Type 0 where
   pub is_of : Shape (List ℕ) → Shape (List ℕ) → Bool
   -- the instance fields of a class, a superclass's before its own; None where no object is made of it
   pub fields : List ℕ → Option (List MemberId)
-  -- what a call reaches on a receiver of a type, and how many words it takes; nothing on a receiver that is not of the class that the call names
+  -- what a call reaches on a receiver of a type, and how many words it takes; nothing on a receiver that is not of the
+  -- class that the call names
   pub reached : Callee → Option (Shape (List ℕ)) → Reached NMethod
   pub words : Callee → Option ℕ
   pub fault : Fault → Option (List ℕ)
@@ -111,12 +118,14 @@ naming m key = Undone
 -- boolean 10, byte 11, short 12, int 13; 14 an array of references, 0 a class
 abbrev pub element_type : ℕ → Option Element
 element_type n =
-    if n == 10 then Some Booleans else (if n == 11 then Some Bytes else (if n == 12 then Some Shorts else (if n == 13 then Some Ints else None)))
+    if n == 10 then Some Booleans else (if n == 11 then Some Bytes else (if n == 12 then Some Shorts
+    else (if n == 13 then Some Ints else None)))
 
 -- the type that checkcast and instanceof name
 abbrev pub type_by : ℕ → Option (List ℕ) → Option (Shape (List ℕ))
 type_by n class =
-    if n == 0 then option_map OfClass class else (if n == 14 then option_map OfReferences class else option_map OfNumbers (element_type n))
+    if n == 0 then option_map OfClass class else (if n == 14 then option_map OfReferences class
+    else option_map OfNumbers (element_type n))
 
 -- checkcast or instanceof
 abbrev pub testing : Meaning → Option (Shape (List ℕ)) → Resolved

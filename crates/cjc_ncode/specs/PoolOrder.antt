@@ -1,5 +1,7 @@
--- The keys of the constant pool in its order: the class of any exception where a handler with a catch type is written, then instance fields, then all others, each once where it is seen first.
-use Rattle.std.specs.Prelude.{ℕ, List, [], ◌∷◌, ◌++◌, flat_map, filter, Option, Some, None, Bool, true, false, not, ◌&&◌, if◌then◌else◌, codes}
+-- The keys of the constant pool in its order: the class of any exception where a handler with a catch type is written,
+-- then instance fields, then all others, each once where it is seen first.
+use Rattle.std.specs.Prelude.{ℕ, List, [], ◌∷◌, ◌++◌, flat_map, filter, Option, Some, None, Bool, true, false, not}
+use Rattle.std.specs.Prelude.{◌&&◌, if◌then◌else◌, codes}
 use Rattle.std.specs.List.{list_any}
 use Rattle.std.specs.Str.{bytes_eq}
 use Rattle.cjc_bytes.specs.declared.fault.MemberId.{MemberId}

@@ -1,5 +1,6 @@
 -- Methods made by hand, with their look-ups: p/B extends p/A, p/T has static methods.
-use Rattle.std.specs.Prelude.{ℕ, List, [], ◌∷◌, Option, Some, None, Bool, false, replicate, ◌&&◌, ◌||◌, if◌then◌else◌, pos, codes}
+use Rattle.std.specs.Prelude.{ℕ, List, [], ◌∷◌, Option, Some, None, Bool, false, replicate, ◌&&◌, ◌||◌, if◌then◌else◌}
+use Rattle.std.specs.Prelude.{pos, codes}
 use Rattle.std.specs.Str.{bytes_eq}
 use Rattle.cjc_bytes.specs.declared.fault.MemberId.{MemberId}
 use Rattle.cjc_classfile.specs.Code.{CodeTree}
@@ -15,8 +16,8 @@ use Rattle.cjc_script.specs.declared.report.Outcome.{Outcome}
 use Rattle.cjc_script.specs.declared.report.Report.{Report}
 use Rattle.cjc_script.specs.declared.report.Thing.{Thing}
 use Rattle.cjc_script.specs.Sorts.{Shape, OfClass}
-use Rattle.cjc_bytecode.specs.Calculations.{Fault, Arithmetic}
-use Rattle.cjc_bytecode.specs.Machine.{Start, Reached, Nowhere, Within}
+use Rattle.cjc_card_semantics.specs.Bytecode.Calculations.{Fault, Arithmetic}
+use Rattle.cjc_card_semantics.specs.Bytecode.Machine.{Start, Reached, Nowhere, Within}
 use Rattle.cjc_ncode.specs.declared.narrow.NInsn.{NInsn}
 use Rattle.cjc_ncode.specs.declared.narrow.NInsn.TheVariants as insns
 use Rattle.cjc_ncode.specs.declared.narrow.NMethod.{NMethod}
@@ -30,7 +31,15 @@ id class name desc = record { class = class; name = name; desc = desc }
 
 -- a method without handlers and further locals
 abbrev pub method : (max_stack nargs : ℕ) → List NInsn → NMethod
-method max_stack nargs insns = record { insns = insns; from = []; catches = []; max_stack = max_stack; nargs = nargs; max_locals = 0; widest = 0 }
+method max_stack nargs insns = record {
+  insns = insns;
+  from = [];
+  catches = [];
+  max_stack = max_stack;
+  nargs = nargs;
+  max_locals = 0;
+  widest = 0;
+}
 
 -- the field of p/B
 abbrev pub field : MemberId
@@ -38,7 +47,8 @@ field = id (codes "p/B") (codes "s") (codes "S")
 
 -- sload_0 invokestatic g sreturn
 abbrev pub f : NMethod
-f = method 1 1 (insns.Op 0x1C ∷ insns.Named 0x8D (keys.StaticMethod (id (codes "p/T") (codes "g") (codes "(S)S"))) ∷ insns.Op 0x78 ∷ [])
+f = method 1 1 (insns.Op 0x1C ∷ insns.Named 0x8D (keys.StaticMethod (id (codes "p/T") (codes "g") (codes "(S)S")))
+    ∷ insns.Op 0x78 ∷ [])
 
 -- sload_0 sconst_1 sadd sreturn
 abbrev pub g : NMethod
@@ -46,17 +56,21 @@ g = method 2 1 (insns.Op 0x1C ∷ insns.Op 0x04 ∷ insns.Op 0x41 ∷ insns.Op 0
 
 -- new B invokevirtual A.v sreturn
 abbrev pub h : NMethod
-h = method 1 0 (insns.Named 0x8F (keys.Class (codes "p/B")) ∷ insns.Named 0x8B (keys.Virtual (id (codes "p/A") (codes "v") (codes "()S"))) ∷ insns.Op 0x78 ∷ [])
+h = method 1 0 (insns.Named 0x8F (keys.Class (codes "p/B"))
+    ∷ insns.Named 0x8B (keys.Virtual (id (codes "p/A") (codes "v") (codes "()S"))) ∷ insns.Op 0x78 ∷ [])
 
 -- sload_0 sload_0 sdiv sreturn; pop sconst_3 sreturn under a handler for ArithmeticException
 abbrev pub e : NMethod
-e = record (method 2 1 (insns.Op 0x1C ∷ insns.Op 0x1C ∷ insns.Op 0x47 ∷ insns.Op 0x78 ∷ insns.Op 0x3B ∷ insns.Op 0x06 ∷ insns.Op 0x78 ∷ [])) {
-  catches = record { start = 0; end = 4; target = 4; class = Some (codes "java/lang/ArithmeticException"); at = 0 } ∷ [];
-}
+e = record (method 2 1 (insns.Op 0x1C ∷ insns.Op 0x1C ∷ insns.Op 0x47 ∷ insns.Op 0x78 ∷ insns.Op 0x3B ∷ insns.Op 0x06
+    ∷ insns.Op 0x78 ∷ [])) {
+      catches = record { start = 0; end = 4; target = 4; class = Some (codes "java/lang/ArithmeticException"); at = 0 }
+          ∷ [];
+    }
 
 -- new B dup bspush 5 putfield_s getfield_s sreturn
 abbrev pub w : NMethod
-w = method 3 0 (insns.Named 0x8F (keys.Class (codes "p/B")) ∷ insns.Op 0x3D ∷ insns.Push 0x10 (pos 5) ∷ insns.Named 0x89 (keys.Field field) ∷ insns.Named 0x85 (keys.Field field) ∷ insns.Op 0x78 ∷ [])
+w = method 3 0 (insns.Named 0x8F (keys.Class (codes "p/B")) ∷ insns.Op 0x3D ∷ insns.Push 0x10 (pos 5)
+    ∷ insns.Named 0x89 (keys.Field field) ∷ insns.Named 0x85 (keys.Field field) ∷ insns.Op 0x78 ∷ [])
 
 -- nop alone
 abbrev pub x : NMethod
@@ -137,7 +151,13 @@ linked = record {
 
 -- an entry that calls a method of p/T
 abbrev pub call : (name desc : List ℕ) → List Value → Entry
-call name desc args = record { number = 0; acts = []; virtual_call = false; method = id (codes "p/T") name desc; args = args }
+call name desc args = record {
+  number = 0;
+  acts = [];
+  virtual_call = false;
+  method = id (codes "p/T") name desc;
+  args = args;
+}
 
 -- entries alone
 abbrev pub script : List Entry → Script
@@ -167,16 +187,23 @@ at offset op = record { at = offset; op = op }
 
 -- code with handlers
 abbrev pub code : (max_stack max_locals : ℕ) → List Catch → CodeTree
-code max_stack max_locals catches = record { max_stack = max_stack; max_locals = max_locals; bytes = []; catches = catches }
+code max_stack max_locals catches = record {
+  max_stack = max_stack;
+  max_locals = max_locals;
+  bytes = [];
+  catches = catches;
+}
 
 -- iload_0 iconst_1 iadd i2s ireturn
 abbrev pub one_more : List JInsn
-one_more = at 0 (jop.Load false 0) ∷ at 1 (jop.Number (pos 1)) ∷ at 2 (jop.Arith 0x60) ∷ at 3 (jop.Narrow 0x93) ∷ at 4 (jop.Return 0xAC) ∷ []
+one_more = at 0 (jop.Load false 0) ∷ at 1 (jop.Number (pos 1)) ∷ at 2 (jop.Arith 0x60) ∷ at 3 (jop.Narrow 0x93)
+    ∷ at 4 (jop.Return 0xAC) ∷ []
 
 -- iload_0 iload_0 idiv i2s ireturn; pop iconst_1 ireturn; pop iconst_2 ireturn; pop iconst_3 ireturn
 abbrev pub divides : List JInsn
 divides =
-    at 0 (jop.Load false 0) ∷ at 1 (jop.Load false 0) ∷ at 2 (jop.Arith 0x6C) ∷ at 3 (jop.Narrow 0x93) ∷ at 4 (jop.Return 0xAC)
+    at 0 (jop.Load false 0) ∷ at 1 (jop.Load false 0) ∷ at 2 (jop.Arith 0x6C) ∷ at 3 (jop.Narrow 0x93)
+    ∷ at 4 (jop.Return 0xAC)
     ∷ at 5 (jop.Stack 0x57) ∷ at 6 (jop.Number (pos 1)) ∷ at 7 (jop.Return 0xAC)
     ∷ at 8 (jop.Stack 0x57) ∷ at 9 (jop.Number (pos 2)) ∷ at 10 (jop.Return 0xAC)
     ∷ at 11 (jop.Stack 0x57) ∷ at 12 (jop.Number (pos 3)) ∷ at 13 (jop.Return 0xAC) ∷ []
@@ -188,7 +215,8 @@ divides_catches =
     ∷ record { start = 3; end = 4; target = 8; class = None }
     ∷ record { start = 0; end = 4; target = 11; class = None } ∷ []
 
--- iload_0 and a tableswitch from 32767 to 32768, whose second case is outside 16 bits; a return that nothing reaches; iinc and a jump back
+-- iload_0 and a tableswitch from 32767 to 32768, whose second case is outside 16 bits; a return that nothing reaches;
+-- iinc and a jump back
 abbrev pub jumps : List JInsn
 jumps =
     at 0 (jop.Load false 0) ∷ at 1 (jop.TableSwitch 24 (pos 32767) (25 ∷ 24 ∷ [])) ∷ at 24 (jop.Return 0xB1)

@@ -1,5 +1,8 @@
--- The narrow code of a method that is not in int mode: what is written for each reached instruction, in the class file's order.
-use Rattle.std.specs.Prelude.{ℕ, ◌+◌, ◌-◌, ◌*◌, List, [], ◌∷◌, ◌++◌, length, map, flat_map, replicate, filter, Option, Some, None, Bool, true, false, nat_le, nat_lt, ◌==◌, ◌&&◌, if◌then◌else◌, ℤ, pos, negsuc, ◌+ℤ◌}
+-- The narrow code of a method that is not in int mode: what is written for each reached instruction, in the class
+-- file's order.
+use Rattle.std.specs.Prelude.{ℕ, ◌+◌, ◌-◌, ◌*◌, List, [], ◌∷◌, ◌++◌, length, map, flat_map, replicate, filter, Option}
+use Rattle.std.specs.Prelude.{Some, None, Bool, true, false, nat_le, nat_lt, ◌==◌, ◌&&◌, if◌then◌else◌, ℤ, pos, negsuc}
+use Rattle.std.specs.Prelude.{◌+ℤ◌}
 use Rattle.std.specs.Int.RustNames.{int_le}
 use Rattle.cjc_bytes.specs.declared.fault.MemberId.{MemberId}
 use Rattle.cjc_classfile.specs.Code.{CodeTree}
@@ -9,14 +12,16 @@ use Rattle.cjc_code.specs.declared.insn.JCase.{JCase}
 use Rattle.cjc_code.specs.declared.insn.JOp.{JOp}
 use Rattle.cjc_code.specs.declared.insn.JOp.TheVariants as jop
 use Rattle.cjc_code.specs.Jvm as jvm
-use Rattle.cjc_script.specs.Sorts.{Sort, Boolean, Byte, Short, Int, Signature, Shape, OfClass, OfNumbers, OfReferences, Booleans, Bytes, Shorts, Ints, field_sort, signature_of, shape_named}
-use Rattle.cjc_bytecode.specs.Arguments.{widths}
-use Rattle.cjc_bytecode.specs.Numbers.{is_word}
-use Rattle.cjc_words.specs.Words.{low_word}
+use Rattle.cjc_script.specs.Sorts.{Sort, Boolean, Byte, Short, Int, Signature, Shape, OfClass, OfNumbers, OfReferences}
+use Rattle.cjc_script.specs.Sorts.{Booleans, Bytes, Shorts, Ints, field_sort, signature_of, shape_named}
+use Rattle.cjc_card_semantics.specs.Bytecode.Arguments.{widths}
+use Rattle.cjc_card_semantics.specs.Bytecode.Numbers.{is_word}
+use Rattle.cjc_range.specs.Words.{low_word}
 use Rattle.cjc_capread.specs.Card as card
 use Rattle.cjc_ncode.specs.declared.narrow.NCase.{NCase}
 use Rattle.cjc_ncode.specs.declared.narrow.NInsn.{NInsn}
-use Rattle.cjc_ncode.specs.declared.narrow.NInsn.TheVariants.{Op, Push, Local, Inc, Words, Jump, Switch, Named, Interface, NewArray, TypeTest}
+use Rattle.cjc_ncode.specs.declared.narrow.NInsn.TheVariants.{Op, Push, Local, Inc, Words, Jump, Switch, Named}
+use Rattle.cjc_ncode.specs.declared.narrow.NInsn.TheVariants.{Interface, NewArray, TypeTest}
 use Rattle.cjc_ncode.specs.declared.narrow.NCatch.{NCatch}
 use Rattle.cjc_ncode.specs.declared.narrow.NMethod.{NMethod}
 use Rattle.cjc_ncode.specs.declared.narrow.PoolKey.{PoolKey}
@@ -29,7 +34,9 @@ pub record Resolution : Type 0 where
   pub constant : MemberId → Option ℤ
   -- whether an instance field stands at an index of at most 255
   pub is_near : MemberId → Bool
-  -- the keys of a method that invokevirtual, invokespecial and invokestatic name: a virtual method that is named through a class of the package has that class, every other the class in which it is found, a super call the class that holds the code
+  -- the keys of a method that invokevirtual, invokespecial and invokestatic name: a virtual method that is named
+  -- through a class of the package has that class, every other the class in which it is found, a super call the class
+  -- that holds the code
   pub virtual : MemberId → PoolKey
   pub special : MemberId → PoolKey
   pub static : MemberId → PoolKey
@@ -40,8 +47,10 @@ pub record Resolution : Type 0 where
 
 -- sconst_m1 to sconst_5, else bspush, else sspush
 abbrev pub pushed_word : ℤ → NInsn
-pushed_word (pos n) = if nat_le n 5 then Op (card.sconst_0 + n) else (if nat_le n 127 then Push card.bspush (pos n) else Push card.sspush (pos n))
-pushed_word (negsuc n) = if n == 0 then Op card.sconst_m1 else (if nat_le n 127 then Push card.bspush (negsuc n) else Push card.sspush (negsuc n))
+pushed_word (pos n) = if nat_le n 5 then Op (card.sconst_0 + n) else (if nat_le n 127 then Push card.bspush (pos n)
+    else Push card.sspush (pos n))
+pushed_word (negsuc n) = if n == 0 then Op card.sconst_m1 else (if nat_le n 127 then Push card.bspush (negsuc n)
+    else Push card.sspush (negsuc n))
 
 -- the low word of a number
 abbrev pub pushed : ℤ → List NInsn
@@ -68,22 +77,29 @@ array_store op = if op == jvm.aastore then card.aastore else (if op == jvm.basto
 -- pop, pop2, dup, dup2; dup_x1, dup_x2, dup2_x1, dup2_x2, swap
 abbrev pub on_stack : ℕ → NInsn
 on_stack op =
-    if op == jvm.pop then Op card.pop else (if op == jvm.pop2 then Op card.pop2 else (if op == jvm.dup then Op card.dup else (if op == jvm.dup2 then Op card.dup2
-    else (if op == jvm.dup_x1 then Words card.dup_x 1 2 else (if op == jvm.dup_x2 then Words card.dup_x 1 3 else (if op == jvm.dup2_x1 then Words card.dup_x 2 3
+    if op == jvm.pop then Op card.pop else (if op == jvm.pop2 then Op card.pop2 else (if op == jvm.dup then Op card.dup
+    else (if op == jvm.dup2 then Op card.dup2
+    else (if op == jvm.dup_x1 then Words card.dup_x 1 2 else (if op == jvm.dup_x2 then Words card.dup_x 1 3
+    else (if op == jvm.dup2_x1 then Words card.dup_x 2 3
     else (if op == jvm.dup2_x2 then Words card.dup_x 2 4 else Words card.swap_x 1 1)))))))
 
 -- iadd, isub, imul, idiv, irem, ineg, ishl, ishr, iushr, iand, ior, ixor
 abbrev pub arithmetic : ℕ → ℕ
 arithmetic op =
-    if op == jvm.iadd then card.sadd else (if op == jvm.isub then card.ssub else (if op == jvm.imul then card.smul else (if op == jvm.idiv then card.sdiv
-    else (if op == jvm.irem then card.srem else (if op == jvm.ineg then card.sneg else (if op == jvm.ishl then card.sshl else (if op == jvm.ishr then card.sshr
-    else (if op == jvm.iushr then card.sushr else (if op == jvm.iand then card.sand else (if op == jvm.ior then card.sor else card.sxor))))))))))
+    if op == jvm.iadd then card.sadd else (if op == jvm.isub then card.ssub else (if op == jvm.imul then card.smul
+    else (if op == jvm.idiv then card.sdiv
+    else (if op == jvm.irem then card.srem else (if op == jvm.ineg then card.sneg else (if op == jvm.ishl then card.sshl
+    else (if op == jvm.ishr then card.sshr
+    else (if op == jvm.iushr then card.sushr else (if op == jvm.iand then card.sand else (if op == jvm.ior then card.sor
+    else card.sxor))))))))))
 
 -- ifeq to ifle, if_icmpeq to if_icmple, if_acmpeq, if_acmpne, ifnull, ifnonnull
 abbrev pub condition : ℕ → ℕ
 condition op =
-    if nat_le op jvm.ifle then op - jvm.ifeq + card.ifeq else (if nat_le op jvm.if_icmple then op - jvm.if_icmpeq + card.if_scmpeq
-    else (if op == jvm.if_acmpeq then card.if_acmpeq else (if op == jvm.if_acmpne then card.if_acmpne else (if op == jvm.ifnull then card.ifnull else card.ifnonnull))))
+    if nat_le op jvm.ifle then op - jvm.ifeq + card.ifeq else (if nat_le op jvm.if_icmple
+    then op - jvm.if_icmpeq + card.if_scmpeq
+    else (if op == jvm.if_acmpeq then card.if_acmpeq else (if op == jvm.if_acmpne then card.if_acmpne
+    else (if op == jvm.ifnull then card.ifnull else card.ifnonnull))))
 
 -- ireturn, areturn, return
 abbrev pub leaving : ℕ → ℕ
@@ -133,7 +149,8 @@ static_access put sort = (if put then card.putstatic_a else card.getstatic_a) + 
 -- getfield or putfield of a type, in the form of one byte or two
 abbrev pub field_access : (put near : Bool) → Sort → ℕ
 field_access put near sort =
-    (if near then (if put then card.putfield_a else card.getfield_a) else (if put then card.putfield_a_w else card.getfield_a_w)) + behind_reference sort
+    (if near then (if put then card.putfield_a else card.getfield_a) else (if put then card.putfield_a_w
+    else card.getfield_a_w)) + behind_reference sort
 
 -- a constant is pushed
 abbrev pub static_by : Resolution → (put : Bool) → MemberId → Option ℤ → List NInsn
@@ -142,7 +159,8 @@ static_by r put f None = Named (static_access put (field_sort f.desc)) (keys.Sta
 
 -- a call by its key
 abbrev pub called : Resolution → (op : ℕ) → MemberId → NInsn
-called r op m = if op == jvm.invokevirtual then Named card.invokevirtual (r.virtual m) else (if op == jvm.invokespecial then Named card.invokespecial (r.special m) else Named card.invokestatic (r.static m))
+called r op m = if op == jvm.invokevirtual then Named card.invokevirtual (r.virtual m) else (if op == jvm.invokespecial
+    then Named card.invokespecial (r.special m) else Named card.invokestatic (r.static m))
 
 -- the words of the parameters, and the receiver
 abbrev pub words_by : Option Signature → ℕ
@@ -190,11 +208,14 @@ written r place (jop.Inc l by) = Inc (if is_byte by then card.sinc else card.sin
 written r place (jop.Narrow op) = if op == jvm.i2b then Op card.s2b ∷ [] else []
 written r place (jop.If op target) = Jump (condition op) (place target) ∷ []
 written r place (jop.Goto target) = Jump card.goto (place target) ∷ []
-written r place (jop.TableSwitch other low targets) = let cases = table_cases place low targets in switched card.stableswitch (place other) (low_of cases) cases
-written r place (jop.LookupSwitch other cases) = switched card.slookupswitch (place other) (pos 0) (pair_cases place cases)
+written r place (jop.TableSwitch other low targets) = let cases = table_cases place low targets
+    in switched card.stableswitch (place other) (low_of cases) cases
+written r place (jop.LookupSwitch other cases) = switched card.slookupswitch (place other) (pos 0)
+    (pair_cases place cases)
 written r place (jop.Return op) = Op (leaving op) ∷ []
 written r place (jop.Static put f) = static_by r put f (r.constant f)
-written r place (jop.Field put f) = Named (field_access put (r.is_near f) (field_sort f.desc)) (keys.Field (r.field f)) ∷ []
+written r place (jop.Field put f) = Named (field_access put (r.is_near f) (field_sort f.desc)) (keys.Field (r.field f))
+    ∷ []
 written r place (jop.Call op m) = call_by r op m
 written r place (jop.New class) = Named card.new (keys.Class class) ∷ []
 written r place (jop.NewArray kind) = NewArray (element_number kind) ∷ []
@@ -209,7 +230,8 @@ written r place (jop.InstanceOf class) = type_test card.instanceof (shape_named 
 -- how many instructions are written before an offset, of reached ones
 abbrev pub place_in : Resolution → List JInsn → (offset : ℕ) → ℕ
 place_in r [] offset = 0
-place_in r (i ∷ insns) offset = (if nat_lt i.at offset then length (written r (λ o. 0) i.op) else 0) + place_in r insns offset
+place_in r (i ∷ insns) offset = (if nat_lt i.at offset then length (written r (λ o. 0) i.op) else 0) + place_in r insns
+    offset
 
 -- what a table says of reached instructions: the rows that are there
 abbrev pub reached : {A : Type 0} → List JInsn → List (Option A) → List JInsn
@@ -219,7 +241,13 @@ reached insns rows = []
 
 -- a handler over what is written; none where nothing in its range is
 abbrev pub catch_at : (place : ℕ → ℕ) → Catch → NCatch
-catch_at place c = record { start = place c.start; end = place c.end; target = place c.target; class = c.class; at = c.target }
+catch_at place c = record {
+  start = place c.start;
+  end = place c.end;
+  target = place c.target;
+  class = c.class;
+  at = c.target;
+}
 
 -- handlers over something that is written
 abbrev pub catches_at : (place : ℕ → ℕ) → List Catch → List NCatch
@@ -231,7 +259,8 @@ narrow_code r insns = flat_map (λ i. written r (place_in r insns) i.op) insns
 
 -- of each written instruction the place of its own in the method's list, where the first has this place
 abbrev pub sources : {A : Type 0} → Resolution → (first : ℕ) → List JInsn → List (Option A) → List ℕ
-sources r k (i ∷ insns) (Some row ∷ rows) = replicate (length (written r (λ o. 0) i.op)) k ++ sources r (k + 1) insns rows
+sources r k (i ∷ insns) (Some row ∷ rows) = replicate (length (written r (λ o. 0) i.op)) k
+    ++ sources r (k + 1) insns rows
 sources r k (i ∷ insns) (None ∷ rows) = sources r (k + 1) insns rows
 sources r k insns rows = []
 
@@ -269,7 +298,8 @@ abbrev pub widest_sum : List JInsn → ℕ
 widest_sum [] = 0
 widest_sum (i ∷ insns) = widest i.op + widest_sum insns
 
--- The narrow method of a method with these words of arguments: an instruction is reached where its least table has a row.
+-- The narrow method of a method with these words of arguments: an instruction is reached where its least table has a
+-- row.
 abbrev pub narrow_method : {A : Type 0} → Resolution → CodeTree → (nargs : ℕ) → List JInsn → List (Option A) → NMethod
 narrow_method r code nargs insns rows =
     let kept = reached insns rows in

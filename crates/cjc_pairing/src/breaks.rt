@@ -4,9 +4,9 @@
 ghost use Rattle.std.specs.Prelude.{◌≡◌, ◌+◌, ◌++◌, ◌<◌, ◌^◌, List, option_map};
 ghost use Rattle.cjc_bytes.specs.Breaks.{broken_at};
 ghost use Rattle.cjc_bytes.specs.Told.{break_of};
-ghost use Rattle.cjc_sentences.specs.Consistent.{break_at};
-ghost use Rattle.cjc_sentences.specs.declared.spot.ComponentPlace.{ComponentPlace as Place};
-ghost use Rattle.cjc_sentences.specs.Spots.{in_info, unless};
+ghost use Rattle.cjc_check_rules.specs.Consistent.{break_at};
+ghost use Rattle.cjc_check_rules.specs.declared.spot.ComponentPlace.{ComponentPlace as Place};
+ghost use Rattle.cjc_check_rules.specs.Spots.{in_info, unless};
 ghost use Rattle.cjc_pairing.specs.Working.Heads.{IsHead, place_in};
 
 use cjc_bytes::{Break, FileKey, Part, PlaceRef, RulePlace};

@@ -2,13 +2,13 @@
 
 ghost use Rattle.std.specs.Prelude.{◌≡◌, ◌+◌, ◌==◌, length, sum_by, IfOk};
 ghost use Rattle.cjc_components.specs.Statics.{cell_size, size_of_field};
-ghost use Rattle.cjc_paired.specs.Pairs.{has_cells, number_bytes};
-ghost use Rattle.cjc_type_info.specs.Meant.{sort_meant};
+ghost use Rattle.cjc_components.specs.Paired.Pairs.{has_cells, number_bytes};
+ghost use Rattle.cjc_classes.specs.TypeInfo.Meant.{sort_meant};
 
 use crate::counts::sum;
 use cjc_bytes::{MemberId, NoMemory};
 use cjc_capread::StaticField;
-use cjc_type_info::{Sort, field_sort};
+use cjc_classes::type_info::{Sort, field_sort};
 use cjc_world::{StaticImage, ValueCell};
 
 /// The bytes of a cell of a type.

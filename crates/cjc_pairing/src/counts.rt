@@ -8,8 +8,8 @@ ghost use Rattle.cjc_world.specs.Order.{class_order, methods_of_class};
 ghost use Rattle.cjc_pairing.specs.Working.Counts.{count_at, count_in, is_written};
 
 use cjc_bytes::{NoMemory, Row};
-use cjc_class_order::class_order;
 use cjc_classfile::{ClassTree, MethodTree};
+use cjc_order::classes::class_order;
 use cjc_world::World;
 use std::alloc::Global;
 
@@ -70,7 +70,8 @@ fn put_counts(counts: &mut Row<u64>, world: &World<'_>, numbers: &[u32]) -> Resu
 
 /// How many methods each class and interface has.
 pub(crate) fn method_counts(alloc: Global, world: &World<'_>) -> Result<Row<u64>, NoMemory>
-    ensures { let w = all_classes world.now in IfOk result (λ counts. counts ≡ map (λ c. length (methods_of_class w c)) (class_order w)) }
+    ensures { let w = all_classes world.now in IfOk result (λ counts. counts ≡ map (λ c. length (methods_of_class w c))
+        (class_order w)) }
 {
     let interfaces = class_order(alloc, world, true)?;
     let classes = class_order(alloc, world, false)?;

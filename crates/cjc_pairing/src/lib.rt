@@ -4,6 +4,7 @@
 #![tactic(auto)]
 
 mod breaks;
+pub mod card_names;
 mod cells;
 mod counts;
 mod pair;

@@ -2,10 +2,10 @@
 
 ghost use Rattle.std.specs.Prelude.{◌≡◌, ◌+◌, ◌<◌, ◌^◌, ◌==◌, [], length, IfErr, IfOk, OnOk};
 ghost use Rattle.cjc_bytes.specs.Breaks.{IsFirstRefusal};
-ghost use Rattle.cjc_lookup.specs.Parts.{complete_of};
-ghost use Rattle.cjc_paired.specs.Pairs.{ArePaired, cell_spots, info_count, pair_breaks};
-ghost use Rattle.cjc_sentences.specs.Complete.{AreSmall, described_size, descriptor_size};
-ghost use Rattle.cjc_sentences.specs.Spots.{beside, in_info, unless};
+ghost use Rattle.cjc_check_index.specs.Lookup.Parts.{complete_of};
+ghost use Rattle.cjc_components.specs.Paired.Pairs.{ArePaired, cell_spots, info_count, pair_breaks};
+ghost use Rattle.cjc_check_rules.specs.Complete.{AreSmall, described_size, descriptor_size};
+ghost use Rattle.cjc_check_rules.specs.Spots.{beside, in_info, unless};
 ghost use Rattle.cjc_pairing.specs.Working.Heads.{IsHead, all_spots, count_spots_at};
 
 use crate::breaks::{in_descriptor, in_statics, or_else};
@@ -13,7 +13,7 @@ use crate::cells::has_cells;
 use crate::counts::method_counts;
 use cjc_bytes::{Break, Fault, NoMemory, answer};
 use cjc_capread::{ClassInfo, Descriptor, StaticField};
-use cjc_lookup::{Item, Parts};
+use cjc_check_index::lookup::{Item, Parts};
 use cjc_world::{StaticImage, World};
 use std::alloc::Global;
 

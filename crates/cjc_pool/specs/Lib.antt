@@ -1,2 +1,3 @@
 pub mod Pool
 pub mod Working
+pub mod Named

@@ -1,5 +1,6 @@
 -- A constant pool as code asks it: its keys in their order, the tokens of interfaces' methods, and rule 414.
-use Rattle.std.specs.Prelude.{◌≡◌, ℕ, List, length, nat_lt, slice_get, Option, None, option_and_then, Bool, false, if◌then◌else◌}
+use Rattle.std.specs.Prelude.{◌≡◌, ℕ, List, length, nat_lt, slice_get, Option, None, option_and_then, Bool, false}
+use Rattle.std.specs.Prelude.{if◌then◌else◌}
 use Rattle.std.specs.List.{list_any}
 use Rattle.cjc_bytes.specs.declared.fault.MemberId.{MemberId}
 use Rattle.cjc_bytes.specs.Breaks.{Break, at, list_spot}
@@ -13,7 +14,7 @@ use Rattle.cjc_ncode.specs.declared.narrow.NMethod.{NMethod}
 use Rattle.cjc_ncode.specs.declared.narrow.PoolKey.{PoolKey}
 use Rattle.cjc_ncode.specs.declared.narrow.PoolKey.TheVariants as keys
 use Rattle.cjc_ncode.specs.PoolOrder.{pool_order, same_member}
-use Rattle.cjc_keys.specs.Index.{index_of}
+use Rattle.cjc_narrow.specs.Keys.Index.{index_of}
 
 -- what a pool says
 pub record PoolView : Type 0 where
@@ -40,7 +41,8 @@ is_called methods id = list_any (λ m. list_any (calls id) m.insns) methods
 
 -- the token that the method has in the class that it names
 abbrev pub token_of : Files → Assigned → MemberId → Option ℕ
-token_of files tokens id = option_and_then (token_of_member tokens) (find_method (all_classes files) id.class id.name id.desc)
+token_of files tokens id = option_and_then (token_of_member tokens) (find_method (all_classes files) id.class id.name
+    id.desc)
 
 -- of a method that some invokeinterface names, and none of others
 abbrev pub interface_token : Files → Assigned → List NMethod → MemberId → Option ℕ

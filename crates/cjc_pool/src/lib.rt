@@ -6,5 +6,6 @@
 mod calls;
 mod lookup;
 mod pool;
+pub mod pool_laws;
 
 pub use pool::{MOST_ENTRIES, Pool, build};

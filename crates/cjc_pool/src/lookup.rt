@@ -8,7 +8,7 @@ ghost use Rattle.cjc_pool.specs.Pool.{token_in};
 use crate::pool::Pool;
 use cjc_bytes::MemberId;
 use cjc_emit::PoolLookup;
-use cjc_keys::Key;
+use cjc_narrow::keys::Key;
 use cjc_ncode::PoolKey;
 
 impl PoolLookup for Pool {

@@ -6,7 +6,7 @@ ghost use Rattle.cjc_pool.specs.Pool.{IsPool, most_entries, pool_breaks};
 
 use crate::calls::{called, tokens_of};
 use cjc_bytes::{Fault, Row, RulePlace, answer, broken};
-use cjc_keys::{Numbers, number};
+use cjc_narrow::keys::{Numbers, number};
 use cjc_ncode::{NMethod, PoolKey};
 use cjc_tokens::Tokens;
 use cjc_world::World;

@@ -3,3 +3,4 @@ pub mod Bits
 pub mod Order
 pub mod OrderBits
 pub mod Rounding
+pub mod WordsLaws

@@ -1,5 +1,7 @@
 -- The nearest landmarks.
-use Rattle.std.proofs.Common.{◌≡◌, zero, suc, ◌<◌, ℤ, pos, negsuc, ◌≤ℤ◌, ◌⊎◌, Bool, true, false, cond, ◌&&◌, ◌-◌, int_le, List, [], ◌∷◌, length, reverse, Contains, Some, unwrap_or, refl, sym, ◌∙◌, ap, subst, inl, inr, arith}
+use Rattle.std.proofs.Common.{◌≡◌, zero, suc, ◌<◌, ℤ, pos, negsuc, ◌≤ℤ◌, ◌⊎◌, Bool, true, false, cond, ◌&&◌, ◌-◌}
+use Rattle.std.proofs.Common.{int_le, List, [], ◌∷◌, length, reverse, Contains, Some, unwrap_or, refl, sym, ◌∙◌, ap}
+use Rattle.std.proofs.Common.{subst, inl, inr, arith}
 use Rattle.std.specs.List.{list_all, find}
 use Rattle.std.proofs.lemmas.Int.{ints}
 use Rattle.std.proofs.lemmas.List.{length-reverse, reverse-reverse, get_or-reverse}
@@ -21,7 +23,8 @@ found_above : (ms : List ℤ) (z : ℤ) → unwrap_or (find (λ m. int_le z m) m
 found_above [] z = refl
 found_above (m ∷ ms) z = go (int_le z m) (found_above ms z)
   where
-    go : (b : Bool) → unwrap_or (find (λ m. int_le z m) ms) (pos 2147483647) ≡ first_above ms z → unwrap_or (cond b (Some m) (find (λ m. int_le z m) ms)) (pos 2147483647) ≡ cond b m (first_above ms z)
+    go : (b : Bool) → unwrap_or (find (λ m. int_le z m) ms) (pos 2147483647) ≡ first_above ms z
+        → unwrap_or (cond b (Some m) (find (λ m. int_le z m) ms)) (pos 2147483647) ≡ cond b m (first_above ms z)
     go true i = refl
     go false i = i
 
@@ -29,7 +32,8 @@ found_below : (ms : List ℤ) (z : ℤ) → unwrap_or (find (λ m. int_le m z) m
 found_below [] z = refl
 found_below (m ∷ ms) z = go (int_le m z) (found_below ms z)
   where
-    go : (b : Bool) → unwrap_or (find (λ m. int_le m z) ms) (negsuc 2147483647) ≡ first_below ms z → unwrap_or (cond b (Some m) (find (λ m. int_le m z) ms)) (negsuc 2147483647) ≡ cond b m (first_below ms z)
+    go : (b : Bool) → unwrap_or (find (λ m. int_le m z) ms) (negsuc 2147483647) ≡ first_below ms z
+        → unwrap_or (cond b (Some m) (find (λ m. int_le m z) ms)) (negsuc 2147483647) ≡ cond b m (first_below ms z)
     go true i = refl
     go false i = i
 
@@ -47,7 +51,8 @@ above_up : (ms : List ℤ) (y z : ℤ) → y ≤ℤ z → z ≤ℤ pos 214748364
 above_up [] y z h k = omega (arith, ints)
 above_up (m ∷ ms) y z h k = go (int_le y m) (int_le z m) refl refl (above_up ms y z h k) (above_outwards ms z k)
   where
-    go : (b c : Bool) → int_le y m ≡ b → int_le z m ≡ c → first_above ms y ≤ℤ first_above ms z → z ≤ℤ first_above ms z → cond b m (first_above ms y) ≤ℤ cond c m (first_above ms z)
+    go : (b c : Bool) → int_le y m ≡ b → int_le z m ≡ c → first_above ms y ≤ℤ first_above ms z → z ≤ℤ first_above ms z
+        → cond b m (first_above ms y) ≤ℤ cond c m (first_above ms z)
     go true true e f i j = omega (arith, ints)
     go true false e f i j = grind (arith, ints, f, j)
     go false true e f i j = absurd (grind (arith, ints, e, f, h))
@@ -63,7 +68,8 @@ above_again (m ∷ ms) z h = go (int_le z m) refl (above_again ms z h) (above_ou
     later : int_le z m ≡ false → z ≤ℤ first_above ms z → int_le (first_above ms z) m ≡ false
     later e j = grind (arith, ints, e, j)
 
-    go : (b : Bool) → int_le z m ≡ b → first_above ms (first_above ms z) ≡ first_above ms z → z ≤ℤ first_above ms z → first_above (m ∷ ms) (cond b m (first_above ms z)) ≡ cond b m (first_above ms z)
+    go : (b : Bool) → int_le z m ≡ b → first_above ms (first_above ms z) ≡ first_above ms z → z ≤ℤ first_above ms z
+        → first_above (m ∷ ms) (cond b m (first_above ms z)) ≡ cond b m (first_above ms z)
     go true e i j = ap (λ (b : Bool). cond b m (first_above ms m)) stays
     go false e i j = ap (λ (b : Bool). cond b m (first_above ms (first_above ms z))) (later e j) ∙ i
 
@@ -97,12 +103,14 @@ one_more n ms m (k, lt, is) = (suc k, omega arith, is)
 
 above_nearest : (ms : List ℤ) (z m : ℤ) → ascends ms ≡ true → Contains ms m → z ≤ℤ m → first_above ms z ≤ℤ m
 above_nearest [] z m e (k, lt, is) h = absurd (omega arith)
-above_nearest (n ∷ ms) z m e has h = go (int_le z n) refl (first_or n ms m has) (λ later. above_nearest ms z m parts.1 later h)
+above_nearest (n ∷ ms) z m e has h = go (int_le z n) refl (first_or n ms m has) (λ later. above_nearest ms z m parts.1
+    later h)
   where
     parts : (list_all (λ x. int_le n x) ms ≡ true) × (ascends ms ≡ true)
     parts = and_parts (list_all (λ x. int_le n x) ms) (ascends ms) e
 
-    go : (b : Bool) → int_le z n ≡ b → (n ≡ m) ⊎ Contains ms m → (Contains ms m → first_above ms z ≤ℤ m) → cond b n (first_above ms z) ≤ℤ m
+    go : (b : Bool) → int_le z n ≡ b → (n ≡ m) ⊎ Contains ms m → (Contains ms m → first_above ms z ≤ℤ m)
+        → cond b n (first_above ms z) ≤ℤ m
     go true t (inl is) next = omega (arith, ints, is)
     go true t (inr later) next = let u = all_at (λ x. int_le n x) ms m parts.0 later in grind (arith, ints, u)
     go false t (inl is) next = absurd (grind (arith, ints, t, is, h))
@@ -112,17 +120,22 @@ above_one : (ms : List ℤ) (z : ℤ) → Contains ms (first_above ms z) ⊎ (fi
 above_one [] z = inr refl
 above_one (m ∷ ms) z = go (int_le z m) (above_one ms z)
   where
-    go : (b : Bool) → Contains ms (first_above ms z) ⊎ (first_above ms z ≡ pos 2147483647) → Contains (m ∷ ms) (cond b m (first_above ms z)) ⊎ (cond b m (first_above ms z) ≡ pos 2147483647)
+    go : (b : Bool) → Contains ms (first_above ms z) ⊎ (first_above ms z ≡ pos 2147483647)
+        → Contains (m ∷ ms) (cond b m (first_above ms z)) ⊎ (cond b m (first_above ms z) ≡ pos 2147483647)
     go true i = inl (zero, omega arith, refl)
     go false (inl is) = inl (one_more m ms _ is)
     go false (inr is) = inr is
 
-above_word : (ms : List ℤ) (z : ℤ) → list_all (λ m. int_le m (pos 2147483647)) ms ≡ true → first_above ms z ≤ℤ pos 2147483647
+above_word : (ms : List ℤ) (z : ℤ) → list_all (λ m. int_le m (pos 2147483647)) ms ≡ true
+    → first_above ms z ≤ℤ pos 2147483647
 above_word [] z e = omega (arith, ints)
-above_word (m ∷ ms) z e = go (int_le z m) (above_word ms z (and_parts (int_le m (pos 2147483647)) (list_all (λ m. int_le m (pos 2147483647)) ms) e).1)
+above_word (m ∷ ms) z e =
+    go (int_le z m) (above_word ms z (and_parts (int_le m (pos 2147483647)) (list_all (λ m. int_le m (pos 2147483647))
+    ms) e).1)
   where
     go : (b : Bool) → first_above ms z ≤ℤ pos 2147483647 → cond b m (first_above ms z) ≤ℤ pos 2147483647
-    go true i = let u = (and_parts (int_le m (pos 2147483647)) (list_all (λ m. int_le m (pos 2147483647)) ms) e).0 in grind (arith, ints, u)
+    go true i = let u = (and_parts (int_le m (pos 2147483647)) (list_all (λ m. int_le m (pos 2147483647)) ms) e).0
+        in grind (arith, ints, u)
     go false i = i
 
 -- ---- downwards
@@ -139,7 +152,8 @@ below_up : (ms : List ℤ) (y z : ℤ) → y ≤ℤ z → negsuc 2147483647 ≤�
 below_up [] y z h k = omega (arith, ints)
 below_up (m ∷ ms) y z h k = go (int_le m y) (int_le m z) refl refl (below_up ms y z h k) (below_outwards ms y k)
   where
-    go : (b c : Bool) → int_le m y ≡ b → int_le m z ≡ c → first_below ms y ≤ℤ first_below ms z → first_below ms y ≤ℤ y → cond b m (first_below ms y) ≤ℤ cond c m (first_below ms z)
+    go : (b c : Bool) → int_le m y ≡ b → int_le m z ≡ c → first_below ms y ≤ℤ first_below ms z → first_below ms y ≤ℤ y
+        → cond b m (first_below ms y) ≤ℤ cond c m (first_below ms z)
     go true true e f i j = omega (arith, ints)
     go true false e f i j = absurd (grind (arith, ints, e, f, h))
     go false true e f i j = grind (arith, ints, e, j)
@@ -155,18 +169,21 @@ below_again (m ∷ ms) z h = go (int_le m z) refl (below_again ms z h) (below_ou
     later : int_le m z ≡ false → first_below ms z ≤ℤ z → int_le m (first_below ms z) ≡ false
     later e j = grind (arith, ints, e, j)
 
-    go : (b : Bool) → int_le m z ≡ b → first_below ms (first_below ms z) ≡ first_below ms z → first_below ms z ≤ℤ z → first_below (m ∷ ms) (cond b m (first_below ms z)) ≡ cond b m (first_below ms z)
+    go : (b : Bool) → int_le m z ≡ b → first_below ms (first_below ms z) ≡ first_below ms z → first_below ms z ≤ℤ z
+        → first_below (m ∷ ms) (cond b m (first_below ms z)) ≡ cond b m (first_below ms z)
     go true e i j = ap (λ (b : Bool). cond b m (first_below ms m)) stays
     go false e i j = ap (λ (b : Bool). cond b m (first_below ms (first_below ms z))) (later e j) ∙ i
 
 below_nearest : (ms : List ℤ) (z m : ℤ) → descends ms ≡ true → Contains ms m → m ≤ℤ z → m ≤ℤ first_below ms z
 below_nearest [] z m e (k, lt, is) h = absurd (omega arith)
-below_nearest (n ∷ ms) z m e has h = go (int_le n z) refl (first_or n ms m has) (λ later. below_nearest ms z m parts.1 later h)
+below_nearest (n ∷ ms) z m e has h = go (int_le n z) refl (first_or n ms m has) (λ later. below_nearest ms z m parts.1
+    later h)
   where
     parts : (list_all (λ x. int_le x n) ms ≡ true) × (descends ms ≡ true)
     parts = and_parts (list_all (λ x. int_le x n) ms) (descends ms) e
 
-    go : (b : Bool) → int_le n z ≡ b → (n ≡ m) ⊎ Contains ms m → (Contains ms m → m ≤ℤ first_below ms z) → m ≤ℤ cond b n (first_below ms z)
+    go : (b : Bool) → int_le n z ≡ b → (n ≡ m) ⊎ Contains ms m → (Contains ms m → m ≤ℤ first_below ms z)
+        → m ≤ℤ cond b n (first_below ms z)
     go true t (inl is) next = omega (arith, ints, is)
     go true t (inr later) next = let u = all_at (λ x. int_le x n) ms m parts.0 later in grind (arith, ints, u)
     go false t (inl is) next = absurd (grind (arith, ints, t, is, h))
@@ -176,17 +193,22 @@ below_one : (ms : List ℤ) (z : ℤ) → Contains ms (first_below ms z) ⊎ (fi
 below_one [] z = inr refl
 below_one (m ∷ ms) z = go (int_le m z) (below_one ms z)
   where
-    go : (b : Bool) → Contains ms (first_below ms z) ⊎ (first_below ms z ≡ negsuc 2147483647) → Contains (m ∷ ms) (cond b m (first_below ms z)) ⊎ (cond b m (first_below ms z) ≡ negsuc 2147483647)
+    go : (b : Bool) → Contains ms (first_below ms z) ⊎ (first_below ms z ≡ negsuc 2147483647)
+        → Contains (m ∷ ms) (cond b m (first_below ms z)) ⊎ (cond b m (first_below ms z) ≡ negsuc 2147483647)
     go true i = inl (zero, omega arith, refl)
     go false (inl is) = inl (one_more m ms _ is)
     go false (inr is) = inr is
 
-below_word : (ms : List ℤ) (z : ℤ) → list_all (λ m. int_le (negsuc 2147483647) m) ms ≡ true → negsuc 2147483647 ≤ℤ first_below ms z
+below_word : (ms : List ℤ) (z : ℤ) → list_all (λ m. int_le (negsuc 2147483647) m) ms ≡ true
+    → negsuc 2147483647 ≤ℤ first_below ms z
 below_word [] z e = omega (arith, ints)
-below_word (m ∷ ms) z e = go (int_le m z) (below_word ms z (and_parts (int_le (negsuc 2147483647) m) (list_all (λ m. int_le (negsuc 2147483647) m) ms) e).1)
+below_word (m ∷ ms) z e =
+    go (int_le m z) (below_word ms z (and_parts (int_le (negsuc 2147483647) m)
+    (list_all (λ m. int_le (negsuc 2147483647) m) ms) e).1)
   where
     go : (b : Bool) → negsuc 2147483647 ≤ℤ first_below ms z → negsuc 2147483647 ≤ℤ cond b m (first_below ms z)
-    go true i = let u = (and_parts (int_le (negsuc 2147483647) m) (list_all (λ m. int_le (negsuc 2147483647) m) ms) e).0 in grind (arith, ints, u)
+    go true i = let u = (and_parts (int_le (negsuc 2147483647) m) (list_all (λ m. int_le (negsuc 2147483647) m) ms) e).0
+        in grind (arith, ints, u)
     go false i = i
 
 -- ---- the landmarks
@@ -198,7 +220,8 @@ reversed_has ms m (k, lt, is) =
     (length ms - 1 - k, omega (arith, inside), sym (get_or-reverse ms k m inside) ∙ is)
 
 has_reversed : (ms : List ℤ) (m : ℤ) → Contains ms m → Contains (reverse ms) m
-has_reversed ms m has = reversed_has (reverse ms) m (subst (λ (xs : List ℤ). Contains xs m) (sym (reverse-reverse ms)) has)
+has_reversed ms m has = reversed_has (reverse ms) m (subst (λ (xs : List ℤ). Contains xs m) (sym (reverse-reverse ms))
+    has)
 
 top_is : IsLandmark (pos 2147483647)
 top_is = (11, omega arith, refl)
@@ -231,17 +254,22 @@ pub round_is : (s : Span) → IsWord s → IsRounded s (round_row s)
 round_is s w = record {
   low = below_landmark s.low;
   high = above_landmark s.high;
-  low_outwards = subst (λ (z : ℤ). z ≤ℤ s.low) (sym (below_is s.low)) (below_outwards (reverse landmarks) s.low w.within.low);
-  high_outwards = subst (λ (z : ℤ). s.high ≤ℤ z) (sym (above_is s.high)) (above_outwards landmarks s.high w.within.high);
-  low_nearest = λ m is h. subst (λ (z : ℤ). m ≤ℤ z) (sym (below_is s.low)) (below_nearest (reverse landmarks) s.low m refl (has_reversed landmarks m is) h);
-  high_nearest = λ m is h. subst (λ (z : ℤ). z ≤ℤ m) (sym (above_is s.high)) (above_nearest landmarks s.high m refl is h);
+  low_outwards = subst (λ (z : ℤ). z ≤ℤ s.low) (sym (below_is s.low)) (below_outwards (reverse landmarks) s.low
+      w.within.low);
+  high_outwards = subst (λ (z : ℤ). s.high ≤ℤ z) (sym (above_is s.high)) (above_outwards landmarks s.high
+      w.within.high);
+  low_nearest = λ m is h. subst (λ (z : ℤ). m ≤ℤ z) (sym (below_is s.low)) (below_nearest (reverse landmarks) s.low m
+      refl (has_reversed landmarks m is) h);
+  high_nearest = λ m is h. subst (λ (z : ℤ). z ≤ℤ m) (sym (above_is s.high)) (above_nearest landmarks s.high m refl is
+      h);
 }
 
 pub round_within : (s : Span) → IsWord s → Within s (round_row s)
 round_within s w = let is = round_is s w in record { low = is.low_outwards; high = is.high_outwards }
 
 pub round_ordered : (s : Span) → IsWord s → landmark_below s.low ≤ℤ landmark_above s.high
-round_ordered s w = let is = round_within s w in let a = is.low in let b = is.high in let c = w.ordered in omega (arith, ints, a, b, c)
+round_ordered s w = let is = round_within s w in let a = is.low in let b = is.high in let c = w.ordered
+    in omega (arith, ints, a, b, c)
 
 pub round_monotone : IsMonotoneAlone round_row
 round_monotone s t ws wt h =
@@ -254,7 +282,10 @@ pub round_word : GivesWordsAlone round_row
 round_word s w =
     let a = below_is s.low in let b = above_is s.high in
     let c = below_word (reverse landmarks) s.low refl in let d = above_word landmarks s.high refl in
-    record { within = record { low = omega (arith, ints, a, c); high = omega (arith, ints, b, d) }; ordered = round_ordered s w }
+    record {
+      within = record { low = omega (arith, ints, a, c); high = omega (arith, ints, b, d) };
+      ordered = round_ordered s w;
+    }
 
 spans_same : (a b c d : ℤ) → a ≡ b → c ≡ d → span a c ≡ span b d
 spans_same a b c d e f = cc
@@ -262,6 +293,8 @@ spans_same a b c d e f = cc
 -- what is rounded stays as it is
 pub round_again : (s : Span) → IsWord s → round_row (round_row s) ≡ round_row s
 round_again s w =
-    let low = ap landmark_below (below_is s.low) ∙ below_is (first_below (reverse landmarks) s.low) ∙ below_again (reverse landmarks) s.low w.within.low ∙ sym (below_is s.low) in
-    let high = ap landmark_above (above_is s.high) ∙ above_is (first_above landmarks s.high) ∙ above_again landmarks s.high w.within.high ∙ sym (above_is s.high) in
+    let low = ap landmark_below (below_is s.low) ∙ below_is (first_below (reverse landmarks) s.low)
+    ∙ below_again (reverse landmarks) s.low w.within.low ∙ sym (below_is s.low) in
+    let high = ap landmark_above (above_is s.high) ∙ above_is (first_above landmarks s.high)
+    ∙ above_again landmarks s.high w.within.high ∙ sym (above_is s.high) in
     spans_same _ _ _ _ low high

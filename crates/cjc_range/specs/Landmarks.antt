@@ -6,7 +6,8 @@ use Rattle.cjc_range.specs.Span.{Span, span}
 -- ascending
 abbrev pub landmarks : List ℤ
 landmarks =
-    negsuc 2147483647 ∷ negsuc 65535 ∷ negsuc 32767 ∷ negsuc 127 ∷ negsuc 0 ∷ pos 0 ∷ pos 1 ∷ pos 127 ∷ pos 255 ∷ pos 32767 ∷ pos 65535 ∷ pos 2147483647 ∷ []
+    negsuc 2147483647 ∷ negsuc 65535 ∷ negsuc 32767 ∷ negsuc 127 ∷ negsuc 0 ∷ pos 0 ∷ pos 1 ∷ pos 127 ∷ pos 255
+    ∷ pos 32767 ∷ pos 65535 ∷ pos 2147483647 ∷ []
 
 -- the nearest landmark that is not below z, and the nearest that is not above z
 unfoldable pub landmark_above : ℤ → ℤ

@@ -14,7 +14,8 @@ IsMonotoneAlone row = (s t : Span) → IsWord s → IsWord t → Within s t → 
 -- the same of a row that is a relation
 abbrev pub IsMonotoneRelation : (Span → Span → Span → Type 0) → Type 0
 IsMonotoneRelation IsRow =
-    (s t u v q r : Span) → IsWord s → IsWord t → IsWord u → IsWord v → Within s u → Within t v → IsRow s t q → IsRow u v r → Within q r
+    (s t u v q r : Span) → IsWord s → IsWord t → IsWord u → IsWord v → Within s u → Within t v → IsRow s t q
+    → IsRow u v r → Within q r
 
 -- numbers of 32 bits give numbers of 32 bits
 abbrev pub GivesWords : (Span → Span → Span) → Type 0
@@ -31,7 +32,8 @@ pub record IsFunctionOf (IsRow : Span → Span → Span → Type 0) (row : Span 
 
 -- the row holds what the operation gives on each number of the one operand with each of the other
 abbrev pub HoldsResults : (Span → Span → Span) → (ℤ → ℤ → ℤ) → Type 0
-HoldsResults row operation = (s t : Span) (x y : ℤ) → IsWord s → IsWord t → Holds s x → Holds t y → Holds (row s t) (operation x y)
+HoldsResults row operation = (s t : Span) (x y : ℤ) → IsWord s → IsWord t → Holds s x → Holds t y
+    → Holds (row s t) (operation x y)
 
 -- the same of a row with one operand
 abbrev pub HoldsResultsAlone : (Span → Span) → (ℤ → ℤ) → Type 0

@@ -2,3 +2,4 @@ pub mod Span
 pub mod Rows
 pub mod Landmarks
 pub mod Laws
+pub mod Words

@@ -1,9 +1,11 @@
 -- The row of each operation: the span of its result, from the spans of its operands. In each row the
 -- left operand is from a to b and the right one from c to d.
-use Rattle.std.specs.Prelude.{◌≡◌, ℕ, zero, suc, ◌+◌, ◌-◌, ◌/◌, ◌^◌, ◌≤◌, min, max, ℤ, pos, negsuc, ◌+ℤ◌, ◌-ℤ◌, ◌*ℤ◌, neg_ℤ, int_le, int_lt, int_div, unsigned_abs, ◌==◌, nat_lt, ◌&&◌, if◌then◌else◌, MatchBool}
+use Rattle.std.specs.Prelude.{◌≡◌, ℕ, zero, suc, ◌+◌, ◌-◌, ◌/◌, ◌^◌, ◌≤◌, min, max, ℤ, pos, negsuc, ◌+ℤ◌, ◌-ℤ◌, ◌*ℤ◌}
+use Rattle.std.specs.Prelude.{neg_ℤ, int_le, int_lt, int_div, unsigned_abs, ◌==◌, nat_lt, ◌&&◌, if◌then◌else◌}
+use Rattle.std.specs.Prelude.{MatchBool}
 use Rattle.std.specs.Int.{int_min, int_max, int_shr}
 use Rattle.std.specs.Int.Signed.{mag}
-use Rattle.cjc_words.specs.Words.{shift_distance}
+use Rattle.cjc_range.specs.Words.{shift_distance}
 use Rattle.cjc_range.specs.Span.{Span, span, Holds, full, byte_range, short_range}
 
 -- the span where it fits the range, else the range
@@ -67,7 +69,8 @@ rem_bound s t = min (greatest_size t - 1) (greatest_size s)
 
 -- from -k where there are negative numbers to k where there are positive ones
 abbrev pub rem_within : Span → ℕ → Span
-rem_within s k = span (if int_le (pos 0) s.low then pos 0 else neg_ℤ (pos k)) (if int_le s.high (pos 0) then pos 0 else pos k)
+rem_within s k = span (if int_le (pos 0) s.low then pos 0 else neg_ℤ (pos k)) (if int_le s.high (pos 0) then pos 0
+    else pos k)
 
 -- remainders, with the sign of the number that is divided
 abbrev pub rem_row : Span → Span → Span
@@ -130,7 +133,8 @@ pub record EndsHaveBits (k : ℕ) (s t : Span) : Type 0 where
 
 -- from 0, or from -p where an operand may be negative, to p - 1
 abbrev pub below_power : Span → Span → ℕ → Span
-below_power s t p = span (if int_le (pos 0) s.low && int_le (pos 0) t.low then pos 0 else neg_ℤ (pos p)) (pos p -ℤ pos 1)
+below_power s t p = span (if int_le (pos 0) s.low && int_le (pos 0) t.low then pos 0 else neg_ℤ (pos p))
+    (pos p -ℤ pos 1)
 
 -- the same of p = 2^k
 abbrev pub of_bits : Span → Span → ℕ → Span

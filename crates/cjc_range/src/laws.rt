@@ -4,10 +4,12 @@
 ghost use Rattle.std.specs.Prelude.{◌≡◌, ◌<◌, ◌≤◌, ◌^◌, ℤ, pos, neg_ℤ, ◌+ℤ◌, ◌-ℤ◌, ◌*ℤ◌, int_div, int_rem};
 ghost use Rattle.std.specs.Int.{w32, int_shr, int_bit_and, int_bit_or, int_bit_xor};
 ghost use Rattle.cjc_range.specs.Span.{Span, Holds, Within, IsWord, width};
-ghost use Rattle.cjc_words.specs.Words.{wide, low_word, low_byte, shift_distance, unsigned_shift};
-ghost use Rattle.cjc_range.specs.Rows.{add_row, sub_row, mul_row, neg_row, div_row, rem_row, join_row, to_byte_row, to_short_row, shl_row, shr_row, ushr_row, IsOrRow, IsAndRow, or_row, and_row};
+ghost use Rattle.cjc_range.specs.Words.{wide, low_word, low_byte, shift_distance, unsigned_shift};
+ghost use Rattle.cjc_range.specs.Rows.{add_row, sub_row, mul_row, neg_row, div_row, rem_row, join_row, to_byte_row};
+ghost use Rattle.cjc_range.specs.Rows.{to_short_row, shl_row, shr_row, ushr_row, IsOrRow, IsAndRow, or_row, and_row};
 ghost use Rattle.cjc_range.specs.Landmarks.{round_row, IsRounded};
-ghost use Rattle.cjc_range.specs.Laws.{IsMonotone, IsMonotoneAlone, GivesWords, GivesWordsAlone, IsFunctionOf, HoldsResults, HoldsResultsAlone, HoldsResultsButZero};
+ghost use Rattle.cjc_range.specs.Laws.{IsMonotone, IsMonotoneAlone, GivesWords, GivesWordsAlone, IsFunctionOf};
+ghost use Rattle.cjc_range.specs.Laws.{HoldsResults, HoldsResultsAlone, HoldsResultsButZero};
 
 /// Operands inside wider operands give a result inside the wider result, for every operation.
 pub fn intervals_are_monotone()

@@ -4,12 +4,17 @@
 //! operation gives on values of its operands. It takes no memory, and knows nothing of code or frames.
 #![tactic(auto)]
 
-ghost use Rattle.std.specs.Prelude.{◌≡◌, ◌≢◌, ◌+◌, ◌-◌, ◌/◌, ◌<◌, ◌≤◌, ◌^◌, ◌↔◌, max, ℤ, pos, negsuc, neg_ℤ, ◌+ℤ◌, ◌-ℤ◌, ◌*ℤ◌, ◌≤ℤ◌, ◌<ℤ◌, int_div, int_rem, IsTrue};
+pub mod words;
+
+ghost use Rattle.std.specs.Prelude.{◌≡◌, ◌≢◌, ◌+◌, ◌-◌, ◌/◌, ◌<◌, ◌≤◌, ◌^◌, ◌↔◌, max, ℤ, pos, negsuc, neg_ℤ, ◌+ℤ◌};
+ghost use Rattle.std.specs.Prelude.{◌-ℤ◌, ◌*ℤ◌, ◌≤ℤ◌, ◌<ℤ◌, int_div, int_rem, IsTrue};
 ghost use Rattle.std.specs.Int.{w32, int_shr, int_min, int_max, int_bit_and, int_bit_or, int_bit_xor, cast_unsigned};
 ghost use Rattle.std.specs.Int.Signed.{mag};
 ghost use Rattle.cjc_range.specs.Span.{Holds, Within, IsWord, span, width};
-ghost use Rattle.cjc_words.specs.Words.{wide, low_word, low_byte, shift_distance, unsigned_shift};
-ghost use Rattle.cjc_range.specs.Rows.{clip, greatest_size, add_row, sub_row, mul_row, neg_row, div_row, rem_row, rem_within, join_row, to_byte_row, to_short_row, shl_row, shr_row, ushr_by, ushr_row, IsOrRow, IsAndRow, IsClipped, below_power};
+ghost use Rattle.cjc_range.specs.Words.{wide, low_word, low_byte, shift_distance, unsigned_shift};
+ghost use Rattle.cjc_range.specs.Rows.{clip, greatest_size, add_row, sub_row, mul_row, neg_row, div_row, rem_row};
+ghost use Rattle.cjc_range.specs.Rows.{rem_within, join_row, to_byte_row, to_short_row, shl_row, shr_row, ushr_by};
+ghost use Rattle.cjc_range.specs.Rows.{ushr_row, IsOrRow, IsAndRow, IsClipped, below_power};
 ghost use Rattle.cjc_range.specs.Landmarks.{round_row};
 
 mod ends;

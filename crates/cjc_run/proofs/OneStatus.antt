@@ -1,31 +1,34 @@
 -- What a command makes of its inputs is one answer.
 use Rattle.std.proofs.Common.{◌≡◌, ℕ, List, Ok, Err}
-use Rattle.cjc_command.specs.declared.status.Todo.{Todo}
+use Rattle.cjc_shelf.specs.declared.command.status.Todo.{Todo}
 use Rattle.cjc_list.specs.Listed.{ListTree}
-use Rattle.cjc_command.proofs.OneAnswer.{IsOneAnswer}
+use Rattle.cjc_shelf.proofs.CommandLaws.OneAnswer.{IsOneAnswer}
 use Rattle.cjc_bytes.specs.declared.fault.Refusal.{Refusal}
-use Rattle.cjc_card_report.specs.Runs as card_runs
-use Rattle.cjc_card_running.specs.declared.input.Input.{Input as ComponentsInput}
-use Rattle.cjc_conversion.specs.Conversion.{Conversion, IsConverted, IsRefused}
-use Rattle.cjc_checking.proofs.OneAnswer.{one_refusal as one_broken, never_both}
-use Rattle.cjc_checking.specs.Check.{Checks}
-use Rattle.cjc_folder.specs.declared.folder.Folder.{Folder}
-use Rattle.cjc_jvm_report.proofs.OneAnswer.{one_refusal_of_runs, never_both as never_run_and_refused}
-use Rattle.cjc_jvm_report.specs.Runs.{Runs}
-use Rattle.cjc_make_report.specs.Runs as summed
-use Rattle.cjc_running.specs.declared.input.Input.{Input}
+use Rattle.cjc_cmd_card.specs.Report.Runs as card_runs
+use Rattle.cjc_cmd_card.specs.declared.running.input.Input.{Input as ComponentsInput}
+use Rattle.cjc_cmd_convert.specs.Conversion.Conversion.{Conversion, IsConverted, IsRefused}
+use Rattle.cjc_cmd_check.proofs.CheckingLaws.OneAnswer.{one_refusal as one_broken, never_both}
+use Rattle.cjc_cmd_check.specs.Check.{Checks}
+use Rattle.cjc_cmd_check.specs.declared.folder.folder.Folder.{Folder}
+use Rattle.cjc_cmd_jvm.proofs.ReportLaws.OneAnswer.{one_refusal_of_runs, never_both as never_run_and_refused}
+use Rattle.cjc_cmd_jvm.specs.Runs.{Runs}
+use Rattle.cjc_cmd_make.specs.Report.Runs as summed
+use Rattle.cjc_cmd_jvm.specs.declared.running.input.Input.{Input}
 use Rattle.cjc_run.specs.Request.{Request, card, check, convert, jvm, make}
 use Rattle.cjc_run.specs.Command.{command_of}
 use Rattle.cjc_run.specs.Convert.{Makes}
 
 -- a conversion refuses by one rule at one place, and never what it makes
 abbrev pub IsRefusedOnce : Type 0
-IsRefusedOnce = (list : ListTree) (files : List (List ℕ)) (r s : Refusal) → IsRefused list files r → IsRefused list files s → r ≡ s
+IsRefusedOnce = (list : ListTree) (files : List (List ℕ)) (r s : Refusal) → IsRefused list files r
+    → IsRefused list files s → r ≡ s
 
 abbrev pub IsNeverBoth : Type 0
-IsNeverBoth = (list : ListTree) (files : List (List ℕ)) (made : Conversion) (r : Refusal) → IsConverted list files made → IsRefused list files r → ⊥
+IsNeverBoth = (list : ListTree) (files : List (List ℕ)) (made : Conversion) (r : Refusal) → IsConverted list files made
+    → IsRefused list files r → ⊥
 
-convert_once : IsRefusedOnce → IsNeverBoth → (dir : List ℕ) (inputs : ListTree × List (List ℕ)) → IsOneAnswer (Makes dir inputs)
+convert_once : IsRefusedOnce → IsNeverBoth → (dir : List ℕ) (inputs : ListTree × List (List ℕ))
+    → IsOneAnswer (Makes dir inputs)
 convert_once one never dir inputs = record {
   one = λ r s f g. one inputs.0 inputs.1 r s f g;
   not_both = λ todo r made f. never inputs.0 inputs.1 made.0 r made.1 f;
@@ -45,12 +48,15 @@ run_once n script input = record {
 
 -- a run of components gives one refusal, or a report, and not both
 abbrev pub RunsOnce : Type 0
-RunsOnce = (n : ℕ) (script : List ℕ) (input : ComponentsInput) (r s : Refusal) → card_runs.Runs n script input (Err r) → card_runs.Runs n script input (Err s) → r ≡ s
+RunsOnce = (n : ℕ) (script : List ℕ) (input : ComponentsInput) (r s : Refusal) → card_runs.Runs n script input (Err r)
+    → card_runs.Runs n script input (Err s) → r ≡ s
 
 abbrev pub RunsOrRefuses : Type 0
-RunsOrRefuses = (n : ℕ) (script : List ℕ) (input : ComponentsInput) (todo : Todo) (r : Refusal) → card_runs.Runs n script input (Ok todo) → card_runs.Runs n script input (Err r) → ⊥
+RunsOrRefuses = (n : ℕ) (script : List ℕ) (input : ComponentsInput) (todo : Todo) (r : Refusal)
+    → card_runs.Runs n script input (Ok todo) → card_runs.Runs n script input (Err r) → ⊥
 
-card_once : RunsOnce → RunsOrRefuses → (n : ℕ) (script : List ℕ) (input : ComponentsInput) → IsOneAnswer (card_runs.Runs n script input)
+card_once : RunsOnce → RunsOrRefuses → (n : ℕ) (script : List ℕ) (input : ComponentsInput)
+    → IsOneAnswer (card_runs.Runs n script input)
 card_once one never n script input = record {
   one = λ r s f g. one n script input r s f g;
   not_both = λ todo r made f. never n script input todo r made f;
@@ -61,7 +67,8 @@ abbrev pub SumsOnce : Type 0
 SumsOnce = (given : ℕ × ℕ) (r s : Refusal) → summed.Makes given (Err r) → summed.Makes given (Err s) → r ≡ s
 
 abbrev pub SumsOrRefuses : Type 0
-SumsOrRefuses = (given : ℕ × ℕ) (todo : Todo) (r : Refusal) → summed.Makes given (Ok todo) → summed.Makes given (Err r) → ⊥
+SumsOrRefuses = (given : ℕ × ℕ) (todo : Todo) (r : Refusal) → summed.Makes given (Ok todo) → summed.Makes given (Err r)
+    → ⊥
 
 make_once : SumsOnce → SumsOrRefuses → (given : ℕ × ℕ) → IsOneAnswer (summed.Makes given)
 make_once one never given = record {
@@ -70,7 +77,8 @@ make_once one never given = record {
 }
 
 -- one line a command
-pub makes_once : IsRefusedOnce → IsNeverBoth → RunsOnce → RunsOrRefuses → SumsOnce → SumsOrRefuses → (asked : Request) (inputs : (command_of asked).Inputs) → IsOneAnswer ((command_of asked).Makes inputs)
+pub makes_once : IsRefusedOnce → IsNeverBoth → RunsOnce → RunsOrRefuses → SumsOnce → SumsOrRefuses
+    → (asked : Request) (inputs : (command_of asked).Inputs) → IsOneAnswer ((command_of asked).Makes inputs)
 makes_once one never runs either sums alone (convert list dir) inputs = convert_once one never dir inputs
 makes_once one never runs either sums alone (check list dir) inputs = check_once inputs
 makes_once one never runs either sums alone (jvm list script n) inputs = run_once n script inputs

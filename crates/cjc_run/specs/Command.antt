@@ -1,9 +1,9 @@
 -- From a request to the command that does it: what it reads, and what is made of that.
-use Rattle.cjc_command.specs.Answer.{Command}
-use Rattle.cjc_card_report.specs.Runs as by_token
-use Rattle.cjc_checking.specs.Check.{Checks, plan_of_check}
-use Rattle.cjc_jvm_report.specs.Runs.{Runs, plan_of_jvm}
-use Rattle.cjc_make_report.specs.Runs as summed
+use Rattle.cjc_shelf.specs.Command.Answer.{Command}
+use Rattle.cjc_cmd_card.specs.Report.Runs as by_token
+use Rattle.cjc_cmd_check.specs.Check.{Checks, plan_of_check}
+use Rattle.cjc_cmd_jvm.specs.Runs.{Runs, plan_of_jvm}
+use Rattle.cjc_cmd_make.specs.Report.Runs as summed
 use Rattle.cjc_run.specs.Request.{Request, card, check, convert, jvm, make}
 use Rattle.cjc_run.specs.Convert.{plan_of_convert, Makes}
 
@@ -12,5 +12,9 @@ abbrev pub command_of : Request → Command
 command_of (convert list dir) = record { Inputs = _; plan = plan_of_convert list; Makes = Makes dir }
 command_of (check list dir) = record { Inputs = _; plan = plan_of_check list dir; Makes = Checks }
 command_of (jvm list script n) = record { Inputs = _; plan = plan_of_jvm list script; Makes = Runs n script }
-command_of (card list dir script n) = record { Inputs = _; plan = by_token.plan_of_report list dir script; Makes = by_token.Runs n script }
+command_of (card list dir script n) = record {
+  Inputs = _;
+  plan = by_token.plan_of_report list dir script;
+  Makes = by_token.Runs n script;
+}
 command_of (make number size) = record { Inputs = _; plan = summed.plan_of_make number size; Makes = summed.Makes }

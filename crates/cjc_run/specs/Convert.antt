@@ -2,11 +2,11 @@
 use Rattle.std.specs.Prelude.{◌≡◌, ℕ, List, map, Result, Ok, Err}
 use Rattle.cjc_bytes.specs.declared.fault.Refusal.{Refusal}
 use Rattle.cjc_list.specs.Listed.{ListTree, listed}
-use Rattle.cjc_conversion.specs.Conversion.{Conversion, IsConverted, IsRefused}
-use Rattle.cjc_conversion.specs.Promise.{KeepsPromise}
-use Rattle.cjc_command.specs.Plan.{Plan, has, ◌>>=◌, read, read_each, unless_refused}
-use Rattle.cjc_command.specs.declared.status.Todo.{Todo}
-use Rattle.cjc_publication.specs.Publication.{files_made, publication}
+use Rattle.cjc_cmd_convert.specs.Conversion.Conversion.{Conversion, IsConverted, IsRefused}
+use Rattle.cjc_cmd_convert.specs.Conversion.Promise.{KeepsPromise}
+use Rattle.cjc_shelf.specs.Command.Plan.{Plan, has, ◌>>=◌, read, read_each, unless_refused}
+use Rattle.cjc_shelf.specs.declared.command.status.Todo.{Todo}
+use Rattle.cjc_cmd_convert.specs.Publication.{files_made, publication}
 
 -- ---- what is read
 
@@ -35,5 +35,6 @@ plan_of_convert name = do
 -- What is made of the list and its files, with what the conversion promises of it; or which rule they break first.
 abbrev pub Makes : List ℕ → ListTree × List (List ℕ) → Result Todo Refusal → Type 0
 Makes dir input (Ok todo) =
-    (made : Conversion) × IsConverted input.0 input.1 made × KeepsPromise input.0 input.1 made × (todo ≡ publication dir (files_made input.0.package made.caps made.export))
+    (made : Conversion) × IsConverted input.0 input.1 made × KeepsPromise input.0 input.1 made
+    × (todo ≡ publication dir (files_made input.0.package made.caps made.export))
 Makes dir input (Err r) = IsRefused input.0 input.1 r

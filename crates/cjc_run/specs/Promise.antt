@@ -5,7 +5,7 @@ use Rattle.cjc_bytes.specs.Format.{FileSpells}
 use Rattle.cjc_bytes.specs.declared.settings.FileLine.{FileLine}
 use Rattle.cjc_shelf.specs.Shelf.{Files, Shelved}
 use Rattle.cjc_shelf.specs.Sink.{Sunk}
-use Rattle.cjc_command.specs.Publish.{IsPrinted, Stand}
+use Rattle.cjc_shelf.specs.Command.Publish.{IsPrinted, Stand}
 use Rattle.cjc_list.specs.Listed.{ListTree}
 use Rattle.cjc_list.specs.Spelling.{IsSpelt as IsListSpelt}
 use Rattle.cjc_classfile.specs.ClassFile.{class_file}
@@ -14,25 +14,25 @@ use Rattle.cjc_export.specs.declared.tree.ExportTree.{ExportTree}
 use Rattle.cjc_export.specs.ExportFile.{export_file}
 use Rattle.cjc_capread.specs.declared.tree.CapTree.{CapTree}
 use Rattle.cjc_capwrite.specs.Writable.{IsSpelt}
-use Rattle.cjc_conversion.specs.Conversion.{BehaveAlike, Conversion, ExportsAreFair}
+use Rattle.cjc_cmd_convert.specs.Conversion.Conversion.{BehaveAlike, Conversion, ExportsAreFair}
 use Rattle.cjc_judge.specs.Rules.{world_files}
-use Rattle.cjc_sentences.specs.Consistent.{Consistent}
-use Rattle.cjc_publication.specs.Publication.{files_made, below}
-use Rattle.cjc_checking.specs.Check.{AreConsistent, check_breaks, ok_line, plan_of_check}
-use Rattle.cjc_command.specs.Plan.{complete, verdict}
-use Rattle.cjc_command.specs.declared.status.Todo.{Todo}
-use Rattle.cjc_folder.specs.declared.folder.Folder.{Folder}
-use Rattle.cjc_card_report.specs.Runs as by_token
-use Rattle.cjc_card_running.specs.Ready as components
-use Rattle.cjc_card_running.specs.declared.input.Input.{Input as ComponentsInput}
-use Rattle.cjc_card_running.specs.declared.ready.Ready.{Ready as ComponentsReady}
-use Rattle.cjc_running.specs.Ready.{IsReady}
-use Rattle.cjc_running.specs.declared.input.Input.{Input}
-use Rattle.cjc_running.specs.declared.ready.Ready.{Ready}
+use Rattle.cjc_check_rules.specs.Consistent.{Consistent}
+use Rattle.cjc_cmd_convert.specs.Publication.{files_made, below}
+use Rattle.cjc_cmd_check.specs.Check.{AreConsistent, check_breaks, ok_line, plan_of_check}
+use Rattle.cjc_shelf.specs.Command.Plan.{complete, verdict}
+use Rattle.cjc_shelf.specs.declared.command.status.Todo.{Todo}
+use Rattle.cjc_cmd_check.specs.declared.folder.folder.Folder.{Folder}
+use Rattle.cjc_cmd_card.specs.Report.Runs as by_token
+use Rattle.cjc_cmd_card.specs.Running.Ready as components
+use Rattle.cjc_cmd_card.specs.declared.running.input.Input.{Input as ComponentsInput}
+use Rattle.cjc_cmd_card.specs.declared.running.ready.Ready.{Ready as ComponentsReady}
+use Rattle.cjc_cmd_jvm.specs.Running.Ready.{IsReady}
+use Rattle.cjc_cmd_jvm.specs.declared.running.input.Input.{Input}
+use Rattle.cjc_cmd_jvm.specs.declared.running.ready.Ready.{Ready}
 use Rattle.cjc_script.specs.declared.report.Report.{Report}
 use Rattle.cjc_script_text.specs.Printed.{report_text}
-use Rattle.cjc_jvm_report.specs.Runs.{IsReport, plan_of_jvm}
-use Rattle.cjc_make_report.specs.Runs.{IsMade}
+use Rattle.cjc_cmd_jvm.specs.Runs.{IsReport, plan_of_jvm}
+use Rattle.cjc_cmd_make.specs.Report.Runs.{IsMade}
 use Rattle.cjc_run.specs.Request.{Request, card, check, convert, jvm, make}
 
 -- by one line: a class file is there and spells the first of these classes, and the other lines the rest; an export
@@ -45,7 +45,8 @@ SpellStep false file rest trees = rest trees
 -- The class files that the lines name spell these classes, in order. Export files are passed by.
 abbrev pub SpellClasses : Files → List FileLine → List ClassTree → Type 0
 SpellClasses files [] trees = trees ≡ []
-SpellClasses files (line ∷ lines) trees = SpellStep line.class_file (get files line.name) (SpellClasses files lines) trees
+SpellClasses files (line ∷ lines) trees = SpellStep line.class_file (get files line.name) (SpellClasses files lines)
+    trees
 
 -- by one line: an export file is there and spells the first of these trees, and the other lines the rest; a class
 -- file spells none of them
@@ -57,10 +58,13 @@ ExportStep false file rest (tree ∷ trees) = IsSomeAnd file (λ bytes. FileSpel
 -- The export files that the lines name spell these export trees, in order. Class files are passed by.
 abbrev pub SpellExports : Files → List FileLine → List ExportTree → Type 0
 SpellExports files [] trees = trees ≡ []
-SpellExports files (line ∷ lines) trees = ExportStep line.class_file (get files line.name) (SpellExports files lines) trees
+SpellExports files (line ∷ lines) trees = ExportStep line.class_file (get files line.name) (SpellExports files lines)
+    trees
 
--- The class files and export files that the list of this name names before spell these, and the component files that stand in
--- the folder after spell these components. Over export files that are fair the components are consistent with them, and class
+-- The class files and export files that the list of this name names before spell these, and the component files that
+-- stand in
+-- the folder after spell these components. Over export files that are fair the components are consistent with them, and
+-- class
 -- files and components behave alike for every script.
 pub record Converts (name dir : List ℕ) (before after : Files) : Type 0 where
   pub text : List ℕ
@@ -78,7 +82,8 @@ pub record Converts (name dir : List ℕ) (before after : Files) : Type 0 where
   pub consistent : ExportsAreFair exports → Consistent cap exports
   pub alike : ExportsAreFair exports → BehaveAlike list (world_files list classes exports) cap
 
--- The list of this name, the export files that it names and the components in the folder were read, and none of them breaks a
+-- The list of this name, the export files that it names and the components in the folder were read, and none of them
+-- breaks a
 -- rule. What the components say is consistent with what the export files say.
 pub record IsTested (name dir : List ℕ) (files : Files) : Type 0 where
   pub folder : Folder
@@ -92,7 +97,8 @@ pub record Checked (name dir : List ℕ) (old new : Shelved) (from to : Sunk) : 
   pub tested : IfSome old.files (IsTested name dir)
   pub printed : IfSome from.written (λ before. to.written ≡ Some (before ++ ok_line))
 
--- The list of this name, its files and the script were read, and break no rule of the first three hundreds. The report of the run of n
+-- The list of this name, its files and the script were read, and break no rule of the first three hundreds. The report
+-- of the run of n
 -- instructions of the class files by name is printed.
 pub record IsReported (name script : List ℕ) (n : ℕ) (files : Files) (from to : Sunk) : Type 0 where
   pub input : Input
@@ -108,8 +114,10 @@ pub record Reported (name script : List ℕ) (n : ℕ) (old new : Shelved) (from
   pub kept : IfSome old.files (λ files. new.files ≡ Some files)
   pub reported : IfSome old.files (λ files. IsReported name script n files from to)
 
--- The list of this name, its files, the components in the folder and the script were read, and break no rule of the first three hundreds,
--- none of 401 to 409 and 413, and no sentence on components. The report of the run of n instructions of the components by token is printed.
+-- The list of this name, its files, the components in the folder and the script were read, and break no rule of the
+-- first three hundreds,
+-- none of 401 to 409 and 413, and no sentence on components. The report of the run of n instructions of the components
+-- by token is printed.
 pub record IsCardReported (name dir script : List ℕ) (n : ℕ) (files : Files) (from to : Sunk) : Type 0 where
   pub input : ComponentsInput
   pub read : verdict files (by_token.plan_of_report name dir script) ≡ complete input
@@ -124,7 +132,8 @@ pub record CardReported (name dir script : List ℕ) (n : ℕ) (old new : Shelve
   pub kept : IfSome old.files (λ files. new.files ≡ Some files)
   pub reported : IfSome old.files (λ files. IsCardReported name dir script n files from to)
 
--- Nothing is written, and the summary of the package of this number and size is printed: of its conversion, and of its runs.
+-- Nothing is written, and the summary of the package of this number and size is printed: of its conversion, and of its
+-- runs.
 pub record MadeReported (number size : ℕ) (old new : Shelved) (from to : Sunk) : Type 0 where
   pub todo : Todo
   pub made : IsMade number size todo
@@ -133,7 +142,8 @@ pub record MadeReported (number size : ℕ) (old new : Shelved) (from to : Sunk)
 
 -- what the request that is done promises of the shelf and the sink before and after
 abbrev pub Promised : Request → Shelved → Shelved → Sunk → Sunk → Type 0
-Promised (convert name dir) old new from to = IfSome old.files (λ before. IsSomeAnd new.files (Converts name dir before))
+Promised (convert name dir) old new from to =
+    IfSome old.files (λ before. IsSomeAnd new.files (Converts name dir before))
 Promised (check name dir) old new from to = Checked name dir old new from to
 Promised (jvm name script n) old new from to = Reported name script n old new from to
 Promised (card name dir script n) old new from to = CardReported name dir script n old new from to

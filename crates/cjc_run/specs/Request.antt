@@ -1,5 +1,6 @@
 -- What the words of a command line ask for, or that they are of no form.
-use Rattle.std.specs.Prelude.{ℕ, ◌==◌, List, [], ◌∷◌, codes, bytes_eq, if◌then◌else◌, Option, Some, None, option_and_then, option_map}
+use Rattle.std.specs.Prelude.{ℕ, ◌==◌, List, [], ◌∷◌, codes, bytes_eq, if◌then◌else◌, Option, Some, None}
+use Rattle.std.specs.Prelude.{option_and_then, option_map}
 use Rattle.cjc_bytes.specs.Text.{short_decimal}
 
 -- What is asked for.
@@ -38,6 +39,8 @@ request (verb ∷ list ∷ dir ∷ []) =
     else if bytes_eq verb (codes "check") then Some (check list dir)
     else if bytes_eq verb (codes "make") then option_and_then (λ n. option_map (make n) (size dir)) (number list)
     else None
-request (verb ∷ list ∷ script ∷ n ∷ []) = if bytes_eq verb (codes "jvm") then option_map (jvm list script) (count n) else None
-request (verb ∷ list ∷ dir ∷ script ∷ n ∷ []) = if bytes_eq verb (codes "card") then option_map (card list dir script) (count n) else None
+request (verb ∷ list ∷ script ∷ n ∷ []) = if bytes_eq verb (codes "jvm") then option_map (jvm list script) (count n)
+    else None
+request (verb ∷ list ∷ dir ∷ script ∷ n ∷ []) = if bytes_eq verb (codes "card") then option_map (card list dir script)
+    (count n) else None
 request words = None

@@ -2,8 +2,8 @@
 use Rattle.std.specs.Prelude.{ℕ, List, [], ◌∷◌, ◌++◌, codes, decimal}
 use Rattle.std.specs.List.{concat}
 use Rattle.cjc_bytes.specs.declared.fault.Refusal.{Refusal}
-use Rattle.cjc_command.specs.declared.status.Status.{Status}
-use Rattle.cjc_command.specs.declared.status.Status.TheVariants as status
+use Rattle.cjc_shelf.specs.declared.command.status.Status.{Status}
+use Rattle.cjc_shelf.specs.declared.command.status.Status.TheVariants as status
 
 -- a space
 abbrev pub blank : List ℕ
@@ -20,12 +20,15 @@ shown_part (c ∷ part) = c ∷ part
 
 -- the forms of the words
 abbrev pub usage_line : List ℕ
-usage_line = codes "usage: jcconv convert LIST DIR, check LIST DIR, jvm LIST SCRIPT N, card LIST DIR SCRIPT N, make NUMBER SIZE" ++ line_feed
+usage_line = codes
+    "usage: jcconv convert LIST DIR, check LIST DIR, jvm LIST SCRIPT N, card LIST DIR SCRIPT N, make NUMBER SIZE"
+    ++ line_feed
 
 -- which rule is broken, and where
 abbrev pub refusal_line : Refusal → List ℕ
 refusal_line r =
-    concat (codes "refused " ∷ decimal r.rule.0 ∷ blank ∷ shown_part r.place.file ∷ blank ∷ shown_part r.place.class ∷ blank ∷ shown_part r.place.member
+    concat (codes "refused " ∷ decimal r.rule.0 ∷ blank ∷ shown_part r.place.file ∷ blank ∷ shown_part r.place.class
+    ∷ blank ∷ shown_part r.place.member
     ∷ blank ∷ decimal r.place.offset ∷ line_feed ∷ [])
 
 -- the line of each answer; none for a run that is done

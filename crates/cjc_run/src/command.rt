@@ -67,7 +67,8 @@ fn size(word: &Bytes) -> Option<u32>
 
 /// The package that is to be made, where the words are a number and a size.
 fn package_asked<'a>(first: &Bytes, second: &Bytes) -> Option<Asked<'a>>
-    ensures asked { option_map asked result ≡ option_and_then (λ n. option_map (make n) (size second.now)) (number first.now) }
+    ensures asked { option_map asked result ≡ option_and_then (λ n. option_map (make n) (size second.now))
+        (number first.now) }
     ensures size { IfSome result HasSize }
 {
     match number(first) {

@@ -2,17 +2,17 @@
 //! lines to print. `gather` calls it. Nothing here writes.
 
 ghost use Rattle.std.specs.Prelude.{◌≡◌, ◌<◌, IfOk, length};
-ghost use Rattle.cjc_command.specs.Gather.{AreShort};
+ghost use Rattle.cjc_shelf.specs.Command.Gather.{AreShort};
 ghost use Rattle.cjc_judge.specs.Spelt.{IsRead};
-ghost use Rattle.cjc_command.specs.Gather.{Gathers, Judged};
+ghost use Rattle.cjc_shelf.specs.Command.Gather.{Gathers, Judged};
 ghost use Rattle.cjc_run.specs.Convert.{plan_of_convert, plan_of_list, plan_of_files, names_of, Makes};
 
 use cjc_bytes::{Bytes, Fault, NoMemory, Row};
-use cjc_command::{Status, Todo, fetch, fetch_each};
-use cjc_conversion::{Converted, convert};
+use cjc_cmd_convert::conversion::{Converted, convert};
+use cjc_cmd_convert::publication::publication;
 use cjc_list::{List, read_list};
-use cjc_publication::publication;
 use cjc_shelf::Shelf;
+use cjc_shelf::command::{Status, Todo, fetch, fetch_each};
 use std::alloc::Global;
 
 /// Reads a list and the files that it names, and converts the package.
@@ -36,7 +36,8 @@ fn gather_listed<S: Shelf>(
     shelf: &mut S,
 ) -> Result<Todo, Status>
     requires { length text.now < 4294967296 }
-    ensures { Gathers (plan_of_list name.now text.now) (Makes dir.now) (S.shelved shelf.old) (S.shelved shelf.new) result }
+    ensures { Gathers (plan_of_list name.now text.now) (Makes dir.now) (S.shelved shelf.old) (S.shelved shelf.new)
+        result }
 {
     match read_list(alloc, name, text) {
         Ok(list) => gather_files(alloc, dir, &list, shelf),

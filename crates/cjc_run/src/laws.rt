@@ -3,20 +3,22 @@
 ghost use Rattle.std.specs.Prelude.{◌≡◌, Some};
 ghost use Rattle.cjc_bytes.specs.declared.fault.Refusal.{Refusal};
 ghost use Rattle.cjc_shelf.specs.Shelf.{Files};
-ghost use Rattle.cjc_command.specs.Answer.{IsEndOver, IsRefused};
-ghost use Rattle.cjc_command.specs.declared.status.Status.{Status as Answer};
+ghost use Rattle.cjc_shelf.specs.Command.Answer.{IsEndOver, IsRefused};
+ghost use Rattle.cjc_shelf.specs.declared.command.status.Status.{Status as Answer};
 ghost use Rattle.cjc_run.specs.Request.{Request};
 ghost use Rattle.cjc_run.specs.Command.{command_of};
 
-use cjc_card_report::one_answer as one_report;
-use cjc_conversion::one_answer;
-use cjc_make_report::one_answer as one_summary;
+use cjc_cmd_card::report::one_answer as one_report;
+use cjc_cmd_convert::conversion::one_answer;
+use cjc_cmd_make::report::one_answer as one_summary;
 
 /// The words and the told files decide one answer: two runs in which no fault count rises and memory is there
 /// end the same way, and of all refusals that a run may answer for them there is one.
 pub fn one_status()
-    ensures one { (asked : Request) (files : Files) (a b : Answer) → IsEndOver (command_of asked) files a → IsEndOver (command_of asked) files b → a ≡ b }
-    ensures refused { (asked : Request) (files : Files) (r s : Refusal) → IsRefused (command_of asked) (Some files) r → IsRefused (command_of asked) (Some files) s → r ≡ s }
+    ensures one { (asked : Request) (files : Files) (a b : Answer) → IsEndOver (command_of asked) files a
+        → IsEndOver (command_of asked) files b → a ≡ b }
+    ensures refused { (asked : Request) (files : Files) (r s : Refusal) → IsRefused (command_of asked) (Some files) r
+        → IsRefused (command_of asked) (Some files) s → r ≡ s }
 {
     one_answer();
     one_report();

@@ -2,9 +2,9 @@
 //! `gather` knows one command from another.
 
 ghost use Rattle.std.specs.Prelude.{◌≡◌, ◌↔◌, None, IfSome};
-ghost use Rattle.cjc_command.specs.Gather.{Gathers};
-ghost use Rattle.cjc_command.specs.Publish.{Quiet};
-ghost use Rattle.cjc_command.specs.Answer.{Acts, Answers, Cause, IsDecided, IsComplete};
+ghost use Rattle.cjc_shelf.specs.Command.Gather.{Gathers};
+ghost use Rattle.cjc_shelf.specs.Command.Publish.{Quiet};
+ghost use Rattle.cjc_shelf.specs.Command.Answer.{Acts, Answers, Cause, IsDecided, IsComplete};
 ghost use Rattle.cjc_run.specs.Request.{request};
 ghost use Rattle.cjc_run.specs.Asked.{HasSize, asked};
 ghost use Rattle.cjc_run.specs.Command.{command_of};
@@ -13,18 +13,19 @@ ghost use Rattle.cjc_run.specs.Promise.{Promised};
 use crate::command::{Asked, asked_by};
 use crate::converting::gather_convert;
 use cjc_bytes::Bytes;
-use cjc_card_report::gather_card;
-use cjc_checking::gather_check;
-use cjc_command::{Status, Todo, publish};
-use cjc_jvm_report::gather_run;
-use cjc_make_report::gather_make;
+use cjc_cmd_card::report::gather_card;
+use cjc_cmd_check::checking::gather_check;
+use cjc_cmd_jvm::report::gather_run;
+use cjc_cmd_make::report::gather_make;
+use cjc_shelf::command::{Status, Todo, publish};
 use cjc_shelf::{Shelf, Sink};
 use std::alloc::Global;
 
 // Reads and computes what a command writes and prints. Nothing is written here.
 fn gather<S: Shelf>(alloc: Global, command: Asked<'_>, shelf: &mut S) -> Result<Todo, Status>
     requires { HasSize command }
-    ensures { Gathers (command_of (asked command.entry)).plan (command_of (asked command.entry)).Makes (S.shelved shelf.old) (S.shelved shelf.new) result }
+    ensures { Gathers (command_of (asked command.entry)).plan (command_of (asked command.entry)).Makes
+        (S.shelved shelf.old) (S.shelved shelf.new) result }
 {
     match command {
         Asked::Convert { list, dir } => gather_convert(alloc, list, dir, shelf),
@@ -42,7 +43,8 @@ fn gather<S: Shelf>(alloc: Global, command: Asked<'_>, shelf: &mut S) -> Result<
 
 fn act<S: Shelf, O: Sink>(alloc: Global, command: Asked<'_>, shelf: &mut S, out: &mut O) -> Status
     requires { HasSize command }
-    ensures { Acts (command_of (asked command.entry)) (S.shelved shelf.old) (S.shelved shelf.new) (O.sunk out.old) (O.sunk out.new) result }
+    ensures { Acts (command_of (asked command.entry)) (S.shelved shelf.old) (S.shelved shelf.new) (O.sunk out.old)
+        (O.sunk out.new) result }
 {
     match gather(alloc, command, shelf) {
         Ok(todo) => publish(shelf, out, todo),
@@ -59,7 +61,8 @@ fn act<S: Shelf, O: Sink>(alloc: Global, command: Asked<'_>, shelf: &mut S, out:
 pub fn run<S: Shelf, O: Sink>(alloc: Global, words: &[Bytes], shelf: &mut S, out: &mut O) -> Status
     // Usage exactly where the words are of no form, and then nothing is read or printed.
     ensures usage { (result ≡ Status.Usage) ↔ (request words.now ≡ None) }
-    ensures untouched { result ≡ Status.Usage → (S.shelved shelf.new ≡ S.shelved shelf.old) × (O.sunk out.new ≡ O.sunk out.old) }
+    ensures untouched { result ≡ Status.Usage → (S.shelved shelf.new ≡ S.shelved shelf.old)
+        × (O.sunk out.new ≡ O.sunk out.old) }
 
     // Over each shelf and each sink.
     ensures cause { Cause (S.shelved shelf.old) (S.shelved shelf.new) (O.sunk out.old) (O.sunk out.new) result }
@@ -67,18 +70,22 @@ pub fn run<S: Shelf, O: Sink>(alloc: Global, words: &[Bytes], shelf: &mut S, out
 
     // What each answer says of what was read, made, written and printed: by the told files, or else by some
     // answers to the reads.
-    ensures answers { IfSome (request words.now) (λ asked. Answers (command_of asked) (S.shelved shelf.old) (S.shelved shelf.new) (O.sunk out.old) (O.sunk out.new) result) }
+    ensures answers { IfSome (request words.now) (λ asked. Answers (command_of asked) (S.shelved shelf.old)
+        (S.shelved shelf.new) (O.sunk out.old) (O.sunk out.new) result) }
 
     // Where no fault count rises, and files are told or none is read, words and files decide the answer, want
     // of memory aside.
-    ensures decided { IfSome (request words.now) (λ asked. IsDecided (command_of asked) (S.shelved shelf.old) (S.shelved shelf.new) (O.sunk out.old) (O.sunk out.new) result) }
+    ensures decided { IfSome (request words.now) (λ asked. IsDecided (command_of asked) (S.shelved shelf.old)
+        (S.shelved shelf.new) (O.sunk out.old) (O.sunk out.new) result) }
 
     // Where moreover all files are read and no rule is broken, all is done.
-    ensures complete { IfSome (request words.now) (λ asked. IsComplete (command_of asked) (S.shelved shelf.old) (S.shelved shelf.new) (O.sunk out.old) (O.sunk out.new) result) }
+    ensures complete { IfSome (request words.now) (λ asked. IsComplete (command_of asked) (S.shelved shelf.old)
+        (S.shelved shelf.new) (O.sunk out.old) (O.sunk out.new) result) }
 
     // What was asked for is done as promised: over fair export files the class files before and the components
     // after behave alike, and the components are consistent.
-    ensures alike { result ≡ Status.Done → IfSome (request words.now) (λ asked. Promised asked (S.shelved shelf.old) (S.shelved shelf.new) (O.sunk out.old) (O.sunk out.new)) }
+    ensures alike { result ≡ Status.Done → IfSome (request words.now) (λ asked. Promised asked (S.shelved shelf.old)
+        (S.shelved shelf.new) (O.sunk out.old) (O.sunk out.new)) }
 {
     match asked_by(words) {
         None => Status::Usage,

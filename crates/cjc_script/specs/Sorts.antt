@@ -1,5 +1,7 @@
--- The types of values as descriptors say them (Java Virtual Machine Specification, section 4.3), and which values fit them.
-use Rattle.std.specs.Prelude.{ℕ, List, [], ◌∷◌, ◌++◌, map, codes, Option, Some, None, option_and_then, Bool, true, false, ◌==◌, ◌&&◌, if◌then◌else◌, ℤ, pos, negsuc}
+-- The types of values as descriptors say them (Java Virtual Machine Specification, section 4.3), and which values fit
+-- them.
+use Rattle.std.specs.Prelude.{ℕ, List, [], ◌∷◌, ◌++◌, map, codes, Option, Some, None, option_and_then, Bool, true}
+use Rattle.std.specs.Prelude.{false, ◌==◌, ◌&&◌, if◌then◌else◌, ℤ, pos, negsuc}
 use Rattle.std.specs.Int.RustNames.{int_le}
 use Rattle.cjc_bytes.specs.declared.descriptor.Kind.{Kind}
 use Rattle.cjc_bytes.specs.declared.descriptor.Kind.TheVariants as kinds
@@ -57,7 +59,8 @@ array_by element = array_of element.kind element.class
 -- what the name of a class or the descriptor of an array stands for
 abbrev pub shape_named : List ℕ → Option (Shape (List ℕ))
 shape_named [] = None
-shape_named (b ∷ bs) = if b == 91 then option_and_then (λ d. array_by (part_of bs)) (desc_of (b ∷ bs)) else Some (OfClass (b ∷ bs))
+shape_named (b ∷ bs) = if b == 91 then option_and_then (λ d. array_by (part_of bs)) (desc_of (b ∷ bs))
+    else Some (OfClass (b ∷ bs))
 
 -- the name of a class, the descriptor of an array
 abbrev pub array_name : Element → List ℕ
@@ -99,7 +102,10 @@ result_by kind part = Some (sort_of part)
 -- the types of a descriptor, where it is a method's
 abbrev pub signature_by : Parts → Option Signature
 signature_by d =
-    if d.is_method then Some (record { params = map sort_of d.params; result = (let r = d.result in result_by r.kind r) }) else None
+    if d.is_method then Some (record {
+      params = map sort_of d.params;
+      result = (let r = d.result in result_by r.kind r);
+    }) else None
 
 -- the types of a method's descriptor, where it is one
 abbrev pub signature_of : List ℕ → Option Signature

@@ -4,7 +4,8 @@
 
 ghost use Rattle.std.specs.Prelude.{◌≡◌, codes, pos, negsuc, true, false, Some, None, [], ◌∷◌};
 ghost use Rattle.cjc_script.specs.declared.value.Value.TheVariants.{Num, Null, Obj};
-ghost use Rattle.cjc_script.specs.Sorts.{Bytes as OfBytes, Shorts, OfClass, OfNumbers, OfReferences, Boolean, Byte, Short, Int, Reference, NoValue, signature_of, field_sort, shape_named, fits};
+ghost use Rattle.cjc_script.specs.Sorts.{Bytes as OfBytes, Shorts, OfClass, OfNumbers, OfReferences, Boolean, Byte};
+ghost use Rattle.cjc_script.specs.Sorts.{Short, Int, Reference, NoValue, signature_of, field_sort, shape_named, fits};
 
 mod report;
 mod script;
@@ -17,8 +18,15 @@ pub use value::Value;
 /// The types that descriptors say: those of parameters and of a result, arrays of numbers and of references. An
 /// array of arrays and a long are types of no value, and what is no descriptor of a method has no types.
 pub fn descriptors_say_types()
-    ensures method { signature_of (codes "(SI[BLp/A;)V") ≡ Some (record { params = Short ∷ Int ∷ Reference (OfNumbers OfBytes) ∷ Reference (OfClass (codes "p/A")) ∷ []; result = None }) }
-    ensures result { signature_of (codes "()[Lp/A;") ≡ Some (record { params = []; result = Some (Reference (OfReferences (codes "p/A"))) }) }
+    ensures method { signature_of (codes "(SI[BLp/A;)V")
+        ≡ Some (record {
+          params = Short ∷ Int ∷ Reference (OfNumbers OfBytes) ∷ Reference (OfClass (codes "p/A")) ∷ [];
+          result = None;
+        }) }
+    ensures result { signature_of (codes "()[Lp/A;") ≡ Some (record {
+      params = [];
+      result = Some (Reference (OfReferences (codes "p/A")));
+    }) }
     ensures field { field_sort (codes "Z") ≡ Boolean }
     ensures arrays_of_arrays { field_sort (codes "[[S") ≡ NoValue }
     ensures long { field_sort (codes "J") ≡ NoValue }

@@ -1,5 +1,6 @@
 -- What the words of one line say, as a relation and as a function.
-use Rattle.std.proofs.Common.{◌≡◌, ℕ, ◌==◌, take, drop, Bool, true, false, cond, List, [], ◌∷◌, codes, Option, Some, None, refl, sym, ap, ◌∙◌, subst}
+use Rattle.std.proofs.Common.{◌≡◌, ℕ, ◌==◌, take, drop, Bool, true, false, cond, List, [], ◌∷◌, codes, Option, Some}
+use Rattle.std.proofs.Common.{None, refl, sym, ap, ◌∙◌, subst}
 use Rattle.std.specs.Prelude.{option_and_then, option_map, is_some, position}
 use Rattle.std.specs.Str.{bytes_eq}
 use Rattle.std.proofs.lemmas.Slice.Eq.{bytes_eq-Decides}
@@ -14,12 +15,14 @@ use Rattle.cjc_script.specs.declared.value.Value.TheVariants.{Obj}
 use Rattle.cjc_script_text.specs.declared.item.Item.{Item}
 use Rattle.cjc_script_text.specs.declared.item.Item.TheVariants as items
 use Rattle.cjc_script_text.specs.Words.{number_of, reference_of, value_of, values_of, method_by, method_of, is_array}
-use Rattle.cjc_script_text.specs.Grammar.{call_of, send_of, give_of, throw_of, array_act, object_act, put_act, act_or_reply_of, item_of}
+use Rattle.cjc_script_text.specs.Grammar.{call_of, send_of, give_of, throw_of, array_act, object_act, put_act}
+use Rattle.cjc_script_text.specs.Grammar.{act_or_reply_of, item_of}
 use Rattle.cjc_script_text.specs.Spelling.{NamesMethod, SaysCall, SaysReply, SaysAct, Says}
 
 -- ---- steps that gave a value
 
-onward : {A B : Type 0} (o : Option B) (f : B → Option A) (a : A) → option_and_then f o ≡ Some a → (b : B) × (o ≡ Some b) × (f b ≡ Some a)
+onward : {A B : Type 0} (o : Option B) (f : B → Option A) (a : A) → option_and_then f o ≡ Some a → (b : B)
+    × (o ≡ Some b) × (f b ≡ Some a)
 onward (Some b) f a e = (b, refl, e)
 onward None f a e = absurd cc
 
@@ -46,7 +49,11 @@ is_word w k e = (bytes_eq-Decides w k).0 e
 
 -- a method's class is the one that was asked for
 class_by : (class name desc : List ℕ) (m : MemberId) → method_by class name desc ≡ Some m → class ≡ m.class
-class_by class name desc m e = ap (λ (id : MemberId). id.class) (passed _ (record { class = class; name = name; desc = desc }) m e).1
+class_by class name desc m e = ap (λ (id : MemberId). id.class) (passed _ (record {
+  class = class;
+  name = name;
+  desc = desc;
+}) m e).1
 
 names : (class word : List ℕ) (m : MemberId) → method_of class word ≡ Some m → (class ≡ m.class) × NamesMethod m word
 unfolding method_of
@@ -55,7 +62,8 @@ names class word m e =
     let is : class ≡ m.class = class_by class (take at.0 word) (drop at.0 word) m at.2 in
     (is, subst (λ (c : List ℕ). method_of c word ≡ Some m) is e)
 
-call_says : (keyword : List ℕ) (ws : List (List ℕ)) (i : Item) → keyword ≡ codes "call" → call_of ws ≡ Some i → Says i (keyword ∷ ws)
+call_says : (keyword : List ℕ) (ws : List (List ℕ)) (i : Item) → keyword ≡ codes "call" → call_of ws ≡ Some i
+    → Says i (keyword ∷ ws)
 unfolding call_of
 call_says keyword [] i is e = absurd cc
 call_says keyword (c ∷ []) i is e = absurd cc
@@ -72,19 +80,23 @@ object_value word k e = by_test (bytes_eq word (codes "null")) refl
   where
     by_test : (b : Bool) → bytes_eq word (codes "null") ≡ b → value_of word ≡ Some (Obj k)
     by_test true is =
-        let no : reference_of (codes "null") ≡ Some k = subst (λ (w : List ℕ). reference_of w ≡ Some k) (is_word word (codes "null") is) e in
+        let no : reference_of (codes "null") ≡ Some k = subst (λ (w : List ℕ). reference_of w ≡ Some k)
+        (is_word word (codes "null") is) e in
         absurd cc
     by_test false is = rw (is, e) refl
 
-send_says : (keyword : List ℕ) (ws : List (List ℕ)) (i : Item) → keyword ≡ codes "send" → send_of ws ≡ Some i → Says i (keyword ∷ ws)
+send_says : (keyword : List ℕ) (ws : List (List ℕ)) (i : Item) → keyword ≡ codes "send" → send_of ws ≡ Some i
+    → Says i (keyword ∷ ws)
 unfolding send_of values_of
 send_says keyword [] i is e = absurd cc
 send_says keyword (c ∷ []) i is e = absurd cc
 send_says keyword (c ∷ word ∷ []) i is e = absurd cc
 send_says keyword (c ∷ word ∷ r ∷ ws) i is e =
-    let test = passed_on (is_some (reference_of r)) (option_and_then (λ m. option_map (λ args. items.Call true m args) (values_of (r ∷ ws))) (method_of c word)) i e in
+    let test = passed_on (is_some (reference_of r)) (option_and_then (λ m. option_map (λ args. items.Call true m args)
+    (values_of (r ∷ ws))) (method_of c word)) i e in
     let object = some_of (reference_of r) test.0 in
-    let method = onward (method_of c word) (λ m. option_map (λ args. items.Call true m args) (values_of (r ∷ ws))) i test.1 in
+    let method = onward (method_of c word) (λ m. option_map (λ args. items.Call true m args) (values_of (r ∷ ws))) i
+    test.1 in
     let args = made (values_of (r ∷ ws)) (λ args. items.Call true method.0 args) i method.2 in
     let first = onward (value_of r) (λ v. option_map (λ vs. v ∷ vs) (values_of ws)) args.0 args.1 in
     let others = made (values_of ws) (λ vs. first.0 ∷ vs) args.0 first.2 in
@@ -92,9 +104,21 @@ send_says keyword (c ∷ word ∷ r ∷ ws) i is e =
     let all : args.0 ≡ Obj object.0 ∷ others.0 = cc in
     let named = names c word method.0 method.1 in
     let same : keyword ∷ c ∷ word ∷ r ∷ ws ≡ codes "send" ∷ method.0.class ∷ word ∷ r ∷ ws = cc in
-    subst (λ (j : Item). Says j (keyword ∷ c ∷ word ∷ r ∷ ws)) args.2 (word, r, ws, object.0, others.0, same, named.1, object.1, others.1, all)
+    subst (λ (j : Item). Says j (keyword ∷ c ∷ word ∷ r ∷ ws)) args.2 (
+      word,
+      r,
+      ws,
+      object.0,
+      others.0,
+      same,
+      named.1,
+      object.1,
+      others.1,
+      all,
+    )
 
-give_says : (keyword : List ℕ) (ws : List (List ℕ)) (i : Item) → keyword ≡ codes "give" → give_of ws ≡ Some i → Says i (keyword ∷ ws)
+give_says : (keyword : List ℕ) (ws : List (List ℕ)) (i : Item) → keyword ≡ codes "give" → give_of ws ≡ Some i
+    → Says i (keyword ∷ ws)
 unfolding give_of
 give_says keyword [] i is e =
     let item : items.Reply (Give None) ≡ i = cc in
@@ -106,7 +130,8 @@ give_says keyword (w ∷ []) i is e =
     subst (λ (j : Item). Says j (keyword ∷ w ∷ [])) v.2 (w, same, v.1)
 give_says keyword (w ∷ x ∷ ws) i is e = absurd cc
 
-throw_says : (keyword : List ℕ) (ws : List (List ℕ)) (i : Item) → keyword ≡ codes "throw" → throw_of ws ≡ Some i → Says i (keyword ∷ ws)
+throw_says : (keyword : List ℕ) (ws : List (List ℕ)) (i : Item) → keyword ≡ codes "throw" → throw_of ws ≡ Some i
+    → Says i (keyword ∷ ws)
 unfolding throw_of
 throw_says keyword [] i is e = absurd cc
 throw_says keyword (c ∷ []) i is e =
@@ -115,7 +140,8 @@ throw_says keyword (c ∷ []) i is e =
     subst (λ (j : Item). Says j (keyword ∷ c ∷ [])) named.1 (same, named.0)
 throw_says keyword (c ∷ x ∷ ws) i is e = absurd cc
 
-array_says : (keyword : List ℕ) (ws : List (List ℕ)) (i : Item) → keyword ≡ codes "array" → array_act ws ≡ Some i → Says i (keyword ∷ ws)
+array_says : (keyword : List ℕ) (ws : List (List ℕ)) (i : Item) → keyword ≡ codes "array" → array_act ws ≡ Some i
+    → Says i (keyword ∷ ws)
 unfolding array_act
 array_says keyword [] i is e = absurd cc
 array_says keyword (d ∷ []) i is e = absurd cc
@@ -126,7 +152,8 @@ array_says keyword (d ∷ n ∷ []) i is e =
     subst (λ (j : Item). Says j (keyword ∷ d ∷ n ∷ [])) z.2 (n, same, test.0, z.1)
 array_says keyword (d ∷ n ∷ x ∷ ws) i is e = absurd cc
 
-object_says : (keyword : List ℕ) (ws : List (List ℕ)) (i : Item) → keyword ≡ codes "object" → object_act ws ≡ Some i → Says i (keyword ∷ ws)
+object_says : (keyword : List ℕ) (ws : List (List ℕ)) (i : Item) → keyword ≡ codes "object" → object_act ws ≡ Some i
+    → Says i (keyword ∷ ws)
 unfolding object_act
 object_says keyword [] i is e = absurd cc
 object_says keyword (c ∷ []) i is e =
@@ -135,13 +162,15 @@ object_says keyword (c ∷ []) i is e =
     subst (λ (j : Item). Says j (keyword ∷ c ∷ [])) named.1 (same, named.0)
 object_says keyword (c ∷ x ∷ ws) i is e = absurd cc
 
-put_says : (keyword : List ℕ) (ws : List (List ℕ)) (i : Item) → keyword ≡ codes "put" → put_act ws ≡ Some i → Says i (keyword ∷ ws)
+put_says : (keyword : List ℕ) (ws : List (List ℕ)) (i : Item) → keyword ≡ codes "put" → put_act ws ≡ Some i
+    → Says i (keyword ∷ ws)
 unfolding put_act
 put_says keyword [] i is e = absurd cc
 put_says keyword (a ∷ []) i is e = absurd cc
 put_says keyword (a ∷ n ∷ []) i is e = absurd cc
 put_says keyword (a ∷ n ∷ w ∷ []) i is e =
-    let k = onward (reference_of a) (λ k. option_and_then (λ z. option_map (λ v. items.Act (Put k z v)) (value_of w)) (number_of n)) i e in
+    let k = onward (reference_of a) (λ k. option_and_then (λ z. option_map (λ v. items.Act (Put k z v)) (value_of w))
+    (number_of n)) i e in
     let z = onward (number_of n) (λ z. option_map (λ v. items.Act (Put k.0 z v)) (value_of w)) i k.2 in
     let v = made (value_of w) (λ v. items.Act (Put k.0 z.0 v)) i z.2 in
     let same : keyword ∷ a ∷ n ∷ w ∷ [] ≡ codes "put" ∷ a ∷ n ∷ w ∷ [] = cc in
@@ -150,8 +179,10 @@ put_says keyword (a ∷ n ∷ w ∷ x ∷ ws) i is e = absurd cc
 
 -- by the keyword
 act_or_reply_says : (isg ist isa iso isp : Bool) (k : List ℕ) (ws : List (List ℕ)) (i : Item)
-    → bytes_eq k (codes "give") ≡ isg → bytes_eq k (codes "throw") ≡ ist → bytes_eq k (codes "array") ≡ isa → bytes_eq k (codes "object") ≡ iso → bytes_eq k (codes "put") ≡ isp
-    → cond isg (give_of ws) (cond ist (throw_of ws) (cond isa (array_act ws) (cond iso (object_act ws) (cond isp (put_act ws) None)))) ≡ Some i → Says i (k ∷ ws)
+    → bytes_eq k (codes "give") ≡ isg → bytes_eq k (codes "throw") ≡ ist → bytes_eq k (codes "array") ≡ isa
+    → bytes_eq k (codes "object") ≡ iso → bytes_eq k (codes "put") ≡ isp
+    → cond isg (give_of ws) (cond ist (throw_of ws) (cond isa (array_act ws) (cond iso (object_act ws)
+    (cond isp (put_act ws) None)))) ≡ Some i → Says i (k ∷ ws)
 act_or_reply_says true ist isa iso isp k ws i g t a o p e = give_says k ws i (is_word k (codes "give") g) e
 act_or_reply_says false true isa iso isp k ws i g t a o p e = throw_says k ws i (is_word k (codes "throw") t) e
 act_or_reply_says false false true iso isp k ws i g t a o p e = array_says k ws i (is_word k (codes "array") a) e
@@ -159,7 +190,8 @@ act_or_reply_says false false false true isp k ws i g t a o p e = object_says k 
 act_or_reply_says false false false false true k ws i g t a o p e = put_says k ws i (is_word k (codes "put") p) e
 act_or_reply_says false false false false false k ws i g t a o p e = absurd cc
 
-says_by : (isc iss : Bool) (k : List ℕ) (ws : List (List ℕ)) (i : Item) → bytes_eq k (codes "call") ≡ isc → bytes_eq k (codes "send") ≡ iss
+says_by : (isc iss : Bool) (k : List ℕ) (ws : List (List ℕ)) (i : Item) → bytes_eq k (codes "call") ≡ isc
+    → bytes_eq k (codes "send") ≡ iss
     → cond isc (call_of ws) (cond iss (send_of ws) (act_or_reply_of k ws)) ≡ Some i → Says i (k ∷ ws)
 says_by true iss k ws i c s e = call_says k ws i (is_word k (codes "call") c) e
 says_by false true k ws i c s e = send_says k ws i (is_word k (codes "send") s) e
@@ -183,16 +215,20 @@ reply_is (Give None) ws h = ap item_of h
 reply_is (Give (Some v)) ws h = ap item_of h.1 ∙ rw h.2 refl
 reply_is (Throw c) ws h = ap item_of h.0 ∙ rw h.1 refl
 
-with_first : (r : List ℕ) (ws : List (List ℕ)) (v : Value) (others : List Value) → value_of r ≡ Some v → values_of ws ≡ Some others → values_of (r ∷ ws) ≡ Some (v ∷ others)
+with_first : (r : List ℕ) (ws : List (List ℕ)) (v : Value) (others : List Value) → value_of r ≡ Some v
+    → values_of ws ≡ Some others → values_of (r ∷ ws) ≡ Some (v ∷ others)
 unfolding values_of
 with_first r ws v others e f = rw (e, f) refl
 
-call_is : (b : Bool) (m : MemberId) (args : List Value) (ws : List (List ℕ)) → SaysCall b m args ws → item_of ws ≡ Some (items.Call b m args)
+call_is : (b : Bool) (m : MemberId) (args : List Value) (ws : List (List ℕ)) → SaysCall b m args ws
+    → item_of ws ≡ Some (items.Call b m args)
 unfolding call_of send_of
 call_is false m args ws h = ap item_of h.2 ∙ rw (h.3, h.4) refl
 call_is true m args ws h =
-    let all : values_of (h.1 ∷ h.2) ≡ Some (Obj h.3 ∷ h.4) = with_first h.1 h.2 (Obj h.3) h.4 (object_value h.1 h.3 h.7) h.8 in
-    let read : send_of (m.class ∷ h.0 ∷ h.1 ∷ h.2) ≡ Some (items.Call true m (Obj h.3 ∷ h.4)) = rw (h.7, h.6, all) refl in
+    let all : values_of (h.1 ∷ h.2) ≡ Some (Obj h.3 ∷ h.4) = with_first h.1 h.2 (Obj h.3) h.4 (object_value h.1 h.3 h.7)
+    h.8 in
+    let read : send_of (m.class ∷ h.0 ∷ h.1 ∷ h.2) ≡ Some (items.Call true m (Obj h.3 ∷ h.4)) = rw (h.7, h.6, all) refl
+    in
     ap item_of h.5 ∙ (read ∙ ap (λ (vs : List Value). Some (items.Call true m vs)) (sym h.9))
 
 pub says_item : (i : Item) (ws : List (List ℕ)) → Says i ws → item_of ws ≡ Some i

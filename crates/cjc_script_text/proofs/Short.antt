@@ -1,5 +1,6 @@
 -- Lines and words are no longer than the text, and lines are few.
-use Rattle.std.proofs.Common.{◌≡◌, ℕ, Bool, true, false, cond, ◌+◌, ◌<◌, ◌≤◌, ◌^◌, inl, inr, List, [], ◌∷◌, ◌++◌, length, ap, arith, length-append}
+use Rattle.std.proofs.Common.{◌≡◌, ℕ, Bool, true, false, cond, ◌+◌, ◌<◌, ◌≤◌, ◌^◌, inl, inr, List, [], ◌∷◌, ◌++◌}
+use Rattle.std.proofs.Common.{length, ap, arith, length-append}
 use Rattle.std.specs.List.{All}
 use Rattle.std.specs.Prelude.{filter, Some}
 use Rattle.std.specs.Str.Lines.{StripsCarriageReturn}
@@ -16,10 +17,12 @@ stripped l x h = elim h [
   | inr ended ↦ omega (arith, ap length ended, length-append x (13 ∷ []))
 ]
 
-pub short_among : (n at : ℕ) (ls : List TextLine) (bytes : List ℕ) → AreLines at ls bytes → length bytes < n → All (λ l. length l.text < n) ls
+pub short_among : (n at : ℕ) (ls : List TextLine) (bytes : List ℕ) → AreLines at ls bytes → length bytes < n
+    → All (λ l. length l.text < n) ls
 unfolding AreLines
 short_among n at [] bytes h lt = absurd h
-short_among n at (l ∷ []) bytes h lt = All-cons (λ l. length l.text < n) l [] (omega (arith, ap length h.1)) (All-nil (λ l. length l.text < n))
+short_among n at (l ∷ []) bytes h lt = All-cons (λ l. length l.text < n) l [] (omega (arith, ap length h.1))
+    (All-nil (λ l. length l.text < n))
 short_among n at (l ∷ next ∷ ls) bytes h lt =
     let total = ap length h.2 in
     All-cons (λ l. length l.text < n) l (next ∷ ls)
@@ -33,7 +36,8 @@ few_among at (l ∷ []) bytes h = omega arith
 few_among at (l ∷ next ∷ ls) bytes h =
     omega (arith, ap length h.2, length-append h.0 (10 ∷ h.1), few_among (at + length h.0 + 1) (next ∷ ls) h.1 h.6)
 
-kept_or_not : (b : Bool) (l : TextLine) (lines : List TextLine) (n : ℕ) → length lines ≤ n → length (cond b (l ∷ lines) lines) ≤ n + 1
+kept_or_not : (b : Bool) (l : TextLine) (lines : List TextLine) (n : ℕ) → length lines ≤ n
+    → length (cond b (l ∷ lines) lines) ≤ n + 1
 kept_or_not true l lines n h = omega arith
 kept_or_not false l lines n h = omega arith
 
@@ -43,7 +47,11 @@ few_kept (l ∷ ls) = omega (arith, kept_or_not (is_kept l) l (filter is_kept ls
 
 pub few_lines : (bytes : List ℕ) → length bytes < 2 ^ 32 → length (kept_lines bytes) ≤ 2 ^ 32
 unfolding kept
-few_lines bytes lt = omega (arith, few_kept (lines_from 0 (parts_of_text bytes)), few_among 0 (lines_from 0 (parts_of_text bytes)) bytes (cut_are_lines 0 bytes))
+few_lines bytes lt = omega (
+  arith,
+  few_kept (lines_from 0 (parts_of_text bytes)),
+  few_among 0 (lines_from 0 (parts_of_text bytes)) bytes (cut_are_lines 0 bytes),
+)
 
 pub short_lines : (bytes : List ℕ) → length bytes < 2 ^ 32 → AreShortLines (kept_lines bytes)
 unfolding kept
@@ -51,10 +59,12 @@ short_lines bytes lt =
     All-filter is_kept (λ l. length l.text < 2 ^ 32) (lines_from 0 (parts_of_text bytes))
     (short_among (2 ^ 32) 0 (lines_from 0 (parts_of_text bytes)) bytes (cut_are_lines 0 bytes) lt)
 
-short_parted : (n : ℕ) (ws : List (List ℕ)) (line : List ℕ) → AreWords ws line → length line < n → All (λ w. length w < n) ws
+short_parted : (n : ℕ) (ws : List (List ℕ)) (line : List ℕ) → AreWords ws line → length line < n
+    → All (λ w. length w < n) ws
 unfolding AreWords
 short_parted n [] line h lt = All-nil (λ w. length w < n)
-short_parted n (w ∷ []) line h lt = All-cons (λ w. length w < n) w [] (omega (arith, ap length h.0)) (All-nil (λ w. length w < n))
+short_parted n (w ∷ []) line h lt = All-cons (λ w. length w < n) w [] (omega (arith, ap length h.0))
+    (All-nil (λ w. length w < n))
 short_parted n (w ∷ next ∷ ws) line h lt =
     let total = ap length h.2 in
     All-cons (λ w. length w < n) w (next ∷ ws)

@@ -1,5 +1,6 @@
 -- The grammar of one line of a script, as a function: what the words of a line say.
-use Rattle.std.specs.Prelude.{ℕ, List, [], ◌∷◌, Option, Some, None, option_map, option_and_then, is_some, true, false, if◌then◌else◌, Result, codes}
+use Rattle.std.specs.Prelude.{ℕ, List, [], ◌∷◌, Option, Some, None, option_map, option_and_then, is_some, true, false}
+use Rattle.std.specs.Prelude.{if◌then◌else◌, Result, codes}
 use Rattle.std.specs.Str.{bytes_eq}
 use Rattle.cjc_bytes.specs.Found.{kept}
 use Rattle.cjc_bytes.specs.Text.{TextLine, words}
@@ -12,14 +13,16 @@ use Rattle.cjc_script_text.specs.Words.{number_of, reference_of, value_of, value
 
 -- `CLASS METHOD VALUE*` behind `call`
 unfoldable pub call_of : List (List ℕ) → Option Item
-call_of (class ∷ method ∷ values) = option_and_then (λ m. option_map (λ args. items.Call false m args) (values_of values)) (method_of class method)
+call_of (class ∷ method ∷ values) = option_and_then (λ m. option_map (λ args. items.Call false m args)
+    (values_of values)) (method_of class method)
 call_of _ = None
 
 -- `CLASS METHOD REF VALUE*` behind `send`
 unfoldable pub send_of : List (List ℕ) → Option Item
 send_of (class ∷ method ∷ receiver ∷ values) =
     if is_some (reference_of receiver)
-    then option_and_then (λ m. option_map (λ args. items.Call true m args) (values_of (receiver ∷ values))) (method_of class method)
+    then option_and_then (λ m. option_map (λ args. items.Call true m args) (values_of (receiver ∷ values)))
+    (method_of class method)
     else None
 send_of _ = None
 
@@ -36,7 +39,8 @@ throw_of _ = None
 
 -- `DESC LENGTH` behind `array`
 unfoldable pub array_act : List (List ℕ) → Option Item
-array_act (desc ∷ count ∷ []) = if is_array desc then option_map (λ z. items.Act (Array desc z)) (number_of count) else None
+array_act (desc ∷ count ∷ []) = if is_array desc then option_map (λ z. items.Act (Array desc z)) (number_of count)
+    else None
 array_act _ = None
 
 -- `CLASS` behind `object`
@@ -47,7 +51,8 @@ object_act _ = None
 -- `REF INDEX VALUE` behind `put`
 unfoldable pub put_act : List (List ℕ) → Option Item
 put_act (array ∷ index ∷ value ∷ []) =
-    option_and_then (λ k. option_and_then (λ i. option_map (λ v. items.Act (Put k i v)) (value_of value)) (number_of index)) (reference_of array)
+    option_and_then (λ k. option_and_then (λ i. option_map (λ v. items.Act (Put k i v)) (value_of value))
+    (number_of index)) (reference_of array)
 put_act _ = None
 
 -- behind a keyword that begins no call

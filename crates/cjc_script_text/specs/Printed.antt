@@ -64,7 +64,8 @@ field_words fields = flat_map field_value_word fields
 -- `array @K DESC VALUE*`, or `object @K CLASS` and its fields
 abbrev pub thing_line : (k : ℕ) → Thing → List ℕ
 thing_line k (things.Array desc items) = line (codes "array " ++ object_text k ++ (32 ∷ desc) ++ value_words items)
-thing_line k (things.Object class fields) = line (codes "object " ++ object_text k ++ (32 ∷ class) ++ field_words fields)
+thing_line k (things.Object class fields) = line (codes "object " ++ object_text k ++ (32 ∷ class)
+    ++ field_words fields)
 
 -- the arrays and objects, numbered from this number on
 unfoldable pub thing_lines : ℕ → List Thing → List ℕ
@@ -81,4 +82,5 @@ outcome_line (outcomes.Stuck at) = line (codes "stuck " ++ decimal at)
 
 -- the text of a report: the notes, the static cells, the arrays and objects, and the outcome
 abbrev pub report_text : Report → List ℕ
-report_text r = flat_map note_line r.notes ++ flat_map static_line r.statics ++ thing_lines 0 r.heap ++ outcome_line r.outcome
+report_text r = flat_map note_line r.notes ++ flat_map static_line r.statics ++ thing_lines 0 r.heap
+    ++ outcome_line r.outcome

@@ -32,16 +32,28 @@ abbrev pub since_with : List Act → (since at : ℕ) → ℕ
 since_with [] since at = at
 since_with (a ∷ acts) since at = since
 
--- With what a line at this place says. Entries and answers are numbered together, and have the acts that stand just before them.
+-- With what a line at this place says. Entries and answers are numbered together, and have the acts that stand just
+-- before them.
 abbrev pub with_item : (at : ℕ) → Item → PartialScript → PartialScript
 with_item at (items.Act act) d = record d { acts = d.acts ++ act ∷ []; since = since_with d.acts d.since at }
 with_item at (items.Call virtual_call method args) d = record {
-  script = record d.script { entries = d.script.entries ++ record { number = turns d; acts = d.acts; virtual_call = virtual_call; method = method; args = args } ∷ [] };
+  script = record d.script {
+    entries = d.script.entries ++ record {
+      number = turns d;
+      acts = d.acts;
+      virtual_call = virtual_call;
+      method = method;
+      args = args;
+    } ∷ [];
+  };
   acts = [];
   since = 0;
 }
 with_item at (items.Reply reply) d = record {
-  script = record d.script { answers = d.script.answers ++ record { number = turns d; acts = d.acts; reply = reply } ∷ [] };
+  script = record d.script {
+    answers = d.script.answers ++ record { number = turns d; acts = d.acts; reply = reply }
+        ∷ [];
+  };
   acts = [];
   since = 0;
 }

@@ -29,10 +29,12 @@ NamesMethod m word = method_of m.class word ≡ Some m
 -- The words are `call CLASS METHOD VALUE*` or `send CLASS METHOD REF VALUE*`.
 abbrev pub SaysCall : (virtual_call : Bool) → MemberId → List Value → List (List ℕ) → Type 0
 SaysCall false m args ws =
-    (method : List ℕ) × (values : List (List ℕ)) × (ws ≡ codes "call" ∷ m.class ∷ method ∷ values) × NamesMethod m method × (values_of values ≡ Some args)
+    (method : List ℕ) × (values : List (List ℕ)) × (ws ≡ codes "call" ∷ m.class ∷ method ∷ values)
+    × NamesMethod m method × (values_of values ≡ Some args)
 SaysCall true m args ws =
     (method receiver : List ℕ) × (values : List (List ℕ)) × (object : ℕ) × (others : List Value)
-    × (ws ≡ codes "send" ∷ m.class ∷ method ∷ receiver ∷ values) × NamesMethod m method × (reference_of receiver ≡ Some object) × (values_of values ≡ Some others) × (args ≡ Obj object ∷ others)
+    × (ws ≡ codes "send" ∷ m.class ∷ method ∷ receiver ∷ values) × NamesMethod m method
+    × (reference_of receiver ≡ Some object) × (values_of values ≡ Some others) × (args ≡ Obj object ∷ others)
 
 -- The words are `give`, `give VALUE` or `throw CLASS`.
 abbrev pub SaysReply : Reply → List (List ℕ) → Type 0
@@ -42,10 +44,12 @@ SaysReply (Throw class) ws = (ws ≡ codes "throw" ∷ class ∷ []) × (is_name
 
 -- The words are `array DESC LENGTH`, `object CLASS` or `put REF INDEX VALUE`.
 abbrev pub SaysAct : Act → List (List ℕ) → Type 0
-SaysAct (Array desc z) ws = (count : List ℕ) × (ws ≡ codes "array" ∷ desc ∷ count ∷ []) × (is_array desc ≡ true) × (number_of count ≡ Some z)
+SaysAct (Array desc z) ws = (count : List ℕ) × (ws ≡ codes "array" ∷ desc ∷ count ∷ []) × (is_array desc ≡ true)
+    × (number_of count ≡ Some z)
 SaysAct (Object class) ws = (ws ≡ codes "object" ∷ class ∷ []) × (is_name class ≡ true)
 SaysAct (Put k z v) ws =
-    (array index value : List ℕ) × (ws ≡ codes "put" ∷ array ∷ index ∷ value ∷ []) × (reference_of array ≡ Some k) × (number_of index ≡ Some z) × (value_of value ≡ Some v)
+    (array index value : List ℕ) × (ws ≡ codes "put" ∷ array ∷ index ∷ value ∷ []) × (reference_of array ≡ Some k)
+    × (number_of index ≡ Some z) × (value_of value ≡ Some v)
 
 -- The words say this.
 abbrev pub Says : Item → List (List ℕ) → Type 0
@@ -96,7 +100,13 @@ entries_from n [] = []
 entries_from n (s ∷ steps) = entry_of s.turn ++ entries_from (n + 1) steps
   where
     entry_of : Turn → List Entry
-    entry_of (Calls virtual_call m args) = record { number = n; acts = s.acts; virtual_call = virtual_call; method = m; args = args } ∷ []
+    entry_of (Calls virtual_call m args) = record {
+      number = n;
+      acts = s.acts;
+      virtual_call = virtual_call;
+      method = m;
+      args = args;
+    } ∷ []
     entry_of (Replies reply) = []
 
 -- and the answers
@@ -126,12 +136,14 @@ SaysNothingAt lines k =
 abbrev pub HasIdleActsAt : List TextLine → ℕ → Type 0
 HasIdleActsAt lines k =
     (before after : List TextLine) × (l : TextLine) × (steps : List Step) × (act : Act) × (acts : List Act)
-    × (lines ≡ before ++ l ∷ after) × AllSay (step_items steps) before × AllSay (act_items (act ∷ acts)) (l ∷ after) × (k ≡ l.at)
+    × (lines ≡ before ++ l ∷ after) × AllSay (step_items steps) before × AllSay (act_items (act ∷ acts)) (l ∷ after)
+    × (k ≡ l.at)
 
 -- The text breaks rule 105: at its first line that says nothing, or where each says something at the first of the acts
 -- at its end that nothing follows.
 abbrev pub IsBroken : (name text : List ℕ) → Refusal → Type 0
-IsBroken name text r = (k : ℕ) × (SaysNothingAt (kept_lines text) k ⊎ HasIdleActsAt (kept_lines text) k) × (r ≡ refusal name 105 k)
+IsBroken name text r = (k : ℕ) × (SaysNothingAt (kept_lines text) k ⊎ HasIdleActsAt (kept_lines text) k)
+    × (r ≡ refusal name 105 k)
 
 -- The error says where the text breaks rule 105, or that memory ran out.
 abbrev pub SaysBroken : (name text : List ℕ) → Fault → Type 0

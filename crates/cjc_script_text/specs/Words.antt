@@ -1,5 +1,7 @@
 -- What the words of a script's line say: numbers, objects, values, methods and arrays.
-use Rattle.std.specs.Prelude.{ℕ, ◌-◌, List, [], ◌∷◌, length, take, drop, position, slice_index, Option, Some, None, option_map, option_and_then, Bool, false, ◌==◌, ◌&&◌, ◌||◌, if◌then◌else◌, ℤ, pos, neg_ℤ, codes}
+use Rattle.std.specs.Prelude.{ℕ, ◌-◌, List, [], ◌∷◌, length, take, drop, position, slice_index, Option, Some, None}
+use Rattle.std.specs.Prelude.{option_map, option_and_then, Bool, false, ◌==◌, ◌&&◌, ◌||◌, if◌then◌else◌, ℤ, pos, neg_ℤ}
+use Rattle.std.specs.Prelude.{codes}
 use Rattle.std.specs.Str.{bytes_eq}
 use Rattle.cjc_bytes.specs.declared.fault.MemberId.{MemberId}
 use Rattle.cjc_bytes.specs.Descriptor.{Parts}
@@ -14,7 +16,8 @@ abbrev pub or_else : {A : Type 0} → Option A → Option A → Option A
 or_else (Some a) other = Some a
 or_else None other = other
 
--- A number is one to ten digits with a value to 2147483647, or `-` (45) and one to ten digits with a value to 2147483648.
+-- A number is one to ten digits with a value to 2147483647, or `-` (45) and one to ten digits with a value to
+-- 2147483648.
 abbrev pub number_of : List ℕ → Option ℤ
 number_of [] = None
 number_of (b ∷ digits) =
@@ -49,7 +52,11 @@ is_method desc = of_method (desc_of desc)
 -- a method by its class, name and descriptor, where the name is not empty
 abbrev pub method_by : (class name desc : List ℕ) → Option MemberId
 method_by class name desc =
-    if is_filled name && (is_method desc && is_name class) then Some (record { class = class; name = name; desc = desc }) else None
+    if is_filled name && (is_method desc && is_name class) then Some (record {
+      class = class;
+      name = name;
+      desc = desc;
+    }) else None
 
 -- A method of a class is its name and its descriptor, which begins at the first `(` (40).
 unfoldable pub method_of : (class text : List ℕ) → Option MemberId

@@ -2,7 +2,8 @@
 
 ghost use Rattle.std.specs.Prelude.{◌≡◌, ◌<◌, ◌^◌, length};
 ghost use Rattle.cjc_bytes.specs.Found.{Finds, kept};
-ghost use Rattle.cjc_script_text.specs.Grammar.{call_of, send_of, give_of, throw_of, array_act, object_act, put_act, act_or_reply_of, item_by, item_of, said};
+ghost use Rattle.cjc_script_text.specs.Grammar.{call_of, send_of, give_of, throw_of, array_act, object_act, put_act};
+ghost use Rattle.cjc_script_text.specs.Grammar.{act_or_reply_of, item_by, item_of, said};
 ghost use Rattle.cjc_script_text.specs.Working.{AreShort};
 
 use crate::word::{

@@ -3,7 +3,9 @@
 
 ghost use Rattle.std.specs.Prelude.{◌≡◌, ℕ, ◌++◌, ◌∷◌, [], map, codes, decimal, OnOk, IfOk, ◌<◌, ◌^◌, length};
 ghost use Rattle.std.specs.List.{flat_map};
-ghost use Rattle.cjc_script_text.specs.Printed.{object_text, value_text, value_words, method_word, field_word, note_line, static_line, field_value_word, field_words, thing_line, thing_lines, outcome_line, report_text};
+ghost use Rattle.cjc_script_text.specs.Printed.{object_text, value_text, value_words, method_word, field_word};
+ghost use Rattle.cjc_script_text.specs.Printed.{note_line, static_line, field_value_word, field_words, thing_line};
+ghost use Rattle.cjc_script_text.specs.Printed.{thing_lines, outcome_line, report_text};
 
 use cjc_bytes::{Bytes, MemberId, NoMemory, Out};
 use cjc_script::{FieldValue, Note, Outcome, Report, Thing, Value};
@@ -95,7 +97,8 @@ fn put_field(out: &mut Out, field: &MemberId) -> Result<(), NoMemory>
 /// Appends the line of an imported call.
 #[tactic(auto, using(crate::proofs::Loops::seams))]
 fn put_event(out: &mut Out, callee: &MemberId, args: &[Value]) -> Result<(), NoMemory>
-    ensures { OnOk result (out.new ≡ out.old ++ (codes "event " ++ method_word callee.now ++ value_words args.now ++ 10 ∷ [])) }
+    ensures { OnOk result (out.new ≡ out.old ++ (codes "event " ++ method_word callee.now ++ value_words args.now
+        ++ 10 ∷ [])) }
 {
     out.put_slice(b"event ")?;
     put_method(out, callee)?;
@@ -116,7 +119,8 @@ fn put_result(out: &mut Out, value: Value) -> Result<(), NoMemory>
 /// Appends the line of an exception.
 #[tactic(auto, using(crate::proofs::Loops::seams))]
 fn put_thrown(out: &mut Out, class: &[u8], object: u32) -> Result<(), NoMemory>
-    ensures { OnOk result (out.new ≡ out.old ++ (codes "thrown " ++ class.now ++ (32 ∷ object_text object) ++ 10 ∷ [])) }
+    ensures { OnOk result (out.new ≡ out.old ++ (codes "thrown " ++ class.now ++ (32 ∷ object_text object)
+        ++ 10 ∷ [])) }
 {
     put_all(out, &[b"thrown ", class, b" "])?;
     put_object(out, object as usize)?;
@@ -194,7 +198,8 @@ fn put_fields(out: &mut Out, fields: &[FieldValue]) -> Result<(), NoMemory>
 /// Appends the line of an array.
 #[tactic(auto, using(crate::proofs::Loops::seams))]
 fn put_array(out: &mut Out, number: usize, desc: &[u8], items: &[Value]) -> Result<(), NoMemory>
-    ensures { OnOk result (out.new ≡ out.old ++ (codes "array " ++ object_text number ++ (32 ∷ desc.now) ++ value_words items.now ++ 10 ∷ [])) }
+    ensures { OnOk result (out.new ≡ out.old ++ (codes "array " ++ object_text number ++ (32 ∷ desc.now)
+        ++ value_words items.now ++ 10 ∷ [])) }
 {
     out.put_slice(b"array ")?;
     put_object(out, number)?;
@@ -211,7 +216,8 @@ fn put_instance(
     class: &[u8],
     fields: &[FieldValue],
 ) -> Result<(), NoMemory>
-    ensures { OnOk result (out.new ≡ out.old ++ (codes "object " ++ object_text number ++ (32 ∷ class.now) ++ field_words fields.now ++ 10 ∷ [])) }
+    ensures { OnOk result (out.new ≡ out.old ++ (codes "object " ++ object_text number ++ (32 ∷ class.now)
+        ++ field_words fields.now ++ 10 ∷ [])) }
 {
     out.put_slice(b"object ")?;
     put_object(out, number)?;

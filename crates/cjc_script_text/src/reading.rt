@@ -82,5 +82,6 @@ pub fn scripts()
     ensures script { (text : Codes) (s t : ScriptTree) → IsSpelt s text → IsSpelt t text → s ≡ t }
     ensures refusal { (name text : Codes) (r s : Refused) → IsBroken name text r → IsBroken name text s → r ≡ s }
     ensures both { (name text : Codes) (s : ScriptTree) (r : Refused) → IsSpelt s text → IsBroken name text r → ⊥ }
-    ensures either { (name text : Codes) → ((s : ScriptTree) × IsSpelt s text) ⊎ ((r : Refused) × IsBroken name text r) }
+    ensures either { (name text : Codes) → ((s : ScriptTree) × IsSpelt s text)
+        ⊎ ((r : Refused) × IsBroken name text r) }
 {}

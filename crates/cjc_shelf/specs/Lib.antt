@@ -4,3 +4,4 @@ pub mod Sink
 pub mod Memory
 pub mod MemSink
 pub mod Disk
+pub mod Command

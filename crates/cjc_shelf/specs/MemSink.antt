@@ -1,5 +1,6 @@
 -- What a sink in memory tells, and which of its puts fail.
-use Rattle.std.specs.Prelude.{◌≡◌, ℕ, ◌+◌, ◌-◌, ◌^◌, ◌<◌, ◌≤◌, ◌⊎◌, min, List, [], ◌++◌, length, take, Contains, Some, Result, Ok, Err}
+use Rattle.std.specs.Prelude.{◌≡◌, ℕ, ◌+◌, ◌-◌, ◌^◌, ◌<◌, ◌≤◌, ◌⊎◌, min, List, [], ◌++◌, length, take, Contains, Some}
+use Rattle.std.specs.Prelude.{Result, Ok, Err}
 use Rattle.cjc_shelf.specs.Sink.{Sunk}
 use Rattle.cjc_shelf.specs.declared.mem_sink.MemSink.{MemSink}
 use Rattle.cjc_shelf.specs.declared.sink.SinkFailed.{SinkFailed}
@@ -37,10 +38,12 @@ Takes s n = (length s.held.items + n ≤ s.room) × (Contains (failing_puts s) (
 
 -- A put is taken whole; or it is listed and nothing is; or it does not fit and what fits is.
 abbrev pub PutEnds : {T : Type 0} → List ℕ → MemSink → MemSink → Result T SinkFailed → Type 0
-PutEnds bytes old new (Ok done) = Takes old (length bytes) × (new.held.items ≡ old.held.items ++ bytes) × (new.faults ≡ old.faults)
+PutEnds bytes old new (Ok done) = Takes old (length bytes) × (new.held.items ≡ old.held.items ++ bytes)
+    × (new.faults ≡ old.faults)
 PutEnds bytes old new (Err failed) = (new.faults ≡ counted old.faults)
     × ((Contains (failing_puts old) (next_put old) × (new.held.items ≡ old.held.items))
-    ⊎ ((old.room < length old.held.items + length bytes) × (new.held.items ≡ old.held.items ++ take (old.room - length old.held.items) bytes)))
+    ⊎ ((old.room < length old.held.items + length bytes) × (new.held.items ≡ old.held.items
+    ++ take (old.room - length old.held.items) bytes)))
 
 -- A put into memory ended as its list and its room have it, and is counted. What is to fail, and the room, stay.
 pub record PutInMemory {T : Type 0} (bytes : List ℕ) (old new : MemSink) (result : Result T SinkFailed) : Type 0 where

@@ -1,5 +1,6 @@
 -- What a shelf of files means, and what a read and a write of it do.
-use Rattle.std.specs.Prelude.{◌≡◌, ◌≢◌, ℕ, ◌+◌, ◌<◌, ◌≤◌, List, length, Option, Some, None, IfSome, IfNone, IsSomeAnd, Result, Ok, Err}
+use Rattle.std.specs.Prelude.{◌≡◌, ◌≢◌, ℕ, ◌+◌, ◌<◌, ◌≤◌, List, length, Option, Some, None, IfSome, IfNone, IsSomeAnd}
+use Rattle.std.specs.Prelude.{Result, Ok, Err}
 use Rattle.std.specs.Ordering.{nat_cmp}
 use Rattle.std.specs.Cmp.Lexicographic.{slice_cmp}
 use Rattle.std.specs.FinMap.{FinMap, get, insert}
@@ -54,7 +55,8 @@ ReadCause old new (Err read.NoMemory) = Unit {0}
 abbrev pub ReadTold : Files → List ℕ → Shelved → Shelved → Result (List ℕ) ReadEnd → Type 0
 ReadTold files name old new (Ok bytes) = (new.last ≡ name) × (get files name ≡ Some bytes)
 ReadTold files name old new (Err read.Absent) = (new.last ≡ name) × (new.faults ≡ old.faults) × (get files name ≡ None)
-ReadTold files name old new (Err read.TooLong) = (new.last ≡ name) × (new.faults ≡ old.faults) × IsSomeAnd (get files name) (λ bytes. longest_file < length bytes)
+ReadTold files name old new (Err read.TooLong) = (new.last ≡ name) × (new.faults ≡ old.faults)
+    × IsSomeAnd (get files name) (λ bytes. longest_file < length bytes)
 ReadTold files name old new (Err read.Failed) = new.last ≡ name
 ReadTold files name old new (Err read.NoMemory) = new.last ≡ old.last
 

@@ -74,7 +74,14 @@ impl<'a, R: Files> DiskShelf<'a, R> {
 
     /// The files that the system has, with nothing counted.
     pub fn new(rt: &'a R) -> DiskShelf<'a, R>
-        ensures { disk_shelved result ≡ record { files = None; last = []; misses = 0; faults = 0; wants = 0; taken = 0 } }
+        ensures { disk_shelved result ≡ record {
+          files = None;
+          last = [];
+          misses = 0;
+          faults = 0;
+          wants = 0;
+          taken = 0;
+        } }
     {
         DiskShelf {
             rt,

@@ -2,6 +2,7 @@
 //! knows what a file is for.
 #![tactic(auto)]
 
+pub mod command;
 mod disk;
 mod mem_sink;
 mod memory;

@@ -1,6 +1,7 @@
 //! Shelves of files in memory, for tests and for runs whose files are wanted as bytes.
 
-ghost use Rattle.std.specs.Prelude.{◌≡◌, ◌+◌, ◌-◌, ◌^◌, ◌≤◌, ◌↔◌, ℕ, [], ◌∷◌, min, None, false, option_copied, IsTrue, Contains, OnOk, OnErr};
+ghost use Rattle.std.specs.Prelude.{◌≡◌, ◌+◌, ◌-◌, ◌^◌, ◌≤◌, ◌↔◌, ℕ, [], ◌∷◌, min, None, false, option_copied, IsTrue};
+ghost use Rattle.std.specs.Prelude.{Contains, OnOk, OnErr};
 ghost use Rattle.std.specs.FinMap as map;
 ghost use Rattle.cjc_shelf.specs.Count.{Rose};
 ghost use Rattle.cjc_shelf.specs.Shelf.{Reads, Writes};
@@ -25,7 +26,14 @@ impl Store {
     ghost use Rattle.cjc_shelf.specs.Memory.{store_files, store_shelved};
 
     fn new(alloc: Global) -> Store
-        ensures { (faults : ℕ) → store_shelved result faults ≡ record { files = Some map.empty; last = []; misses = 0; faults = faults; wants = 0; taken = 0 } }
+        ensures { (faults : ℕ) → store_shelved result faults ≡ record {
+          files = Some map.empty;
+          last = [];
+          misses = 0;
+          faults = faults;
+          wants = 0;
+          taken = 0;
+        } }
     {
         Store {
             alloc,
@@ -86,7 +94,8 @@ impl Store {
     }
 
     fn write(&mut self, name: &[u8], bytes: &[u8]) -> Result<(), WriteEnd>
-        ensures { (faults : ℕ) → Writes name.now bytes.now (store_shelved self.old faults) (store_shelved self.new faults) result }
+        ensures { (faults : ℕ) → Writes name.now bytes.now (store_shelved self.old faults) (store_shelved self.new
+            faults) result }
     {
         let Ok(last) = Bytes::copy_of(self.alloc, name) else {
             self.wants = self.wants.saturating_add(1);
@@ -118,7 +127,8 @@ pub(crate) fn is_listed(failing: &[u32], call: u64) -> bool
 }
 
 impl MemShelf {
-    ghost use Rattle.cjc_shelf.specs.Memory.{mem_shelved, with_file, files_of, failing_calls, next_call, IsNewShelf, IsListed, CallInMemory};
+    ghost use Rattle.cjc_shelf.specs.Memory.{mem_shelved, with_file, files_of, failing_calls, next_call, IsNewShelf};
+    ghost use Rattle.cjc_shelf.specs.Memory.{IsListed, CallInMemory};
 
     /// No files; the calls of the list are to fail. Takes no memory.
     pub fn new(alloc: Global, failing: Row<u32>) -> MemShelf

@@ -12,7 +12,9 @@ use Rattle.cjc_classfile.specs.declared.tree.MethodTree.{MethodTree}
 use Rattle.cjc_world.specs.Classes.{Class, Member, declared, method_of_class}
 use Rattle.cjc_world.specs.Lookup.{is_called, selected}
 use Rattle.cjc_subset.specs.Members.{hit, is_initialiser}
-use Rattle.cjc_subset.specs.Overriding.{changes_kind, class_against, has_no_code, hides_one, is_inherited, is_of_other_kind, is_open, is_out_of_sight, is_package_visible, is_special, is_unfit_selection, supertype_breaks, method_against}
+use Rattle.cjc_subset.specs.Overriding.{changes_kind, class_against, has_no_code, hides_one, is_inherited}
+use Rattle.cjc_subset.specs.Overriding.{is_of_other_kind, is_open, is_out_of_sight, is_package_visible, is_special}
+use Rattle.cjc_subset.specs.Overriding.{is_unfit_selection, supertype_breaks, method_against}
 use Rattle.cjc_subset.specs.Places.{at_class, at_method}
 use Rattle.cjc_subset.specs.Working.Kinds.{asks, has_kind, is_closed, is_instance, is_shared, kinds_of, may_break}
 
@@ -62,15 +64,18 @@ unmet false e' t h = refl
 unmet true false t h = refl
 unmet true true t h = h refl
 
-out_of_sight : (fp fo kp ko : Bool) → (fp && ko) ≡ false → (fo && kp) ≡ false → ((fp && ko) || (fo && kp) || (fp && kp && false)) ≡ false
-out_of_sight fp fo kp ko e f = or_both ((fp && ko) || (fo && kp)) (fp && kp && false) (or_both (fp && ko) (fo && kp) e f) (none fp kp)
+out_of_sight : (fp fo kp ko : Bool) → (fp && ko) ≡ false → (fo && kp) ≡ false
+    → ((fp && ko) || (fo && kp) || (fp && kp && false)) ≡ false
+out_of_sight fp fo kp ko e f = or_both ((fp && ko) || (fo && kp)) (fp && kp && false) (or_both (fp && ko) (fo
+    && kp) e f) (none fp kp)
   where
     none : (x y : Bool) → (x && y && false) ≡ false
     none false y = refl
     none true false = refl
     none true true = refl
 
-other_kind : (p s q t : Bool) → ((p || s) && not (q || t)) ≡ false → (not (p || s) && (not q && t)) ≡ false → (not q && (if p || s then not t else t)) ≡ false
+other_kind : (p s q t : Bool) → ((p || s) && not (q || t)) ≡ false → (not (p || s) && (not q && t)) ≡ false
+    → (not q && (if p || s then not t else t)) ≡ false
 other_kind p s true t e f = refl
 other_kind true s false true e f = refl
 other_kind true s false false e f = absurd (cc)
@@ -86,27 +91,42 @@ module _ (name desc : List ℕ) (flags : ℕ) (ordinary : is_special name ≡ fa
   changed : Member → Bool
   changed k = is_called name desc k && is_of_other_kind flags k.flags
 
-  none_hidden : (ds : List MethodTree) → (is_package_visible flags && has_kind is_open ds) ≡ false → (is_open flags && has_kind is_package_visible ds) ≡ false → list_any (λ k. is_called name desc k && is_out_of_sight false flags k.flags) (map method_of_class ds) ≡ false
+  none_hidden : (ds : List MethodTree) → (is_package_visible flags && has_kind is_open ds) ≡ false
+      → (is_open flags && has_kind is_package_visible ds) ≡ false → list_any (λ k. is_called name desc k
+      && is_out_of_sight false flags k.flags) (map method_of_class ds) ≡ false
   none_hidden [] e f = refl
   none_hidden (k ∷ ds) e f =
       let here = unmet (bytes_eq k.name name) (bytes_eq k.desc desc) (is_out_of_sight false flags k.flags) (λ same.
       let ordinary_too = same_special k.name name ordinary same in
       out_of_sight (is_package_visible flags) (is_open flags) (is_package_visible k.flags) (is_open k.flags)
-      (ap (λ (b : Bool). is_package_visible flags && b) (sym (plain (is_special k.name) (is_open k.flags) ordinary_too)) ∙ met_front (is_package_visible flags) (not (is_special k.name) && is_open k.flags) (has_kind is_open ds) e)
-      (ap (λ (b : Bool). is_open flags && b) (sym (plain (is_special k.name) (is_package_visible k.flags) ordinary_too)) ∙ met_front (is_open flags) (not (is_special k.name) && is_package_visible k.flags) (has_kind is_package_visible ds) f)) in
-      or_both (is_called name desc (method_of_class k) && is_out_of_sight false flags k.flags) (list_any (λ k. is_called name desc k && is_out_of_sight false flags k.flags) (map method_of_class ds)) here
-      (none_hidden ds (met_back (is_package_visible flags) (not (is_special k.name) && is_open k.flags) (has_kind is_open ds) e) (met_back (is_open flags) (not (is_special k.name) && is_package_visible k.flags) (has_kind is_package_visible ds) f))
+      (ap (λ (b : Bool). is_package_visible flags && b) (sym (plain (is_special k.name) (is_open k.flags) ordinary_too))
+      ∙ met_front (is_package_visible flags) (not (is_special k.name) && is_open k.flags) (has_kind is_open ds) e)
+      (ap (λ (b : Bool). is_open flags && b) (sym (plain (is_special k.name) (is_package_visible k.flags) ordinary_too))
+      ∙ met_front (is_open flags) (not (is_special k.name) && is_package_visible k.flags)
+      (has_kind is_package_visible ds) f)) in
+      or_both (is_called name desc (method_of_class k) && is_out_of_sight false flags k.flags)
+      (list_any (λ k. is_called name desc k && is_out_of_sight false flags k.flags) (map method_of_class ds)) here
+      (none_hidden ds (met_back (is_package_visible flags) (not (is_special k.name) && is_open k.flags)
+      (has_kind is_open ds) e) (met_back (is_open flags) (not (is_special k.name) && is_package_visible k.flags)
+      (has_kind is_package_visible ds) f))
 
-  none_changed : (ds : List MethodTree) → (is_closed flags && has_kind is_instance ds) ≡ false → (is_instance flags && has_kind is_shared ds) ≡ false → list_any (λ k. is_called name desc k && is_of_other_kind flags k.flags) (map method_of_class ds) ≡ false
+  none_changed : (ds : List MethodTree) → (is_closed flags && has_kind is_instance ds) ≡ false
+      → (is_instance flags && has_kind is_shared ds) ≡ false → list_any (λ k. is_called name desc k
+      && is_of_other_kind flags k.flags) (map method_of_class ds) ≡ false
   none_changed [] e f = refl
   none_changed (k ∷ ds) e f =
       let here = unmet (bytes_eq k.name name) (bytes_eq k.desc desc) (is_of_other_kind flags k.flags) (λ same.
       let ordinary_too = same_special k.name name ordinary same in
       other_kind (is_private flags) (is_static flags) (is_private k.flags) (is_static k.flags)
-      (ap (λ (b : Bool). is_closed flags && b) (sym (plain (is_special k.name) (is_instance k.flags) ordinary_too)) ∙ met_front (is_closed flags) (not (is_special k.name) && is_instance k.flags) (has_kind is_instance ds) e)
-      (ap (λ (b : Bool). is_instance flags && b) (sym (plain (is_special k.name) (is_shared k.flags) ordinary_too)) ∙ met_front (is_instance flags) (not (is_special k.name) && is_shared k.flags) (has_kind is_shared ds) f)) in
-      or_both (is_called name desc (method_of_class k) && is_of_other_kind flags k.flags) (list_any (λ k. is_called name desc k && is_of_other_kind flags k.flags) (map method_of_class ds)) here
-      (none_changed ds (met_back (is_closed flags) (not (is_special k.name) && is_instance k.flags) (has_kind is_instance ds) e) (met_back (is_instance flags) (not (is_special k.name) && is_shared k.flags) (has_kind is_shared ds) f))
+      (ap (λ (b : Bool). is_closed flags && b) (sym (plain (is_special k.name) (is_instance k.flags) ordinary_too))
+      ∙ met_front (is_closed flags) (not (is_special k.name) && is_instance k.flags) (has_kind is_instance ds) e)
+      (ap (λ (b : Bool). is_instance flags && b) (sym (plain (is_special k.name) (is_shared k.flags) ordinary_too))
+      ∙ met_front (is_instance flags) (not (is_special k.name) && is_shared k.flags) (has_kind is_shared ds) f)) in
+      or_both (is_called name desc (method_of_class k) && is_of_other_kind flags k.flags)
+      (list_any (λ k. is_called name desc k && is_of_other_kind flags k.flags) (map method_of_class ds)) here
+      (none_changed ds (met_back (is_closed flags) (not (is_special k.name) && is_instance k.flags)
+      (has_kind is_instance ds) e) (met_back (is_instance flags) (not (is_special k.name) && is_shared k.flags)
+      (has_kind is_shared ds) f))
 
 -- ---- one class against another
 
@@ -122,8 +142,11 @@ module _ (f : FilePlace) (c d : ClassTree) where
     one_against : method_against f c (declared 0 d) i m ≡ []
     unfolding method_against
     one_against =
-        ap (λ (b : Bool). at b (at_method f c i m 0) 305 ++ at (not (is_special m.name) && changes_kind (declared 0 d) m.flags m.name m.desc) (at_method f c i m 0) 306) (tested (is_special m.name) (hides_one (declared 0 d) m.flags m.name m.desc) hides)
-        ∙ ap (λ (b : Bool). at b (at_method f c i m 0) 306) (tested (is_special m.name) (changes_kind (declared 0 d) m.flags m.name m.desc) changes)
+        ap (λ (b : Bool). at b (at_method f c i m 0) 305 ++ at (not (is_special m.name)
+        && changes_kind (declared 0 d) m.flags m.name m.desc) (at_method f c i m 0) 306) (tested (is_special m.name)
+        (hides_one (declared 0 d) m.flags m.name m.desc) hides)
+        ∙ ap (λ (b : Bool). at b (at_method f c i m 0) 306) (tested (is_special m.name) (changes_kind (declared 0 d)
+        m.flags m.name m.desc) changes)
 
   all_against : (ms : List MethodTree) (i : ℕ)
       → (has_kind is_package_visible ms && has_kind is_open d.methods) ≡ false
@@ -134,28 +157,42 @@ module _ (f : FilePlace) (c d : ClassTree) where
   unfolding each_from
   all_against [] i p o s t = refl
   all_against (m ∷ ms) i p o s t =
-      let of_m : (test : ℕ → Bool) (y : Bool) → (has_kind test (m ∷ ms) && y) ≡ false → is_special m.name ≡ false → (test m.flags && y) ≡ false = λ test y e ordinary.
-      ap (λ (b : Bool). b && y) (sym (plain (is_special m.name) (test m.flags) ordinary)) ∙ meet_front (not (is_special m.name) && test m.flags) (has_kind test ms) y e in
-      let of_ms : (test : ℕ → Bool) (y : Bool) → (has_kind test (m ∷ ms) && y) ≡ false → (has_kind test ms && y) ≡ false = λ test y e.
+      let of_m : (test : ℕ → Bool) (y : Bool) → (has_kind test (m ∷ ms) && y) ≡ false → is_special m.name ≡ false
+      → (test m.flags && y) ≡ false = λ test y e ordinary.
+      ap (λ (b : Bool). b && y) (sym (plain (is_special m.name) (test m.flags) ordinary))
+      ∙ meet_front (not (is_special m.name) && test m.flags) (has_kind test ms) y e in
+      let of_ms : (test : ℕ → Bool) (y : Bool) → (has_kind test (m ∷ ms) && y) ≡ false → (has_kind test ms && y)
+      ≡ false = λ test y e.
       meet_back (not (is_special m.name) && test m.flags) (has_kind test ms) y e in
       let here = one_against m i
-      (λ ordinary. none_hidden m.name m.desc m.flags ordinary d.methods (of_m is_package_visible (has_kind is_open d.methods) p ordinary) (of_m is_open (has_kind is_package_visible d.methods) o ordinary))
-      (λ ordinary. none_changed m.name m.desc m.flags ordinary d.methods (of_m is_closed (has_kind is_instance d.methods) s ordinary) (of_m is_instance (has_kind is_shared d.methods) t ordinary)) in
+      (λ ordinary. none_hidden m.name m.desc m.flags ordinary d.methods (of_m is_package_visible
+      (has_kind is_open d.methods) p ordinary) (of_m is_open (has_kind is_package_visible d.methods) o ordinary))
+      (λ ordinary. none_changed m.name m.desc m.flags ordinary d.methods
+      (of_m is_closed (has_kind is_instance d.methods) s ordinary) (of_m is_instance (has_kind is_shared d.methods)
+      t ordinary)) in
       ap (λ (bs : List Break). bs ++ each_from (λ i m. method_against f c (declared 0 d) i m) (i + 1) ms) here
-      ∙ all_against ms (i + 1) (of_ms is_package_visible (has_kind is_open d.methods) p) (of_ms is_open (has_kind is_package_visible d.methods) o) (of_ms is_closed (has_kind is_instance d.methods) s) (of_ms is_instance (has_kind is_shared d.methods) t)
+      ∙ all_against ms (i + 1) (of_ms is_package_visible (has_kind is_open d.methods) p)
+      (of_ms is_open (has_kind is_package_visible d.methods) o) (of_ms is_closed (has_kind is_instance d.methods) s)
+      (of_ms is_instance (has_kind is_shared d.methods) t)
 
 -- ---- 307
 
 neither : (a b c : Bool) → a ≡ false → ((a && b) && c) ≡ false
 neither a b c e = ap (λ (x : Bool). (x && b) && c) e
 
-none_asks : (w : List Class) (c d : ClassTree) (ms : List MethodTree) → list_any (λ m. is_abstract m.flags || is_interface d.flags) ms ≡ false → list_any (λ k. has_no_code w c (declared 0 d) k) (map method_of_class ms) ≡ false
+none_asks : (w : List Class) (c d : ClassTree) (ms : List MethodTree) → list_any (λ m. is_abstract m.flags
+    || is_interface d.flags) ms ≡ false → list_any (λ k. has_no_code w c (declared 0 d) k) (map method_of_class ms)
+    ≡ false
 none_asks w c d [] e = refl
 none_asks w c d (m ∷ ms) e =
-    let here = or_left (is_abstract m.flags || is_interface d.flags) (list_any (λ m. is_abstract m.flags || is_interface d.flags) ms) e in
-    or_both (has_no_code w c (declared 0 d) (method_of_class m)) (list_any (λ k. has_no_code w c (declared 0 d) k) (map method_of_class ms))
-    (neither (is_abstract m.flags || is_interface d.flags) (not (not false && is_initialiser m.name)) (is_unfit_selection (is_interface d.flags) (hit w false (selected w c.name m.name m.desc))) here)
-    (none_asks w c d ms (or_right (is_abstract m.flags || is_interface d.flags) (list_any (λ m. is_abstract m.flags || is_interface d.flags) ms) e))
+    let here = or_left (is_abstract m.flags || is_interface d.flags) (list_any (λ m. is_abstract m.flags
+    || is_interface d.flags) ms) e in
+    or_both (has_no_code w c (declared 0 d) (method_of_class m)) (list_any (λ k. has_no_code w c (declared 0 d) k)
+    (map method_of_class ms))
+    (neither (is_abstract m.flags || is_interface d.flags) (not (not false && is_initialiser m.name))
+    (is_unfit_selection (is_interface d.flags) (hit w false (selected w c.name m.name m.desc))) here)
+    (none_asks w c d ms (or_right (is_abstract m.flags || is_interface d.flags) (list_any (λ m. is_abstract m.flags
+    || is_interface d.flags) ms) e))
 
 and_none : (a b : Bool) → b ≡ false → (a && b) ≡ false
 and_none false b e = refl
@@ -163,7 +200,8 @@ and_none true b e = e
 
 -- ---- all of it
 
-pub nothing_broken : (w : List Class) (f : FilePlace) (c d : ClassTree) → may_break (kinds_of c) (kinds_of d) ≡ false → supertype_breaks w f c (declared 0 d) ≡ []
+pub nothing_broken : (w : List Class) (f : FilePlace) (c d : ClassTree) → may_break (kinds_of c) (kinds_of d) ≡ false
+    → supertype_breaks w f c (declared 0 d) ≡ []
 unfolding class_against supertype_breaks
 nothing_broken w f c d e =
     let p = has_kind is_package_visible c.methods && has_kind is_open d.methods in
@@ -173,9 +211,12 @@ nothing_broken w f c d e =
     let but_t = or_left (asks d || p || o || s) t e in
     let but_s = or_left (asks d || p || o) s but_t in
     let but_o = or_left (asks d || p) o but_s in
-    let methods = all_against f c d c.methods 0 (or_right (asks d) p but_o) (or_right (asks d || p) o but_s) (or_right (asks d || p || o) s but_t) (or_right (asks d || p || o || s) t e) in
-    let lacking = and_none (not (is_abstract c.flags)) (list_any (λ k. has_no_code w c (declared 0 d) k) (declared 0 d).methods) (none_asks w c d d.methods (or_left (asks d) p but_o)) in
-    let against : class_against w f c (declared 0 d) ≡ [] = ap (λ (b : Bool). at b (at_class f c) 307 ++ each_from (λ i m. method_against f c (declared 0 d) i m) 0 c.methods) lacking ∙ methods in
+    let methods = all_against f c d c.methods 0 (or_right (asks d) p but_o) (or_right (asks d || p) o but_s)
+    (or_right (asks d || p || o) s but_t) (or_right (asks d || p || o || s) t e) in
+    let lacking = and_none (not (is_abstract c.flags)) (list_any (λ k. has_no_code w c (declared 0 d) k)
+    (declared 0 d).methods) (none_asks w c d d.methods (or_left (asks d) p but_o)) in
+    let against : class_against w f c (declared 0 d) ≡ [] = ap (λ (b : Bool). at b (at_class f c) 307
+    ++ each_from (λ i m. method_against f c (declared 0 d) i m) 0 c.methods) lacking ∙ methods in
     either (is_inherited w c (declared 0 d)) against
   where
     either : (b : Bool) → {bs : List Break} → bs ≡ [] → (if b then bs else []) ≡ []

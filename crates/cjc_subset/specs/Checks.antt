@@ -24,7 +24,8 @@ use Rattle.cjc_subset.specs.Types.{is_unsupported_desc, is_int_desc, names_unsup
 use Rattle.cjc_subset.specs.Flags.{is_unfit_class, is_unfit_field, is_unfit_method}
 use Rattle.cjc_subset.specs.Overriding.{overriding_breaks}
 use Rattle.cjc_subset.specs.Applets.{has_unfit_applets}
-use Rattle.cjc_subset.specs.Limits.{has_deep_stack, has_many_cells, has_many_exported, has_many_handlers, has_many_interfaces, has_many_locals}
+use Rattle.cjc_subset.specs.Limits.{has_deep_stack, has_many_cells, has_many_exported, has_many_handlers}
+use Rattle.cjc_subset.specs.Limits.{has_many_interfaces, has_many_locals}
 
 -- ---- 310: an instruction names a field of an imported class that is no constant
 
@@ -51,7 +52,8 @@ insn_breaks files settings f c i m insn =
 -- of a method that has these instructions
 unfoldable pub code_breaks : Files → Settings → MethodCode → List Break
 code_breaks files settings code =
-    of_code files code.class code.method (λ f c m. each (λ _ insn. insn_breaks files settings f c code.method m insn) code.insns)
+    of_code files code.class code.method (λ f c m. each (λ _ insn. insn_breaks files settings f c code.method m insn)
+    code.insns)
 
 -- ---- by classes and their members
 

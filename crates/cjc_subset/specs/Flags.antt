@@ -1,12 +1,15 @@
 -- Rule 304: flags that a class, a field or a method may not have.
 use Rattle.std.specs.Prelude.{ℕ, List, Bool, not, ◌&&◌, ◌||◌}
-use Rattle.cjc_bytes.specs.AccessFlags.{acc_annotation, acc_enum, acc_native, acc_strict, acc_synchronized, acc_transient, acc_volatile, has, is_abstract, is_private, is_protected, is_public, is_static}
+use Rattle.cjc_bytes.specs.AccessFlags.{acc_annotation, acc_enum, acc_native, acc_strict, acc_synchronized}
+use Rattle.cjc_bytes.specs.AccessFlags.{acc_transient, acc_volatile, has, is_abstract, is_private, is_protected}
+use Rattle.cjc_bytes.specs.AccessFlags.{is_public, is_static}
 use Rattle.cjc_subset.specs.Members.{is_constructor, is_initialiser}
 
 -- more than one of public, private and protected
 abbrev pub has_two_accesses : ℕ → Bool
 has_two_accesses flags =
-    (is_public flags && is_private flags) || (is_public flags && is_protected flags) || (is_private flags && is_protected flags)
+    (is_public flags && is_private flags) || (is_public flags && is_protected flags)
+    || (is_private flags && is_protected flags)
 
 -- enum or annotation
 abbrev pub is_unfit_class : ℕ → Bool

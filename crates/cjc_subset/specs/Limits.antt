@@ -1,5 +1,6 @@
 -- Rules 401 to 409: limits of a package.
-use Rattle.std.specs.Prelude.{ℕ, List, [], ◌∷◌, ◌++◌, length, sum_by, count_by, Bool, false, not, ◌&&◌, nat_lt, if◌then◌else◌, Option, Some, None, codes}
+use Rattle.std.specs.Prelude.{ℕ, List, [], ◌∷◌, ◌++◌, length, sum_by, count_by, Bool, false, not, ◌&&◌, nat_lt}
+use Rattle.std.specs.Prelude.{if◌then◌else◌, Option, Some, None, codes}
 use Rattle.std.specs.List.{flat_map, list_any}
 use Rattle.std.specs.Str.{bytes_eq}
 use Rattle.cjc_bytes.specs.declared.settings.Settings.{Settings}
@@ -19,7 +20,9 @@ use Rattle.cjc_subset.specs.Names.{catches_of}
 
 -- more than 255 classes of the package are exported
 unfoldable pub has_many_exported : Files → Settings → Bool
-has_many_exported files settings = nat_lt 255 (count_by (λ c. is_exported (all_classes files) (nat_lt 0 (length settings.applets)) (declared 0 c)) files.classes)
+has_many_exported files settings =
+    nat_lt 255 (count_by (λ c. is_exported (all_classes files) (nat_lt 0 (length settings.applets)) (declared 0 c))
+    files.classes)
 
 -- ---- 403: a class has more than 15 interfaces, or an interface more than 14, inherited ones counted and those that
 -- ---- are in no file

@@ -1,5 +1,6 @@
 -- What a look-up finds, and the types that instructions name.
-use Rattle.std.specs.Prelude.{ℕ, ◌-◌, ◌^◌, List, [], ◌∷◌, ◌++◌, length, slice_get, Bool, false, ◌&&◌, ◌==◌, nat_lt, if◌then◌else◌, Option, Some, None, is_some, option_map, codes}
+use Rattle.std.specs.Prelude.{ℕ, ◌-◌, ◌^◌, List, [], ◌∷◌, ◌++◌, length, slice_get, Bool, false, ◌&&◌, ◌==◌, nat_lt}
+use Rattle.std.specs.Prelude.{if◌then◌else◌, Option, Some, None, is_some, option_map, codes}
 use Rattle.std.specs.Str.{bytes_eq}
 use Rattle.cjc_bytes.specs.Spots.{desc_of}
 use Rattle.cjc_classfile.specs.declared.tree.ClassTree.{ClassTree}
@@ -41,7 +42,8 @@ pub record ResolvedMember : Type 0 where
 
 -- the field or method at this place of the class; none where it has no such
 abbrev pub hit_at : (field : Bool) → Found → Class → Option ResolvedMember
-hit_at field f c = option_map (λ m. record { owner = c; flags = m.flags }) (slice_get (members field c) (f.member - members_before field c))
+hit_at field f c = option_map (λ m. record { owner = c; flags = m.flags }) (slice_get (members field c)
+    (f.member - members_before field c))
 
 -- the same of a class that may be none
 abbrev pub hit_of : (field : Bool) → Found → Option Class → Option ResolvedMember

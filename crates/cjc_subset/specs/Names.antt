@@ -1,5 +1,6 @@
 -- Rules 203, 205 and 206 of the instructions and catch types of methods.
-use Rattle.std.specs.Prelude.{ℕ, List, ◌+◌, ◌*◌, [], ◌++◌, slice_get, Bool, true, false, not, ◌&&◌, ◌||◌, ◌==◌, if◌then◌else◌, Option, Some, None}
+use Rattle.std.specs.Prelude.{ℕ, List, ◌+◌, ◌*◌, [], ◌++◌, slice_get, Bool, true, false, not, ◌&&◌, ◌||◌, ◌==◌}
+use Rattle.std.specs.Prelude.{if◌then◌else◌, Option, Some, None}
 use Rattle.std.specs.Str.{bytes_eq}
 use Rattle.cjc_bytes.specs.declared.fault.MemberId.{MemberId}
 use Rattle.cjc_classfile.specs.declared.tree.Catch.{Catch}
@@ -25,7 +26,8 @@ use Rattle.cjc_world.specs.Rules.{is_missing, is_type_missing, is_desc_missing, 
 use Rattle.cjc_bytes.specs.Breaks.{Break, at, each}
 use Rattle.cjc_subset.specs.Places.{at_method, of_code}
 use Rattle.cjc_bytes.specs.Order.{FilePlace}
-use Rattle.cjc_subset.specs.Members.{ResolvedMember, hit, is_array, is_constant, is_constructor, is_descriptor, is_initialiser}
+use Rattle.cjc_subset.specs.Members.{ResolvedMember, hit, is_array, is_constant, is_constructor, is_descriptor}
+use Rattle.cjc_subset.specs.Members.{is_initialiser}
 
 -- ---- 203: a class that an instruction or a catch type names is in no file
 
@@ -53,8 +55,10 @@ unfoldable pub catches_missing : List Class → Option (List ℕ) → Bool
 catches_missing w None = false
 catches_missing w (Some name) = is_array name || is_missing w name
 
--- ---- 205: a named member is in neither the class nor its supers, or the class is an array; a constructor is not in the
--- ---- class itself; or a method of a class is named as one of an interface, or the other way round. It needs the class,
+-- ---- 205: a named member is in neither the class nor its supers, or the class is an array; a constructor is not in
+-- the
+-- ---- class itself; or a method of a class is named as one of an interface, or the other way round. It needs the
+-- class,
 -- ---- so that 203 is not broken by the class's name
 
 -- the look-up found nothing
@@ -99,7 +103,8 @@ abbrev pub has_interface_entry : List PoolItem → Option CodeTree → (place : 
 has_interface_entry pool None place = false
 has_interface_entry pool (Some code) place = is_interface_method (entry_behind pool code.bytes place)
 
--- Whether a call at this place of a method names its method as one of an interface. Invokevirtual always has a Methodref
+-- Whether a call at this place of a method names its method as one of an interface. Invokevirtual always has a
+-- Methodref
 -- and invokeinterface an InterfaceMethodref, which 103 sees to; invokespecial and invokestatic have either.
 abbrev pub is_by_interface : ClassTree → MethodTree → (place op : ℕ) → Bool
 is_by_interface c m place op =
@@ -136,7 +141,8 @@ abbrev pub puts_final : ClassTree → (put : Bool) → ResolvedMember → Bool
 puts_final c put h = put && is_final h.flags && not (bytes_eq h.owner.name c.name)
 
 -- the field that an instruction names was found and can't be used so
-abbrev pub is_unfit_field : Files → ClassTree → (static put : Bool) → MemberId → Option Found → Option ResolvedMember → Bool
+abbrev pub is_unfit_field : Files → ClassTree → (static put : Bool) → MemberId → Option Found → Option ResolvedMember
+    → Bool
 is_unfit_field files c static put id found None = false
 is_unfit_field files c static put id found (Some h) =
     -- the field is not accessible
@@ -217,9 +223,12 @@ method_found w id = find_method w id.class id.name id.desc
 
 -- by an instruction of the class
 unfoldable pub names_unfit : Files → ClassTree → JOp → Bool
-names_unfit files c (jop.Static put id) = is_unfit_field files c true put id (field_found (all_classes files) id) (hit (all_classes files) true (field_found (all_classes files) id))
-names_unfit files c (jop.Field put id) = is_unfit_field files c false put id (field_found (all_classes files) id) (hit (all_classes files) true (field_found (all_classes files) id))
-names_unfit files c (jop.Call op id) = is_unfit_method (all_classes files) c op id (hit (all_classes files) false (method_found (all_classes files) id))
+names_unfit files c (jop.Static put id) = is_unfit_field files c true put id (field_found (all_classes files) id)
+    (hit (all_classes files) true (field_found (all_classes files) id))
+names_unfit files c (jop.Field put id) = is_unfit_field files c false put id (field_found (all_classes files) id)
+    (hit (all_classes files) true (field_found (all_classes files) id))
+names_unfit files c (jop.Call op id) = is_unfit_method (all_classes files) c op id (hit (all_classes files) false
+    (method_found (all_classes files) id))
 names_unfit files c (jop.New name) = is_unfit_new (all_classes files) name
 names_unfit files c _ = false
 
@@ -250,7 +259,8 @@ method_breaks files f c i m insns =
 
 -- at the instructions and catch types of the method that this code is of
 unfoldable pub code_breaks : Files → MethodCode → List Break
-code_breaks files code = of_code files code.class code.method (λ f c m. method_breaks files f c code.method m code.insns)
+code_breaks files code = of_code files code.class code.method (λ f c m. method_breaks files f c code.method m
+    code.insns)
 
 -- All that is broken of 203, 205 and 206 in the methods that have instructions.
 unfoldable pub name_breaks : Files → List MethodCode → List Break

@@ -34,7 +34,8 @@ is_open flags = is_public flags || is_protected flags
 abbrev pub is_package_visible : ℕ → Bool
 is_package_visible flags = not (is_public flags) && not (is_protected flags) && not (is_private flags)
 
--- One is package-visible and the other public or protected, or both are package-visible and the inherited one is imported.
+-- One is package-visible and the other public or protected, or both are package-visible and the inherited one is
+-- imported.
 abbrev pub is_out_of_sight : (inherited_is_imported : Bool) → (flags inherited : ℕ) → Bool
 is_out_of_sight inherited_is_imported flags inherited =
     (is_package_visible flags && is_open inherited)
@@ -43,14 +44,16 @@ is_out_of_sight inherited_is_imported flags inherited =
 
 -- with some method of the other class
 abbrev pub hides_one : Class → (flags : ℕ) → (name desc : List ℕ) → Bool
-hides_one d flags name desc = list_any (λ k. is_called name desc k && is_out_of_sight d.is_imported flags k.flags) d.methods
+hides_one d flags name desc = list_any (λ k. is_called name desc k && is_out_of_sight d.is_imported flags k.flags)
+    d.methods
 
 -- ---- 306
 
 -- Exactly one is private or static, and the inherited one is not private.
 abbrev pub is_of_other_kind : (flags inherited : ℕ) → Bool
 is_of_other_kind flags inherited =
-    not (is_private inherited) && (if is_private flags || is_static flags then not (is_static inherited) else is_static inherited)
+    not (is_private inherited) && (if is_private flags || is_static flags then not (is_static inherited)
+    else is_static inherited)
 
 -- against some method of the other class that has the name and the descriptor
 abbrev pub changes_kind : Class → (flags : ℕ) → (name desc : List ℕ) → Bool
@@ -69,7 +72,8 @@ is_unfit_selection for_interface (Some h) = is_abstract h.flags || (for_interfac
 
 -- The class is asked for code of a method of this one and has none.
 abbrev pub has_no_code : List Class → ClassTree → Class → Member → Bool
-has_no_code w c d k = asks_for_code d k && is_unfit_selection (is_interface d.flags) (hit w false (selected w c.name k.name k.desc))
+has_no_code w c d k = asks_for_code d k && is_unfit_selection (is_interface d.flags)
+    (hit w false (selected w c.name k.name k.desc))
 
 -- of a class that is not abstract, and the methods that it declares itself or inherits from this one
 abbrev pub lacks_code : List Class → ClassTree → Class → Bool

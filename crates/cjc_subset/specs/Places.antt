@@ -25,12 +25,14 @@ at_method f c i m offset = member_spot f 1 c.name (length c.fields + i + 1) (met
 -- ---- of a method by the numbers of its class and of itself, where both are there
 
 -- what is broken in the method, nothing where there is none
-abbrev pub of_method : (FilePlace → ClassTree → MethodTree → List Break) → FilePlace → ClassTree → Option MethodTree → List Break
+abbrev pub of_method : (FilePlace → ClassTree → MethodTree → List Break) → FilePlace → ClassTree → Option MethodTree
+    → List Break
 of_method breaks f c None = []
 of_method breaks f c (Some m) = breaks f c m
 
 -- what is broken in the method of this number of the class, nothing where one of them is missing
-abbrev pub of_class : (FilePlace → ClassTree → MethodTree → List Break) → FilePlace → (method : ℕ) → Option ClassTree → List Break
+abbrev pub of_class : (FilePlace → ClassTree → MethodTree → List Break) → FilePlace → (method : ℕ) → Option ClassTree
+    → List Break
 of_class breaks f method None = []
 of_class breaks f method (Some c) = of_method breaks f c (slice_get c.methods method)
 

@@ -1,5 +1,6 @@
 -- Rules 301 and 302: the types that a package may not use.
-use Rattle.std.specs.Prelude.{ℕ, ◌^◌, List, [], ◌∷◌, ◌++◌, length, Bool, true, false, ◌&&◌, ◌||◌, ◌==◌, nat_lt, if◌then◌else◌, Option, Some, None}
+use Rattle.std.specs.Prelude.{ℕ, ◌^◌, List, [], ◌∷◌, ◌++◌, length, Bool, true, false, ◌&&◌, ◌||◌, ◌==◌, nat_lt}
+use Rattle.std.specs.Prelude.{if◌then◌else◌, Option, Some, None}
 use Rattle.std.specs.List.{list_any}
 use Rattle.cjc_bytes.specs.declared.fault.MemberId.{MemberId}
 use Rattle.cjc_bytes.specs.declared.descriptor.Kind.{Kind}
@@ -13,7 +14,8 @@ use Rattle.cjc_subset.specs.Members.{is_array}
 
 -- ---- 301: char, long, float, double or an array of more than one dimension
 
--- Behind the [ of an array's descriptor: the elements are arrays (91), chars (67), doubles (68), floats (70) or longs (74).
+-- Behind the [ of an array's descriptor: the elements are arrays (91), chars (67), doubles (68), floats (70) or longs
+-- (74).
 abbrev pub is_unsupported_element : List ℕ → Bool
 is_unsupported_element [] = false
 is_unsupported_element (b ∷ bs) = (b == 91) || (b == 67) || (b == 68) || (b == 70) || (b == 74)

@@ -1,12 +1,15 @@
 //! Rules 301, 302, 304 to 307, 309, 310 and 401 to 409 over a package, in the order of refusals.
 
-ghost use Rattle.std.specs.Prelude.{◌≡◌, ◌&&◌, ◌<◌, ℕ, [], length, map, not, option_map, is_some, nat_lt, IfErr, IfOk, OnOk};
+ghost use Rattle.std.specs.Prelude.{◌≡◌, ◌&&◌, ◌<◌, ℕ, [], length, map, not, option_map, is_some, nat_lt, IfErr, IfOk};
+ghost use Rattle.std.specs.Prelude.{OnOk};
 ghost use Rattle.cjc_classfile.specs.declared.tree.MethodTree.{MethodTree as Method};
 ghost use Rattle.cjc_classfile.specs.declared.tree.ClassTree.{ClassTree as Tree};
 ghost use Rattle.cjc_bytes.specs.AccessFlags.{is_interface};
 ghost use Rattle.cjc_bytes.specs.Breaks.{IsFirstRefusal, IsFirstOf, each};
 ghost use Rattle.cjc_bytes.specs.Told.{break_of, spot_of};
-ghost use Rattle.cjc_subset.specs.Checks.{check_breaks, class_breaks, code_breaks, field_breaks, has_unsupported, has_int, insn_breaks, is_imported_variable, list_breaks, method_breaks, names_variable, own_breaks};
+ghost use Rattle.cjc_subset.specs.Checks.{check_breaks, class_breaks, code_breaks, field_breaks, has_unsupported};
+ghost use Rattle.cjc_subset.specs.Checks.{has_int, insn_breaks, is_imported_variable, list_breaks, method_breaks};
+ghost use Rattle.cjc_subset.specs.Checks.{names_variable, own_breaks};
 ghost use Rattle.cjc_subset.specs.Working.Kinds.{kinds_of};
 ghost use Rattle.cjc_subset.specs.Places.{at_class, at_method};
 ghost use Rattle.cjc_bytes.specs.Order.{FilePlace, file_of};
@@ -69,7 +72,8 @@ fn insn_break<'w>(
     insn: &JInsn,
     spot: RulePlace<'w>,
 ) -> Option<Break<'w>>
-    ensures { (f : FilePlace) (c : Tree) (i : ℕ) (m : Method) → spot_of spot.entry ≡ at_method f c i m insn.now.at → IsFirstOf (insn_breaks world.now settings.now f c i m insn.now) (option_map break_of result) }
+    ensures { (f : FilePlace) (c : Tree) (i : ℕ) (m : Method) → spot_of spot.entry ≡ at_method f c i m insn.now.at
+        → IsFirstOf (insn_breaks world.now settings.now f c i m insn.now) (option_map break_of result) }
 {
     let unsupported = broken(names_unsupported(&insn.op), spot, 301);
     let int = broken(needs_ints(settings, &insn.op), spot, 302);
@@ -88,7 +92,9 @@ fn insns_break<'w>(
     spot: RulePlace<'w>,
 ) -> Option<Break<'w>>
     requires { place < length class.now.methods }
-    ensures { (f : FilePlace) → spot_of spot.entry ≡ at_class f class.now → IsFirstOf (each (λ _ insn. insn_breaks world.now settings.now f class.now place method.now insn) insns.now) (option_map break_of result) }
+    ensures { (f : FilePlace) → spot_of spot.entry ≡ at_class f class.now
+        → IsFirstOf (each (λ _ insn. insn_breaks world.now settings.now f class.now place method.now insn) insns.now)
+        (option_map break_of result) }
 {
     let mut least = None;
     for insn in insns {
@@ -125,7 +131,8 @@ fn codes_break<'w>(
     settings: &Settings,
     codes: &[MethodCode],
 ) -> Option<Break<'w>>
-    ensures { IsFirstOf (each (λ _ code. code_breaks world.now settings.now code) codes.now) (option_map break_of result) }
+    ensures { IsFirstOf (each (λ _ code. code_breaks world.now settings.now code) codes.now)
+        (option_map break_of result) }
 {
     let mut least = None;
     for code in codes {
@@ -150,7 +157,8 @@ fn field_break<'w>(
     field: &'w FieldTree,
     spot: RulePlace<'w>,
 ) -> Option<Break<'w>>
-    ensures { (f : FilePlace) → spot_of spot.entry ≡ at_class f class.now → IsFirstOf (field_breaks settings.now f class.now place field.now) (option_map break_of result) }
+    ensures { (f : FilePlace) → spot_of spot.entry ≡ at_class f class.now
+        → IsFirstOf (field_breaks settings.now f class.now place field.now) (option_map break_of result) }
 {
     let spot = field_spot(spot, place, field);
     let desc = field.desc.items();
@@ -166,7 +174,9 @@ fn fields_break<'w>(
     class: &'w ClassTree<'_>,
     spot: RulePlace<'w>,
 ) -> Option<Break<'w>>
-    ensures { (f : FilePlace) → spot_of spot.entry ≡ at_class f class.now → IsFirstOf (each (λ i m. field_breaks settings.now f class.now i m) class.now.fields) (option_map break_of result) }
+    ensures { (f : FilePlace) → spot_of spot.entry ≡ at_class f class.now
+        → IsFirstOf (each (λ i m. field_breaks settings.now f class.now i m) class.now.fields)
+        (option_map break_of result) }
 {
     let mut least = None;
     let fields = class.fields.items();
@@ -178,7 +188,8 @@ fn fields_break<'w>(
 
 /// Whether a method of a class has flags that it may not have.
 fn has_unfit_flags(class: &ClassTree<'_>, method: &MethodTree<'_>) -> bool
-    ensures { result ≡ is_unfit_method (is_interface class.now.flags) method.now.flags method.now.name (is_some method.now.code) }
+    ensures { result ≡ is_unfit_method (is_interface class.now.flags) method.now.flags method.now.name
+        (is_some method.now.code) }
 {
     let interface = is_interface(class.flags);
     is_unfit_method(
@@ -198,7 +209,8 @@ fn method_break<'w>(
     spot: RulePlace<'w>,
 ) -> Option<Break<'w>>
     requires { place < length class.now.methods }
-    ensures { (f : FilePlace) → spot_of spot.entry ≡ at_class f class.now → IsFirstOf (method_breaks settings.now f class.now place method.now) (option_map break_of result) }
+    ensures { (f : FilePlace) → spot_of spot.entry ≡ at_class f class.now
+        → IsFirstOf (method_breaks settings.now f class.now place method.now) (option_map break_of result) }
 {
     let spot = method_spot(spot, class, place, method, 0);
     let desc = method.desc.items();
@@ -216,7 +228,9 @@ fn methods_break<'w>(
     class: &'w ClassTree<'_>,
     spot: RulePlace<'w>,
 ) -> Option<Break<'w>>
-    ensures { (f : FilePlace) → spot_of spot.entry ≡ at_class f class.now → IsFirstOf (each (λ i m. method_breaks settings.now f class.now i m) class.now.methods) (option_map break_of result) }
+    ensures { (f : FilePlace) → spot_of spot.entry ≡ at_class f class.now
+        → IsFirstOf (each (λ i m. method_breaks settings.now f class.now i m) class.now.methods)
+        (option_map break_of result) }
 {
     let mut least = None;
     let methods = class.methods.items();
@@ -258,7 +272,8 @@ fn own_break<'w>(
     spot: RulePlace<'w>,
 ) -> Result<Option<Break<'w>>, NoMemory>
     requires { number < length world.now.classes }
-    ensures { (f : FilePlace) → spot_of spot.entry ≡ at_class f class.now → IfOk result (λ b. IsFirstOf (own_breaks world.now settings.now f number class.now) (option_map break_of b)) }
+    ensures { (f : FilePlace) → spot_of spot.entry ≡ at_class f class.now
+        → IfOk result (λ b. IsFirstOf (own_breaks world.now settings.now f number class.now) (option_map break_of b)) }
 {
     let added = world.added(number).items();
     let unsupported = broken(has_unsupported(added), spot, 301);
@@ -283,7 +298,9 @@ fn class_break<'w>(
 ) -> Result<Option<Break<'w>>, NoMemory>
     requires number { number < length world.now.classes }
     requires kinds { kinds.now ≡ map kinds_of world.now.classes }
-    ensures { (f : FilePlace) → spot_of spot.entry ≡ at_class f class.now → IfOk result (λ b. IsFirstOf (class_breaks world.now settings.now f number class.now) (option_map break_of b)) }
+    ensures { (f : FilePlace) → spot_of spot.entry ≡ at_class f class.now
+        → IfOk result (λ b. IsFirstOf (class_breaks world.now settings.now f number class.now)
+        (option_map break_of b)) }
 {
     let own = own_break(alloc, world, settings, number, class, spot)?;
     let fields = fields_break(settings, class, spot);
@@ -298,7 +315,8 @@ fn classes_break<'w>(
     world: &'w World<'_>,
     settings: &Settings,
 ) -> Result<Option<Break<'w>>, NoMemory>
-    ensures { IfOk result (λ b. IsFirstOf (each (λ n c. class_breaks world.now settings.now (file_of world.now.lines n) n c) world.now.classes) (option_map break_of b)) }
+    ensures { IfOk result (λ b. IsFirstOf (each (λ n c. class_breaks world.now settings.now (file_of world.now.lines n)
+        n c) world.now.classes) (option_map break_of b)) }
 {
     let mut least = None;
     let classes = world.classes().items();
@@ -341,7 +359,8 @@ pub fn first_broken<'w>(
     codes: &Codes,
     settings: &Settings,
 ) -> Result<Option<Break<'w>>, NoMemory>
-    ensures { IfOk result (λ b. IsFirstOf (check_breaks list.now world.now codes.now settings.now) (option_map break_of b)) }
+    ensures { IfOk result (λ b. IsFirstOf (check_breaks list.now world.now codes.now settings.now)
+        (option_map break_of b)) }
 {
     let listed = list_break(list, world, settings);
     let classes = classes_break(alloc, world, settings)?;

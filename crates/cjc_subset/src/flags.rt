@@ -1,7 +1,8 @@
 //! Rule 304: flags that a class, a field or a method may not have.
 
 ghost use Rattle.std.specs.Prelude.{◌≡◌};
-ghost use Rattle.cjc_subset.specs.Flags.{has_two_accesses, is_unfit_class, is_unfit_field, is_unfit_method, is_unfit_method_kind};
+ghost use Rattle.cjc_subset.specs.Flags.{has_two_accesses, is_unfit_class, is_unfit_field, is_unfit_method};
+ghost use Rattle.cjc_subset.specs.Flags.{is_unfit_method_kind};
 
 use crate::members::{is_constructor, is_initialiser};
 use cjc_bytes::{

@@ -5,7 +5,8 @@ ghost use Rattle.std.specs.List.{flat_map, list_any};
 ghost use Rattle.std.specs.Str.{bytes_eq};
 ghost use Rattle.cjc_world.specs.Classes.{all_classes};
 ghost use Rattle.cjc_world.specs.Working.Known.{class_of};
-ghost use Rattle.cjc_subset.specs.Limits.{has_many_interfaces, is_above, listed_above, listed_by_declared, listed_by_imported, listed_names, most_interfaces, noted};
+ghost use Rattle.cjc_subset.specs.Limits.{has_many_interfaces, is_above, listed_above, listed_by_declared};
+ghost use Rattle.cjc_subset.specs.Limits.{listed_by_imported, listed_names, most_interfaces, noted};
 
 use cjc_bytes::{Bytes, NoMemory, Row, is_interface};
 use cjc_classfile::ClassTree;
@@ -29,7 +30,8 @@ fn is_noted(known: &[Bytes], name: &[u8]) -> bool
 
 /// Puts a name that is not known at the end.
 fn note_one(alloc: Global, known: &mut Row<Bytes>, name: &[u8]) -> Result<(), NoMemory>
-    ensures { OnOk result (known.new ≡ (if list_any (λ y. bytes_eq y name.now) known.old then known.old else known.old ++ name.now ∷ [])) }
+    ensures { OnOk result (known.new ≡ (if list_any (λ y. bytes_eq y name.now) known.old then known.old else known.old
+        ++ name.now ∷ [])) }
 {
     if is_noted(known.items(), name) {
         return Ok(());
@@ -55,7 +57,8 @@ fn note_above(
     other: Known<'_, '_>,
     known: &mut Row<Bytes>,
 ) -> Result<(), NoMemory>
-    ensures { OnOk result (known.new ≡ noted known.old (listed_above (all_classes world.now) class.now (class_of other.entry))) }
+    ensures { OnOk result (known.new ≡ noted known.old (listed_above (all_classes world.now) class.now
+        (class_of other.entry))) }
 {
     // Most classes list none: no way up is walked for them.
     if other.interfaces().is_empty() {
@@ -76,7 +79,8 @@ fn note_declared(
     others: &[ClassTree<'_>],
     known: &mut Row<Bytes>,
 ) -> Result<(), NoMemory>
-    ensures { OnOk result (known.new ≡ noted known.old (listed_by_declared (all_classes world.now) class.now others.now)) }
+    ensures { OnOk result (known.new ≡ noted known.old (listed_by_declared (all_classes world.now) class.now
+        others.now)) }
 {
     for other in others {
         note_above(alloc, world, class, Known::Declared(0, other), known)?;
@@ -92,7 +96,8 @@ fn note_imported(
     others: &[ExportClass],
     known: &mut Row<Bytes>,
 ) -> Result<(), NoMemory>
-    ensures { OnOk result (known.new ≡ noted known.old (listed_by_imported (all_classes world.now) class.now others.now)) }
+    ensures { OnOk result (known.new ≡ noted known.old (listed_by_imported (all_classes world.now) class.now
+        others.now)) }
 {
     for other in others {
         note_above(alloc, world, class, Known::Imported(0, other), known)?;
@@ -108,7 +113,8 @@ fn note_exports(
     exports: &[ExportTree],
     known: &mut Row<Bytes>,
 ) -> Result<(), NoMemory>
-    ensures { OnOk result (known.new ≡ noted known.old (flat_map (λ t. listed_by_imported (all_classes world.now) class.now t.classes) exports.now)) }
+    ensures { OnOk result (known.new ≡ noted known.old (flat_map (λ t. listed_by_imported (all_classes world.now)
+        class.now t.classes) exports.now)) }
 {
     for tree in exports {
         note_imported(alloc, world, class, tree.classes.items(), known)?;

@@ -4,7 +4,8 @@
 
 ghost use Rattle.std.specs.Prelude.{◌≡◌, map, IfOk};
 ghost use Rattle.cjc_subset.specs.Overriding.{is_open, is_package_visible};
-ghost use Rattle.cjc_subset.specs.Working.Kinds.{asks, has_kind, is_closed, is_instance, is_shared, kinds_of, may_break};
+ghost use Rattle.cjc_subset.specs.Working.Kinds.{asks, has_kind, is_closed, is_instance, is_shared, kinds_of};
+ghost use Rattle.cjc_subset.specs.Working.Kinds.{may_break};
 
 use crate::overriding::{is_open, is_package_visible, is_special};
 use cjc_bytes::{NoMemory, Row, is_abstract, is_interface, is_private, is_static};

@@ -2,7 +2,8 @@
 //! places and their order, and tests 402, 408 and 409 by a length alone.
 
 ghost use Rattle.std.specs.Prelude.{◌≡◌, sum_by};
-ghost use Rattle.cjc_subset.specs.Limits.{cells, handlers, handlers_of_class, has_deep_stack, has_many_cells, has_many_exported, has_many_handlers, has_many_locals};
+ghost use Rattle.cjc_subset.specs.Limits.{cells, handlers, handlers_of_class, has_deep_stack, has_many_cells};
+ghost use Rattle.cjc_subset.specs.Limits.{has_many_exported, has_many_handlers, has_many_locals};
 ghost use Rattle.cjc_subset.specs.Working.Sums.{left_of};
 
 use crate::naming::catches_of;

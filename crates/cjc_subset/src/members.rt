@@ -8,7 +8,8 @@ ghost use Rattle.cjc_world.specs.Classes.{all_classes, class_named};
 ghost use Rattle.cjc_world.specs.Working.Known.{class_of};
 ghost use Rattle.cjc_world.specs.Rules.{is_desc_missing, is_element_missing, is_missing, is_type_missing};
 ghost use Rattle.cjc_subset.specs.Working.Hits.{hit_of};
-ghost use Rattle.cjc_subset.specs.Members.{hit, imports, is_array, is_constant, is_constructor, is_declared_constant, is_descriptor, is_imported_constant, is_initialiser};
+ghost use Rattle.cjc_subset.specs.Members.{hit, imports, is_array, is_constant, is_constructor, is_declared_constant};
+ghost use Rattle.cjc_subset.specs.Members.{is_descriptor, is_imported_constant, is_initialiser};
 ghost use Rattle.cjc_subset.specs.Names.{is_name_missing};
 
 use cjc_bytes::{Desc, is_private, is_protected, is_public, is_static};
@@ -103,7 +104,8 @@ fn is_type_missing(world: &World<'_>, class: &[u8]) -> bool
 }
 
 fn is_any_missing(world: &World<'_>, desc: &Desc<'_>) -> bool
-    ensures { result ≡ list_any (λ p. is_type_missing (all_classes world.now) p.class) (desc.now.params ++ desc.now.result ∷ []) }
+    ensures { result ≡ list_any (λ p. is_type_missing (all_classes world.now) p.class) (desc.now.params
+        ++ desc.now.result ∷ []) }
 {
     for i in 0..desc.params() {
         if is_type_missing(world, desc.class(i)) {
@@ -171,7 +173,8 @@ pub(crate) fn is_accessible(
     named: &[u8],
     hit: ResolvedMember<'_, '_>,
 ) -> bool
-    ensures { result ≡ is_accessible (all_classes world.now) holder.now named.now (hit_of hit.entry).owner hit.entry.flags }
+    ensures { result ≡ is_accessible (all_classes world.now) holder.now named.now (hit_of hit.entry).owner
+        hit.entry.flags }
 {
     let owner = hit.owner.name();
     let inside = !hit.owner.is_imported();

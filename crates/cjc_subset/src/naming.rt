@@ -13,7 +13,13 @@ ghost use Rattle.cjc_subset.specs.Working.Hits.{hit_of};
 ghost use Rattle.cjc_subset.specs.Places.{at_class, at_method};
 ghost use Rattle.cjc_bytes.specs.Order.{FilePlace};
 ghost use Rattle.cjc_subset.specs.Members.{hit};
-ghost use Rattle.cjc_subset.specs.Names.{callee_found, catch_breaks, catches_missing, catches_of, code_breaks, entry_behind, field_found, has_interface_entry, insn_breaks, is_abstract_of, is_bodiless, is_by_interface, is_constant_found, is_member_missing, is_not_found, refers_wrongly, is_other_kind, is_unfit_call, is_unfit_class, is_unfit_field, is_unfit_method, is_unfit_new, is_unfit_super, is_unfit_virtual, lacks, method_breaks, method_found, name_breaks, names_missing, names_other_kind, names_unfit, names_unfound, puts_final};
+ghost use Rattle.cjc_subset.specs.Names.{callee_found, catch_breaks, catches_missing, catches_of, code_breaks};
+ghost use Rattle.cjc_subset.specs.Names.{entry_behind, field_found, has_interface_entry, insn_breaks, is_abstract_of};
+ghost use Rattle.cjc_subset.specs.Names.{is_bodiless, is_by_interface, is_constant_found, is_member_missing};
+ghost use Rattle.cjc_subset.specs.Names.{is_not_found, refers_wrongly, is_other_kind, is_unfit_call, is_unfit_class};
+ghost use Rattle.cjc_subset.specs.Names.{is_unfit_field, is_unfit_method, is_unfit_new, is_unfit_super};
+ghost use Rattle.cjc_subset.specs.Names.{is_unfit_virtual, lacks, method_breaks, method_found, name_breaks};
+ghost use Rattle.cjc_subset.specs.Names.{names_missing, names_other_kind, names_unfit, names_unfound, puts_final};
 
 use crate::members::{
     ResolvedMember, is_accessible, is_array, is_constant, is_constructor, is_desc_missing,
@@ -86,7 +92,8 @@ fn lacks(world: &World<'_>, id: &MemberId, absent: bool) -> bool
 
 /// Whether the named class does not declare the method itself.
 fn is_undeclared(world: &World<'_>, id: &MemberId) -> bool
-    ensures { result ≡ is_not_found (own_of id.now.name id.now.desc (class_named (all_classes world.now) id.now.class)) }
+    ensures { result ≡ is_not_found (own_of id.now.name id.now.desc (class_named (all_classes world.now)
+        id.now.class)) }
 {
     match world.class_named(id.class.items()) {
         Some(class) => match class.place(false, id.name.items(), id.desc.items()) {
@@ -220,7 +227,8 @@ fn is_unfit_field(
     put: bool,
     id: &MemberId,
 ) -> bool
-    ensures { result ≡ is_unfit_field world.now class.now wants_static put id.now (field_found (all_classes world.now) id.now) (hit (all_classes world.now) true (field_found (all_classes world.now) id.now)) }
+    ensures { result ≡ is_unfit_field world.now class.now wants_static put id.now (field_found (all_classes world.now)
+        id.now) (hit (all_classes world.now) true (field_found (all_classes world.now) id.now)) }
 {
     let found = world.find_field(id);
     match member_found(world, true, found) {
@@ -329,7 +337,8 @@ fn is_unfit_class(
 
 /// Whether a method that is found can't be called by an opcode from code of a class.
 fn is_unfit_method(world: &World<'_>, class: &ClassTree<'_>, op: u8, id: &MemberId) -> bool
-    ensures { result ≡ is_unfit_method (all_classes world.now) class.now op id.now (hit (all_classes world.now) false (method_found (all_classes world.now) id.now)) }
+    ensures { result ≡ is_unfit_method (all_classes world.now) class.now op id.now (hit (all_classes world.now) false
+        (method_found (all_classes world.now) id.now)) }
 {
     match member_found(world, false, world.find_method(id)) {
         Some(hit) => {
@@ -373,7 +382,8 @@ fn insn_break<'w>(
     insn: &JInsn,
     spot: RulePlace<'w>,
 ) -> Option<Break<'w>>
-    ensures { (f : FilePlace) (i : ℕ) → spot_of spot.entry ≡ at_method f class.now i method.now insn.now.at → IsFirstOf (insn_breaks world.now f class.now i method.now insn.now) (option_map break_of result) }
+    ensures { (f : FilePlace) (i : ℕ) → spot_of spot.entry ≡ at_method f class.now i method.now insn.now.at
+        → IsFirstOf (insn_breaks world.now f class.now i method.now insn.now) (option_map break_of result) }
 {
     let missing = broken(names_missing(world, &insn.op), spot, 203);
     let unfound = broken(names_unfound(world, &insn.op), spot, 205);
@@ -393,7 +403,9 @@ fn insns_break<'w>(
     spot: RulePlace<'w>,
 ) -> Option<Break<'w>>
     requires { place < length class.now.methods }
-    ensures { (f : FilePlace) → spot_of spot.entry ≡ at_class f class.now → IsFirstOf (each (λ _ insn. insn_breaks world.now f class.now place method.now insn) insns.now) (option_map break_of result) }
+    ensures { (f : FilePlace) → spot_of spot.entry ≡ at_class f class.now
+        → IsFirstOf (each (λ _ insn. insn_breaks world.now f class.now place method.now insn) insns.now)
+        (option_map break_of result) }
 {
     let mut least = None;
     for insn in insns {
@@ -413,7 +425,9 @@ fn catches_break<'w>(
     spot: RulePlace<'w>,
 ) -> Option<Break<'w>>
     requires { place < length class.now.methods }
-    ensures { (f : FilePlace) → spot_of spot.entry ≡ at_class f class.now → IsFirstOf (each (λ _ k. catch_breaks world.now f class.now place method.now k) catches.now) (option_map break_of result) }
+    ensures { (f : FilePlace) → spot_of spot.entry ≡ at_class f class.now
+        → IsFirstOf (each (λ _ k. catch_breaks world.now f class.now place method.now k) catches.now)
+        (option_map break_of result) }
 {
     let mut least = None;
     for catch in catches {
@@ -447,7 +461,8 @@ fn method_break<'w>(
     spot: RulePlace<'w>,
 ) -> Option<Break<'w>>
     requires { place < length class.now.methods }
-    ensures { (f : FilePlace) → spot_of spot.entry ≡ at_class f class.now → IsFirstOf (method_breaks world.now f class.now place method.now insns.now) (option_map break_of result) }
+    ensures { (f : FilePlace) → spot_of spot.entry ≡ at_class f class.now
+        → IsFirstOf (method_breaks world.now f class.now place method.now insns.now) (option_map break_of result) }
 {
     first(
         insns_break(world, class, place, method, insns, spot),

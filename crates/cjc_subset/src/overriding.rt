@@ -10,7 +10,10 @@ ghost use Rattle.cjc_bytes.specs.Told.{break_of, spot_of};
 ghost use Rattle.cjc_subset.specs.Working.Hits.{hit_of};
 ghost use Rattle.cjc_subset.specs.Working.Kinds.{kinds_of};
 ghost use Rattle.cjc_subset.specs.Members.{hit};
-ghost use Rattle.cjc_subset.specs.Overriding.{asks_for_code, changes_kind, class_against, has_no_code, hides_one, is_inherited, is_of_other_kind, is_open, is_out_of_sight, is_package_visible, is_special, is_unfit_selection, supertype_breaks, lacks_code, method_against, overriding_breaks};
+ghost use Rattle.cjc_subset.specs.Overriding.{asks_for_code, changes_kind, class_against, has_no_code, hides_one};
+ghost use Rattle.cjc_subset.specs.Overriding.{is_inherited, is_of_other_kind, is_open, is_out_of_sight};
+ghost use Rattle.cjc_subset.specs.Overriding.{is_package_visible, is_special, is_unfit_selection, supertype_breaks};
+ghost use Rattle.cjc_subset.specs.Overriding.{lacks_code, method_against, overriding_breaks};
 ghost use Rattle.cjc_subset.specs.Places.{at_class};
 ghost use Rattle.cjc_bytes.specs.Order.{FilePlace};
 ghost use Rattle.cjc_bytes.specs.Breaks.{IsFirstOf, each};
@@ -73,7 +76,9 @@ fn is_called(known: Known<'_, '_>, place: usize, name: &[u8], desc: &[u8]) -> bo
 /// out of the other's sight.
 fn hides_at(known: Known<'_, '_>, place: usize, flags: u16, name: &[u8], desc: &[u8]) -> bool
     requires { place < length (class_of known).methods }
-    ensures { (d : Member) → result ≡ (is_called name.now desc.now (get_or (class_of known.entry).methods place d) && is_out_of_sight (class_of known.entry).is_imported flags (get_or (class_of known.entry).methods place d).flags) }
+    ensures { (d : Member) → result ≡ (is_called name.now desc.now (get_or (class_of known.entry).methods place d)
+        && is_out_of_sight (class_of known.entry).is_imported flags (get_or (class_of known.entry).methods place
+        d).flags) }
 {
     is_called(known, place, name, desc)
         && is_out_of_sight(known.is_imported(), flags, known.member_flags(false, place))
@@ -94,7 +99,8 @@ fn hides_one(known: Known<'_, '_>, flags: u16, name: &[u8], desc: &[u8]) -> bool
 /// Whether of a method and the one at a place of a class above exactly one is private or static.
 fn changes_at(known: Known<'_, '_>, place: usize, flags: u16, name: &[u8], desc: &[u8]) -> bool
     requires { place < length (class_of known).methods }
-    ensures { (d : Member) → result ≡ (is_called name.now desc.now (get_or (class_of known.entry).methods place d) && is_of_other_kind flags (get_or (class_of known.entry).methods place d).flags) }
+    ensures { (d : Member) → result ≡ (is_called name.now desc.now (get_or (class_of known.entry).methods place d)
+        && is_of_other_kind flags (get_or (class_of known.entry).methods place d).flags) }
 {
     is_called(known, place, name, desc) && is_of_other_kind(flags, known.member_flags(false, place))
 }
@@ -116,7 +122,8 @@ fn changes_kind(known: Known<'_, '_>, flags: u16, name: &[u8], desc: &[u8]) -> b
 /// Whether the method at a place of a class is abstract or an interface's; a `<clinit>` of the package is none.
 fn asks_for_code(known: Known<'_, '_>, place: usize) -> bool
     requires { place < length (class_of known).methods }
-    ensures { (d : Member) → result ≡ asks_for_code (class_of known.entry) (get_or (class_of known.entry).methods place d) }
+    ensures { (d : Member) → result ≡ asks_for_code (class_of known.entry) (get_or (class_of known.entry).methods place
+        d) }
 {
     let (name, _) = known.member_at(false, place);
     let flags = known.member_flags(false, place);
@@ -141,7 +148,8 @@ fn has_unfit_selection(
     name: &[u8],
     desc: &[u8],
 ) -> Result<bool, NoMemory>
-    ensures { IfOk result (λ b. b ≡ is_unfit_selection for_interface (hit (all_classes world.now) false (selected (all_classes world.now) class.now.name name.now desc.now))) }
+    ensures { IfOk result (λ b. b ≡ is_unfit_selection for_interface (hit (all_classes world.now) false
+        (selected (all_classes world.now) class.now.name name.now desc.now))) }
 {
     let id = MemberId {
         class: Bytes::new(alloc),
@@ -161,7 +169,8 @@ fn lacks_code_at(
     place: usize,
 ) -> Result<bool, NoMemory>
     requires { place < length (class_of known).methods }
-    ensures { (d : Member) → IfOk result (λ b. b ≡ has_no_code (all_classes world.now) class.now (class_of known.entry) (get_or (class_of known.entry).methods place d)) }
+    ensures { (d : Member) → IfOk result (λ b. b ≡ has_no_code (all_classes world.now) class.now (class_of known.entry)
+        (get_or (class_of known.entry).methods place d)) }
 {
     if !asks_for_code(known, place) {
         return Ok(false);
@@ -193,14 +202,16 @@ fn lacks_code(
 // ---- the first that is broken
 
 fn breaks_sight(method: &MethodTree<'_>, known: Known<'_, '_>) -> bool
-    ensures { result ≡ (not (is_special method.now.name) && hides_one (class_of known.entry) method.now.flags method.now.name method.now.desc) }
+    ensures { result ≡ (not (is_special method.now.name) && hides_one (class_of known.entry) method.now.flags
+        method.now.name method.now.desc) }
 {
     let name = method.name.items();
     !is_special(name) && hides_one(known, method.flags, name, method.desc.items())
 }
 
 fn breaks_kind(method: &MethodTree<'_>, known: Known<'_, '_>) -> bool
-    ensures { result ≡ (not (is_special method.now.name) && changes_kind (class_of known.entry) method.now.flags method.now.name method.now.desc) }
+    ensures { result ≡ (not (is_special method.now.name) && changes_kind (class_of known.entry) method.now.flags
+        method.now.name method.now.desc) }
 {
     let name = method.name.items();
     !is_special(name) && changes_kind(known, method.flags, name, method.desc.items())
@@ -216,7 +227,8 @@ fn method_against<'w>(
     spot: RulePlace<'w>,
 ) -> Option<Break<'w>>
     requires { place < length class.now.methods }
-    ensures { (f : FilePlace) → spot_of spot.entry ≡ at_class f class.now → IsFirstOf (method_against f class.now (class_of known.entry) place method.now) (option_map break_of result) }
+    ensures { (f : FilePlace) → spot_of spot.entry ≡ at_class f class.now
+        → IsFirstOf (method_against f class.now (class_of known.entry) place method.now) (option_map break_of result) }
 {
     let spot = method_spot(spot, class, place, method, 0);
     first(
@@ -231,7 +243,9 @@ fn methods_against<'w>(
     known: Known<'_, '_>,
     spot: RulePlace<'w>,
 ) -> Option<Break<'w>>
-    ensures { (f : FilePlace) → spot_of spot.entry ≡ at_class f class.now → IsFirstOf (each (λ i m. method_against f class.now (class_of known.entry) i m) class.now.methods) (option_map break_of result) }
+    ensures { (f : FilePlace) → spot_of spot.entry ≡ at_class f class.now
+        → IsFirstOf (each (λ i m. method_against f class.now (class_of known.entry) i m) class.now.methods)
+        (option_map break_of result) }
 {
     let mut least = None;
     let methods = class.methods.items();
@@ -249,7 +263,9 @@ fn class_against<'w>(
     known: Known<'_, '_>,
     spot: RulePlace<'w>,
 ) -> Result<Option<Break<'w>>, NoMemory>
-    ensures { (f : FilePlace) → spot_of spot.entry ≡ at_class f class.now → IfOk result (λ b. IsFirstOf (class_against (all_classes world.now) f class.now (class_of known.entry)) (option_map break_of b)) }
+    ensures { (f : FilePlace) → spot_of spot.entry ≡ at_class f class.now
+        → IfOk result (λ b. IsFirstOf (class_against (all_classes world.now) f class.now (class_of known.entry))
+        (option_map break_of b)) }
 {
     let lacking = lacks_code(alloc, world, class, known)?;
     Ok(first(
@@ -275,7 +291,9 @@ fn supertype_break<'w>(
     known: Known<'_, '_>,
     spot: RulePlace<'w>,
 ) -> Result<Option<Break<'w>>, NoMemory>
-    ensures { (f : FilePlace) → spot_of spot.entry ≡ at_class f class.now → IfOk result (λ b. IsFirstOf (supertype_breaks (all_classes world.now) f class.now (class_of known.entry)) (option_map break_of b)) }
+    ensures { (f : FilePlace) → spot_of spot.entry ≡ at_class f class.now
+        → IfOk result (λ b. IsFirstOf (supertype_breaks (all_classes world.now) f class.now (class_of known.entry))
+        (option_map break_of b)) }
 {
     if is_inherited(world, class, known) {
         class_against(alloc, world, class, known, spot)
@@ -297,7 +315,9 @@ fn package_break<'w>(
 ) -> Result<Option<Break<'w>>, NoMemory>
     requires own { own ≡ kinds_of class.now }
     requires kinds { kinds ≡ kinds_of other.now }
-    ensures { (f : FilePlace) → spot_of spot.entry ≡ at_class f class.now → IfOk result (λ b. IsFirstOf (supertype_breaks (all_classes world.now) f class.now (declared 0 other.now)) (option_map break_of b)) }
+    ensures { (f : FilePlace) → spot_of spot.entry ≡ at_class f class.now
+        → IfOk result (λ b. IsFirstOf (supertype_breaks (all_classes world.now) f class.now (declared 0 other.now))
+        (option_map break_of b)) }
 {
     if may_break(own, kinds) {
         supertype_break(alloc, world, class, Known::Declared(0, other), spot)
@@ -316,7 +336,9 @@ fn declared_break<'w>(
     spot: RulePlace<'w>,
 ) -> Result<Option<Break<'w>>, NoMemory>
     requires { kinds.now ≡ map kinds_of others.now }
-    ensures { (f : FilePlace) → spot_of spot.entry ≡ at_class f class.now → IfOk result (λ b. IsFirstOf (each (λ _ d. supertype_breaks (all_classes world.now) f class.now (declared 0 d)) others.now) (option_map break_of b)) }
+    ensures { (f : FilePlace) → spot_of spot.entry ≡ at_class f class.now
+        → IfOk result (λ b. IsFirstOf (each (λ _ d. supertype_breaks (all_classes world.now) f class.now (declared 0 d))
+        others.now) (option_map break_of b)) }
 {
     let own = kinds_of(class);
     let mut least = None;
@@ -335,7 +357,9 @@ fn imported_break<'w>(
     others: &[ExportClass],
     spot: RulePlace<'w>,
 ) -> Result<Option<Break<'w>>, NoMemory>
-    ensures { (f : FilePlace) → spot_of spot.entry ≡ at_class f class.now → IfOk result (λ b. IsFirstOf (each (λ _ d. supertype_breaks (all_classes world.now) f class.now (imported 0 d)) others.now) (option_map break_of b)) }
+    ensures { (f : FilePlace) → spot_of spot.entry ≡ at_class f class.now
+        → IfOk result (λ b. IsFirstOf (each (λ _ d. supertype_breaks (all_classes world.now) f class.now (imported 0 d))
+        others.now) (option_map break_of b)) }
 {
     let mut least = None;
     for other in others {
@@ -353,7 +377,9 @@ fn imports_break<'w>(
     exports: &[ExportTree],
     spot: RulePlace<'w>,
 ) -> Result<Option<Break<'w>>, NoMemory>
-    ensures { (f : FilePlace) → spot_of spot.entry ≡ at_class f class.now → IfOk result (λ b. IsFirstOf (each (λ _ t. each (λ _ d. supertype_breaks (all_classes world.now) f class.now (imported 0 d)) t.classes) exports.now) (option_map break_of b)) }
+    ensures { (f : FilePlace) → spot_of spot.entry ≡ at_class f class.now
+        → IfOk result (λ b. IsFirstOf (each (λ _ t. each (λ _ d. supertype_breaks (all_classes world.now) f class.now
+        (imported 0 d)) t.classes) exports.now) (option_map break_of b)) }
 {
     let mut least = None;
     for tree in exports {
@@ -373,7 +399,8 @@ pub(crate) fn overriding_break<'w>(
     spot: RulePlace<'w>,
 ) -> Result<Option<Break<'w>>, NoMemory>
     requires { kinds.now ≡ map kinds_of world.now.classes }
-    ensures { (f : FilePlace) → spot_of spot.entry ≡ at_class f class.now → IfOk result (λ b. IsFirstOf (overriding_breaks world.now f class.now) (option_map break_of b)) }
+    ensures { (f : FilePlace) → spot_of spot.entry ≡ at_class f class.now
+        → IfOk result (λ b. IsFirstOf (overriding_breaks world.now f class.now) (option_map break_of b)) }
 {
     let lacking = lacks_code(alloc, world, class, Known::Declared(0, class))?;
     let declared = declared_break(alloc, world, class, world.classes().items(), kinds, spot)?;

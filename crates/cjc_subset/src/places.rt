@@ -23,7 +23,8 @@ pub(crate) fn field_spot<'w>(
     place: usize,
     field: &'w FieldTree,
 ) -> RulePlace<'w>
-    ensures { (f : FilePlace) (c : Tree) → spot_of class.entry ≡ at_class f c → spot_of result ≡ at_field f c place field.now }
+    ensures { (f : FilePlace) (c : Tree) → spot_of class.entry ≡ at_class f c
+        → spot_of result ≡ at_field f c place field.now }
 {
     RulePlace {
         member: place as u128 + 1,
@@ -45,7 +46,8 @@ pub fn method_spot<'w>(
     offset: u32,
 ) -> RulePlace<'w>
     requires { place < length tree.now.methods }
-    ensures { (f : FilePlace) → spot_of class.entry ≡ at_class f tree.now → spot_of result ≡ at_method f tree.now place method.now offset }
+    ensures { (f : FilePlace) → spot_of class.entry ≡ at_class f tree.now
+        → spot_of result ≡ at_method f tree.now place method.now offset }
 {
     RulePlace {
         member: tree.fields.items().len() as u128 + place as u128 + 1,

@@ -2,7 +2,10 @@
 
 ghost use Rattle.std.specs.Prelude.{◌≡◌, ◌∷◌, ◌++◌, []};
 ghost use Rattle.std.specs.List.{list_any};
-ghost use Rattle.cjc_subset.specs.Types.{is_unsupported_desc, is_unsupported_element, is_unsupported_member, is_unsupported_name, is_unsupported_number, is_unsupported_part, is_int, is_int_desc, is_int_element, is_int_member, is_int_name, is_int_part, is_other, names_unsupported, names_int};
+ghost use Rattle.cjc_subset.specs.Types.{is_unsupported_desc, is_unsupported_element, is_unsupported_member};
+ghost use Rattle.cjc_subset.specs.Types.{is_unsupported_name, is_unsupported_number, is_unsupported_part, is_int};
+ghost use Rattle.cjc_subset.specs.Types.{is_int_desc, is_int_element, is_int_member, is_int_name, is_int_part};
+ghost use Rattle.cjc_subset.specs.Types.{is_other, names_unsupported, names_int};
 
 use crate::members::is_array;
 use cjc_bytes::{Desc, Kind, MemberId};

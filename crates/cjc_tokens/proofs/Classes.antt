@@ -13,7 +13,8 @@ use Rattle.cjc_tokens.specs.Members.{signature_of}
 use Rattle.cjc_tokens.specs.Lines.{line_at}
 use Rattle.cjc_tokens.specs.Slots.{slots, hidden_slots, token, row, hidden_row}
 use Rattle.cjc_tokens.specs.Fields.{is_open_static, field_tokens, instance_tokens}
-use Rattle.cjc_tokens.specs.Methods.{interface_methods, interface_row, interface_token, is_open_bound, virtual_token, class_method_tokens}
+use Rattle.cjc_tokens.specs.Methods.{interface_methods, interface_row, interface_token, is_open_bound, virtual_token}
+use Rattle.cjc_tokens.specs.Methods.{class_method_tokens}
 use Rattle.cjc_world.specs.Exported.{is_exported}
 use Rattle.cjc_tokens.specs.Tokens.{OfClass, of_class}
 use Rattle.cjc_tokens.specs.Rules.{has_high_token, is_above, has_high_method}
@@ -30,7 +31,8 @@ map-map g f (x ∷ xs) = ap (λ q. g (f x) ∷ q) (map-map g f xs)
 abbrev made : Option ℕ → List (Option ℕ) → List (Option ℕ) → List (Option Found) → List (Option Found) → OfClass
 made a m i p h = record { class = a; members = m; instances = i; public_methods = p; package_methods = h }
 
-same : {a a' : Option ℕ} {m m' i i' : List (Option ℕ)} {p p' h h' : List (Option Found)} → a ≡ a' → m ≡ m' → i ≡ i' → p ≡ p' → h ≡ h' → made a m i p h ≡ made a' m' i' p' h'
+same : {a a' : Option ℕ} {m m' i i' : List (Option ℕ)} {p p' h h' : List (Option Found)} → a ≡ a' → m ≡ m' → i ≡ i'
+    → p ≡ p' → h ≡ h' → made a m i p h ≡ made a' m' i' p' h'
 same a m i p h = cc
 
 module _ (w : List Class) (n : ℕ) (c : ClassTree) where
@@ -38,30 +40,60 @@ module _ (w : List Class) (n : ℕ) (c : ClassTree) where
   abbrev whole : (applets : Bool) (before : ℕ) (interface : Bool) → OfClass
   whole applets before b =
       made (if is_exported w applets (declared n c) then Some before else None)
-      (field_tokens (is_exported w applets (declared n c)) c.fields 0 c.fields ++ (if b then map (interface_token (interface_methods w (declared n c))) (map method_of_class c.methods) else class_method_tokens (is_exported w applets (declared n c)) (slots (line_at w (declared n c))) (hidden_slots (line_at w (declared n c))) (map method_of_class c.methods) 0 (map method_of_class c.methods) ++ map (λ m. token (slots (line_at w (declared n c))) (signature_of m)) (added w (declared n c))))
+      (field_tokens (is_exported w applets (declared n c)) c.fields 0 c.fields
+      ++ (if b then map (interface_token (interface_methods w (declared n c))) (map method_of_class c.methods)
+      else class_method_tokens (is_exported w applets (declared n c)) (slots (line_at w (declared n c)))
+      (hidden_slots (line_at w (declared n c))) (map method_of_class c.methods) 0 (map method_of_class c.methods)
+      ++ map (λ m. token (slots (line_at w (declared n c))) (signature_of m)) (added w (declared n c))))
       (instance_tokens c.fields 0 c.fields)
       (if b then interface_row w (declared n c) else row (line_at w (declared n c)))
       (if b then [] else hidden_row (line_at w (declared n c)))
 
-  pub high-class : (exported : Bool) (rows : Rows) (ids : List MemberId) → is_interface c.flags ≡ false → AreRowsOf (line_at w (declared n c)) rows → ids ≡ map (named_by c.name) (added w (declared n c))
+  pub high-class : (exported : Bool) (rows : Rows) (ids : List MemberId) → is_interface c.flags ≡ false
+      → AreRowsOf (line_at w (declared n c)) rows → ids ≡ map (named_by c.name) (added w (declared n c))
       → is_high_class exported (signs rows.shown.items) (signs rows.hidden.items) c ids ≡ has_high_token w exported n c
   unfolding has_high_token
   high-class exported rows ids plain a named =
       ap (λ q. is_high_class exported q (signs rows.hidden.items) c ids) a.shown_slots
       ∙ ap (λ q. is_high_class exported (slots (line_at w (declared n c))) q c ids) a.hidden_slots_are
-      ∙ ap (λ q. is_high_class exported (slots (line_at w (declared n c))) (hidden_slots (line_at w (declared n c))) c q) named
-      ∙ ap (λ q. ((q || list_any (λ m. is_above 127 (token (slots (line_at w (declared n c))) (signature_of (member_of m)))) (map (named_by c.name) (added w (declared n c)))) || (exported && nat_lt 255 (count_by is_open_bound (map method_of_class c.methods)))) || (exported && nat_lt 255 (count_by is_open_static c.fields)))
-      (sym (any-map (λ m. is_above 127 (virtual_token (slots (line_at w (declared n c))) (hidden_slots (line_at w (declared n c))) m)) method_of_class c.methods))
-      ∙ ap (λ q. ((list_any (λ m. is_above 127 (virtual_token (slots (line_at w (declared n c))) (hidden_slots (line_at w (declared n c))) m)) (map method_of_class c.methods) || q) || (exported && nat_lt 255 (count_by is_open_bound (map method_of_class c.methods)))) || (exported && nat_lt 255 (count_by is_open_static c.fields)))
-      (any-map (λ m. is_above 127 (token (slots (line_at w (declared n c))) (signature_of (member_of m)))) (named_by c.name) (added w (declared n c)))
-      ∙ ap (λ b. (if b then nat_lt 128 (length (interface_methods w (declared n c))) else has_high_method w (declared n c) || (exported && nat_lt 255 (count_by is_open_bound (map method_of_class c.methods)))) || (exported && nat_lt 255 (count_by is_open_static c.fields))) (sym plain)
+      ∙ ap (λ q. is_high_class exported (slots (line_at w (declared n c))) (hidden_slots (line_at w (declared n c))) c
+      q) named
+      ∙ ap (λ q. ((q
+      || list_any (λ m. is_above 127 (token (slots (line_at w (declared n c))) (signature_of (member_of m))))
+      (map (named_by c.name) (added w (declared n c))))
+      || (exported && nat_lt 255 (count_by is_open_bound (map method_of_class c.methods))))
+      || (exported && nat_lt 255 (count_by is_open_static c.fields)))
+      (sym (any-map (λ m. is_above 127 (virtual_token (slots (line_at w (declared n c)))
+      (hidden_slots (line_at w (declared n c))) m)) method_of_class c.methods))
+      ∙ ap (λ q. ((list_any (λ m. is_above 127 (virtual_token (slots (line_at w (declared n c)))
+      (hidden_slots (line_at w (declared n c))) m)) (map method_of_class c.methods) || q)
+      || (exported && nat_lt 255 (count_by is_open_bound (map method_of_class c.methods))))
+      || (exported && nat_lt 255 (count_by is_open_static c.fields)))
+      (any-map (λ m. is_above 127 (token (slots (line_at w (declared n c))) (signature_of (member_of m))))
+      (named_by c.name) (added w (declared n c)))
+      ∙ ap (λ b. (if b then nat_lt 128 (length (interface_methods w (declared n c)))
+      else has_high_method w (declared n c)
+      || (exported && nat_lt 255 (count_by is_open_bound (map method_of_class c.methods))))
+      || (exported && nat_lt 255 (count_by is_open_static c.fields))) (sym plain)
 
-  pub tokens-class : (applets : Bool) (before : ℕ) (rows : Rows) (ids : List MemberId) (class : Option ℕ) (members instances : List (Option ℕ)) (public hidden : List (Option Found))
-      → is_interface c.flags ≡ false → AreRowsOf (line_at w (declared n c)) rows → ids ≡ map (named_by c.name) (added w (declared n c))
+  pub tokens-class : (applets : Bool) (before : ℕ) (rows : Rows) (ids : List MemberId) (class : Option ℕ)
+      (members instances : List (Option ℕ)) (public hidden : List (Option Found))
+      → is_interface c.flags ≡ false → AreRowsOf (line_at w (declared n c)) rows
+      → ids ≡ map (named_by c.name) (added w (declared n c))
       → class ≡ (if is_exported w applets (declared n c) then Some before else None)
-      → members ≡ field_tokens (is_exported w applets (declared n c)) c.fields 0 c.fields ++ class_method_tokens (is_exported w applets (declared n c)) (signs rows.shown.items) (signs rows.hidden.items) (map method_of_class c.methods) 0 (map method_of_class c.methods) ++ map (λ m. token (signs rows.shown.items) (signature_of (member_of m))) ids
-      → instances ≡ instance_tokens c.fields 0 c.fields → public ≡ methods_in rows.shown.items → hidden ≡ methods_in rows.hidden.items
-      → record { class = class; members = members; instances = instances; public_methods = public; package_methods = hidden } ≡ of_class w applets before n c
+      → members ≡ field_tokens (is_exported w applets (declared n c)) c.fields 0 c.fields
+      ++ class_method_tokens (is_exported w applets (declared n c)) (signs rows.shown.items)
+      (signs rows.hidden.items) (map method_of_class c.methods) 0 (map method_of_class c.methods)
+      ++ map (λ m. token (signs rows.shown.items) (signature_of (member_of m))) ids
+      → instances ≡ instance_tokens c.fields 0 c.fields → public ≡ methods_in rows.shown.items
+      → hidden ≡ methods_in rows.hidden.items
+      → record {
+        class = class;
+        members = members;
+        instances = instances;
+        public_methods = public;
+        package_methods = hidden;
+      } ≡ of_class w applets before n c
   tokens-class applets before rows ids class members instances public hidden plain a named k m i p h =
       same k (m ∙ more) i (p ∙ a.shown_methods) (h ∙ a.hidden_methods) ∙ ap (whole applets before) (sym plain)
     where
@@ -69,26 +101,60 @@ module _ (w : List Class) (n : ℕ) (c : ClassTree) where
       F = field_tokens (is_exported w applets (declared n c)) c.fields 0 c.fields
 
       all : List (Option ℕ)
-      all = field_tokens (is_exported w applets (declared n c)) c.fields 0 c.fields ++ (class_method_tokens (is_exported w applets (declared n c)) (slots (line_at w (declared n c))) (hidden_slots (line_at w (declared n c))) (map method_of_class c.methods) 0 (map method_of_class c.methods) ++ map (λ m. token (slots (line_at w (declared n c))) (signature_of m)) (added w (declared n c)))
+      all = field_tokens (is_exported w applets (declared n c)) c.fields 0 c.fields
+          ++ (class_method_tokens (is_exported w applets (declared n c)) (slots (line_at w (declared n c)))
+          (hidden_slots (line_at w (declared n c))) (map method_of_class c.methods) 0 (map method_of_class c.methods)
+          ++ map (λ m. token (slots (line_at w (declared n c))) (signature_of m)) (added w (declared n c)))
 
-      more : field_tokens (is_exported w applets (declared n c)) c.fields 0 c.fields ++ class_method_tokens (is_exported w applets (declared n c)) (signs rows.shown.items) (signs rows.hidden.items) (map method_of_class c.methods) 0 (map method_of_class c.methods) ++ map (λ m. token (signs rows.shown.items) (signature_of (member_of m))) ids ≡ all
+      more : field_tokens (is_exported w applets (declared n c)) c.fields 0 c.fields
+          ++ class_method_tokens (is_exported w applets (declared n c)) (signs rows.shown.items)
+          (signs rows.hidden.items) (map method_of_class c.methods) 0 (map method_of_class c.methods)
+          ++ map (λ m. token (signs rows.shown.items) (signature_of (member_of m))) ids ≡ all
       more =
-          ap (λ q. F ++ class_method_tokens (is_exported w applets (declared n c)) q (signs rows.hidden.items) (map method_of_class c.methods) 0 (map method_of_class c.methods) ++ map (λ m. token q (signature_of (member_of m))) ids) a.shown_slots
-          ∙ ap (λ q. F ++ class_method_tokens (is_exported w applets (declared n c)) (slots (line_at w (declared n c))) q (map method_of_class c.methods) 0 (map method_of_class c.methods) ++ map (λ m. token (slots (line_at w (declared n c))) (signature_of (member_of m))) ids) a.hidden_slots_are
-          ∙ ap (λ q. F ++ class_method_tokens (is_exported w applets (declared n c)) (slots (line_at w (declared n c))) (hidden_slots (line_at w (declared n c))) (map method_of_class c.methods) 0 (map method_of_class c.methods) ++ map (λ m. token (slots (line_at w (declared n c))) (signature_of (member_of m))) q) named
-          ∙ ap (λ q. F ++ class_method_tokens (is_exported w applets (declared n c)) (slots (line_at w (declared n c))) (hidden_slots (line_at w (declared n c))) (map method_of_class c.methods) 0 (map method_of_class c.methods) ++ q) (map-map (λ m. token (slots (line_at w (declared n c))) (signature_of (member_of m))) (named_by c.name) (added w (declared n c)))
-          ∙ append_assoc F (class_method_tokens (is_exported w applets (declared n c)) (slots (line_at w (declared n c))) (hidden_slots (line_at w (declared n c))) (map method_of_class c.methods) 0 (map method_of_class c.methods)) (map (λ m. token (slots (line_at w (declared n c))) (signature_of m)) (added w (declared n c)))
+          ap (λ q. F ++ class_method_tokens (is_exported w applets (declared n c)) q (signs rows.hidden.items)
+          (map method_of_class c.methods) 0 (map method_of_class c.methods)
+          ++ map (λ m. token q (signature_of (member_of m))) ids) a.shown_slots
+          ∙ ap (λ q. F ++ class_method_tokens (is_exported w applets (declared n c)) (slots (line_at w (declared n c)))
+          q (map method_of_class c.methods) 0 (map method_of_class c.methods)
+          ++ map (λ m. token (slots (line_at w (declared n c))) (signature_of (member_of m))) ids)
+          a.hidden_slots_are
+          ∙ ap (λ q. F ++ class_method_tokens (is_exported w applets (declared n c)) (slots (line_at w (declared n c)))
+          (hidden_slots (line_at w (declared n c))) (map method_of_class c.methods) 0
+          (map method_of_class c.methods)
+          ++ map (λ m. token (slots (line_at w (declared n c))) (signature_of (member_of m))) q) named
+          ∙ ap (λ q. F ++ class_method_tokens (is_exported w applets (declared n c)) (slots (line_at w (declared n c)))
+          (hidden_slots (line_at w (declared n c))) (map method_of_class c.methods) 0
+          (map method_of_class c.methods) ++ q) (map-map (λ m. token (slots (line_at w (declared n c)))
+          (signature_of (member_of m))) (named_by c.name) (added w (declared n c)))
+          ∙ append_assoc F (class_method_tokens (is_exported w applets (declared n c))
+          (slots (line_at w (declared n c))) (hidden_slots (line_at w (declared n c)))
+          (map method_of_class c.methods) 0 (map method_of_class c.methods))
+          (map (λ m. token (slots (line_at w (declared n c))) (signature_of m)) (added w (declared n c)))
 
-  pub high-interface : (exported : Bool) (count : ℕ) → is_interface c.flags ≡ true → count ≡ length (interface_methods w (declared n c)) → is_high_interface exported count c ≡ has_high_token w exported n c
+  pub high-interface : (exported : Bool) (count : ℕ) → is_interface c.flags ≡ true
+      → count ≡ length (interface_methods w (declared n c)) → is_high_interface exported count c
+      ≡ has_high_token w exported n c
   unfolding has_high_token
   high-interface exported count plain e =
       ap (λ q. is_high_interface exported q c) e
-      ∙ ap (λ b. (if b then nat_lt 128 (length (interface_methods w (declared n c))) else has_high_method w (declared n c) || (exported && nat_lt 255 (count_by is_open_bound (map method_of_class c.methods)))) || (exported && nat_lt 255 (count_by is_open_static c.fields))) (sym plain)
+      ∙ ap (λ b. (if b then nat_lt 128 (length (interface_methods w (declared n c)))
+      else has_high_method w (declared n c)
+      || (exported && nat_lt 255 (count_by is_open_bound (map method_of_class c.methods))))
+      || (exported && nat_lt 255 (count_by is_open_static c.fields))) (sym plain)
 
-  pub tokens-interface : (applets : Bool) (before : ℕ) (class : Option ℕ) (members instances : List (Option ℕ)) (public hidden : List (Option Found))
+  pub tokens-interface : (applets : Bool) (before : ℕ) (class : Option ℕ) (members instances : List (Option ℕ))
+      (public hidden : List (Option Found))
       → is_interface c.flags ≡ true
       → class ≡ (if is_exported w applets (declared n c) then Some before else None)
-      → members ≡ field_tokens (is_exported w applets (declared n c)) c.fields 0 c.fields ++ map (interface_token (interface_methods w (declared n c))) (map method_of_class c.methods)
+      → members ≡ field_tokens (is_exported w applets (declared n c)) c.fields 0 c.fields
+      ++ map (interface_token (interface_methods w (declared n c))) (map method_of_class c.methods)
       → instances ≡ instance_tokens c.fields 0 c.fields → public ≡ interface_row w (declared n c) → hidden ≡ []
-      → record { class = class; members = members; instances = instances; public_methods = public; package_methods = hidden } ≡ of_class w applets before n c
-  tokens-interface applets before class members instances public hidden plain k m i p h = same k m i p h ∙ ap (whole applets before) (sym plain)
+      → record {
+        class = class;
+        members = members;
+        instances = instances;
+        public_methods = public;
+        package_methods = hidden;
+      } ≡ of_class w applets before n c
+  tokens-interface applets before class members instances public hidden plain k m i p h = same k m i p h
+      ∙ ap (whole applets before) (sym plain)

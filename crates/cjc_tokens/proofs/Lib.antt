@@ -14,3 +14,4 @@ pub mod Classes
 pub mod Signs
 pub mod Assigns
 pub mod Means
+pub mod TokenLaws

@@ -26,7 +26,8 @@ token-signs : (ss : List Signature) (s : Signature) → token (map Some ss) s �
 unfolding token
 token-signs ss s = position_of_map (λ slot. holds slot s) Some ss
 
-pub interface_byte : (S : Slots) (ss : List Signature) (m : Member) → S ≡ map Some ss → is_initialiser m.name ≡ false → option_map (λ t. t + 0) (token S (signature_of m)) ≡ interface_token ss m
+pub interface_byte : (S : Slots) (ss : List Signature) (m : Member) → S ≡ map Some ss → is_initialiser m.name ≡ false
+    → option_map (λ t. t + 0) (token S (signature_of m)) ≡ interface_token ss m
 interface_byte S ss m e own =
     plus-zero (token S (signature_of m)) ∙ ap (λ q. token q (signature_of m)) e ∙ token-signs ss (signature_of m)
     ∙ ap (λ b. if b then None else position (λ t. same t (signature_of m)) ss) (sym own)

@@ -1,5 +1,6 @@
 -- Tokens of fields (Java Card Virtual Machine Specification 2.2.2, sections 4.3.7.4 and 4.3.7.5).
-use Rattle.std.specs.Prelude.{ℕ, ◌+◌, ◌==◌, List, [], ◌∷◌, take, Bool, false, not, ◌&&◌, ◌||◌, nat_lt, sum_by, count_by, is_some, if◌then◌else◌, Option, Some, None, codes}
+use Rattle.std.specs.Prelude.{ℕ, ◌+◌, ◌==◌, List, [], ◌∷◌, take, Bool, false, not, ◌&&◌, ◌||◌, nat_lt, sum_by, count_by}
+use Rattle.std.specs.Prelude.{is_some, if◌then◌else◌, Option, Some, None, codes}
 use Rattle.std.specs.Str.{bytes_eq}
 use Rattle.cjc_classfile.specs.declared.tree.FieldTree.{FieldTree}
 use Rattle.cjc_export.specs.Members.{may_be_constant}
@@ -46,7 +47,8 @@ instance_cells fs = cells_of is_instance fs
 -- The cells of the groups before it, and those before it in its own group.
 unfoldable pub instance_token : List FieldTree → (place : ℕ) → FieldTree → ℕ
 instance_token fs i f =
-    cells_of (λ g. is_instance g && nat_lt (group g) (group f)) fs + cells_of (λ g. is_instance g && (group g == group f)) (take i fs)
+    cells_of (λ g. is_instance g && nat_lt (group g) (group f)) fs + cells_of (λ g. is_instance g
+    && (group g == group f)) (take i fs)
 
 -- the token of the field at a place of a class
 unfoldable pub field_token : (exported : Bool) → List FieldTree → (place : ℕ) → FieldTree → Option ℕ

@@ -6,3 +6,4 @@ pub mod Methods
 pub mod Tokens
 pub mod Rules
 pub mod Working
+pub mod TokenLaws

@@ -17,7 +17,8 @@ pub data Line : Type 0 where
 abbrev pub line_in : List Class → Supertypes → Line
 line_in w End = Nowhere
 line_in w (Unknown name next) = Nowhere
-line_in w (Known c supers interfaces next) = if c.is_imported then Imported (c ∷ upwards supers) else Declared c (added w c) (line_in w supers)
+line_in w (Known c supers interfaces next) = if c.is_imported then Imported (c ∷ upwards supers)
+    else Declared c (added w c) (line_in w supers)
 
 -- the line of a class
 abbrev pub line_at : List Class → Class → Line

@@ -1,5 +1,6 @@
 -- Tokens of methods (Java Card Virtual Machine Specification 2.2.2, sections 4.3.7.3, 4.3.7.6 and 4.3.7.7).
-use Rattle.std.specs.Prelude.{ℕ, ◌+◌, List, [], ◌∷◌, ◌++◌, map, take, position, count_by, Bool, false, true, not, ◌&&◌, ◌||◌, if◌then◌else◌, Option, Some, None, option_map}
+use Rattle.std.specs.Prelude.{ℕ, ◌+◌, List, [], ◌∷◌, ◌++◌, map, take, position, count_by, Bool, false, true, not, ◌&&◌}
+use Rattle.std.specs.Prelude.{◌||◌, if◌then◌else◌, Option, Some, None, option_map}
 use Rattle.cjc_world.specs.Classes.{Member, Class}
 use Rattle.cjc_bytes.specs.AccessFlags.{is_static}
 use Rattle.cjc_world.specs.declared.found.Found.{Found}
@@ -7,7 +8,8 @@ use Rattle.cjc_world.specs.Supertypes.{supertypes}
 use Rattle.cjc_world.specs.Interfaces.{Interface, gathered, each_once}
 use Rattle.cjc_world.specs.Added.{own_methods, asked_by}
 use Rattle.cjc_world.specs.Lookup.{method_of_interface}
-use Rattle.cjc_tokens.specs.Members.{Signature, signature_of, same, is_exposed, is_constructor, is_initialiser, is_shown, is_hidden}
+use Rattle.cjc_tokens.specs.Members.{Signature, signature_of, same, is_exposed, is_constructor, is_initialiser}
+use Rattle.cjc_tokens.specs.Members.{is_shown, is_hidden}
 use Rattle.cjc_tokens.specs.Slots.{Slots, new_in, token}
 
 -- ---- interfaces
@@ -19,7 +21,8 @@ interfaces_at w c = each_once [] (gathered false (supertypes w c.supers) ++ gath
 -- Those of its superinterfaces first, in order, each name and descriptor once, then its own. An export file lists all
 -- methods of its interfaces.
 unfoldable pub interface_methods : List Class → Class → List Signature
-interface_methods w c = new_in [] (map signature_of (if c.is_imported then own_methods c else asked_by (supertypes w c.supers) (supertypes w c.interfaces) ++ own_methods c))
+interface_methods w c = new_in [] (map signature_of (if c.is_imported then own_methods c
+    else asked_by (supertypes w c.supers) (supertypes w c.interfaces) ++ own_methods c))
 
 -- the method that each of its tokens means
 abbrev pub interface_row : List Class → Class → List (Option Found)
@@ -47,13 +50,16 @@ virtual_token shown hidden m =
     else None
 
 -- the token of the method at a place of a class
-unfoldable pub class_method_token : (exported : Bool) → (shown hidden : Slots) → List Member → (place : ℕ) → Member → Option ℕ
+unfoldable pub class_method_token : (exported : Bool) → (shown hidden : Slots) → List Member → (place : ℕ) → Member
+    → Option ℕ
 class_method_token exported shown hidden ms i m =
     if is_shown m then token shown (signature_of m)
     else if is_hidden m then option_map with_high_bit (token hidden (signature_of m))
     else if exported && is_open_bound m then Some (count_by is_open_bound (take i ms)) else None
 
 -- those of the methods from a place on
-unfoldable pub class_method_tokens : (exported : Bool) → (shown hidden : Slots) → List Member → (place : ℕ) → List Member → List (Option ℕ)
+unfoldable pub class_method_tokens : (exported : Bool) → (shown hidden : Slots) → List Member → (place : ℕ)
+    → List Member → List (Option ℕ)
 class_method_tokens exported shown hidden ms i [] = []
-class_method_tokens exported shown hidden ms i (m ∷ rest) = class_method_token exported shown hidden ms i m ∷ class_method_tokens exported shown hidden ms (i + 1) rest
+class_method_tokens exported shown hidden ms i (m ∷ rest) = class_method_token exported shown hidden ms i m
+    ∷ class_method_tokens exported shown hidden ms (i + 1) rest

@@ -1,5 +1,6 @@
 -- Rule 413, and the two rules that tokens stand on.
-use Rattle.std.specs.Prelude.{◌≡◌, ◌≤◌, ℕ, zero, suc, ◌+◌, List, [], ◌∷◌, ◌++◌, length, count_by, All, nat_le, nat_lt, slice_get, Bool, true, false, ◌&&◌, ◌||◌, if◌then◌else◌, Option, Some, None}
+use Rattle.std.specs.Prelude.{◌≡◌, ◌≤◌, ℕ, zero, suc, ◌+◌, List, [], ◌∷◌, ◌++◌, length, count_by, All, nat_le, nat_lt}
+use Rattle.std.specs.Prelude.{slice_get, Bool, true, false, ◌&&◌, ◌||◌, if◌then◌else◌, Option, Some, None}
 use Rattle.std.specs.List.{list_all, list_any}
 use Rattle.cjc_bytes.specs.declared.settings.FileLine.{FileLine}
 use Rattle.cjc_classfile.specs.declared.tree.ClassTree.{ClassTree}
@@ -22,7 +23,8 @@ use Rattle.cjc_tokens.specs.Tokens.{one_more}
 -- how many of these classes are exported, the first of which has this number
 abbrev pub count_exported : List Class → (applets : Bool) → (number : ℕ) → List ClassTree → ℕ
 count_exported w applets k [] = 0
-count_exported w applets k (c ∷ cs) = one_more (is_exported w applets (declared k c)) (count_exported w applets (k + 1) cs)
+count_exported w applets k (c ∷ cs) = one_more (is_exported w applets (declared k c)) (count_exported w applets (k + 1)
+    cs)
 
 -- 401 is not broken.
 abbrev pub FewExported : (applets : Bool) → Files → Type 0
@@ -63,7 +65,8 @@ has_high_method w c =
 unfoldable pub has_high_token : List Class → (exported : Bool) → (number : ℕ) → ClassTree → Bool
 has_high_token w exported number c =
     (if is_interface c.flags then nat_lt 128 (length (interface_methods w (declared number c)))
-    else has_high_method w (declared number c) || (exported && nat_lt 255 (count_by is_open_bound (declared number c).methods)))
+    else has_high_method w (declared number c)
+    || (exported && nat_lt 255 (count_by is_open_bound (declared number c).methods)))
     || (exported && nat_lt 255 (count_by is_open_static c.fields))
 
 -- at a class of this name, which is the first of its file
@@ -78,7 +81,8 @@ breaks_where false b = []
 -- those of the class files in list order, from one on
 unfoldable pub breaks_from : List Class → (applets : Bool) → List FileLine → (number : ℕ) → List ClassTree → List Break
 breaks_from w applets lines k [] = []
-breaks_from w applets lines k (c ∷ cs) = breaks_where (has_high_token w (is_exported w applets (declared k c)) k c) (at_class (file_of lines k) c.name) ++ breaks_from w applets lines (k + 1) cs
+breaks_from w applets lines k (c ∷ cs) = breaks_where (has_high_token w (is_exported w applets (declared k c)) k c)
+    (at_class (file_of lines k) c.name) ++ breaks_from w applets lines (k + 1) cs
 
 -- All that is broken of 413.
 unfoldable pub token_breaks : (applets : Bool) → Files → List Break
@@ -95,4 +99,5 @@ tested_breaks applets files = if is_few applets files then token_breaks applets 
 -- None where there is no break, else the number of the class whose break is the first.
 abbrev pub IsFirstHigh : (applets : Bool) → Files → Option ℕ → Type 0
 IsFirstHigh applets files None = tested_breaks applets files ≡ []
-IsFirstHigh applets files (Some n) = (c : ClassTree) × (slice_get files.classes n ≡ Some c) × IsFirst (at_class (file_of files.lines n) c.name) (tested_breaks applets files)
+IsFirstHigh applets files (Some n) = (c : ClassTree) × (slice_get files.classes n ≡ Some c)
+    × IsFirst (at_class (file_of files.lines n) c.name) (tested_breaks applets files)

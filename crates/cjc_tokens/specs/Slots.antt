@@ -1,10 +1,12 @@
 -- Tokens of virtual methods (Java Card Virtual Machine Specification 2.2.2, section 4.3.7.6). A class has a list of
 -- slots; the token of a method is the place of its slot.
-use Rattle.std.specs.Prelude.{ℕ, zero, suc, ◌+◌, List, [], ◌∷◌, ◌++◌, map, length, position, Bool, false, ◌||◌, ◌&&◌, Option, Some, None, if◌then◌else◌, option_map}
+use Rattle.std.specs.Prelude.{ℕ, zero, suc, ◌+◌, List, [], ◌∷◌, ◌++◌, map, length, position, Bool, false, ◌||◌, ◌&&◌}
+use Rattle.std.specs.Prelude.{Option, Some, None, if◌then◌else◌, option_map}
 use Rattle.cjc_world.specs.declared.found.Found.{Found}
 use Rattle.cjc_world.specs.Classes.{Member, Class}
 use Rattle.cjc_world.specs.Lookup.{or_else, first, is_called, member_at}
-use Rattle.cjc_tokens.specs.Members.{Signature, signature_of, same, signatures, is_shown, is_hidden, is_virtual, all_methods}
+use Rattle.cjc_tokens.specs.Members.{Signature, signature_of, same, signatures, is_shown, is_hidden, is_virtual}
+use Rattle.cjc_tokens.specs.Members.{all_methods}
 use Rattle.cjc_tokens.specs.Lines.{Line, Nowhere, Imported, Declared}
 
 -- Slots, by token. A token that no method of a class has is None.
@@ -46,7 +48,8 @@ reserve (suc t) (slot ∷ slots) = slot ∷ reserve t slots
 
 -- what a method of an export file does to the slots: a package-visible one only uses up its token
 abbrev pub listed : Member → Slots → Slots
-listed m slots = if is_shown m then put m.token (signature_of m) slots else if is_virtual m then reserve m.token slots else slots
+listed m slots = if is_shown m then put m.token (signature_of m) slots else if is_virtual m then reserve m.token slots
+    else slots
 
 -- What an imported class and its supers list, the nearest last. A package-visible method uses up its token and is
 -- overridden by nothing.
@@ -59,7 +62,8 @@ listed_slots (m ∷ ms) = listed m (listed_slots ms)
 abbrev pub slots : Line → Slots
 slots Nowhere = []
 slots (Imported classes) = listed_slots (all_methods classes)
-slots (Declared c given above) = with_new (with_new (slots above) (signatures is_shown c.methods)) (map signature_of given)
+slots (Declared c given above) = with_new (with_new (slots above) (signatures is_shown c.methods))
+    (map signature_of given)
 
 -- Package-visible methods have slots of their own, from the first class of the package on.
 abbrev pub hidden_slots : Line → Slots
@@ -75,11 +79,13 @@ token slots s = position (λ slot. holds slot s) slots
 
 -- a class's own method that passes the test
 unfoldable pub own : (Member → Bool) → Signature → Class → Option Found
-own test s c = option_map (λ i. member_at c (length c.fields + i)) (position (λ m. test m && is_called s.name s.desc m) c.methods)
+own test s c = option_map (λ i. member_at c (length c.fields + i)) (position (λ m. test m && is_called s.name s.desc m)
+    c.methods)
 
 -- one that is added to it: these are counted behind its own
 unfoldable pub got : List Member → Signature → Class → Option Found
-got given s c = option_map (λ i. member_at c (length c.fields + length c.methods + i)) (position (λ m. is_called s.name s.desc m) given)
+got given s c = option_map (λ i. member_at c (length c.fields + length c.methods + i))
+    (position (λ m. is_called s.name s.desc m) given)
 
 -- the method of the nearest class that declares a public or protected one of this signature, or got it
 abbrev pub implementing : Line → Signature → Option Found

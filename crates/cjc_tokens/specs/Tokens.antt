@@ -1,5 +1,6 @@
 -- The tokens of a package and of the classes that its export files describe, all together.
-use Rattle.std.specs.Prelude.{ℕ, ◌+◌, ◌-◌, ◌==◌, List, [], ◌∷◌, ◌++◌, map, slice_get, nat_lt, position, Bool, true, false, is_some, if◌then◌else◌, Option, Some, None, option_and_then}
+use Rattle.std.specs.Prelude.{ℕ, ◌+◌, ◌-◌, ◌==◌, List, [], ◌∷◌, ◌++◌, map, slice_get, nat_lt, position, Bool, true}
+use Rattle.std.specs.Prelude.{false, is_some, if◌then◌else◌, Option, Some, None, option_and_then}
 use Rattle.cjc_classfile.specs.declared.tree.ClassTree.{ClassTree}
 use Rattle.cjc_export.specs.declared.tree.ExportField.{ExportField}
 use Rattle.cjc_export.specs.declared.tree.ExportMethod.{ExportMethod}
@@ -36,15 +37,18 @@ pub record OfClass : Type 0 where
 abbrev pub method_tokens : List Class → (exported : Bool) → Class → List (Option ℕ)
 method_tokens w exported c =
     if is_interface c.flags then map (interface_token (interface_methods w c)) c.methods
-    else class_method_tokens exported (slots (line_at w c)) (hidden_slots (line_at w c)) c.methods 0 c.methods ++ map (λ m. token (slots (line_at w c)) (signature_of m)) (added w c)
+    else class_method_tokens exported (slots (line_at w c)) (hidden_slots (line_at w c)) c.methods 0 c.methods
+    ++ map (λ m. token (slots (line_at w c)) (signature_of m)) (added w c)
 
 -- an interface has no package-visible methods
 abbrev pub of_class : List Class → (applets : Bool) → (exported_before number : ℕ) → ClassTree → OfClass
 of_class w applets before number c = record {
   class = if is_exported w applets (declared number c) then Some before else None;
-  members = field_tokens (is_exported w applets (declared number c)) c.fields 0 c.fields ++ method_tokens w (is_exported w applets (declared number c)) (declared number c);
+  members = field_tokens (is_exported w applets (declared number c)) c.fields 0 c.fields
+      ++ method_tokens w (is_exported w applets (declared number c)) (declared number c);
   instances = instance_tokens c.fields 0 c.fields;
-  public_methods = if is_interface c.flags then interface_row w (declared number c) else row (line_at w (declared number c));
+  public_methods = if is_interface c.flags then interface_row w (declared number c)
+      else row (line_at w (declared number c));
   package_methods = if is_interface c.flags then [] else hidden_row (line_at w (declared number c));
 }
 
@@ -54,9 +58,11 @@ one_more true n = n + 1
 one_more false n = n
 
 -- Those of the class files in list order, from one on, where so many exported ones stand before it.
-unfoldable pub classes_from : List Class → (applets : Bool) → (exported_before number : ℕ) → List ClassTree → List OfClass
+unfoldable pub classes_from : List Class → (applets : Bool) → (exported_before number : ℕ) → List ClassTree
+    → List OfClass
 classes_from w applets before k [] = []
-classes_from w applets before k (c ∷ cs) = of_class w applets before k c ∷ classes_from w applets (one_more (is_exported w applets (declared k c)) before) (k + 1) cs
+classes_from w applets before k (c ∷ cs) = of_class w applets before k c
+    ∷ classes_from w applets (one_more (is_exported w applets (declared k c)) before) (k + 1) cs
 
 -- ---- imported classes: the tokens of their export files
 
@@ -113,7 +119,8 @@ token_of_member a f =
 -- The method that a token means in a class or interface of the package: package-visible ones have the high bit.
 abbrev pub method_of_token : Assigned → (class token : ℕ) → Option Found
 method_of_token a class token =
-    if nat_lt token 128 then option_and_then (λ c. joined (slice_get c.public_methods token)) (slice_get a.classes class)
+    if nat_lt token 128 then option_and_then (λ c. joined (slice_get c.public_methods token))
+    (slice_get a.classes class)
     else option_and_then (λ c. joined (slice_get c.package_methods (token - 128))) (slice_get a.classes class)
 
 -- the methods of a class by their public tokens, none where there is no class
@@ -141,4 +148,5 @@ has_token t (Some u) = u == t
 
 -- the instance field that a class declares with a token
 abbrev pub field_of_token : Assigned → (class token : ℕ) → Option ℕ
-field_of_token a class token = option_and_then (λ c. position (λ o. has_token token o) c.instances) (slice_get a.classes class)
+field_of_token a class token = option_and_then (λ c. position (λ o. has_token token o) c.instances)
+    (slice_get a.classes class)

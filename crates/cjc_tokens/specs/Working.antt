@@ -1,5 +1,6 @@
 -- What the code holds of a line while it assigns tokens.
-use Rattle.std.specs.Prelude.{◌≡◌, ℕ, zero, suc, List, [], ◌∷◌, ◌++◌, map, slice_get, nat_lt, count_by, Bool, true, false, not, ◌&&◌, ◌||◌, Option, Some, None, option_map, Result, Ok, Err, if◌then◌else◌}
+use Rattle.std.specs.Prelude.{◌≡◌, ℕ, zero, suc, List, [], ◌∷◌, ◌++◌, map, slice_get, nat_lt, count_by, Bool, true}
+use Rattle.std.specs.Prelude.{false, not, ◌&&◌, ◌||◌, Option, Some, None, option_map, Result, Ok, Err, if◌then◌else◌}
 use Rattle.std.specs.List.{list_any}
 use Rattle.cjc_bytes.specs.declared.fault.MemberId.{MemberId}
 use Rattle.cjc_classfile.specs.declared.tree.ClassTree.{ClassTree}
@@ -13,9 +14,11 @@ use Rattle.cjc_world.specs.Added.{methods_of}
 use Rattle.cjc_world.specs.Lookup.{or_else}
 use Rattle.cjc_tokens.specs.declared.slot.Slot.{Slot}
 use Rattle.cjc_tokens.specs.declared.slot.Rows.{Rows}
-use Rattle.cjc_tokens.specs.Members.{Signature, signature_of, is_exposed, is_virtual_by, is_shown, is_virtual, is_initialiser}
+use Rattle.cjc_tokens.specs.Members.{Signature, signature_of, is_exposed, is_virtual_by, is_shown, is_virtual}
+use Rattle.cjc_tokens.specs.Members.{is_initialiser}
 use Rattle.cjc_tokens.specs.Lines.{Line, line_at}
-use Rattle.cjc_tokens.specs.Slots.{Slots, slots, hidden_slots, row, hidden_row, meant_by, token, own, got, new_in, with_new}
+use Rattle.cjc_tokens.specs.Slots.{Slots, slots, hidden_slots, row, hidden_row, meant_by, token, own, got, new_in}
+use Rattle.cjc_tokens.specs.Slots.{with_new}
 use Rattle.cjc_tokens.specs.Fields.{is_open_static}
 use Rattle.cjc_tokens.specs.Methods.{is_open_bound, virtual_token}
 use Rattle.cjc_world.specs.Exported.{is_exported}
@@ -73,7 +76,8 @@ pub record Renewed (c : Class) (added : List Member) (hidden : Bool) (above row 
   pub methods : methods_in row ≡ map (nearest_slot c added hidden) above
 
 -- A slot was put at the end for each signature that had none, with the method that this says.
-pub record Offered (ss : List Signature) (method : Signature → Option Found) (old new : List (Option Slot)) : Type 0 where
+pub record Offered (ss : List Signature) (method : Signature → Option Found) (old new : List (Option Slot)) :
+    Type 0 where
   pub slots : signs new ≡ with_new (signs old) ss
   pub methods : methods_in new ≡ methods_in old ++ map method (new_in (signs old) ss)
 
@@ -91,7 +95,8 @@ pub record SameRows (r s : Rows) : Type 0 where
 
 -- Where a class has rows, they are those of its line.
 abbrev pub IsKept : List Class → List ClassTree → List (Option Rows) → Type 0
-IsKept w trees kept = (n : ℕ) (c : ClassTree) (r : Rows) → slice_get trees n ≡ Some c → slice_get kept n ≡ Some (Some r) → AreRowsOf (line_at w (declared n c)) r
+IsKept w trees kept = (n : ℕ) (c : ClassTree) (r : Rows) → slice_get trees n ≡ Some c → slice_get kept n ≡ Some (Some r)
+    → AreRowsOf (line_at w (declared n c)) r
 
 -- ---- an imported class, the nearest first
 
@@ -121,12 +126,14 @@ asked listed k = map signature_of (methods_of (known (gathered listed k)))
 
 -- what stands before its own: an export file lists all
 abbrev pub above_where : List Class → Class → List Signature
-above_where w c = if c.is_imported then [] else asked false (supertypes w c.supers) ++ asked true (supertypes w c.interfaces)
+above_where w c = if c.is_imported then [] else asked false (supertypes w c.supers)
+    ++ asked true (supertypes w c.interfaces)
 
 -- whether a class that is no interface breaks 413, from its slots
 abbrev pub is_high_class : (exported : Bool) → (shown hidden : Slots) → ClassTree → (added : List MemberId) → Bool
 is_high_class exported shown hidden c added =
-    ((list_any (λ m. is_above 127 (virtual_token shown hidden (method_of_class m))) c.methods || list_any (λ m. is_above 127 (token shown (signature_of (member_of m)))) added)
+    ((list_any (λ m. is_above 127 (virtual_token shown hidden (method_of_class m))) c.methods
+    || list_any (λ m. is_above 127 (token shown (signature_of (member_of m)))) added)
     || (exported && nat_lt 255 (count_by is_open_bound (map method_of_class c.methods))))
     || (exported && nat_lt 255 (count_by is_open_static c.fields))
 
@@ -135,11 +142,15 @@ abbrev pub is_high_interface : (exported : Bool) → (methods : ℕ) → ClassTr
 is_high_interface exported methods c = nat_lt 128 methods || (exported && nat_lt 255 (count_by is_open_static c.fields))
 
 -- None where the class breaks 413, else its tokens.
-abbrev pub AreTokensOf : List Class → (applets : Bool) → (exported_before number : ℕ) → ClassTree → Option OfClass → Type 0
+abbrev pub AreTokensOf : List Class → (applets : Bool) → (exported_before number : ℕ) → ClassTree → Option OfClass
+    → Type 0
 AreTokensOf w applets before n c None = has_high_token w (is_exported w applets (declared n c)) n c ≡ true
-AreTokensOf w applets before n c (Some t) = (has_high_token w (is_exported w applets (declared n c)) n c ≡ false) × (t ≡ of_class w applets before n c)
+AreTokensOf w applets before n c (Some t) = (has_high_token w (is_exported w applets (declared n c)) n c ≡ false)
+    × (t ≡ of_class w applets before n c)
 
 -- The tokens of all classes of the package where none breaks 413, else the number of the first that does.
 abbrev pub AreAllTokens : (applets : Bool) → Files → Result (List OfClass) ℕ → Type 0
-AreAllTokens applets files (Ok rows) = (token_breaks applets files ≡ []) × (rows ≡ classes_from (all_classes files) applets 0 0 files.classes)
-AreAllTokens applets files (Err n) = (c : ClassTree) × (slice_get files.classes n ≡ Some c) × IsFirst (at_class (file_of files.lines n) c.name) (token_breaks applets files)
+AreAllTokens applets files (Ok rows) = (token_breaks applets files ≡ [])
+    × (rows ≡ classes_from (all_classes files) applets 0 0 files.classes)
+AreAllTokens applets files (Err n) = (c : ClassTree) × (slice_get files.classes n ≡ Some c)
+    × IsFirst (at_class (file_of files.lines n) c.name) (token_breaks applets files)

@@ -1,7 +1,8 @@
 //! Tokens for a whole package, or rule 413 at the first class that breaks it; the slots of a superclass are
 //! made before those of its subclasses. The only call that makes `Tokens`.
 
-ghost use Rattle.std.specs.Prelude.{◌≡◌, ◌⊎◌, ◌≤◌, ◌<◌, [], length, nat_lt, slice_get, All, true, false, None, Some, IfOk, IfErr, OnOk};
+ghost use Rattle.std.specs.Prelude.{◌≡◌, ◌⊎◌, ◌≤◌, ◌<◌, [], length, nat_lt, slice_get, All, true, false, None, Some};
+ghost use Rattle.std.specs.Prelude.{IfOk, IfErr, OnOk};
 ghost use Rattle.cjc_bytes.specs.declared.fault.Fault.TheVariants as faults;
 ghost use Rattle.std.specs.List.{list_all};
 ghost use Rattle.cjc_world.specs.Classes.{all_classes, declared};
@@ -9,7 +10,8 @@ ghost use Rattle.cjc_bytes.specs.Breaks.{IsFirstRefusal};
 ghost use Rattle.cjc_bytes.specs.Order.{file_of};
 ghost use Rattle.cjc_bytes.specs.Told.{break_of};
 ghost use Rattle.cjc_tokens.specs.Fields.{instance_cells};
-ghost use Rattle.cjc_tokens.specs.Rules.{FewCells, FewExported, at_class, has_few_cells, has_few_exported, is_few, IsFirstHigh, token_breaks};
+ghost use Rattle.cjc_tokens.specs.Rules.{FewCells, FewExported, at_class, has_few_cells, has_few_exported, is_few};
+ghost use Rattle.cjc_tokens.specs.Rules.{IsFirstHigh, token_breaks};
 ghost use Rattle.cjc_world.specs.Exported.{is_exported};
 ghost use Rattle.cjc_tokens.specs.Tokens.{assigned};
 ghost use Rattle.cjc_tokens.specs.Working.{AreAllTokens, AreTokensOf, IsKept};
@@ -163,7 +165,8 @@ fn high_break<'w>(world: &'w World<'_>, number: u32, class: &'w ClassTree<'_>) -
 
 /// The refusal of a class of the package that breaks 413, or that there is no memory to say so.
 fn refused(alloc: Global, world: &World<'_>, number: u32, class: &ClassTree<'_>) -> Fault
-    ensures { (result ≡ faults.Refused (at_class (file_of world.now.lines number) class.now.name).refusal) ⊎ (result ≡ faults.NoMemory) }
+    ensures { (result ≡ faults.Refused (at_class (file_of world.now.lines number) class.now.name).refusal)
+        ⊎ (result ≡ faults.NoMemory) }
 {
     let high = high_break(world, number, class);
     refused_at(alloc, high.rule, high.spot.place)

@@ -1,7 +1,8 @@
 //! The tokens of one class or interface and of its members, from the rows of slots that it has, or that it
 //! breaks rule 413. Called by `assigning`.
 
-ghost use Rattle.std.specs.Prelude.{◌≡◌, ◌≤◌, ◌<◌, ◌^◌, ◌+◌, ◌++◌, ◌||◌, ◌&&◌, List, map, length, nat_lt, count_by, if◌then◌else◌, true, false, option_map, IfOk, OnOk, Some, None};
+ghost use Rattle.std.specs.Prelude.{◌≡◌, ◌≤◌, ◌<◌, ◌^◌, ◌+◌, ◌++◌, ◌||◌, ◌&&◌, List, map, length, nat_lt, count_by};
+ghost use Rattle.std.specs.Prelude.{if◌then◌else◌, true, false, option_map, IfOk, OnOk, Some, None};
 ghost use Rattle.cjc_world.specs.Classes.{all_classes, declared, method_of_class};
 ghost use Rattle.cjc_bytes.specs.AccessFlags.{is_interface};
 ghost use Rattle.cjc_world.specs.Added.{added, named_by};
@@ -10,7 +11,8 @@ ghost use Rattle.cjc_tokens.specs.Lines.{line_at};
 ghost use Rattle.cjc_tokens.specs.Members.{Signature};
 ghost use Rattle.cjc_tokens.specs.Methods.{interface_token, is_open_bound};
 ghost use Rattle.cjc_world.specs.Exported.{is_exported};
-ghost use Rattle.cjc_tokens.specs.Working.{AreRowsOf, AreTokensOf, is_high_class, is_high_interface, methods_in, signature_in, signs};
+ghost use Rattle.cjc_tokens.specs.Working.{AreRowsOf, AreTokensOf, is_high_class, is_high_interface, methods_in};
+ghost use Rattle.cjc_tokens.specs.Working.{signature_in, signs};
 ghost use Rattle.cjc_world.specs.Lookup.{method_of_interface};
 
 use crate::fields::{field_tokens, instance_tokens, open_statics};
@@ -49,7 +51,8 @@ fn own_token(exported: bool, before: u32) -> Option<u8>
 
 /// Whether a class that is no interface breaks 413.
 fn is_high_class(exported: bool, rows: &Rows<'_>, class: &ClassTree<'_>, added: &[MemberId]) -> bool
-    ensures { result ≡ is_high_class exported (signs rows.now.shown.items) (signs rows.now.hidden.items) class.now added.now }
+    ensures { result ≡ is_high_class exported (signs rows.now.shown.items) (signs rows.now.hidden.items) class.now
+        added.now }
 {
     let methods = class.methods.items();
     any_high(rows, methods)
@@ -74,7 +77,8 @@ pub(crate) fn class_tokens(
     requires cells { instance_cells class.now.fields ≤ 255 }
     requires before { is_exported (all_classes world.now) applets (declared number class.now) ≡ true → before < 255 }
     requires rows { AreRowsOf (line_at (all_classes world.now) (declared number class.now)) rows.now }
-    requires added { ids.now ≡ map (named_by class.now.name) (added (all_classes world.now) (declared number class.now)) }
+    requires added { ids.now ≡ map (named_by class.now.name) (added (all_classes world.now)
+        (declared number class.now)) }
     ensures { IfOk result (AreTokensOf (all_classes world.now) applets before number class.now) }
 {
     let exported = world.is_exported(applets, Known::Declared(number, class));
@@ -99,7 +103,8 @@ pub(crate) fn class_tokens(
 /// The token of a method of an interface.
 fn interface_byte(methods: &[Option<Slot<'_>>], method: &MethodTree<'_>) -> Option<u8>
     requires { length methods.now ≤ 128 }
-    ensures { (ss : List Signature) → signs methods.now ≡ map Some ss → result ≡ interface_token ss (method_of_class method.now) }
+    ensures { (ss : List Signature) → signs methods.now ≡ map Some ss
+        → result ≡ interface_token ss (method_of_class method.now) }
 {
     let name = method.name.items();
     let desc = method.desc.items();
@@ -117,7 +122,8 @@ fn put_interface_tokens(
     own: &[MethodTree<'_>],
 ) -> Result<(), NoMemory>
     requires { length methods.now ≤ 128 }
-    ensures { (ss : List Signature) → signs methods.now ≡ map Some ss → OnOk result (tokens.new ≡ tokens.old ++ map (interface_token ss) (map method_of_class own.now)) }
+    ensures { (ss : List Signature) → signs methods.now ≡ map Some ss → OnOk result (tokens.new ≡ tokens.old
+        ++ map (interface_token ss) (map method_of_class own.now)) }
 {
     for method in own {
         tokens.push(interface_byte(methods, method))?;
@@ -127,7 +133,8 @@ fn put_interface_tokens(
 
 /// The method that a token of an interface means, from its slot.
 fn meant_in(world: &World<'_>, interface: &[u8], slot: &Option<Slot<'_>>) -> Option<Found>
-    ensures { (s : Signature) → option_map signature_in slot.now ≡ Some s → result ≡ method_of_interface (all_classes world.now) interface.now s.name s.desc }
+    ensures { (s : Signature) → option_map signature_in slot.now ≡ Some s
+        → result ≡ method_of_interface (all_classes world.now) interface.now s.name s.desc }
 {
     match slot {
         Some(slot) => world.method_of_interface(interface, slot.name, slot.desc),
@@ -142,7 +149,9 @@ fn interface_row(
     interface: &[u8],
     methods: &[Option<Slot<'_>>],
 ) -> Result<Row<Option<Found>>, NoMemory>
-    ensures { (ss : List Signature) → signs methods.now ≡ map Some ss → IfOk result (λ row. row ≡ map (λ s. method_of_interface (all_classes world.now) interface.now s.name s.desc) ss) }
+    ensures { (ss : List Signature) → signs methods.now ≡ map Some ss
+        → IfOk result (λ row. row ≡ map (λ s. method_of_interface (all_classes world.now) interface.now s.name s.desc)
+        ss) }
 {
     let mut row = Row::new(alloc);
     for slot in methods {

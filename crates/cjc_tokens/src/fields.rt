@@ -2,7 +2,9 @@
 //! exposed references, the other references, the other numbers. Called by `class` and `assigning`.
 
 ghost use Rattle.std.specs.Prelude.{◌≡◌, ◌≤◌, ◌+◌, ◌==◌, ◌&&◌, ◌<◌, nat_le, nat_lt, length, take, true, count_by, IfOk};
-ghost use Rattle.cjc_tokens.specs.Fields.{cells, cells_of, field_token, field_tokens, group, instance_cells, instance_field_token, instance_token, instance_tokens, is_constant, is_instance, is_open_static, is_reference};
+ghost use Rattle.cjc_tokens.specs.Fields.{cells, cells_of, field_token, field_tokens, group, instance_cells};
+ghost use Rattle.cjc_tokens.specs.Fields.{instance_field_token, instance_token, instance_tokens, is_constant};
+ghost use Rattle.cjc_tokens.specs.Fields.{is_instance, is_open_static, is_reference};
 
 use crate::slot::is_exposed;
 use cjc_bytes::{NoMemory, Row, is_static};

@@ -1,7 +1,8 @@
 //! The interfaces that a class implements, and the tokens of an interface's methods: those of its
 //! superinterfaces first, each signature once.
 
-ghost use Rattle.std.specs.Prelude.{◌≡◌, ◌+◌, ◌<◌, ◌++◌, ◌==◌, [], ◌∷◌, map, length, position, if◌then◌else◌, false, true, IfOk, IfSome, OnOk, Some};
+ghost use Rattle.std.specs.Prelude.{◌≡◌, ◌+◌, ◌<◌, ◌++◌, ◌==◌, [], ◌∷◌, map, length, position, if◌then◌else◌, false};
+ghost use Rattle.std.specs.Prelude.{true, IfOk, IfSome, OnOk, Some};
 ghost use Rattle.cjc_world.specs.Classes.{all_classes, method_of_class, method_of_export};
 ghost use Rattle.cjc_world.specs.Supertypes.{supertypes};
 ghost use Rattle.cjc_world.specs.Working.Known.{class_of};
@@ -39,7 +40,8 @@ fn put_declared<'w>(
     row: &mut Vec<Option<Slot<'w>>>,
     methods: &'w [MethodTree<'_>],
 ) -> Result<(), NoMemory>
-    ensures { OnOk result (signs row.new.items ≡ with_new (signs row.old.items) (map signature_of (without_initialiser (map method_of_class methods.now)))) }
+    ensures { OnOk result (signs row.new.items ≡ with_new (signs row.old.items)
+        (map signature_of (without_initialiser (map method_of_class methods.now)))) }
 {
     for method in methods {
         let name = method.name.items();
@@ -65,7 +67,8 @@ fn put_token<'w>(
     methods: &'w [ExportMethod],
     token: usize,
 ) -> Result<(), NoMemory>
-    ensures { OnOk result (signs row.new.items ≡ with_new (signs row.old.items) (map signature_of (without_initialiser (with_token token (map method_of_export methods.now))))) }
+    ensures { OnOk result (signs row.new.items ≡ with_new (signs row.old.items)
+        (map signature_of (without_initialiser (with_token token (map method_of_export methods.now))))) }
 {
     match token_place(methods, token) {
         None => Ok(()),
@@ -83,7 +86,8 @@ fn put_exported<'w>(
     row: &mut Vec<Option<Slot<'w>>>,
     methods: &'w [ExportMethod],
 ) -> Result<(), NoMemory>
-    ensures { OnOk result (signs row.new.items ≡ with_new (signs row.old.items) (map signature_of (without_initialiser (by_token (length methods.now) 0 (map method_of_export methods.now))))) }
+    ensures { OnOk result (signs row.new.items ≡ with_new (signs row.old.items)
+        (map signature_of (without_initialiser (by_token (length methods.now) 0 (map method_of_export methods.now))))) }
 {
     for token in 0..methods.len() {
         put_token(row, methods, token)?;
@@ -93,7 +97,8 @@ fn put_exported<'w>(
 
 /// Puts a class's own methods, those of an export file by their tokens.
 fn put_own<'w>(row: &mut Vec<Option<Slot<'w>>>, class: Known<'w, '_>) -> Result<(), NoMemory>
-    ensures { OnOk result (signs row.new.items ≡ with_new (signs row.old.items) (map signature_of (own_methods (class_of class.entry)))) }
+    ensures { OnOk result (signs row.new.items ≡ with_new (signs row.old.items)
+        (map signature_of (own_methods (class_of class.entry)))) }
 {
     match class {
         Known::Declared(_, class) => put_declared(row, class.methods.items()),
@@ -107,7 +112,8 @@ fn put_places<'w>(
     places: &[u32],
     row: &mut Vec<Option<Slot<'w>>>,
 ) -> Result<(), NoMemory>
-    ensures { OnOk result (signs row.new.items ≡ with_new (signs row.old.items) (map signature_of (methods_of (at_places (all_classes world.now) places.now)))) }
+    ensures { OnOk result (signs row.new.items ≡ with_new (signs row.old.items)
+        (map signature_of (methods_of (at_places (all_classes world.now) places.now)))) }
 {
     for place in places {
         if let Some(class) = world.class_in(*place) {
@@ -124,7 +130,9 @@ fn put_above<'w>(
     class: Known<'w, '_>,
     row: &mut Vec<Option<Slot<'w>>>,
 ) -> Result<(), NoMemory>
-    ensures { OnOk result (signs row.new.items ≡ with_new (signs row.old.items) (asked false (supertypes (all_classes world.now) (class_of class.entry).supers) ++ asked true (supertypes (all_classes world.now) (class_of class.entry).interfaces))) }
+    ensures { OnOk result (signs row.new.items ≡ with_new (signs row.old.items)
+        (asked false (supertypes (all_classes world.now) (class_of class.entry).supers)
+        ++ asked true (supertypes (all_classes world.now) (class_of class.entry).interfaces))) }
 {
     lookup_laws();
     world.acyclic();
@@ -139,7 +147,8 @@ fn put_above_where<'w>(
     class: Known<'w, '_>,
     row: &mut Vec<Option<Slot<'w>>>,
 ) -> Result<(), NoMemory>
-    ensures { OnOk result (signs row.new.items ≡ with_new (signs row.old.items) (above_where (all_classes world.now) (class_of class.entry))) }
+    ensures { OnOk result (signs row.new.items ≡ with_new (signs row.old.items) (above_where (all_classes world.now)
+        (class_of class.entry))) }
 {
     if class.is_imported() {
         Ok(())
@@ -154,7 +163,8 @@ pub fn interface_methods<'w>(
     world: &'w World<'_>,
     class: Known<'w, '_>,
 ) -> Result<Vec<Option<Slot<'w>>>, NoMemory>
-    ensures { IfOk result (λ row. signs row.items ≡ map Some (interface_methods (all_classes world.now) (class_of class.entry))) }
+    ensures { IfOk result (λ row. signs row.items ≡ map Some (interface_methods (all_classes world.now)
+        (class_of class.entry))) }
 {
     let mut row = Vec::new(alloc);
     put_above_where(alloc, world, class, &mut row)?;

@@ -14,5 +14,8 @@ ghost use Rattle.cjc_tokens.specs.Tokens.{assigned, method_of_token};
 /// methods of the interface: its own, else that of the first of its superinterfaces that declares one. Where
 /// 413 is unbroken these are all its methods.
 pub fn interface_laws()
-    ensures { (applets : Bool) (files : Files) (n : ℕ) (c : ClassTree) (t : ℕ) (s : Signature) → slice_get files.classes n ≡ Some c → is_interface c.flags ≡ true → t < 128 → slice_get (interface_methods (all_classes files) (declared n c)) t ≡ Some s → method_of_token (assigned applets files) n t ≡ method_of_interface (all_classes files) c.name s.name s.desc }
+    ensures { (applets : Bool) (files : Files) (n : ℕ) (c : ClassTree) (t : ℕ) (s : Signature)
+        → slice_get files.classes n ≡ Some c → is_interface c.flags ≡ true → t < 128
+        → slice_get (interface_methods (all_classes files) (declared n c)) t ≡ Some s
+        → method_of_token (assigned applets files) n t ≡ method_of_interface (all_classes files) c.name s.name s.desc }
 {}

@@ -11,6 +11,7 @@ mod line;
 mod listed;
 mod methods;
 mod slot;
+pub mod token_laws;
 mod tokens;
 
 pub use assigning::{assign, few, first_high};

@@ -1,7 +1,8 @@
 //! Slots handed down: the rows of a class are those of its superclass with its own methods in them or behind
 //! them. Superclasses have theirs first.
 
-ghost use Rattle.std.specs.Prelude.{◌≡◌, ◌+◌, ◌<◌, ◌^◌, [], ◌∷◌, List, Option, map, length, slice_get, get_or, All, IfOk, IfSome, OnOk, Some, true};
+ghost use Rattle.std.specs.Prelude.{◌≡◌, ◌+◌, ◌<◌, ◌^◌, [], ◌∷◌, List, Option, map, length, slice_get, get_or, All};
+ghost use Rattle.std.specs.Prelude.{IfOk, IfSome, OnOk, Some, true};
 ghost use Rattle.cjc_world.specs.Classes.{Class, Member, all_classes, declared};
 ghost use Rattle.cjc_world.specs.Supertypes.{supertypes, upwards};
 ghost use Rattle.cjc_world.specs.Working.Known.{class_of};
@@ -27,7 +28,9 @@ pub(crate) fn below<'w>(
     added: &'w [MemberId],
 ) -> Result<Rows<'w>, NoMemory>
     requires { length class.now.fields + length class.now.methods + length added.now < 2 ^ 32 }
-    ensures { (line : Line) (given : List Member) → AreRowsOf line above.now → added.now ≡ map (named_by class.now.name) given → IfOk result (AreRowsOf (Declared (declared number class.now) given line)) }
+    ensures { (line : Line) (given : List Member) → AreRowsOf line above.now
+        → added.now ≡ map (named_by class.now.name) given
+        → IfOk result (AreRowsOf (Declared (declared number class.now) given line)) }
 {
     let mut shown = renewed(alloc, class, number, added, false, &above.shown)?;
     offer_methods(&mut shown, class, number, false)?;
@@ -40,7 +43,8 @@ pub(crate) fn below<'w>(
 /// The methods that are added to a class of the package.
 pub(crate) fn added_to<'w>(world: &'w World<'_>, class: u32) -> &'w [MemberId]
     requires { class < length world.now.classes }
-    ensures { (d : Tree) → result.now ≡ map (named_by (get_or world.now.classes class d).name) (added (all_classes world.now) (declared class (get_or world.now.classes class d))) }
+    ensures { (d : Tree) → result.now ≡ map (named_by (get_or world.now.classes class d).name)
+        (added (all_classes world.now) (declared class (get_or world.now.classes class d))) }
 {
     world.added(class).items()
 }
@@ -53,7 +57,8 @@ fn rows_above<'w>(
     class: &ClassTree<'_>,
 ) -> Result<Rows<'w>, NoMemory>
     requires kept { IsKept (all_classes world.now) world.now.classes kept.now }
-    ensures { IfOk result (AreRowsOf (line_in (all_classes world.now) (supertypes (all_classes world.now) (class.now.superclass ∷ [])))) }
+    ensures { IfOk result (AreRowsOf (line_in (all_classes world.now) (supertypes (all_classes world.now)
+        (class.now.superclass ∷ [])))) }
 {
     lookup_laws();
     world.acyclic();
@@ -104,7 +109,8 @@ fn class_rows<'w>(
 ) -> Result<Rows<'w>, NoMemory>
     requires kept { IsKept (all_classes world.now) world.now.classes kept.now }
     requires number { number < length world.now.classes }
-    ensures { (c : Tree) → slice_get world.now.classes number ≡ Some c → IfOk result (AreRowsOf (line_at (all_classes world.now) (declared number c))) }
+    ensures { (c : Tree) → slice_get world.now.classes number ≡ Some c
+        → IfOk result (AreRowsOf (line_at (all_classes world.now) (declared number c))) }
 {
     let class = &world.classes().items()[number as usize];
     let added = added_to(world, number);

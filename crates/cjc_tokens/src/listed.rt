@@ -1,6 +1,7 @@
 //! The slots and rows of an imported class, from what its export file and those of its supers list.
 
-ghost use Rattle.std.specs.Prelude.{◌≡◌, ◌+◌, ◌<◌, ◌&&◌, ◌++◌, [], ◌∷◌, List, Option, true, map, length, position, get_or, option_map, IfOk, OnOk};
+ghost use Rattle.std.specs.Prelude.{◌≡◌, ◌+◌, ◌<◌, ◌&&◌, ◌++◌, [], ◌∷◌, List, Option, true, map, length, position};
+ghost use Rattle.std.specs.Prelude.{get_or, option_map, IfOk, OnOk};
 ghost use Rattle.std.specs.Str.{bytes_eq};
 ghost use Rattle.cjc_world.specs.declared.class.Known.{Known as AnyClass};
 ghost use Rattle.cjc_world.specs.Classes.{Member, all_classes, method_of_class, method_of_export};
@@ -26,7 +27,8 @@ fn put_places<'w, 'a>(
     places: &[u32],
     classes: &mut Vec<Known<'w, 'a>>,
 ) -> Result<(), NoMemory>
-    ensures { OnOk result (map class_of classes.new.items ≡ map class_of classes.old.items ++ at_places (all_classes world.now) places.now) }
+    ensures { OnOk result (map class_of classes.new.items ≡ map class_of classes.old.items
+        ++ at_places (all_classes world.now) places.now) }
 {
     for place in places {
         if let Some(class) = world.class_in(*place) {
@@ -42,7 +44,8 @@ pub(crate) fn with_supers<'w, 'a>(
     world: &'w World<'a>,
     class: Known<'w, 'a>,
 ) -> Result<Vec<Known<'w, 'a>>, NoMemory>
-    ensures { IfOk result (λ classes. map class_of classes.items ≡ class_of class.entry ∷ once [] (upwards (supertypes (all_classes world.now) (class_of class.entry).supers))) }
+    ensures { IfOk result (λ classes. map class_of classes.items ≡ class_of class.entry
+        ∷ once [] (upwards (supertypes (all_classes world.now) (class_of class.entry).supers))) }
 {
     let places = world.superclasses(alloc, class)?;
     let mut classes = Vec::new(alloc);
@@ -57,7 +60,8 @@ fn put_at<'w>(
     token: u8,
     slot: Option<Slot<'w>>,
 ) -> Result<(), NoMemory>
-    ensures { OnOk result (signs row.new.items ≡ overlay (signs row.old.items) (alone token (option_map signature_in slot.entry))) }
+    ensures { OnOk result (signs row.new.items ≡ overlay (signs row.old.items)
+        (alone token (option_map signature_in slot.entry))) }
 {
     while row.len() <= token as usize {
         row.push(None)?;
@@ -69,7 +73,8 @@ fn put_at<'w>(
 }
 
 fn class_place(methods: &[MethodTree<'_>], name: &[u8], desc: &[u8]) -> Option<usize>
-    ensures { result ≡ position (λ m. is_virtual_by m.flags m.name && (bytes_eq m.name name.now && bytes_eq m.desc desc.now)) methods.now }
+    ensures { result ≡ position (λ m. is_virtual_by m.flags m.name && (bytes_eq m.name name.now
+        && bytes_eq m.desc desc.now)) methods.now }
 {
     methods.iter().position(|m| {
         is_virtual(m.flags, m.name.items()) && (m.name.items() == name && m.desc.items() == desc)
@@ -77,7 +82,8 @@ fn class_place(methods: &[MethodTree<'_>], name: &[u8], desc: &[u8]) -> Option<u
 }
 
 fn export_place(methods: &[ExportMethod], name: &[u8], desc: &[u8]) -> Option<usize>
-    ensures { result ≡ position (λ m. is_virtual_by m.flags m.name && (bytes_eq m.name name.now && bytes_eq m.desc desc.now)) methods.now }
+    ensures { result ≡ position (λ m. is_virtual_by m.flags m.name && (bytes_eq m.name name.now
+        && bytes_eq m.desc desc.now)) methods.now }
 {
     methods.iter().position(|m| {
         is_virtual(m.flags, m.name.items()) && (m.name.items() == name && m.desc.items() == desc)
@@ -109,7 +115,8 @@ fn counted(count: usize, more: usize) -> Result<u32, NoMemory>
 /// A class's own virtual method.
 #[tactic(auto, unfolding(crate::specs::Slots::own))]
 fn own_virtual(class: Known<'_, '_>, name: &[u8], desc: &[u8]) -> Result<Option<Found>, NoMemory>
-    ensures { IfOk result (λ o. o ≡ own is_virtual (record { name = name.now; desc = desc.now }) (class_of class.entry)) }
+    ensures { IfOk result (λ o. o ≡ own is_virtual (record { name = name.now; desc = desc.now })
+        (class_of class.entry)) }
 {
     match virtual_place(class, name, desc) {
         None => Ok(None),
@@ -130,7 +137,8 @@ fn nearest_virtual(
     name: &[u8],
     desc: &[u8],
 ) -> Result<Option<Found>, NoMemory>
-    ensures { IfOk result (λ o. o ≡ first (own is_virtual (record { name = name.now; desc = desc.now })) (map class_of classes.now)) }
+    ensures { IfOk result (λ o. o ≡ first (own is_virtual (record { name = name.now; desc = desc.now }))
+        (map class_of classes.now)) }
 {
     for class in classes {
         if let Some(found) = own_virtual(*class, name, desc)? {
@@ -158,7 +166,8 @@ fn put_one<'w>(
     place: usize,
 ) -> Result<(), NoMemory>
     requires { place < length (class_of class).methods }
-    ensures { (m : Member) → m ≡ get_or (class_of class.entry).methods place m → OnOk result (signs row.new.items ≡ overlay (signs row.old.items) (one m)) }
+    ensures { (m : Member) → m ≡ get_or (class_of class.entry).methods place m
+        → OnOk result (signs row.new.items ≡ overlay (signs row.old.items) (one m)) }
 {
     let flags = class.member_flags(false, place);
     let (name, desc) = class.member_at(false, place);
@@ -183,7 +192,8 @@ fn put_one<'w>(
 
 /// Fills the slots of the methods that a class lists, where nothing nearer has them.
 fn put_listed<'w>(row: &mut Vec<Option<Slot<'w>>>, class: Known<'w, '_>) -> Result<(), NoMemory>
-    ensures { OnOk result (signs row.new.items ≡ overlay (signs row.old.items) (listed_slots (class_of class.entry).methods)) }
+    ensures { OnOk result (signs row.new.items ≡ overlay (signs row.old.items)
+        (listed_slots (class_of class.entry).methods)) }
 {
     for place in 0..class.member_count(false) {
         put_one(row, class, place)?;
@@ -225,7 +235,8 @@ fn with_methods<'w>(
     classes: &[Known<'_, '_>],
 ) -> Result<Vec<Option<Slot<'w>>>, NoMemory>
     ensures slots { IfOk result (λ row. signs row.items ≡ signs slots.now) }
-    ensures methods { IfOk result (λ row. methods_in row.items ≡ map (meant_by (λ s. first (own is_virtual s) (map class_of classes.now))) (signs slots.now)) }
+    ensures methods { IfOk result (λ row. methods_in row.items
+        ≡ map (meant_by (λ s. first (own is_virtual s) (map class_of classes.now))) (signs slots.now)) }
 {
     let mut row = Vec::new(alloc);
     for slot in slots {

@@ -44,7 +44,8 @@ fn bounds(methods: &[MethodTree<'_>]) -> usize
 
 /// The token of a virtual method, without the high bit of a package-visible one.
 fn virtual_token(rows: &Rows<'_>, method: &MethodTree<'_>) -> Option<usize>
-    ensures { result ≡ virtual_token (signs rows.now.shown.items) (signs rows.now.hidden.items) (method_of_class method.now) }
+    ensures { result ≡ virtual_token (signs rows.now.shown.items) (signs rows.now.hidden.items)
+        (method_of_class method.now) }
 {
     let name = method.name.items();
     let desc = method.desc.items();
@@ -69,7 +70,8 @@ pub(crate) fn is_above(limit: usize, token: Option<usize>) -> bool
 
 /// Whether a virtual method would get a token above 127.
 pub(crate) fn any_high(rows: &Rows<'_>, methods: &[MethodTree<'_>]) -> bool
-    ensures { result ≡ list_any (λ m. is_above 127 (virtual_token (signs rows.now.shown.items) (signs rows.now.hidden.items) (method_of_class m))) methods.now }
+    ensures { result ≡ list_any (λ m. is_above 127 (virtual_token (signs rows.now.shown.items)
+        (signs rows.now.hidden.items) (method_of_class m))) methods.now }
 {
     methods
         .iter()
@@ -78,7 +80,8 @@ pub(crate) fn any_high(rows: &Rows<'_>, methods: &[MethodTree<'_>]) -> bool
 
 /// Whether an added method would get a token above 127.
 pub(crate) fn any_high_added(rows: &Rows<'_>, added: &[MemberId]) -> bool
-    ensures { result ≡ list_any (λ m. is_above 127 (token (signs rows.now.shown.items) (signature_of (member_of m)))) added.now }
+    ensures { result ≡ list_any (λ m. is_above 127 (token (signs rows.now.shown.items) (signature_of (member_of m))))
+        added.now }
 {
     added.iter().any(|m| is_above(127, token(&rows.shown, m.name.items(), m.desc.items())))
 }
@@ -105,10 +108,12 @@ fn method_token(
     method: &MethodTree<'_>,
     bounds: usize,
 ) -> Option<u8>
-    requires low { is_above 127 (virtual_token (signs rows.now.shown.items) (signs rows.now.hidden.items) (method_of_class method.now)) ≡ false }
+    requires low { is_above 127 (virtual_token (signs rows.now.shown.items) (signs rows.now.hidden.items)
+        (method_of_class method.now)) ≡ false }
     requires bounds { bounds ≡ count_by is_open_bound (take place (map method_of_class methods.now)) }
     requires high { exported ≡ true → is_open_bound (method_of_class method.now) ≡ true → bounds < 255 }
-    ensures { result ≡ class_method_token exported (signs rows.now.shown.items) (signs rows.now.hidden.items) (map method_of_class methods.now) place (method_of_class method.now) }
+    ensures { result ≡ class_method_token exported (signs rows.now.shown.items) (signs rows.now.hidden.items)
+        (map method_of_class methods.now) place (method_of_class method.now) }
 {
     let name = method.name.items();
     if is_of_kind(false, method.flags, name) {
@@ -129,9 +134,11 @@ pub(crate) fn put_method_tokens(
     exported: bool,
     methods: &[MethodTree<'_>],
 ) -> Result<(), NoMemory>
-    requires low { list_any (λ m. is_above 127 (virtual_token (signs rows.now.shown.items) (signs rows.now.hidden.items) (method_of_class m))) methods.now ≡ false }
+    requires low { list_any (λ m. is_above 127 (virtual_token (signs rows.now.shown.items) (signs rows.now.hidden.items)
+        (method_of_class m))) methods.now ≡ false }
     requires high { exported ≡ true → count_by is_open_bound (map method_of_class methods.now) ≤ 255 }
-    ensures { OnOk result (tokens.new ≡ tokens.old ++ class_method_tokens exported (signs rows.now.shown.items) (signs rows.now.hidden.items) (map method_of_class methods.now) 0 (map method_of_class methods.now)) }
+    ensures { OnOk result (tokens.new ≡ tokens.old ++ class_method_tokens exported (signs rows.now.shown.items)
+        (signs rows.now.hidden.items) (map method_of_class methods.now) 0 (map method_of_class methods.now)) }
 {
     let mut bounds = 0;
     for (place, method) in methods.iter().enumerate() {
@@ -149,8 +156,10 @@ pub(crate) fn put_added_tokens(
     rows: &Rows<'_>,
     added: &[MemberId],
 ) -> Result<(), NoMemory>
-    requires { list_any (λ m. is_above 127 (token (signs rows.now.shown.items) (signature_of (member_of m)))) added.now ≡ false }
-    ensures { OnOk result (tokens.new ≡ tokens.old ++ map (λ m. token (signs rows.now.shown.items) (signature_of (member_of m))) added.now) }
+    requires { list_any (λ m. is_above 127 (token (signs rows.now.shown.items) (signature_of (member_of m)))) added.now
+        ≡ false }
+    ensures { OnOk result (tokens.new ≡ tokens.old
+        ++ map (λ m. token (signs rows.now.shown.items) (signature_of (member_of m))) added.now) }
 {
     for id in added {
         let token = token(&rows.shown, id.name.items(), id.desc.items());

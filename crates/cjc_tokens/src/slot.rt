@@ -1,7 +1,8 @@
 //! Slots, the virtual methods of a class by token: a name, a descriptor and the method of the nearest class. It
 //! says how a method gets an old slot or a new one, and what is package-visible.
 
-ghost use Rattle.std.specs.Prelude.{◌≡◌, ◌++◌, ◌∷◌, [], ◌+◌, ◌<◌, ◌^◌, ℕ, List, Option, true, false, map, length, position, IfOk, IfSome, OnOk, option_map, ◌&&◌, ◌||◌};
+ghost use Rattle.std.specs.Prelude.{◌≡◌, ◌++◌, ◌∷◌, [], ◌+◌, ◌<◌, ◌^◌, ℕ, List, Option, true, false, map, length};
+ghost use Rattle.std.specs.Prelude.{position, IfOk, IfSome, OnOk, option_map, ◌&&◌, ◌||◌};
 ghost use Rattle.std.specs.Str.{bytes_eq};
 ghost use Rattle.cjc_world.specs.declared.found.Found.{Found as Method};
 ghost use Rattle.cjc_world.specs.Classes.{Member, declared, method_of_class};
@@ -9,7 +10,8 @@ ghost use Rattle.cjc_world.specs.Lookup.{is_called, or_else};
 ghost use Rattle.cjc_tokens.specs.Members.{Signature, is_exposed, is_virtual_by, signature_of, signatures};
 ghost use Rattle.cjc_tokens.specs.Slots.{got, has_slot, holds, own, token, with_new};
 ghost use Rattle.cjc_tokens.specs.declared.slot.Slot.{Slot as RowSlot};
-ghost use Rattle.cjc_tokens.specs.Working.{is_kind, is_of_kind, member_of, nearest, Offered, Renewed, signature_in, signs};
+ghost use Rattle.cjc_tokens.specs.Working.{is_kind, is_of_kind, member_of, nearest, Offered, Renewed, signature_in};
+ghost use Rattle.cjc_tokens.specs.Working.{signs};
 
 use cjc_bytes::{MemberId, NoMemory, is_private, is_protected, is_public, is_static};
 use cjc_classfile::{ClassTree, MethodTree};
@@ -96,7 +98,10 @@ pub(crate) fn has_slot(row: &[Option<Slot<'_>>], name: &[u8], desc: &[u8]) -> bo
 }
 
 fn slot_place(row: &[Option<Slot<'_>>], name: &[u8], desc: &[u8]) -> Option<usize>
-    ensures { result ≡ position (λ slot. holds (option_map signature_in slot) (record { name = name.now; desc = desc.now })) row.now }
+    ensures { result ≡ position (λ slot. holds (option_map signature_in slot) (record {
+      name = name.now;
+      desc = desc.now;
+    })) row.now }
 {
     row.iter().position(|slot| holds(slot, name, desc))
 }
@@ -109,7 +114,8 @@ pub fn token(row: &[Option<Slot<'_>>], name: &[u8], desc: &[u8]) -> Option<usize
 }
 
 fn method_place(methods: &[MethodTree<'_>], hidden: bool, name: &[u8], desc: &[u8]) -> Option<usize>
-    ensures { result ≡ position (λ m. is_kind hidden m.flags m.name && (bytes_eq m.name name.now && bytes_eq m.desc desc.now)) methods.now }
+    ensures { result ≡ position (λ m. is_kind hidden m.flags m.name && (bytes_eq m.name name.now
+        && bytes_eq m.desc desc.now)) methods.now }
 {
     methods.iter().position(|m| {
         (m.name.items() == name && m.desc.items() == desc)
@@ -120,7 +126,8 @@ fn method_place(methods: &[MethodTree<'_>], hidden: bool, name: &[u8], desc: &[u
 /// The place of a class's own virtual method.
 #[tactic(auto, using(cjc_world::proofs::Places::position_of_map, cjc_world::proofs::Places::position_within))]
 fn own_place(methods: &[MethodTree<'_>], hidden: bool, name: &[u8], desc: &[u8]) -> Option<usize>
-    ensures place { result ≡ position (λ m. is_of_kind hidden m && is_called name.now desc.now m) (map method_of_class methods.now) }
+    ensures place { result ≡ position (λ m. is_of_kind hidden m && is_called name.now desc.now m)
+        (map method_of_class methods.now) }
     ensures within { IfSome result (λ i. i < length methods.now) }
 {
     method_place(methods, hidden, name, desc)
@@ -136,7 +143,8 @@ pub(crate) fn own(
     desc: &[u8],
 ) -> Option<Found>
     requires { length class.now.fields + length class.now.methods < 2 ^ 32 }
-    ensures { result ≡ own (is_of_kind hidden) (record { name = name.now; desc = desc.now }) (declared number class.now) }
+    ensures { result ≡ own (is_of_kind hidden) (record { name = name.now; desc = desc.now })
+        (declared number class.now) }
 {
     let place = own_place(class.methods.items(), hidden, name, desc)?;
     Some(Found {
@@ -173,7 +181,8 @@ fn got(
     desc: &[u8],
 ) -> Option<Found>
     requires { length class.now.fields + length class.now.methods + length added.now < 2 ^ 32 }
-    ensures { result ≡ got (map member_of added.now) (record { name = name.now; desc = desc.now }) (declared number class.now) }
+    ensures { result ≡ got (map member_of added.now) (record { name = name.now; desc = desc.now })
+        (declared number class.now) }
 {
     let place = added_place(added, name, desc)?;
     Some(Found {
@@ -194,7 +203,10 @@ fn nearest(
     above: Option<Found>,
 ) -> Option<Found>
     requires { length class.now.fields + length class.now.methods + length added.now < 2 ^ 32 }
-    ensures { result ≡ nearest (declared number class.now) (map member_of added.now) hidden (record { name = name.now; desc = desc.now }) above }
+    ensures { result ≡ nearest (declared number class.now) (map member_of added.now) hidden (record {
+      name = name.now;
+      desc = desc.now;
+    }) above }
 {
     if let Some(method) = own(class, number, hidden, name, desc) {
         return Some(method);
@@ -217,7 +229,8 @@ pub(crate) fn renewed<'w>(
     above: &[Option<Slot<'w>>],
 ) -> Result<Vec<Option<Slot<'w>>>, NoMemory>
     requires { length class.now.fields + length class.now.methods + length added.now < 2 ^ 32 }
-    ensures { IfOk result (λ row. Renewed (declared number class.now) (map member_of added.now) hidden above.now row.items) }
+    ensures { IfOk result (λ row. Renewed (declared number class.now) (map member_of added.now) hidden above.now
+        row.items) }
 {
     let mut row = Vec::new(alloc);
     for slot in above {
@@ -251,7 +264,9 @@ fn put_new<'w>(
     desc: &'w [u8],
     method: Option<Found>,
 ) -> Result<(), NoMemory>
-    ensures { (ss : List Signature) (method_of : Signature → Option Method) (old : List (Option RowSlot)) → Offered ss method_of old row.old.items → method ≡ method_of (record { name = name.now; desc = desc.now }) → OnOk result (Offered (ss ++ record { name = name.now; desc = desc.now } ∷ []) method_of old row.new.items) }
+    ensures { (ss : List Signature) (method_of : Signature → Option Method) (old : List (Option RowSlot))
+        → Offered ss method_of old row.old.items → method ≡ method_of (record { name = name.now; desc = desc.now })
+        → OnOk result (Offered (ss ++ record { name = name.now; desc = desc.now } ∷ []) method_of old row.new.items) }
 {
     if !has_slot(row, name, desc) {
         row.push(Some(Slot { name, desc, method }))?;
@@ -267,7 +282,8 @@ pub(crate) fn offer_methods<'w>(
     hidden: bool,
 ) -> Result<(), NoMemory>
     requires { length class.now.fields + length class.now.methods < 2 ^ 32 }
-    ensures { OnOk result (Offered (signatures (is_of_kind hidden) (declared number class.now).methods) (λ s. own (is_of_kind hidden) s (declared number class.now)) row.old.items row.new.items) }
+    ensures { OnOk result (Offered (signatures (is_of_kind hidden) (declared number class.now).methods)
+        (λ s. own (is_of_kind hidden) s (declared number class.now)) row.old.items row.new.items) }
 {
     for method in class.methods.items() {
         let name = method.name.items();
@@ -288,7 +304,8 @@ pub(crate) fn offer_added<'w>(
     added: &'w [MemberId],
 ) -> Result<(), NoMemory>
     requires { length class.now.fields + length class.now.methods + length added.now < 2 ^ 32 }
-    ensures { OnOk result (Offered (map signature_of (map member_of added.now)) (λ s. got (map member_of added.now) s (declared number class.now)) row.old.items row.new.items) }
+    ensures { OnOk result (Offered (map signature_of (map member_of added.now)) (λ s. got (map member_of added.now) s
+        (declared number class.now)) row.old.items row.new.items) }
 {
     for id in added {
         let name = id.name.items();
@@ -305,7 +322,10 @@ pub(crate) fn put_name<'w>(
     name: &'w [u8],
     desc: &'w [u8],
 ) -> Result<(), NoMemory>
-    ensures { OnOk result (signs row.new.items ≡ with_new (signs row.old.items) (record { name = name.now; desc = desc.now } ∷ [])) }
+    ensures { OnOk result (signs row.new.items ≡ with_new (signs row.old.items) (record {
+      name = name.now;
+      desc = desc.now;
+    } ∷ [])) }
 {
     put_new(row, name, desc, None)
 }

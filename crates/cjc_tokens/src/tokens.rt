@@ -2,7 +2,8 @@
 //! from a virtual token to its method. It assigns none.
 
 ghost use Rattle.std.specs.Prelude.{◌≡◌, ◌<◌, length, position, IfSome};
-ghost use Rattle.cjc_tokens.specs.Tokens.{field_of_token, has_token, method_of_token, package_methods_of, public_methods_of, token_of_class, token_of_member};
+ghost use Rattle.cjc_tokens.specs.Tokens.{field_of_token, has_token, method_of_token, package_methods_of};
+ghost use Rattle.cjc_tokens.specs.Tokens.{public_methods_of, token_of_class, token_of_member};
 
 use cjc_bytes::Row;
 use cjc_world::Found;
@@ -25,7 +26,13 @@ impl Model for ClassTokens {
 
     ghost use Rattle.std.specs.Prelude.{◌<◌, ◌^◌, length};
 
-    ghost view = { λ t. record { class = t.class; members = t.members; instances = t.instances; public_methods = t.public_methods; package_methods = t.package_methods } };
+    ghost view = { λ t. record {
+      class = t.class;
+      members = t.members;
+      instances = t.instances;
+      public_methods = t.public_methods;
+      package_methods = t.package_methods;
+    } };
 
     ghost invariant = { λ t. length t.instances < 2 ^ 32 };
 }

@@ -1,5 +1,7 @@
 -- The cells of a least table have names of the method alone.
-use Rattle.std.proofs.Common.{◌≡◌, ◌⊎◌, ◌≤◌, ◌==◌, ◌||◌, ℕ, zero, suc, Bool, true, false, cond, nat_le, List, [], ◌∷◌, ◌++◌, map, filter, filter_map, length, drop, take, replicate, slice_get, slice_set, Option, Some, None, option_map, All, Contains, refl, sym, ◌∙◌, ap, subst, inl, inr, arith}
+use Rattle.std.proofs.Common.{◌≡◌, ◌⊎◌, ◌≤◌, ◌==◌, ◌||◌, ℕ, zero, suc, Bool, true, false, cond, nat_le, List, [], ◌∷◌}
+use Rattle.std.proofs.Common.{◌++◌, map, filter, filter_map, length, drop, take, replicate, slice_get, slice_set}
+use Rattle.std.proofs.Common.{Option, Some, None, option_map, All, Contains, refl, sym, ◌∙◌, ap, subst, inl, inr, arith}
 use Rattle.std.specs.List.{cons_option}
 use Rattle.std.specs.Str.{bytes_eq}
 use Rattle.std.proofs.lemmas.Bool.{leb-false}
@@ -24,9 +26,11 @@ use Rattle.cjc_types.specs.Working.NameLaws.{insert_cases, length_within}
 use Rattle.cjc_types.specs.Cells.{most_names, refs, IsNameSet, IsCell, IsCellBelow}
 use Rattle.cjc_types.specs.States.{most_cells, IsStack, IsStackBelow, states}
 use Rattle.cjc_types.specs.Types.{held, with_held, elements, element_of, as_reference}
-use Rattle.cjc_types.specs.Steps.{operand, takes, gives, local_value, stack_behind, stack_after, stored, locals_after, after, shuffled}
+use Rattle.cjc_types.specs.Steps.{operand, takes, gives, local_value, stack_behind, stack_after, stored, locals_after}
+use Rattle.cjc_types.specs.Steps.{after, shuffled}
 use Rattle.cjc_types.specs.Working.StepLaws.{AreBelow}
-use Rattle.cjc_types.specs.Flow.{Body, arguments, entry, place_at, successors, edge, covers, caught_type, caught, handler_edge, place_edges, type_flow}
+use Rattle.cjc_types.specs.Flow.{Body, arguments, entry, place_at, successors, edge, covers, caught_type, caught}
+use Rattle.cjc_types.specs.Flow.{handler_edge, place_edges, type_flow}
 use Rattle.cjc_types.specs.Working.FlowLaws.{type_laws}
 use Rattle.cjc_types.specs.Tables.{IsLeastTable}
 use Rattle.cjc_types.specs.Among.{IsAmong, AreAmong, IsStackAmong, IsStateAmong, HasNames}
@@ -52,7 +56,8 @@ module _ (names : List (List ℕ)) where
   among_unusable zero = tt
   among_unusable (suc n) = (tt, among_unusable n)
 
-  among_set : (xs : List Cell) (k : ℕ) (x : Cell) → AreAmong names xs → IsAmong names x → AreAmong names (slice_set xs k x)
+  among_set : (xs : List Cell) (k : ℕ) (x : Cell) → AreAmong names xs → IsAmong names x
+      → AreAmong names (slice_set xs k x)
   among_set [] k x h own = tt
   among_set (y ∷ ys) zero x h own = (own, h.1)
   among_set (y ∷ ys) (suc k) x h own = (h.0, among_set ys k x h.1 own)
@@ -82,9 +87,11 @@ module _ (names : List (List ℕ)) where
       go true = h
       go false = tt
 
-  among_elements : ((n m : List ℕ) → In n names → held n ≡ Some m → In m names) → (xs more : List (List ℕ)) → IsWithin xs names → IsWithin more names → IsWithin (elements xs more) names
+  among_elements : ((n m : List ℕ) → In n names → held n ≡ Some m → In m names) → (xs more : List (List ℕ))
+      → IsWithin xs names → IsWithin more names → IsWithin (elements xs more) names
   among_elements closed [] more h k = k
-  among_elements closed (x ∷ xs) more h k = among_elements closed xs (with_held (held x) more) (λ n is. h n (inr is)) (go (held x) refl)
+  among_elements closed (x ∷ xs) more h k = among_elements closed xs (with_held (held x) more) (λ n is. h n (inr is))
+      (go (held x) refl)
     where
       go : (found : Option (List ℕ)) → held x ≡ found → IsWithin (with_held found more) names
       go None e n is = k n is
@@ -93,7 +100,8 @@ module _ (names : List (List ℕ)) where
         | inr old ↦ k n old
       ]
 
-  among_element : ((n m : List ℕ) → In n names → held n ≡ Some m → In m names) → (opcode : ℕ) (x : Cell) → IsAmong names x → IsAmong names (element_of opcode x)
+  among_element : ((n m : List ℕ) → In n names → held n ≡ Some m → In m names) → (opcode : ℕ) (x : Cell)
+      → IsAmong names x → IsAmong names (element_of opcode x)
   among_element closed opcode Number h = tt
   among_element closed opcode (Refs types) h = go (opcode == 0x32)
     where
@@ -102,18 +110,24 @@ module _ (names : List (List ℕ)) where
       go false = tt
   among_element closed opcode Unusable h = tt
 
-  among_gives : ((n m : List ℕ) → In n names → held n ≡ Some m → In m names) → (op : JOp) (locals s : List Cell) → AreAmong names (gives op [] []) → AreAmong names locals → AreAmong names s → AreAmong names (gives op locals s)
-  among_gives closed (jop.Load refs k) locals s root l h = (among_local refs (operand locals k) (among_operand locals k l), tt)
-  among_gives closed (jop.ArrayLoad opcode) locals s root l h = (among_element closed opcode (operand s 1) (among_operand s 1 h), tt)
+  among_gives : ((n m : List ℕ) → In n names → held n ≡ Some m → In m names) → (op : JOp) (locals s : List Cell)
+      → AreAmong names (gives op [] []) → AreAmong names locals → AreAmong names s → AreAmong names (gives op locals s)
+  among_gives closed (jop.Load refs k) locals s root l h =
+      (among_local refs (operand locals k) (among_operand locals k l), tt)
+  among_gives closed (jop.ArrayLoad opcode) locals s root l h =
+      (among_element closed opcode (operand s 1) (among_operand s 1 h), tt)
   among_gives closed (jop.Stack opcode) locals s root l h = among_shuffled (shuffled opcode) s h
   among_gives closed _ locals s root l h = root
 
-  among_stack : ((n m : List ℕ) → In n names → held n ≡ Some m → In m names) → (op : JOp) (locals : List Cell) (s : Stack) → AreAmong names (gives op [] []) → AreAmong names locals → IsStackAmong names s → IsStackAmong names (stack_after op locals s)
+  among_stack : ((n m : List ℕ) → In n names → held n ≡ Some m → In m names)
+      → (op : JOp) (locals : List Cell) (s : Stack) → AreAmong names (gives op [] []) → AreAmong names locals
+      → IsStackAmong names s → IsStackAmong names (stack_after op locals s)
   among_stack closed op locals Clash root l h = tt
   among_stack closed op locals (Cells s) root l h = go (nat_le (length (stack_behind op locals s)) most_cells)
     where
       go : (b : Bool) → IsStackAmong names (cond b (Cells (stack_behind op locals s)) Clash)
-      go true = among_append (gives op locals s) (drop (takes op) s) (among_gives closed op locals s root l h) (among_drop (takes op) s h)
+      go true = among_append (gives op locals s) (drop (takes op) s) (among_gives closed op locals s root l h)
+          (among_drop (takes op) s h)
       go false = tt
 
   among_stored : (refs : Bool) (s : Stack) → IsStackAmong names s → IsAmong names (stored refs s)
@@ -121,7 +135,8 @@ module _ (names : List (List ℕ)) where
   among_stored true (Cells s) h = among_reference (operand s 0) (among_operand s 0 h)
   among_stored false (Cells s) h = tt
 
-  among_locals : (op : JOp) (locals : List Cell) (s : Stack) → AreAmong names locals → IsStackAmong names s → AreAmong names (locals_after op locals s)
+  among_locals : (op : JOp) (locals : List Cell) (s : Stack) → AreAmong names locals → IsStackAmong names s
+      → AreAmong names (locals_after op locals s)
   among_locals (jop.Store refs k) locals s l h = among_set locals k (stored refs s) l (among_stored refs s h)
   among_locals (jop.Inc k by) locals s l h = among_set locals k Number l tt
   among_locals _ locals s l h = l
@@ -158,7 +173,8 @@ kept_in : (names types : List (List ℕ)) (n : List ℕ) → In n (kept names ty
 kept_in names [] n h = absurd h
 kept_in names (x ∷ xs) n h = go (has names x) refl h (kept_in names xs n)
   where
-    go : (b : Bool) → has names x ≡ b → In n (cond b (x ∷ kept names xs) (kept names xs)) → (In n (kept names xs) → In n xs × In n names) → ((x ≡ n) ⊎ In n xs) × In n names
+    go : (b : Bool) → has names x ≡ b → In n (cond b (x ∷ kept names xs) (kept names xs)) → (In n (kept names xs)
+        → In n xs × In n names) → ((x ≡ n) ⊎ In n xs) × In n names
     go true e (inl same) rest = (inl same, subst (λ (m : List ℕ). In m names) same (has_in names x e))
     go true e (inr later) rest = let m = rest later in (inr m.0, m.1)
     go false e later rest = let m = rest later in (inr m.0, m.1)
@@ -167,13 +183,16 @@ in_kept : (names types : List (List ℕ)) (n : List ℕ) → In n types → In n
 in_kept names [] n h k = absurd h
 in_kept names (x ∷ xs) n h k = go (has names x) refl h (λ later. in_kept names xs n later k)
   where
-    go : (b : Bool) → has names x ≡ b → (x ≡ n) ⊎ In n xs → (In n xs → In n (kept names xs)) → In n (cond b (x ∷ kept names xs) (kept names xs))
+    go : (b : Bool) → has names x ≡ b → (x ≡ n) ⊎ In n xs → (In n xs → In n (kept names xs))
+        → In n (cond b (x ∷ kept names xs) (kept names xs))
     go true e (inl same) rest = inl same
     go true e (inr later) rest = inr (rest later)
-    go false e (inl same) rest = let found = in_has names x (subst (λ (m : List ℕ). In m names) (sym same) k) in absurd cc
+    go false e (inl same) rest = let found = in_has names x (subst (λ (m : List ℕ). In m names) (sym same) k)
+        in absurd cc
     go false e (inr later) rest = rest later
 
-before_kept : (names : List (List ℕ)) (n : List ℕ) (types : List (List ℕ)) → IsBefore n types → IsBefore n (kept names types)
+before_kept : (names : List (List ℕ)) (n : List ℕ) (types : List (List ℕ)) → IsBefore n types
+    → IsBefore n (kept names types)
 before_kept names n [] h = tt
 before_kept names n (x ∷ xs) h = go (has names x) (before_kept names n xs h.1)
   where
@@ -193,7 +212,8 @@ few_kept : (names types : List (List ℕ)) → length (kept names types) ≤ len
 few_kept names [] = omega arith
 few_kept names (x ∷ xs) = go (has names x) (few_kept names xs)
   where
-    go : (b : Bool) → length (kept names xs) ≤ length xs → length (cond b (x ∷ kept names xs) (kept names xs)) ≤ suc (length xs)
+    go : (b : Bool) → length (kept names xs) ≤ length xs → length (cond b (x ∷ kept names xs) (kept names xs)) ≤ suc
+        (length xs)
     go true rest = omega (arith, rest)
     go false rest = omega (arith, rest)
 
@@ -213,19 +233,35 @@ only_state names x = record { stack = only_stack names x.stack; locals = map (on
 
 own_only : (names : List (List ℕ)) (x : Cell) → IsCell x → IsCell (only names x)
 own_only names Number h = tt
-own_only names (Refs types) h = record { set = set_kept names types h.set; few = let a = few_kept names types in let b = h.few in omega (arith, a, b) }
+own_only names (Refs types) h = record {
+  set = set_kept names types h.set;
+  few = let a = few_kept names types
+      in let b = h.few in omega (arith, a, b);
+}
 own_only names Unusable h = tt
 
 own_onlys : (names : List (List ℕ)) (xs : List Cell) → All IsCell xs → All IsCell (map (only names) xs)
 own_onlys names [] h = All-nil IsCell
-own_onlys names (x ∷ xs) h = All-cons IsCell (only names x) (map (only names) xs) (own_only names x (All-head IsCell x xs h)) (own_onlys names xs (All-tail IsCell x xs h))
+own_onlys names (x ∷ xs) h = All-cons IsCell (only names x) (map (only names) xs)
+    (own_only names x (All-head IsCell x xs h)) (own_onlys names xs (All-tail IsCell x xs h))
 
 own_only_stack : (names : List (List ℕ)) (s : Stack) → IsStack s → IsStack (only_stack names s)
-own_only_stack names (Cells s) h = record { few = let same = length-map s (only names) in let few = h.few in omega (arith, same, few); own = own_onlys names s h.own }
+own_only_stack names (Cells s) h = record {
+  few = let same = length-map s (only names) in let few = h.few
+      in omega (arith, same, few);
+  own = own_onlys names s h.own;
+}
 own_only_stack names Clash h = tt
 
 own_only_state : (names : List (List ℕ)) (n : ℕ) (x : State) → (states n).Own x → (states n).Own (only_state names x)
-own_only_state names n x h = (own_only_stack names x.stack h.0, record { sized = length-map x.locals (only names) ∙ h.1.sized; own = own_onlys names x.locals h.1.own })
+own_only_state names n x h = (
+  own_only_stack names x.stack h.0,
+  record {
+    sized = length-map x.locals (only names)
+        ∙ h.1.sized;
+    own = own_onlys names x.locals h.1.own;
+  },
+)
 
 only_below : (names : List (List ℕ)) (x : Cell) → IsCellBelow (only names x) x
 only_below names Number = tt
@@ -261,13 +297,15 @@ below_only names (Refs xs) (Refs ys) h k = λ n is. in_kept names ys n (k n is) 
 below_only names Unusable (Refs ys) h k = absurd k
 below_only names x Unusable h k = tt
 
-below_onlys : (names : List (List ℕ)) (xs ys : List Cell) → AreAmong names xs → AreBelow xs ys → AreBelow xs (map (only names) ys)
+below_onlys : (names : List (List ℕ)) (xs ys : List Cell) → AreAmong names xs → AreBelow xs ys
+    → AreBelow xs (map (only names) ys)
 below_onlys names [] [] h k = tt
 below_onlys names [] (y ∷ ys) h k = absurd k
 below_onlys names (x ∷ xs) [] h k = absurd k
 below_onlys names (x ∷ xs) (y ∷ ys) h k = (below_only names x y h.0 k.0, below_onlys names xs ys h.1 k.1)
 
-below_only_stack : (names : List (List ℕ)) (s t : Stack) → IsStackAmong names s → IsStackBelow s t → IsStackBelow s (only_stack names t)
+below_only_stack : (names : List (List ℕ)) (s t : Stack) → IsStackAmong names s → IsStackBelow s t
+    → IsStackBelow s (only_stack names t)
 below_only_stack names s Clash h k = tt
 below_only_stack names Clash (Cells t) h k = absurd k
 below_only_stack names (Cells s) (Cells t) h k = below_onlys names s t h k
@@ -291,21 +329,26 @@ among_own_stack names Clash h = tt
 abbrev EdgeAmong : List (List ℕ) → Edge State → Type 0
 EdgeAmong names e = IsStateAmong names e.state
 
-handlers_among : (names : List (List ℕ)) (insns : List JInsn) (offset : ℕ) (x : State) (catches : List Catch) → ((c : Catch) → Contains catches c → In (caught_type c.class) names) → IsStateAmong names x → All (EdgeAmong names) (filter_map (handler_edge insns offset x) catches)
+handlers_among : (names : List (List ℕ)) (insns : List JInsn) (offset : ℕ) (x : State) (catches : List Catch)
+    → ((c : Catch) → Contains catches c → In (caught_type c.class) names) → IsStateAmong names x
+    → All (EdgeAmong names) (filter_map (handler_edge insns offset x) catches)
 handlers_among names insns offset x [] h own = All-nil (EdgeAmong names)
-handlers_among names insns offset x (c ∷ cs) h own = go (covers c offset) (place_at insns c.target) (handlers_among names insns offset x cs (λ d is. h d (contains_tail c cs d is)) own)
+handlers_among names insns offset x (c ∷ cs) h own = go (covers c offset) (place_at insns c.target)
+    (handlers_among names insns offset x cs (λ d is. h d (contains_tail c cs d is)) own)
   where
     one : IsWithin (caught_type c.class ∷ []) names
     one n (inl same) = subst (λ (m : List ℕ). In m names) same (h c (contains_head c cs))
     one n (inr later) = absurd later
 
     go : (is : Bool) (to : Option ℕ) → All (EdgeAmong names) (filter_map (handler_edge insns offset x) cs)
-        → All (EdgeAmong names) (cons_option (cond is (option_map (edge (caught c x)) to) None) (filter_map (handler_edge insns offset x) cs))
+        → All (EdgeAmong names) (cons_option (cond is (option_map (edge (caught c x)) to) None)
+        (filter_map (handler_edge insns offset x) cs))
     go false to rest = rest
     go true None rest = rest
     go true (Some to) rest = All-cons (EdgeAmong names) _ _ ((one, tt), own.1) rest
 
-edges_among : (names : List (List ℕ)) (b : Body) → HasNames names b → (at : ℕ) (o : Option JInsn) → slice_get b.insns at ≡ o → (x : State) → IsStateAmong names x → All (EdgeAmong names) (place_edges b at o x)
+edges_among : (names : List (List ℕ)) (b : Body) → HasNames names b → (at : ℕ) (o : Option JInsn) → slice_get b.insns at
+    ≡ o → (x : State) → IsStateAmong names x → All (EdgeAmong names) (place_edges b at o x)
 edges_among names b h at None is x own = All-nil (EdgeAmong names)
 edges_among names b h at (Some insn) is x own =
     All-append (EdgeAmong names) _ _
@@ -316,32 +359,45 @@ edges_among names b h at (Some insn) is x own =
     (handlers_among names b.insns insn.at x b.catches h.caught own)
 
 entry_among : (names : List (List ℕ)) (b : Body) → HasNames names b → IsStateAmong names (entry b)
-entry_among names b h = (tt, among_take names b.max_locals _ (among_append names (arguments b) (replicate b.max_locals Unusable) h.arguments (among_unusable names b.max_locals)))
+entry_among names b h = (
+  tt,
+  among_take names b.max_locals _ (among_append names (arguments b) (replicate b.max_locals Unusable) h.arguments
+      (among_unusable names b.max_locals)),
+)
 
 -- ---- the table with these names alone
 
 abbrev only_row : List (List ℕ) → Option State → Option State
 only_row names o = option_map (only_state names) o
 
-row_only : (names : List (List ℕ)) (rows : List (Option State)) (k : ℕ) (x : State) → HasRow rows k x → HasRow (map (only_row names) rows) k (only_state names x)
+row_only : (names : List (List ℕ)) (rows : List (Option State)) (k : ℕ) (x : State) → HasRow rows k x
+    → HasRow (map (only_row names) rows) k (only_state names x)
 row_only names rows k x h = slice_get-map (only_row names) rows k ∙ ap (option_map (only_row names)) h
 
-only_of_row : (names : List (List ℕ)) (rows : List (Option State)) (k : ℕ) (y : State) → HasRow (map (only_row names) rows) k y → (x : State) × HasRow rows k x × (only_state names x ≡ y)
+only_of_row : (names : List (List ℕ)) (rows : List (Option State)) (k : ℕ) (y : State)
+    → HasRow (map (only_row names) rows) k y → (x : State) × HasRow rows k x × (only_state names x ≡ y)
 only_of_row names rows k y h = go (slice_get rows k) refl (sym (slice_get-map (only_row names) rows k) ∙ h)
   where
-    go : (o : Option (Option State)) → slice_get rows k ≡ o → option_map (only_row names) o ≡ Some (Some y) → (x : State) × HasRow rows k x × (only_state names x ≡ y)
+    go : (o : Option (Option State)) → slice_get rows k ≡ o → option_map (only_row names) o ≡ Some (Some y)
+        → (x : State) × HasRow rows k x × (only_state names x ≡ y)
     go None e f = absurd cc
     go (Some None) e f = absurd cc
     go (Some (Some x)) e f = (x, e, let same : only_state names x ≡ y = cc in same)
 
-covers_only : (names : List (List ℕ)) (b : Body) (rows : List (Option State)) (k : ℕ) (z : State) → IsStateAmong names z → Covers (type_flow b) rows k z → Covers (type_flow b) (map (only_row names) rows) k z
+covers_only : (names : List (List ℕ)) (b : Body) (rows : List (Option State)) (k : ℕ) (z : State) → IsStateAmong names z
+    → Covers (type_flow b) rows k z → Covers (type_flow b) (map (only_row names) rows) k z
 covers_only names b rows k z own c = record {
   row = only_state names c.row;
   is_row = row_only names rows k c.row c.is_row;
-  above = (below_only_stack names z.stack c.row.stack own.0 c.above.0, below_onlys names z.locals c.row.locals own.1 c.above.1);
+  above = (
+    below_only_stack names z.stack c.row.stack own.0 c.above.0,
+    below_onlys names z.locals c.row.locals own.1
+        c.above.1,
+  );
 }
 
-only_closed : (names : List (List ℕ)) (b : Body) (rows : List (Option State)) → HasNames names b → IsClosed (type_flow b) (length b.insns) rows → IsClosed (type_flow b) (length b.insns) (map (only_row names) rows)
+only_closed : (names : List (List ℕ)) (b : Body) (rows : List (Option State)) → HasNames names b
+    → IsClosed (type_flow b) (length b.insns) rows → IsClosed (type_flow b) (length b.insns) (map (only_row names) rows)
 only_closed names b rows h closed = record {
   sized = length-map rows (only_row names) ∙ closed.sized;
   own = own;
@@ -354,25 +410,36 @@ only_closed names b rows h closed = record {
         let m = only_of_row names rows k y is in
         subst (type_flow b).Own m.2 (own_only_state names b.max_locals m.0 (closed.own k m.0 m.1))
 
-    from : (k : ℕ) (x : State) → HasRow rows k x → (e : Edge State) → Contains ((type_flow b).edges k (only_state names x)) e → Covers (type_flow b) (map (only_row names) rows) e.to e.state
+    from : (k : ℕ) (x : State) → HasRow rows k x → (e : Edge State)
+        → Contains ((type_flow b).edges k (only_state names x)) e → Covers (type_flow b) (map (only_row names) rows)
+        e.to e.state
     from k x row e is =
         let laws = type_laws b in
         let own_x = closed.own k x row in
         let own_only_x = own_only_state names b.max_locals x own_x in
-        let up = laws.monotone k (only_state names x) x own_only_x own_x (only_stack_below names x.stack, onlys_below names x.locals) e is in
+        let up = laws.monotone k (only_state names x) x own_only_x own_x (
+          only_stack_below names x.stack,
+          onlys_below names x.locals,
+        ) e is in
         let c = closed.steps k x row up.0 up.1 in
         let own_e = laws.own_edges k (only_state names x) own_only_x e is in
         let own_f = laws.own_edges k x own_x up.0 up.1 in
-        let above : (type_flow b).Below e.state c.row = laws.transitive e.state up.0.state c.row own_e own_f (closed.own up.0.to c.row c.is_row) up.3 c.above in
-        let among = All-contains (EdgeAmong names) _ e (edges_among names b h k (slice_get b.insns k) refl (only_state names x) (only_stack_among names x.stack, onlys_among names x.locals)) is in
-        covers_only names b rows e.to e.state among (subst (λ (n : ℕ). Covers (type_flow b) rows n e.state) up.2 (record { row = c.row; is_row = c.is_row; above = above }))
+        let above : (type_flow b).Below e.state c.row = laws.transitive e.state up.0.state c.row own_e own_f
+        (closed.own up.0.to c.row c.is_row) up.3 c.above in
+        let among = All-contains (EdgeAmong names) _ e (edges_among names b h k (slice_get b.insns k) refl
+        (only_state names x) (only_stack_among names x.stack, onlys_among names x.locals)) is in
+        covers_only names b rows e.to e.state among (subst (λ (n : ℕ). Covers (type_flow b) rows n e.state) up.2
+        (record { row = c.row; is_row = c.is_row; above = above }))
 
-    steps : (k : ℕ) (y : State) → HasRow (map (only_row names) rows) k y → (e : Edge State) → Contains ((type_flow b).edges k y) e → Covers (type_flow b) (map (only_row names) rows) e.to e.state
+    steps : (k : ℕ) (y : State) → HasRow (map (only_row names) rows) k y → (e : Edge State)
+        → Contains ((type_flow b).edges k y) e → Covers (type_flow b) (map (only_row names) rows) e.to e.state
     steps k y is =
         let m = only_of_row names rows k y is in
-        subst (λ (z : State). (e : Edge State) → Contains ((type_flow b).edges k z) e → Covers (type_flow b) (map (only_row names) rows) e.to e.state) m.2 (from k m.0 m.1)
+        subst (λ (z : State). (e : Edge State) → Contains ((type_flow b).edges k z) e
+        → Covers (type_flow b) (map (only_row names) rows) e.to e.state) m.2 (from k m.0 m.1)
 
-pub least_among : (names : List (List ℕ)) (b : Body) (rows : List (Option State)) → HasNames names b → IsLeastTable b rows → (k : ℕ) (x : State) → HasRow rows k x → IsStateAmong names x
+pub least_among : (names : List (List ℕ)) (b : Body) (rows : List (Option State)) → HasNames names b
+    → IsLeastTable b rows → (k : ℕ) (x : State) → HasRow rows k x → IsStateAmong names x
 least_among names b rows h is k x row =
     let up = is.least (map (only_row names) rows) (only_closed names b rows h is.closed) k x row in
     let same : up.row ≡ only_state names x = let e = up.is_row in let f = row_only names rows k x row in cc in
@@ -380,7 +447,8 @@ least_among names b rows h is k x row =
     (among_own_stack names x.stack below.0, among_owns names x.locals below.1)
 
 -- a set of these names is not cut off, where they are few
-pub refs_whole : (names types : List (List ℕ)) → IsNameSet names → IsSet types → IsWithin types names → refs types ≡ Refs types
+pub refs_whole : (names types : List (List ℕ)) → IsNameSet names → IsSet types → IsWithin types names
+    → refs types ≡ Refs types
 refs_whole names types own set h = go (nat_le (length types) most_names) refl
   where
     go : (b : Bool) → nat_le (length types) most_names ≡ b → cond b (Refs types) Unusable ≡ Refs types

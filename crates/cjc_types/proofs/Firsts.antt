@@ -2,7 +2,8 @@
 use Rattle.std.proofs.Common.{◌≡◌, ◌⊎◌, ◌≤◌, ◌<◌, ℕ, inl, inr, arith}
 use Rattle.std.proofs.lemmas.Bool.{cases_lt}
 
-pub is_first : (Told : ℕ → ℕ → Type 0) (place rule : ℕ) → ((k r : ℕ) → Told k r → k < place → ⊥) → ((k r : ℕ) → place ≡ k → Told k r → rule ≤ r) → (k r : ℕ) → Told k r → (place < k) ⊎ ((place ≡ k) × (rule ≤ r))
+pub is_first : (Told : ℕ → ℕ → Type 0) (place rule : ℕ) → ((k r : ℕ) → Told k r → k < place → ⊥)
+    → ((k r : ℕ) → place ≡ k → Told k r → rule ≤ r) → (k r : ℕ) → Told k r → (place < k) ⊎ ((place ≡ k) × (rule ≤ r))
 is_first Told place rule earlier level k r h =
     elim (cases_lt place k) [
       | inl lt ↦ inl lt

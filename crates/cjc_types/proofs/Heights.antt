@@ -1,6 +1,9 @@
--- No stack of a least table is as high as the limit: a height is reached from one that is little lower, and there are no
+-- No stack of a least table is as high as the limit: a height is reached from one that is little lower, and there are
+-- no
 -- more heights than instructions.
-use Rattle.std.proofs.Common.{◌≡◌, ◌≢◌, ◌⊎◌, ◌≤◌, ◌<◌, ◌+◌, ◌-◌, ◌*◌, ◌/◌, ◌==◌, ℕ, zero, suc, Bool, true, false, cond, nat_lt, nat_le, List, [], ◌∷◌, map, filter_map, length, drop, slice_get, Option, Some, None, option_map, All, refl, sym, ◌∙◌, ap, subst, inl, inr, arith}
+use Rattle.std.proofs.Common.{◌≡◌, ◌≢◌, ◌⊎◌, ◌≤◌, ◌<◌, ◌+◌, ◌-◌, ◌*◌, ◌/◌, ◌==◌, ℕ, zero, suc, Bool, true, false, cond}
+use Rattle.std.proofs.Common.{nat_lt, nat_le, List, [], ◌∷◌, map, filter_map, length, drop, slice_get, Option, Some}
+use Rattle.std.proofs.Common.{None, option_map, All, refl, sym, ◌∙◌, ap, subst, inl, inr, arith}
 use Rattle.std.specs.List.{cons_option}
 use Rattle.std.proofs.lemmas.Bool.{ltb-true, ltb-false, leb-false, eqb-true, eqb-false}
 use Rattle.std.proofs.lemmas.Option.{slice_get-map, slice_get_within}
@@ -21,7 +24,8 @@ use Rattle.cjc_types.specs.Cells.{IsCellBelow}
 use Rattle.cjc_types.specs.States.{most_cells, IsStackBelow}
 use Rattle.cjc_types.specs.Types.{parts, is_void, value_of, result_of}
 use Rattle.cjc_types.specs.Steps.{operand, takes, gives, stack_behind, stack_after, after, shuffled}
-use Rattle.cjc_types.specs.Flow.{Body, entry, place_at, successors, edge, covers, caught, handler_edge, place_edges, type_flow}
+use Rattle.cjc_types.specs.Flow.{Body, entry, place_at, successors, edge, covers, caught, handler_edge, place_edges}
+use Rattle.cjc_types.specs.Flow.{type_flow}
 use Rattle.cjc_types.specs.Tables.{IsLeastTable}
 
 -- ---- so many values need so many places
@@ -31,7 +35,8 @@ strictly n k j f lt is other = go (nat_lt k n) refl
   where
     go : (b : Bool) → nat_lt k n ≡ b → k < n
     go true e = ltb-true k n e
-    go false e = let le = ltb-false k n e in let same : k ≡ n = omega (arith, le, lt) in absurd (other (sym (ap f same) ∙ is))
+    go false e = let le = ltb-false k n e in let same : k ≡ n = omega (arith, le, lt)
+        in absurd (other (sym (ap f same) ∙ is))
 
 abbrev pub HasValues : ℕ → ℕ → (ℕ → ℕ) → Type 0
 HasValues places values f = (j : ℕ) → j < values → (k : ℕ) × (k < places) × (f k ≡ j)
@@ -78,7 +83,8 @@ many_places (suc n) m f h = go (nat_lt (f n) m) refl (many_places n)
     go : (b : Bool) → nat_lt (f n) m ≡ b → ((values : ℕ) (g : ℕ → ℕ) → HasValues n values g → values ≤ n) → m ≤ suc n
     go false e rest =
         let le = ltb-false (f n) m e in
-        let most = rest m f (λ j lt. let w = h j lt in let is = w.2 in (w.0, strictly n w.0 j f w.1 is (λ same. omega (arith, le, lt, same)), is)) in
+        let most = rest m f (λ j lt. let w = h j lt in let is = w.2
+        in (w.0, strictly n w.0 j f w.1 is (λ same. omega (arith, le, lt, same)), is)) in
         omega (arith, most)
     go true e rest =
         let small = ltb-true (f n) m e in
@@ -93,7 +99,8 @@ sought (suc n) j f = go (f n == j) refl (sought n j f)
     none : f n ≢ j → ((k : ℕ) → k < n → f k ≢ j) → (k : ℕ) → k < suc n → f k ≢ j
     none last h k lt is = h k (strictly n k j f lt is last) is
 
-    go : (b : Bool) → (f n == j) ≡ b → ((k : ℕ) × (k < n) × (f k ≡ j)) ⊎ ((k : ℕ) → k < n → f k ≢ j) → ((k : ℕ) × (k < suc n) × (f k ≡ j)) ⊎ ((k : ℕ) → k < suc n → f k ≢ j)
+    go : (b : Bool) → (f n == j) ≡ b → ((k : ℕ) × (k < n) × (f k ≡ j)) ⊎ ((k : ℕ) → k < n → f k ≢ j)
+        → ((k : ℕ) × (k < suc n) × (f k ≡ j)) ⊎ ((k : ℕ) → k < suc n → f k ≢ j)
     go true e rest = inl (n, omega arith, eqb-true (f n) j e)
     go false e (inl found) = let lt = found.1 in inl (found.0, omega (arith, lt), found.2)
     go false e (inr none_below) = inr (none (eqb-false (f n) j e) none_below)
@@ -131,7 +138,8 @@ got_few false p = result_few p
 
 gives_few : (op : JOp) (locals s : List Cell) → length (gives op locals s) ≤ 6
 unfolding IsShort
-gives_few (jop.Stack opcode) locals s = let few : length (shuffled opcode) ≤ 6 = shuffled_few opcode in let same = length-map (shuffled opcode) (operand s) in omega (arith, few, same)
+gives_few (jop.Stack opcode) locals s = let few : length (shuffled opcode) ≤ 6 = shuffled_few opcode in let same =
+    length-map (shuffled opcode) (operand s) in omega (arith, few, same)
 gives_few (jop.Static put field) locals s = got_few put (parts field.desc).result
 gives_few (jop.Field put field) locals s = got_few put (parts field.desc).result
 gives_few (jop.Call opcode method) locals s = result_few (parts method.desc).result
@@ -150,7 +158,8 @@ abbrev pub IsUnder : ℕ → Stack → Type 0
 IsUnder n (Cells s) = length s < n
 IsUnder n Clash = Unit {0}
 
-after_under : (op : JOp) (locals : List Cell) (n : ℕ) (s : Stack) → IsUnder n s → IsUnder (n + 6) (stack_after op locals s)
+after_under : (op : JOp) (locals : List Cell) (n : ℕ) (s : Stack) → IsUnder n s
+    → IsUnder (n + 6) (stack_after op locals s)
 after_under op locals n Clash h = tt
 after_under op locals n (Cells s) h = go (nat_le (length (stack_behind op locals s)) most_cells)
   where
@@ -158,21 +167,28 @@ after_under op locals n (Cells s) h = go (nat_le (length (stack_behind op locals
     go true = let few = behind_few op locals s in omega (arith, few, h)
     go false = tt
 
-handlers_under : (insns : List JInsn) (offset n : ℕ) (x : State) (catches : List Catch) → All (λ (e : Edge State). IsUnder (n + 6) e.state.stack) (filter_map (handler_edge insns offset x) catches)
+handlers_under : (insns : List JInsn) (offset n : ℕ) (x : State) (catches : List Catch)
+    → All (λ (e : Edge State). IsUnder (n + 6) e.state.stack) (filter_map (handler_edge insns offset x) catches)
 handlers_under insns offset n x [] = All-nil (λ (e : Edge State). IsUnder (n + 6) e.state.stack)
-handlers_under insns offset n x (c ∷ cs) = go (covers c offset) (place_at insns c.target) (handlers_under insns offset n x cs)
+handlers_under insns offset n x (c ∷ cs) = go (covers c offset) (place_at insns c.target) (handlers_under insns offset n
+    x cs)
   where
-    go : (is : Bool) (to : Option ℕ) → All (λ (e : Edge State). IsUnder (n + 6) e.state.stack) (filter_map (handler_edge insns offset x) cs)
-        → All (λ (e : Edge State). IsUnder (n + 6) e.state.stack) (cons_option (cond is (option_map (edge (caught c x)) to) None) (filter_map (handler_edge insns offset x) cs))
+    go : (is : Bool) (to : Option ℕ) → All (λ (e : Edge State). IsUnder (n + 6) e.state.stack)
+        (filter_map (handler_edge insns offset x) cs)
+        → All (λ (e : Edge State). IsUnder (n + 6) e.state.stack)
+        (cons_option (cond is (option_map (edge (caught c x)) to) None) (filter_map (handler_edge insns offset x)
+        cs))
     go false to rest = rest
     go true None rest = rest
     go true (Some to) rest = All-cons (λ (e : Edge State). IsUnder (n + 6) e.state.stack) _ _ (omega arith) rest
 
-edges_under : (b : Body) (at n : ℕ) (insn : Option JInsn) (x : State) → IsUnder n x.stack → All (λ (e : Edge State). IsUnder (n + 6) e.state.stack) (place_edges b at insn x)
+edges_under : (b : Body) (at n : ℕ) (insn : Option JInsn) (x : State) → IsUnder n x.stack
+    → All (λ (e : Edge State). IsUnder (n + 6) e.state.stack) (place_edges b at insn x)
 edges_under b at n None x h = All-nil (λ (e : Edge State). IsUnder (n + 6) e.state.stack)
 edges_under b at n (Some insn) x h =
     All-append (λ (e : Edge State). IsUnder (n + 6) e.state.stack) _ _
-    (All-map (λ (e : Edge State). IsUnder (n + 6) e.state.stack) (edge (after insn.op x)) (successors b.insns at insn.op) (λ k d lt. after_under insn.op x.locals n x.stack h))
+    (All-map (λ (e : Edge State). IsUnder (n + 6) e.state.stack) (edge (after insn.op x)) (successors b.insns at
+    insn.op) (λ k d lt. after_under insn.op x.locals n x.stack h))
     (handlers_under b.insns insn.at n x b.catches)
 
 under_above : (n : ℕ) (s t : Stack) → IsStackBelow s t → IsUnder n s → IsUnder n t
@@ -206,10 +222,12 @@ under_kept n x (Cells s) h = go (nat_lt (length s) n) refl
     go true f = refl
     go false f = let le = ltb-false (length s) n f in absurd (omega (arith, le, h))
 
-pub lower_row : (n : ℕ) (rows : List (Option State)) (k : ℕ) (y : State) → HasRow (map (lower n) rows) k y → HasRow rows k y × IsUnder n y.stack
+pub lower_row : (n : ℕ) (rows : List (Option State)) (k : ℕ) (y : State) → HasRow (map (lower n) rows) k y
+    → HasRow rows k y × IsUnder n y.stack
 lower_row n rows k y h = go (slice_get rows k) refl (sym (slice_get-map (lower n) rows k) ∙ h)
   where
-    go : (o : Option (Option State)) → slice_get rows k ≡ o → option_map (lower n) o ≡ Some (Some y) → HasRow rows k y × IsUnder n y.stack
+    go : (o : Option (Option State)) → slice_get rows k ≡ o → option_map (lower n) o ≡ Some (Some y) → HasRow rows k y
+        × IsUnder n y.stack
     go None e f = absurd cc
     go (Some None) e f = absurd cc
     go (Some (Some x)) e f =
@@ -217,28 +235,39 @@ lower_row n rows k y h = go (slice_get rows k) refl (sym (slice_get-map (lower n
         let m = kept_under n x y x.stack is in
         (e ∙ ap (λ (z : State). Some (Some z)) m.0, subst (λ (z : State). IsUnder n z.stack) m.0 m.1)
 
-row_lower : (n : ℕ) (rows : List (Option State)) (k : ℕ) (y : State) → HasRow rows k y → IsUnder n y.stack → HasRow (map (lower n) rows) k y
-row_lower n rows k y e h = slice_get-map (lower n) rows k ∙ ap (option_map (lower n)) e ∙ ap Some (under_kept n y y.stack h)
+row_lower : (n : ℕ) (rows : List (Option State)) (k : ℕ) (y : State) → HasRow rows k y → IsUnder n y.stack
+    → HasRow (map (lower n) rows) k y
+row_lower n rows k y e h = slice_get-map (lower n) rows k ∙ ap (option_map (lower n)) e
+    ∙ ap Some (under_kept n y y.stack h)
 
 -- no row has a height in the block of six below n + 6
 abbrev pub HasGap : ℕ → List (Option State) → Type 0
 HasGap n rows = (k : ℕ) (x : State) → HasRow rows k x → IsUnder (n + 6) x.stack → IsUnder n x.stack
 
-pub covers_lower : (b : Body) (n : ℕ) (rows : List (Option State)) (k : ℕ) (x : State) → IsUnder n x.stack → Covers (type_flow b) rows k x → Covers (type_flow b) (map (lower n) rows) k x
-covers_lower b n rows k x h c = record { row = c.row; is_row = row_lower n rows k c.row c.is_row (under_above n x.stack c.row.stack c.above.0 h); above = c.above }
+pub covers_lower : (b : Body) (n : ℕ) (rows : List (Option State)) (k : ℕ) (x : State) → IsUnder n x.stack
+    → Covers (type_flow b) rows k x → Covers (type_flow b) (map (lower n) rows) k x
+covers_lower b n rows k x h c = record {
+  row = c.row;
+  is_row = row_lower n rows k c.row c.is_row (under_above n x.stack
+      c.row.stack c.above.0 h);
+  above = c.above;
+}
 
-lower_closed : (b : Body) (n : ℕ) (rows : List (Option State)) → HasGap n rows → IsClosed (type_flow b) (length b.insns) rows → IsClosed (type_flow b) (length b.insns) (map (lower (n + 6)) rows)
+lower_closed : (b : Body) (n : ℕ) (rows : List (Option State)) → HasGap n rows
+    → IsClosed (type_flow b) (length b.insns) rows → IsClosed (type_flow b) (length b.insns) (map (lower (n + 6)) rows)
 lower_closed b n rows gap closed = record {
   sized = length-map rows (lower (n + 6)) ∙ closed.sized;
   own = λ k x h. closed.own k x (lower_row (n + 6) rows k x h).0;
   entry = λ some. covers_lower b (n + 6) rows 0 (entry b) (omega arith) (closed.entry some);
   steps = λ k x h e is.
       let m = lower_row (n + 6) rows k x h in
-      covers_lower b (n + 6) rows e.to e.state (All-contains (λ (e : Edge State). IsUnder (n + 6) e.state.stack) _ e (edges_under b k n (slice_get b.insns k) x (gap k x m.0 m.1)) is) (closed.steps k x m.0 e is);
+      covers_lower b (n + 6) rows e.to e.state (All-contains (λ (e : Edge State). IsUnder (n + 6) e.state.stack) _ e
+      (edges_under b k n (slice_get b.insns k) x (gap k x m.0 m.1)) is) (closed.steps k x m.0 e is);
 }
 
 -- above a gap there is no row
-none_above : (b : Body) (n : ℕ) (rows : List (Option State)) → IsLeastTable b rows → HasGap n rows → (k : ℕ) (x : State) → HasRow rows k x → IsUnder (n + 6) x.stack
+none_above : (b : Body) (n : ℕ) (rows : List (Option State)) → IsLeastTable b rows → HasGap n rows → (k : ℕ) (x : State)
+    → HasRow rows k x → IsUnder (n + 6) x.stack
 none_above b n rows is gap k x h =
     let up = is.least (map (lower (n + 6)) rows) (lower_closed b n rows gap is.closed) k x h in
     let m = lower_row (n + 6) rows k up.row up.is_row in
@@ -268,7 +297,8 @@ height_under n (Cells s) some h = h
 height_under n Clash some h = some
 
 -- each block of heights up to that of a row has a row
-each_block : (b : Body) (rows : List (Option State)) → IsLeastTable b rows → (k : ℕ) (x : State) → HasRow rows k x → HasValues (length rows) (height x.stack / 6 + 1) (block rows)
+each_block : (b : Body) (rows : List (Option State)) → IsLeastTable b rows → (k : ℕ) (x : State) → HasRow rows k x
+    → HasValues (length rows) (height x.stack / 6 + 1) (block rows)
 each_block b rows is k x h j lt = go (sought (length rows) j (block rows))
   where
     own_block : block rows k ≡ height x.stack / 6
@@ -282,25 +312,31 @@ each_block b rows is k x h j lt = go (sought (length rows) j (block rows))
         let apart : height y.stack / 6 ≢ j = λ e. other (at ∙ e) in
         under_of (6 * j) y.stack (omega (arith, low, apart))
 
-    go : ((i : ℕ) × (i < length rows) × (block rows i ≡ j)) ⊎ ((i : ℕ) → i < length rows → block rows i ≢ j) → (i : ℕ) × (i < length rows) × (block rows i ≡ j)
+    go : ((i : ℕ) × (i < length rows) × (block rows i ≡ j)) ⊎ ((i : ℕ) → i < length rows → block rows i ≢ j) → (i : ℕ)
+        × (i < length rows) × (block rows i ≡ j)
     go (inl found) = found
     go (inr none) =
         let low = height_under (6 * j + 6) x.stack (omega arith) (none_above b (6 * j) rows is (gap none) k x h) in
         let same : height x.stack / 6 ≡ j = omega (arith, low, lt) in
         absurd (none k (slice_get_within rows k (Some x) h) (own_block ∙ same))
 
-height_few : (b : Body) (rows : List (Option State)) → IsLeastTable b rows → (k : ℕ) (x : State) → HasRow rows k x → height x.stack < 6 * length b.insns
+height_few : (b : Body) (rows : List (Option State)) → IsLeastTable b rows → (k : ℕ) (x : State) → HasRow rows k x
+    → height x.stack < 6 * length b.insns
 height_few b rows is k x h =
     let most = many_places (length rows) (height x.stack / 6 + 1) (block rows) (each_block b rows is k x h) in
     let sized = is.closed.sized in
     omega (arith, most, sized)
 
 -- the limit of stacks is never met
-pub not_cut : (b : Body) (rows : List (Option State)) → IsLeastTable b rows → length b.insns ≤ 65535 → (k : ℕ) (x : State) (s : List Cell) (op : JOp) → HasRow rows k x → x.stack ≡ Cells s → stack_after op x.locals x.stack ≡ Cells (stack_behind op x.locals s)
+pub not_cut : (b : Body) (rows : List (Option State)) → IsLeastTable b rows → length b.insns ≤ 65535
+    → (k : ℕ) (x : State) (s : List Cell) (op : JOp) → HasRow rows k x → x.stack ≡ Cells s
+    → stack_after op x.locals x.stack ≡ Cells (stack_behind op x.locals s)
 unfolding most_cells
-not_cut b rows is few k x s op h e = ap (stack_after op x.locals) e ∙ go (nat_le (length (stack_behind op x.locals s)) most_cells) refl
+not_cut b rows is few k x s op h e = ap (stack_after op x.locals) e
+    ∙ go (nat_le (length (stack_behind op x.locals s)) most_cells) refl
   where
-    go : (b' : Bool) → nat_le (length (stack_behind op x.locals s)) most_cells ≡ b' → cond b' (Cells (stack_behind op x.locals s)) Clash ≡ Cells (stack_behind op x.locals s)
+    go : (b' : Bool) → nat_le (length (stack_behind op x.locals s)) most_cells ≡ b'
+        → cond b' (Cells (stack_behind op x.locals s)) Clash ≡ Cells (stack_behind op x.locals s)
     go true f = refl
     go false f =
         let low = height_few b rows is k x h in

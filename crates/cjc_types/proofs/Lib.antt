@@ -20,3 +20,4 @@ pub mod Telling
 pub mod Typed
 pub mod Upper
 pub mod Wrong
+pub mod TypeLaws

@@ -1,5 +1,7 @@
 -- The types of a method as a dataflow problem, whose places are its instructions.
-use Rattle.std.specs.Prelude.{ℕ, ◌+◌, Bool, true, false, ◌==◌, ◌&&◌, nat_lt, nat_le, if◌then◌else◌, List, [], ◌∷◌, ◌++◌, map, length, take, replicate, position, slice_get, filter_map, Option, Some, None, option_map, codes}
+use Rattle.std.specs.Prelude.{ℕ, ◌+◌, Bool, true, false, ◌==◌, ◌&&◌, nat_lt, nat_le, if◌then◌else◌, List, [], ◌∷◌, ◌++◌}
+use Rattle.std.specs.Prelude.{map, length, take, replicate, position, slice_get, filter_map, Option, Some, None}
+use Rattle.std.specs.Prelude.{option_map, codes}
 use Rattle.cjc_classfile.specs.Code.{CodeTree}
 use Rattle.cjc_classfile.specs.declared.tree.Catch.{Catch}
 use Rattle.cjc_classfile.specs.declared.tree.ClassTree.{ClassTree}
@@ -87,13 +89,15 @@ caught c x = record { stack = Cells (Refs (caught_type c.class ∷ []) ∷ []); 
 
 -- what an instruction at this offset hands to the handler: nothing if the handler does not cover it
 abbrev pub handler_edge : List JInsn → (offset : ℕ) → State → Catch → Option (Edge State)
-handler_edge insns offset x c = if covers c offset then option_map (edge (caught c x)) (place_at insns c.target) else None
+handler_edge insns offset x c = if covers c offset then option_map (edge (caught c x)) (place_at insns c.target)
+    else None
 
 -- ---- the flow
 
 -- what an instruction hands to those that may follow, and to the handlers that cover it
 abbrev pub insn_edges : Body → (at : ℕ) → JInsn → State → List (Edge State)
-insn_edges b at insn x = map (edge (after insn.op x)) (successors b.insns at insn.op) ++ filter_map (handler_edge b.insns insn.at x) b.catches
+insn_edges b at insn x = map (edge (after insn.op x)) (successors b.insns at insn.op)
+    ++ filter_map (handler_edge b.insns insn.at x) b.catches
 
 -- what is handed on from a place; where there is no instruction, nothing
 abbrev pub place_edges : Body → (at : ℕ) → Option JInsn → State → List (Edge State)

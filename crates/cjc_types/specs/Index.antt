@@ -4,4 +4,5 @@ use Rattle.cjc_code.specs.declared.insn.JInsn.{JInsn}
 
 -- The offsets ascend.
 abbrev pub AreInOrder : List JInsn → Type 0
-AreInOrder insns = (j k : ℕ) (x y : JInsn) → slice_get insns j ≡ Some x → slice_get insns k ≡ Some y → j < k → x.at < y.at
+AreInOrder insns = (j k : ℕ) (x y : JInsn) → slice_get insns j ≡ Some x → slice_get insns k ≡ Some y → j < k
+    → x.at < y.at

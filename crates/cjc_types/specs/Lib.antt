@@ -15,3 +15,4 @@ pub mod Search
 pub mod Typed
 pub mod Walks
 pub mod Among
+pub mod TypeLaws

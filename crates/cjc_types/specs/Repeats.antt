@@ -1,5 +1,6 @@
 -- Which places hand nothing to handlers but what the place before hands to them.
-use Rattle.std.specs.Prelude.{◌≡◌, ℕ, suc, ◌-◌, ◌<◌, ◌≤◌, ◌==◌, Bool, true, false, ◌||◌, if◌then◌else◌, is_some, List, get_or, slice_get, Option, Some, None}
+use Rattle.std.specs.Prelude.{◌≡◌, ℕ, suc, ◌-◌, ◌<◌, ◌≤◌, ◌==◌, Bool, true, false, ◌||◌, if◌then◌else◌, is_some, List}
+use Rattle.std.specs.Prelude.{get_or, slice_get, Option, Some, None}
 use Rattle.std.specs.List.{Contains}
 use Rattle.cjc_classfile.specs.declared.tree.Catch.{Catch}
 use Rattle.cjc_code.specs.declared.insn.JInsn.{JInsn}
@@ -11,12 +12,14 @@ use Rattle.cjc_types.specs.Marks.{marks_of}
 
 -- each instruction before the place is before the offset, and no other is
 abbrev pub IsFrom : List JInsn → (offset place : ℕ) → Type 0
-IsFrom insns offset place = (k : ℕ) (i : JInsn) → slice_get insns k ≡ Some i → (k < place → i.at < offset) × (place ≤ k → offset ≤ i.at)
+IsFrom insns offset place = (k : ℕ) (i : JInsn) → slice_get insns k ≡ Some i → (k < place → i.at < offset)
+    × (place ≤ k → offset ≤ i.at)
 
 -- where no range of a handler begins or ends, the handler is that of the place before or of neither
 abbrev pub CoverAlike : List JInsn → (bounds : List Bool) → List Catch → Type 0
 CoverAlike insns bounds catches =
-    (c : Catch) → Contains catches c → (at : ℕ) (i j : JInsn) → slice_get insns at ≡ Some i → slice_get insns (suc at) ≡ Some j → get_or bounds (suc at) false ≡ false → covers c i.at ≡ covers c j.at
+    (c : Catch) → Contains catches c → (at : ℕ) (i j : JInsn) → slice_get insns at ≡ Some i → slice_get insns (suc at)
+    ≡ Some j → get_or bounds (suc at) false ≡ false → covers c i.at ≡ covers c j.at
 
 -- whether an instruction leaves all locals as they are
 abbrev pub keeps_locals : JOp → Bool
@@ -41,4 +44,5 @@ repeats_by false (Some i) (Some j) = if jumps j.op then false else keeps_locals 
 
 -- the place is neither marked nor at a bound, the instruction before it keeps the locals, and its own does not jump
 abbrev pub repeats_at : Body → (bounds : List Bool) → (at : ℕ) → Bool
-repeats_at b bounds at = if at == 0 then false else repeats_by (is_some (mark_of (marks_of b) at) || get_or bounds at false) (slice_get b.insns (at - 1)) (slice_get b.insns at)
+repeats_at b bounds at = if at == 0 then false else repeats_by (is_some (mark_of (marks_of b) at)
+    || get_or bounds at false) (slice_get b.insns (at - 1)) (slice_get b.insns at)

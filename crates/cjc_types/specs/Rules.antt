@@ -1,5 +1,6 @@
 -- Rules 501, 502 and 503 over what is known before an instruction.
-use Rattle.std.specs.Prelude.{◌≡◌, ℕ, ◌+◌, ◌-◌, Bool, true, false, not, ◌==◌, ◌&&◌, ◌||◌, nat_lt, if◌then◌else◌, List, [], ◌∷◌, length, get_or, Option, Some, None, codes}
+use Rattle.std.specs.Prelude.{◌≡◌, ℕ, ◌+◌, ◌-◌, Bool, true, false, not, ◌==◌, ◌&&◌, ◌||◌, nat_lt, if◌then◌else◌, List}
+use Rattle.std.specs.Prelude.{[], ◌∷◌, length, get_or, Option, Some, None, codes}
 use Rattle.std.specs.List.{list_all}
 use Rattle.std.specs.Str.{bytes_eq}
 use Rattle.cjc_bytes.specs.Descriptor.{Part}
@@ -103,9 +104,11 @@ names_private w id = is_found_private w (find_method w id.class id.name id.desc)
 
 -- invokespecial of a method that is neither a constructor nor private
 abbrev pub is_super_call : List Class → (opcode : ℕ) → MemberId → Bool
-is_super_call w opcode id = (opcode == jvm.invokespecial) && not (bytes_eq id.name (codes "<init>")) && not (names_private w id)
+is_super_call w opcode id = (opcode == jvm.invokespecial) && not (bytes_eq id.name (codes "<init>"))
+    && not (names_private w id)
 
--- the class that the receiver of a call is of: of a call by super the class that holds the code, else the one that is named
+-- the class that the receiver of a call is of: of a call by super the class that holds the code, else the one that is
+-- named
 abbrev pub receiver_class : List Class → Body → (opcode : ℕ) → MemberId → List ℕ
 receiver_class w b opcode id = if is_super_call w opcode id then b.class else id.class
 
@@ -121,7 +124,8 @@ is_argument w b opcode id k cell =
 
 -- if_acmpeq, if_acmpne, ifnull and ifnonnull
 abbrev pub tests_references : (opcode : ℕ) → Bool
-tests_references opcode = (opcode == jvm.if_acmpeq) || (opcode == jvm.if_acmpne) || (opcode == jvm.ifnull) || (opcode == jvm.ifnonnull)
+tests_references opcode = (opcode == jvm.if_acmpeq) || (opcode == jvm.if_acmpne) || (opcode == jvm.ifnull)
+    || (opcode == jvm.ifnonnull)
 
 -- the operands of an array load from the top: the index, the array
 abbrev pub is_load_operand : (opcode : ℕ) → ℕ → Cell → Bool
@@ -180,7 +184,8 @@ has_wrong w b op count k (x ∷ xs) = (nat_lt k count && not (accepts w b op k x
 
 -- the local that an instruction loads or changes is of the wrong kind
 abbrev pub has_wrong_local : JOp → (locals : List Cell) → Bool
-has_wrong_local (jop.Load refs i) locals = not (if refs then is_reference (operand locals i) else is_number (operand locals i))
+has_wrong_local (jop.Load refs i) locals = not (if refs then is_reference (operand locals i)
+    else is_number (operand locals i))
 has_wrong_local (jop.Inc i by) locals = not (is_number (operand locals i))
 has_wrong_local _ locals = false
 
@@ -207,7 +212,8 @@ is_wrong w b op locals s = has_wrong w b op (takes op) 0 s || has_wrong_local op
 
 -- fewer cells than the instruction takes, or more than max_stack before or behind it
 abbrev pub is_off : Body → JOp → (locals stack : List Cell) → Bool
-is_off b op locals s = nat_lt (length s) (takes op) || nat_lt b.max_stack (length s) || nat_lt b.max_stack (length (stack_behind op locals s))
+is_off b op locals s = nat_lt (length s) (takes op) || nat_lt b.max_stack (length s)
+    || nat_lt b.max_stack (length (stack_behind op locals s))
 
 -- ---- the rules
 
@@ -215,13 +221,16 @@ is_off b op locals s = nat_lt (length s) (takes op) || nat_lt b.max_stack (lengt
 pub data Breaks (w : List Class) (b : Body) (op : JOp) : State → ℕ → Type 0 where
   -- ways with stacks of different heights lead here
   clash : (locals : List Cell) → Breaks w b op (record { stack = Clash; locals = locals }) 501
-  wrong : (s locals : List Cell) → is_wrong w b op locals s ≡ true → Breaks w b op (record { stack = Cells s; locals = locals }) 502
-  off : (s locals : List Cell) → is_off b op locals s ≡ true → Breaks w b op (record { stack = Cells s; locals = locals }) 503
+  wrong : (s locals : List Cell) → is_wrong w b op locals s ≡ true
+      → Breaks w b op (record { stack = Cells s; locals = locals }) 502
+  off : (s locals : List Cell) → is_off b op locals s ≡ true
+      → Breaks w b op (record { stack = Cells s; locals = locals }) 503
 
 -- the first rule that an instruction breaks on this stack with these locals
 abbrev pub rule_of_stack : List Class → Body → JOp → (locals : List Cell) → Stack → Option ℕ
 rule_of_stack w b op locals Clash = Some 501
-rule_of_stack w b op locals (Cells s) = if is_wrong w b op locals s then Some 502 else if is_off b op locals s then Some 503 else None
+rule_of_stack w b op locals (Cells s) = if is_wrong w b op locals s then Some 502 else if is_off b op locals s
+    then Some 503 else None
 
 -- the first rule that the state before an instruction breaks
 unfoldable pub first_rule : List Class → Body → JOp → State → Option ℕ

@@ -25,7 +25,8 @@ or_later None place later = later
 abbrev pub first_from : List Class → Body → (place : ℕ) → List JInsn → List (Option State) → Option FirstBroken
 first_from w b place [] rows = None
 first_from w b place (insn ∷ insns) [] = None
-first_from w b place (insn ∷ insns) (row ∷ rows) = or_later (row_rule w b insn row) place (first_from w b (place + 1) insns rows)
+first_from w b place (insn ∷ insns) (row ∷ rows) = or_later (row_rule w b insn row) place (first_from w b (place + 1)
+    insns rows)
 
 -- the cells of a stack; of a clash none
 abbrev pub cells_of : Stack → List Cell

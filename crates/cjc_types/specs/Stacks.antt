@@ -55,4 +55,10 @@ module _ {Cell : Type 0} (cells : Lattice Cell) where
 
   -- the stacks of such cells in their order, with their joins
   abbrev pub stacks_of : Lattice (StackOf Cell)
-  stacks_of = record { Own = IsStack; Below = IsStackBelow; join = joined_stack; rank = stack_rank; height = clash_rank }
+  stacks_of = record {
+    Own = IsStack;
+    Below = IsStackBelow;
+    join = joined_stack;
+    rank = stack_rank;
+    height = clash_rank;
+  }

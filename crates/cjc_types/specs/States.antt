@@ -62,4 +62,5 @@ stacks = record { Own = IsStack; Below = IsStackBelow; join = joined_stack; rank
 
 -- the states of a method with so many locals
 abbrev pub states : ℕ → Lattice State
-states max_locals = parts_of stacks (lists_of cells max_locals) (λ (s : State). s.stack) (λ (s : State). s.locals) (λ stack locals. record { stack = stack; locals = locals })
+states max_locals = parts_of stacks (lists_of cells max_locals) (λ (s : State). s.stack) (λ (s : State). s.locals)
+    (λ stack locals. record { stack = stack; locals = locals })

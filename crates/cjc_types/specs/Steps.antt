@@ -1,6 +1,7 @@
 -- What each instruction takes from the stack, gives to it, and does to the locals (Java Virtual Machine Specification,
 -- section 6.5). Stacks have their top first.
-use Rattle.std.specs.Prelude.{ℕ, ◌+◌, Bool, true, false, ◌==◌, ◌&&◌, nat_le, if◌then◌else◌, List, [], ◌∷◌, ◌++◌, map, length, drop, get_or, slice_set}
+use Rattle.std.specs.Prelude.{ℕ, ◌+◌, Bool, true, false, ◌==◌, ◌&&◌, nat_le, if◌then◌else◌, List, [], ◌∷◌, ◌++◌, map}
+use Rattle.std.specs.Prelude.{length, drop, get_or, slice_set}
 use Rattle.cjc_code.specs.declared.insn.JOp.{JOp}
 use Rattle.cjc_code.specs.declared.insn.JOp.TheVariants as jop
 use Rattle.cjc_code.specs.declared.insn.JCase.{JCase}
@@ -129,7 +130,8 @@ stack_after op locals (Cells s) = stack_of (stack_behind op locals s)
 
 -- ---- locals
 
--- what a store puts into a local: istore a number, astore a reference or else nothing usable; so does a store from a clash
+-- what a store puts into a local: istore a number, astore a reference or else nothing usable; so does a store from a
+-- clash
 abbrev pub stored : (refs : Bool) → Stack → Cell
 stored refs Clash = Unusable
 stored true (Cells s) = as_reference (operand s 0)

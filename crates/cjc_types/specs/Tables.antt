@@ -1,5 +1,6 @@
 -- What inference answers: the least table of a method, or the first rule that it breaks.
-use Rattle.std.specs.Prelude.{◌≡◌, ◌⊎◌, ◌<◌, ◌≤◌, ℕ, List, ◌++◌, map, length, slice_get, Option, Some, option_map, Result, Ok, Err}
+use Rattle.std.specs.Prelude.{◌≡◌, ◌⊎◌, ◌<◌, ◌≤◌, ℕ, List, ◌++◌, map, length, slice_get, Option, Some, option_map}
+use Rattle.std.specs.Prelude.{Result, Ok, Err}
 use Rattle.cjc_bytes.specs.declared.fault.Fault.{Fault}
 use Rattle.cjc_bytes.specs.declared.fault.Fault.TheVariants as faults
 use Rattle.cjc_bytes.specs.declared.fault.Refusal.{Refusal}
@@ -27,7 +28,8 @@ use Rattle.cjc_types.specs.Rules.{Breaks}
 -- ---- which method
 
 -- A method of the package with its class, and the instructions that its code is.
-pub record IsMethodOf (files : Files) (code : MethodCode) (class : ClassTree) (method : MethodTree) (tree : CodeTree) : Type 0 where
+pub record IsMethodOf (files : Files) (code : MethodCode) (class : ClassTree) (method : MethodTree) (tree : CodeTree) :
+    Type 0 where
   pub is_class : slice_get files.classes code.class ≡ Some class
   pub is_method : slice_get class.methods code.method ≡ Some method
   pub is_code : method.code ≡ Some tree
@@ -36,7 +38,8 @@ pub record IsMethodOf (files : Files) (code : MethodCode) (class : ClassTree) (m
 
 -- the code is that of some method of the package
 abbrev pub IsOfPackage : Files → MethodCode → Type 0
-IsOfPackage files code = (class : ClassTree) × (method : MethodTree) × (tree : CodeTree) × IsMethodOf files code class method tree
+IsOfPackage files code = (class : ClassTree) × (method : MethodTree) × (tree : CodeTree)
+    × IsMethodOf files code class method tree
 
 -- ---- tables
 
@@ -48,7 +51,8 @@ state_of f = record { stack = Cells f.stack; locals = f.locals }
 abbrev pub states_of : List (Option Frame) → List (Option State)
 states_of frames = map (option_map state_of) frames
 
--- The states before all instructions, which the frames at marked ones stand for: where an instruction has no mark, the state is
+-- The states before all instructions, which the frames at marked ones stand for: where an instruction has no mark, the
+-- state is
 -- what the instruction before hands on.
 abbrev pub rows_of : Body → TypeTable → List (Option State)
 rows_of b table = full (type_flow b) (length b.insns) table.marks (states_of table.frames)
@@ -70,7 +74,8 @@ pub record Breach (w : List Class) (b : Body) (rows : List (Option State)) (plac
 -- No breach stands before this one: at an earlier instruction, or by a lower rule at the same.
 pub record FirstBreach (w : List Class) (b : Body) (rows : List (Option State)) (place rule : ℕ) : Type 0 where
   pub breach : Breach w b rows place rule
-  pub first : (other_place other_rule : ℕ) → Breach w b rows other_place other_rule → (place < other_place) ⊎ ((place ≡ other_place) × (rule ≤ other_rule))
+  pub first : (other_place other_rule : ℕ) → Breach w b rows other_place other_rule → (place < other_place)
+      ⊎ ((place ≡ other_place) × (rule ≤ other_rule))
 
 -- ---- what is answered
 
@@ -81,7 +86,8 @@ refusal_in file class method broken = record {
   place = record { file = file; class = class.name; member = method.name ++ method.desc; offset = broken.offset };
 }
 
--- The table has the marked places with their frames and stands for the least one, and no reached instruction breaks a rule.
+-- The table has the marked places with their frames and stands for the least one, and no reached instruction breaks a
+-- rule.
 pub record IsTypeTable (w : List Class) (b : Body) (table : TypeTable) : Type 0 where
   pub marks : table.marks ≡ marks_of b
   pub stands : StandsForLeast (type_flow b) (length b.insns) table.marks (states_of table.frames)
@@ -101,11 +107,13 @@ IsBroken w b e = (e ≡ errors.NoMemory) ⊎ ((broken : BrokenAt) × IsBrokenBy 
 
 -- The refusal is that of the first breach.
 abbrev pub IsRefusedBy : List Class → (file : List ℕ) → ClassTree → MethodTree → Body → Refusal → Type 0
-IsRefusedBy w file class method b r = (broken : BrokenAt) × IsBrokenBy w b broken × (r ≡ refusal_in file class method broken)
+IsRefusedBy w file class method b r = (broken : BrokenAt) × IsBrokenBy w b broken
+    × (r ≡ refusal_in file class method broken)
 
 -- The error is the refusal of the first breach, or that memory ran out.
 abbrev pub IsRefused : List Class → (file : List ℕ) → ClassTree → MethodTree → Body → Fault → Type 0
-IsRefused w file class method b e = (e ≡ faults.NoMemory) ⊎ ((r : Refusal) × IsRefusedBy w file class method b r × (e ≡ faults.Refused r))
+IsRefused w file class method b e = (e ≡ faults.NoMemory) ⊎ ((r : Refusal) × IsRefusedBy w file class method b r
+    × (e ≡ faults.Refused r))
 
 -- This is answered unless memory ran out.
 abbrev pub IsAnswer : (wanted result : Result TypeTable InferError) → Type 0

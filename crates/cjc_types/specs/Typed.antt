@@ -20,7 +20,8 @@ abbrev pub Leads : Body → List (Option State) → (place : ℕ) → State → 
 Leads b rows place x = Covers (type_flow b) rows place x
 
 -- The instruction at this place, before which the frame is this one, has what it takes, and hands on what it gives.
-pub record IsTyped (w : List Class) (b : Body) (rows : List (Option State)) (place : ℕ) (insn : JInsn) (frame : Frame) : Type 0 where
+pub record IsTyped (w : List Class) (b : Body) (rows : List (Option State)) (place : ℕ) (insn : JInsn) (frame : Frame) :
+    Type 0 where
   -- so many locals
   pub locals : IsListOf cells b.max_locals frame.locals
   -- the operands are there, and each is of its kind and class
@@ -33,12 +34,15 @@ pub record IsTyped (w : List Class) (b : Body) (rows : List (Option State)) (pla
   pub room : length frame.stack ≤ b.max_stack
   pub room_behind : length (stack_behind insn.op frame.locals frame.stack) ≤ b.max_stack
   -- those that may follow and the handlers know of it
-  pub next : (to : ℕ) → Contains (successors b.insns place insn.op) to → Leads b rows to (after insn.op (state_of frame))
-  pub handled : (c : Catch) → Contains b.catches c → covers c insn.at ≡ true → (to : ℕ) → place_at b.insns c.target ≡ Some to → Leads b rows to (caught c (state_of frame))
+  pub next : (to : ℕ) → Contains (successors b.insns place insn.op) to
+      → Leads b rows to (after insn.op (state_of frame))
+  pub handled : (c : Catch) → Contains b.catches c → covers c insn.at ≡ true → (to : ℕ) → place_at b.insns c.target
+      ≡ Some to → Leads b rows to (caught c (state_of frame))
 
 -- Each instruction that the table reaches is so.
 abbrev pub AreTyped : List Class → Body → TypeTable → Type 0
-AreTyped w b table = (place : ℕ) (insn : JInsn) (frame : Frame) → slice_get b.insns place ≡ Some insn → HasRow (rows_of b table) place (state_of frame) → IsTyped w b (rows_of b table) place insn frame
+AreTyped w b table = (place : ℕ) (insn : JInsn) (frame : Frame) → slice_get b.insns place ≡ Some insn
+    → HasRow (rows_of b table) place (state_of frame) → IsTyped w b (rows_of b table) place insn frame
 
 -- Each row of these is a frame's state.
 abbrev pub AreFrames : List (Option State) → Type 0

@@ -17,8 +17,10 @@ place_state (place, frame) = (place, option_map state_of frame)
 abbrev pub IsNextFrame : Walking State → Walking State → Option (ℕ × Option Frame) → Type 0
 IsNextFrame old new given = IsNext old new (option_map place_state given)
 
--- What holds between two calls: `mark` marks lie before the place `at`, which is handed this frame where it has no mark.
+-- What holds between two calls: `mark` marks lie before the place `at`, which is handed this frame where it has no
+-- mark.
 pub record IsTypeWalk (b : Body) (types : TypeTable) (at mark : ℕ) (handed : Option Frame) : Type 0 where
   pub framed : AreFrames (rows_of b types)
   pub marks : types.marks ≡ marks_of b
-  pub walk : IsWalk (type_flow b) (length b.insns) types.marks (states_of types.frames) at mark (option_map state_of handed)
+  pub walk : IsWalk (type_flow b) (length b.insns) types.marks (states_of types.frames) at mark
+      (option_map state_of handed)

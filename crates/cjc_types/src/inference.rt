@@ -7,7 +7,8 @@ ghost use Rattle.cjc_types.specs.Search.{row_rule, first_from, frames_of};
 ghost use Rattle.cjc_fixpoint.specs.Kept.{StandsForLeast, full};
 ghost use Rattle.cjc_types.specs.Flow.{body_of, type_flow};
 ghost use Rattle.cjc_types.specs.Marks.{marks_of as marks_by};
-ghost use Rattle.cjc_types.specs.Tables.{Answers, IsAnswer, IsBroken, IsBrokenBy, IsMethodOf, IsOfPackage, IsRefused, IsRefusedBy, IsTypeTable, refusal_in};
+ghost use Rattle.cjc_types.specs.Tables.{Answers, IsAnswer, IsBroken, IsBrokenBy, IsMethodOf, IsOfPackage, IsRefused};
+ghost use Rattle.cjc_types.specs.Tables.{IsRefusedBy, IsTypeTable, refusal_in};
 ghost use Rattle.cjc_types.specs.Working.Told.{ToldAs};
 ghost use Rattle.cjc_types.specs.declared.inference.InferError.TheVariants as errors;
 ghost use Rattle.cjc_bytes.specs.declared.breaks.BrokenAt.{BrokenAt as Wrong};
@@ -84,8 +85,11 @@ fn first_broken(
     marked: &MarkedMethod<'_>,
     table: &Table<State>,
 ) -> Result<Option<FirstBroken>, NoMemory>
-    requires { StandsForLeast (type_flow marked.now.method.now) (length marked.now.method.now.insns) table.now.marks table.now.rows }
-    ensures first { IfOk result (λ first. first ≡ first_from (all_classes world.now) marked.now.method.now 0 marked.now.method.now.insns (full (type_flow marked.now.method.now) (length marked.now.method.now.insns) table.now.marks table.now.rows)) }
+    requires { StandsForLeast (type_flow marked.now.method.now) (length marked.now.method.now.insns) table.now.marks
+        table.now.rows }
+    ensures first { IfOk result (λ first. first ≡ first_from (all_classes world.now) marked.now.method.now 0
+        marked.now.method.now.insns (full (type_flow marked.now.method.now) (length marked.now.method.now.insns)
+        table.now.marks table.now.rows)) }
     ensures within { IfOk result (λ first. IfSome first (λ f. f.place < length marked.now.method.now.insns)) }
 {
     let method = marked.method;
@@ -138,7 +142,8 @@ fn refused(
 /// The least table of a method, with rows at its marks.
 fn least_table(alloc: Global, marked: &MarkedMethod<'_>) -> Result<Table<State>, NoMemory>
     ensures marks { IfOk result (λ table. table.marks ≡ marks_by marked.now.method.now) }
-    ensures stands { IfOk result (λ table. StandsForLeast (type_flow marked.now.method.now) (length marked.now.method.now.insns) table.marks table.rows) }
+    ensures stands { IfOk result (λ table. StandsForLeast (type_flow marked.now.method.now)
+        (length marked.now.method.now.insns) table.marks table.rows) }
 {
     solve(alloc, marked, marked.method.places(), marked.marks)
 }
@@ -151,7 +156,8 @@ fn judged(
     table: Table<State>,
 ) -> Result<TypeTable, InferError>
     requires marks { table.marks ≡ marks_by marked.now.method.now }
-    requires stands { StandsForLeast (type_flow marked.now.method.now) (length marked.now.method.now.insns) table.marks table.rows }
+    requires stands { StandsForLeast (type_flow marked.now.method.now) (length marked.now.method.now.insns) table.marks
+        table.rows }
     ensures { Answers (all_classes world.now) marked.now.method.now result }
 {
     let method = marked.method;
@@ -206,13 +212,15 @@ pub fn infer_method(
     ensures inferred { (c : Class) (m : ClassMethod) (t : CodeTree) → IsMethodOf world.now code.now c m t
         → IfOk result (λ table. IsTypeTable (all_classes world.now) (body_of c m t code.now.insns) table) }
     ensures only { (c : Class) (m : ClassMethod) (t : CodeTree) → IsMethodOf world.now code.now c m t
-        → (table : Types) → IsTypeTable (all_classes world.now) (body_of c m t code.now.insns) table → IsAnswer (Ok table) result }
+        → (table : Types) → IsTypeTable (all_classes world.now) (body_of c m t code.now.insns) table
+        → IsAnswer (Ok table) result }
 
     // A broken rule is the first of the least table; and where there is one it is answered.
     ensures broken { (c : Class) (m : ClassMethod) (t : CodeTree) → IsMethodOf world.now code.now c m t
         → IfErr result (IsBroken (all_classes world.now) (body_of c m t code.now.insns)) }
     ensures breaks { (c : Class) (m : ClassMethod) (t : CodeTree) → IsMethodOf world.now code.now c m t
-        → (b : Wrong) → IsBrokenBy (all_classes world.now) (body_of c m t code.now.insns) b → IsAnswer (Err (errors.Broken b)) result }
+        → (b : Wrong) → IsBrokenBy (all_classes world.now) (body_of c m t code.now.insns) b
+        → IsAnswer (Err (errors.Broken b)) result }
 {
     let method = Method::new(world, code);
     types_of(alloc, world, &method)

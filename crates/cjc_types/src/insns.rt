@@ -4,7 +4,8 @@
 
 ghost use Rattle.std.specs.Prelude.{◌≡◌, ◌+◌, ◌≤◌, ◌∷◌, map, length, if◌then◌else◌, IfOk};
 ghost use Rattle.cjc_types.specs.Repeats.{jumps as is_jump};
-ghost use Rattle.cjc_types.specs.Steps.{stack_takes, compares, receivers, takes, shuffled, goes_on, targets, case_target};
+ghost use Rattle.cjc_types.specs.Steps.{stack_takes, compares, receivers, takes, shuffled, goes_on, targets};
+ghost use Rattle.cjc_types.specs.Steps.{case_target};
 ghost use Rattle.cjc_types.specs.Types.{parts};
 
 use crate::types;

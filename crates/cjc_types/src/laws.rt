@@ -44,15 +44,19 @@ pub fn flow_laws()
 pub fn mark_laws()
     ensures marks { (b : Body) → AreMarks (length b.insns) (marks_of b) }
     ensures meet { (b : Body) → MeetsAt (type_flow b) (length b.insns) (marks_of b) }
-    ensures repeats { (b : Body) (bounds : List Bool) → CoverAlike b.insns bounds b.catches → AreRepeats (type_flow b) (λ at. repeats_at b bounds at) }
+    ensures repeats { (b : Body) (bounds : List Bool) → CoverAlike b.insns bounds b.catches
+        → AreRepeats (type_flow b) (λ at. repeats_at b bounds at) }
 {}
 
 /// A method has at most 65,535 instructions, in ascending order of their offsets: the first by place is the
 /// first by offset.
 pub fn code_laws()
-    ensures few { (files : Files) (code : Instructions) (c : ClassFile) (m : ClassMethod) (t : CodeTree) → IsMethodOf files code c m t → length code.insns ≤ 65535 }
-    ensures ascending { (files : Files) (code : Instructions) (c : ClassFile) (m : ClassMethod) (t : CodeTree) → IsMethodOf files code c m t
-        → (j k : ℕ) (x y : Insn) → slice_get code.insns j ≡ Some x → slice_get code.insns k ≡ Some y → j < k → x.at < y.at }
+    ensures few { (files : Files) (code : Instructions) (c : ClassFile) (m : ClassMethod) (t : CodeTree)
+        → IsMethodOf files code c m t → length code.insns ≤ 65535 }
+    ensures ascending { (files : Files) (code : Instructions) (c : ClassFile) (m : ClassMethod) (t : CodeTree)
+        → IsMethodOf files code c m t
+        → (j k : ℕ) (x y : Insn) → slice_get code.insns j ≡ Some x → slice_get code.insns k ≡ Some y → j < k
+        → x.at < y.at }
 {}
 
 /// A method has one least table. No stack of it is cut off for its height. A rule is broken at an instruction
@@ -62,22 +66,32 @@ pub fn code_laws()
 /// has no frame of its own.
 pub fn table_laws()
     ensures one { (b : Body) (xs ys : List (Option Before)) → IsLeastTable b xs → IsLeastTable b ys → xs ≡ ys }
-    ensures first { (w : List Class) (b : Body) (table : Types) → IsTypeTable w b table → 0 < length b.insns → Leads b (rows_of b table) 0 (entry b) }
-    ensures uncut { (b : Body) (xs : List (Option Before)) → IsLeastTable b xs → length b.insns ≤ 65535 → (place : ℕ) (x : Before) (s : List Known) (op : JOp) → HasRow xs place x → x.stack ≡ stacks.Cells s → stack_after op x.locals x.stack ≡ stacks.Cells (stack_behind op x.locals s) }
-    ensures broken { (w : List Class) (b : Body) (xs : List (Option Before)) (place rule : ℕ) → IsLeastTable b xs → Breach w b xs place rule → (ys : List (Option Before)) → IsClosed (type_flow b) (length b.insns) ys → (other : ℕ) × Breach w b ys place other }
+    ensures first { (w : List Class) (b : Body) (table : Types) → IsTypeTable w b table → 0 < length b.insns
+        → Leads b (rows_of b table) 0 (entry b) }
+    ensures uncut { (b : Body) (xs : List (Option Before)) → IsLeastTable b xs → length b.insns ≤ 65535
+        → (place : ℕ) (x : Before) (s : List Known) (op : JOp) → HasRow xs place x → x.stack ≡ stacks.Cells s
+        → stack_after op x.locals x.stack ≡ stacks.Cells (stack_behind op x.locals s) }
+    ensures broken { (w : List Class) (b : Body) (xs : List (Option Before)) (place rule : ℕ) → IsLeastTable b xs
+        → Breach w b xs place rule → (ys : List (Option Before)) → IsClosed (type_flow b) (length b.insns) ys
+        → (other : ℕ) × Breach w b ys place other }
     ensures framed { (w : List Class) (b : Body) (table : Types) → IsTypeTable w b table → AreFrames (rows_of b table) }
     ensures typed { (w : List Class) (b : Body) (table : Types) → IsTypeTable w b table → AreTyped w b table }
 {}
 
 /// The types in a least table are those of the method, and a set of them is not cut off for its size.
 pub fn name_laws()
-    ensures among { (names : List (List ℕ)) (b : Body) (xs : List (Option Before)) → HasNames names b → IsLeastTable b xs → (place : ℕ) (x : Before) → HasRow xs place x → IsStateAmong names x }
-    ensures whole { (names types : List (List ℕ)) → IsNameSet names → IsSet types → IsWithin types names → refs types ≡ known.Refs types }
+    ensures among { (names : List (List ℕ)) (b : Body) (xs : List (Option Before)) → HasNames names b
+        → IsLeastTable b xs → (place : ℕ) (x : Before) → HasRow xs place x → IsStateAmong names x }
+    ensures whole { (names types : List (List ℕ)) → IsNameSet names → IsSet types → IsWithin types names
+        → refs types ≡ known.Refs types }
 {}
 
 /// What the tests of cells say.
 pub fn cell_laws()
     ensures number { (cell : Known) → is_number cell ≡ true → cell ≡ known.Number }
-    ensures reference { (cell : Known) → is_reference cell ≡ true → (names : List (List ℕ)) × (cell ≡ known.Refs names) }
-    ensures class { (w : List Class) (class : List ℕ) (cell : Known) → is_of w class cell ≡ true → (names : List (List ℕ)) × (cell ≡ known.Refs names) × (list_all (λ name. is_subtype w name class) names ≡ true) }
+    ensures reference { (cell : Known) → is_reference cell ≡ true → (names : List (List ℕ))
+        × (cell ≡ known.Refs names) }
+    ensures class { (w : List Class) (class : List ℕ) (cell : Known) → is_of w class cell ≡ true
+        → (names : List (List ℕ)) × (cell ≡ known.Refs names) × (list_all (λ name. is_subtype w name class) names
+        ≡ true) }
 {}

@@ -21,6 +21,7 @@ mod shared;
 mod state;
 mod steps;
 mod table;
+pub mod type_laws;
 mod types;
 mod walk;
 

@@ -1,8 +1,11 @@
 //! A method as the solver has it: places are instructions, states are what is known before them, and edges go
 //! along jumps, switches and handlers.
 
-ghost use Rattle.std.specs.Prelude.{◌≡◌, ◌<◌, ◌≤◌, ◌+◌, ◌^◌, [], ◌∷◌, ◌++◌, map, filter_map, length, slice_get, option_map, IfOk, OnOk};
-ghost use Rattle.cjc_types.specs.Flow.{Body, body_of, arguments, entry, place_at as place_by, next_place as next_by, successors, edge, covers, caught_type as type_caught, caught as caught_by, handler_edge, insn_edges, place_edges as edges_of_place};
+ghost use Rattle.std.specs.Prelude.{◌≡◌, ◌<◌, ◌≤◌, ◌+◌, ◌^◌, [], ◌∷◌, ◌++◌, map, filter_map, length, slice_get};
+ghost use Rattle.std.specs.Prelude.{option_map, IfOk, OnOk};
+ghost use Rattle.cjc_types.specs.Flow.{Body, body_of, arguments, entry, place_at as place_by, next_place as next_by};
+ghost use Rattle.cjc_types.specs.Flow.{successors, edge, covers, caught_type as type_caught, caught as caught_by};
+ghost use Rattle.cjc_types.specs.Flow.{handler_edge, insn_edges, place_edges as edges_of_place};
 ghost use Rattle.cjc_types.specs.Index.{AreInOrder};
 ghost use Rattle.cjc_types.specs.Tables.{IsMethodOf, IsOfPackage};
 ghost use Rattle.cjc_types.specs.Working.Onward.{gone_on};
@@ -45,7 +48,15 @@ impl<'a> Model for Method<'a> {
 
     ghost Value = { Body };
 
-    ghost view = { λ m. record { class = m.class.now; flags = m.flags; desc = m.desc.now; max_stack = m.max_stack; max_locals = m.max_locals; catches = m.catches.now; insns = m.insns.now } };
+    ghost view = { λ m. record {
+      class = m.class.now;
+      flags = m.flags;
+      desc = m.desc.now;
+      max_stack = m.max_stack;
+      max_locals = m.max_locals;
+      catches = m.catches.now;
+      insns = m.insns.now;
+    } };
 
     ghost invariant = { λ m. AreInOrder m.insns.now × (length m.insns.now < 2 ^ 32) };
 }
@@ -135,7 +146,8 @@ impl<'a> Method<'a> {
     /// The method that the code names. Takes no memory.
     pub fn new(world: &'a World<'_>, code: &'a MethodCode) -> Method<'a>
         requires { IsOfPackage world.now code.now }
-        ensures { (c : Class) (m : ClassMethod) (t : CodeTree) → IsMethodOf world.now code.now c m t → result ≡ body_of c m t code.now.insns }
+        ensures { (c : Class) (m : ClassMethod) (t : CodeTree) → IsMethodOf world.now code.now c m t
+            → result ≡ body_of c m t code.now.insns }
     {
         let class = &world.classes().items()[code.class as usize];
         let method = &class.methods.items()[code.method as usize];
@@ -278,7 +290,8 @@ impl<'a> Method<'a> {
         offset: u32,
         before: &State,
     ) -> Result<(), NoMemory>
-        ensures { OnOk result (edges.new ≡ edges.old ++ filter_map (handler_edge self.now.insns offset before.now) self.now.catches) }
+        ensures { OnOk result (edges.new ≡ edges.old ++ filter_map (handler_edge self.now.insns offset before.now)
+            self.now.catches) }
     {
         for catch in self.catches {
             put_some(edges, self.handler_edge(alloc, offset, before, catch)?)?;

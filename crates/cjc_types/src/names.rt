@@ -105,7 +105,8 @@ pub(crate) fn has_all(set: &[Name], names: &[Name]) -> bool
 /// Puts the lesser of two names at the end, and says how the first compares with the second.
 fn put_lesser(set: &mut Vec<Name>, left: &Name, right: &Name) -> Result<Ordering, NoMemory>
     ensures order { IfOk result (λ order. order ≡ compare left.now right.now) }
-    ensures put { OnOk result (set.new.items ≡ set.old.items ++ lesser (compare left.now right.now) left.now right.now ∷ []) }
+    ensures put { OnOk result (set.new.items ≡ set.old.items ++ lesser (compare left.now right.now) left.now right.now
+        ∷ []) }
 {
     let order = compared(left.items(), right.items());
     let name = match order {

@@ -2,7 +2,8 @@
 //! cells on without moving the rest, and the deeper cells lie in parts that the frames of a table share;
 //! contracts see the cells, the top first. Called by state.rt, steps.rt and rules.rt. Knows no instruction.
 
-ghost use Rattle.std.specs.Prelude.{◌≡◌, ◌<◌, ◌≤◌, ◌*◌, ◌^◌, ◌∷◌, ◌++◌, [], length, drop, sum_by, map, reverse, All, IfOk, OnOk, IsTrue, MatchOption};
+ghost use Rattle.std.specs.Prelude.{◌≡◌, ◌<◌, ◌≤◌, ◌*◌, ◌^◌, ◌∷◌, ◌++◌, [], length, drop, sum_by, map, reverse, All};
+ghost use Rattle.std.specs.Prelude.{IfOk, OnOk, IsTrue, MatchOption};
 ghost use Rattle.cjc_fixpoint.specs.Lattice.{joined as joined_in_turn};
 ghost use Rattle.cjc_types.specs.Cells.{IsCell, cell_rank, joined_cell};
 ghost use Rattle.cjc_types.specs.Steps.{operand};

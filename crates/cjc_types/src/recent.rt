@@ -141,7 +141,8 @@ impl Recent {
         Ok(())
     }
 
-    /// The cells that were made as a part; where the part that was made last at this place has the same cells, that one.
+    /// The cells that were made as a part; where the part that was made last at this place has the same cells, that
+    /// one.
     pub(crate) fn shared_part(
         &mut self,
         alloc: Global,

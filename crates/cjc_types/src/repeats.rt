@@ -6,7 +6,8 @@ ghost use Rattle.std.specs.Prelude.{◌≡◌, ◌<◌, true, false, slice_get, 
 ghost use Rattle.cjc_types.specs.Flow.{type_flow};
 ghost use Rattle.cjc_types.specs.Index.{AreInOrder};
 ghost use Rattle.cjc_types.specs.Marks.{marks_of};
-ghost use Rattle.cjc_types.specs.Repeats.{IsFrom, CoverAlike, keeps_locals as is_keeping_locals, repeats_at as repeats_here, repeats_by};
+ghost use Rattle.cjc_types.specs.Repeats.{IsFrom, CoverAlike, keeps_locals as is_keeping_locals};
+ghost use Rattle.cjc_types.specs.Repeats.{repeats_at as repeats_here, repeats_by};
 
 use crate::insns;
 use crate::method::Method;

@@ -8,7 +8,14 @@ ghost use Rattle.cjc_world.specs.Subtype.{is_subtype, starts};
 ghost use Rattle.cjc_world.specs.Working.Known.{class_of};
 ghost use Rattle.cjc_types.specs.Steps.{operand};
 ghost use Rattle.cjc_types.specs.Types.{parts};
-ghost use Rattle.cjc_types.specs.Rules.{is_number, is_reference, all_types, is_of, is_value, is_array_by as is_array_of, is_array_for as is_array_loaded, names_private, is_private_in, is_super_call as is_called_by_super, receiver_class as class_of_receiver, is_argument, tests_references, is_load_operand as is_operand_of_load, is_store_operand as is_operand_of_store, is_field_operand as is_operand_of_field, accepts, has_wrong, has_wrong_local as is_local_wrong, returns, is_wrong_return as is_return_wrong, is_wrong as is_stack_wrong, is_off as is_stack_off, first_rule as first_broken};
+ghost use Rattle.cjc_types.specs.Rules.{is_number, is_reference, all_types, is_of, is_value};
+ghost use Rattle.cjc_types.specs.Rules.{is_array_by as is_array_of, is_array_for as is_array_loaded, names_private};
+ghost use Rattle.cjc_types.specs.Rules.{is_private_in, is_super_call as is_called_by_super};
+ghost use Rattle.cjc_types.specs.Rules.{receiver_class as class_of_receiver, is_argument, tests_references};
+ghost use Rattle.cjc_types.specs.Rules.{is_load_operand as is_operand_of_load, is_store_operand as is_operand_of_store};
+ghost use Rattle.cjc_types.specs.Rules.{is_field_operand as is_operand_of_field, accepts, has_wrong};
+ghost use Rattle.cjc_types.specs.Rules.{has_wrong_local as is_local_wrong, returns, is_wrong_return as is_return_wrong};
+ghost use Rattle.cjc_types.specs.Rules.{is_wrong as is_stack_wrong, is_off as is_stack_off, first_rule as first_broken};
 ghost use Rattle.cjc_types.specs.declared.cell.Cell.{Cell as Word};
 
 use crate::cell::Cell;
@@ -84,7 +91,8 @@ fn is_value(world: &World<'_>, kind: Kind, class: &[u8], cell: &Cell) -> bool
 
 /// Whether a cell is a value of the type of a field, or of a method's result.
 fn is_result(world: &World<'_>, desc: &[u8], cell: &Cell) -> bool
-    ensures { result ≡ is_value (all_classes world.now) (parts desc.now).result.kind (parts desc.now).result.class cell.now }
+    ensures { result ≡ is_value (all_classes world.now) (parts desc.now).result.kind (parts desc.now).result.class
+        cell.now }
 {
     match types::parsed(desc) {
         Some(parsed) => {
@@ -210,7 +218,8 @@ fn is_receiver(
     id: &MemberId,
     cell: &Cell,
 ) -> bool
-    ensures { result ≡ is_of (all_classes world.now) (class_of_receiver (all_classes world.now) method.now opcode id.now) cell.now }
+    ensures { result ≡ is_of (all_classes world.now) (class_of_receiver (all_classes world.now) method.now opcode
+        id.now) cell.now }
 {
     if is_super_call(world, opcode, id) {
         is_of(world, method.class, cell)
@@ -337,7 +346,8 @@ fn has_wrong_operand(
 
 /// Whether a local is there and of a kind.
 fn is_local(refs: bool, locals: &[Cell], local: u16) -> bool
-    ensures { result ≡ (if refs then is_reference (operand locals.now local) else is_number (operand locals.now local)) }
+    ensures { result ≡ (if refs then is_reference (operand locals.now local)
+        else is_number (operand locals.now local)) }
 {
     match locals.get(local as usize) {
         Some(cell) => is_kind(refs, cell),
@@ -392,7 +402,8 @@ fn is_wrong(
 
 /// Whether rule 503 is broken. Only heights are asked.
 fn is_off(method: &Method<'_>, op: &JOp, height: usize) -> bool
-    ensures { (locals stack : List Word) → height ≡ length stack → result ≡ is_stack_off method.now op.now locals stack }
+    ensures { (locals stack : List Word) → height ≡ length stack → result ≡ is_stack_off method.now op.now locals
+        stack }
 {
     let max_stack = method.max_stack as usize;
     let taken = insns::takes(op);

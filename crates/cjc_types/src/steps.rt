@@ -2,7 +2,8 @@
 //! what it sets in the locals. Rules are tested elsewhere.
 
 ghost use Rattle.std.specs.Prelude.{◌≡◌, ◌≤◌, List, [], ◌∷◌, ◌++◌, map, length, drop, slice_set, if◌then◌else◌, IfOk};
-ghost use Rattle.cjc_types.specs.Steps.{operand, local_value as value_of_local, gives, stack_behind, stack_after, stored, locals_after, after as state_after};
+ghost use Rattle.cjc_types.specs.Steps.{operand, local_value as value_of_local, gives, stack_behind, stack_after};
+ghost use Rattle.cjc_types.specs.Steps.{stored, locals_after, after as state_after};
 ghost use Rattle.cjc_types.specs.Types.{parts, result_of, element_of, as_reference, array_of};
 ghost use Rattle.cjc_types.specs.declared.cell.Cell.{Cell as Known};
 ghost use Rattle.cjc_types.specs.declared.cell.Cell.TheVariants as cells_of;

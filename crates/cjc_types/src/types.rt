@@ -5,7 +5,8 @@ ghost use Rattle.std.specs.Prelude.{◌≡◌, ◌+◌, ◌≤◌, ◌<◌, ◌^
 ghost use Rattle.cjc_bytes.specs.Descriptor.{Part, part_at};
 ghost use Rattle.cjc_world.specs.Subtype.{starts, inner};
 ghost use Rattle.cjc_types.specs.Names.{IsSet};
-ghost use Rattle.cjc_types.specs.Types.{parts, parts_or_none, cell_of, value_of, is_void, result_of, array_of, letter, held, held_by, elements, element_of, as_reference as reference_of, with_held};
+ghost use Rattle.cjc_types.specs.Types.{parts, parts_or_none, cell_of, value_of, is_void, result_of, array_of, letter};
+ghost use Rattle.cjc_types.specs.Types.{held, held_by, elements, element_of, as_reference as reference_of, with_held};
 
 use crate::cell::{self, Cell};
 use crate::names::{self, Name, Names};

@@ -1,6 +1,7 @@
 //! Going through the frames of a method. A type table has those at marked instructions; a walk gives those of all.
 
-ghost use Rattle.std.specs.Prelude.{◌≡◌, List, ◌+◌, ◌<◌, None, Some, MatchOption, length, slice_get, option_map, OnErr, OnOk, IfOk};
+ghost use Rattle.std.specs.Prelude.{◌≡◌, List, ◌+◌, ◌<◌, None, Some, MatchOption, length, slice_get, option_map, OnErr};
+ghost use Rattle.std.specs.Prelude.{OnOk, IfOk};
 ghost use Rattle.cjc_fixpoint.specs.Kept.{handed_on, mark_of};
 ghost use Rattle.cjc_world.specs.Classes.{Class};
 ghost use Rattle.cjc_types.specs.Flow.{type_flow};
@@ -144,7 +145,8 @@ impl<'a> TypeWalk<'a> {
 
     /// The place that is next; none behind the last one.
     pub fn place(&self) -> Option<u32>
-        ensures { MatchOption result (self.now.at ≡ length self.now.rows) (λ place. (place ≡ self.now.at) × (place < length self.now.rows)) }
+        ensures { MatchOption result (self.now.at ≡ length self.now.rows) (λ place. (place ≡ self.now.at)
+            × (place < length self.now.rows)) }
     {
         if self.at == self.method.places() {
             return None;

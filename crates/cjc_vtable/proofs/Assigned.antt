@@ -9,10 +9,12 @@ use Rattle.cjc_tokens.specs.Lines.{line_at}
 use Rattle.cjc_tokens.specs.Methods.{interface_row}
 use Rattle.cjc_tokens.specs.Slots.{row, hidden_row}
 use Rattle.cjc_world.specs.Exported.{is_exported}
-use Rattle.cjc_tokens.specs.Tokens.{Assigned, classes_from, of_class, one_more, assigned, public_in, package_in, public_methods_of, package_methods_of}
+use Rattle.cjc_tokens.specs.Tokens.{Assigned, classes_from, of_class, one_more, assigned, public_in, package_in}
+use Rattle.cjc_tokens.specs.Tokens.{public_methods_of, package_methods_of}
 
 module _ (w : List Class) (applets : Bool) where
-  at-number : (before k : ℕ) (cs : List ClassTree) (n : ℕ) (c : ClassTree) → slice_get cs n ≡ Some c → (b : ℕ) × (slice_get (classes_from w applets before k cs) n ≡ Some (of_class w applets b (k + n) c))
+  at-number : (before k : ℕ) (cs : List ClassTree) (n : ℕ) (c : ClassTree) → slice_get cs n ≡ Some c → (b : ℕ)
+      × (slice_get (classes_from w applets before k cs) n ≡ Some (of_class w applets b (k + n) c))
   unfolding classes_from
   at-number before k [] n c e = cc
   at-number before k (d ∷ cs) zero c e =
@@ -24,7 +26,8 @@ module _ (w : List Class) (applets : Bool) where
       let m : k + 1 + n ≡ k + suc n = omega arith in
       (r.0, r.1 ∙ ap (λ q. Some (of_class w applets r.0 q c)) m)
 
-module _ (files : Files) (applets : Bool) (n : ℕ) (c : ClassTree) (there : slice_get files.classes n ≡ Some c) (plain : is_interface c.flags ≡ false) where
+module _ (files : Files) (applets : Bool) (n : ℕ) (c : ClassTree) (there : slice_get files.classes n ≡ Some c)
+    (plain : is_interface c.flags ≡ false) where
   at : (b : ℕ) × (slice_get (assigned applets files).classes n ≡ Some (of_class (all_classes files) applets b n c))
   unfolding assigned
   at =
@@ -32,8 +35,13 @@ module _ (files : Files) (applets : Bool) (n : ℕ) (c : ClassTree) (there : sli
       let m : 0 + n ≡ n = omega arith in
       (r.0, r.1 ∙ ap (λ q. Some (of_class (all_classes files) applets r.0 q c)) m)
 
-  pub public-row : (t : Assigned) → t ≡ assigned applets files → public_methods_of t n ≡ row (line_at (all_classes files) (declared n c))
-  public-row t is = ap (λ q. public_methods_of q n) is ∙ ap public_in at.1 ∙ ap (λ b. if b then interface_row (all_classes files) (declared n c) else row (line_at (all_classes files) (declared n c))) plain
+  pub public-row : (t : Assigned) → t ≡ assigned applets files → public_methods_of t n
+      ≡ row (line_at (all_classes files) (declared n c))
+  public-row t is = ap (λ q. public_methods_of q n) is ∙ ap public_in at.1
+      ∙ ap (λ b. if b then interface_row (all_classes files) (declared n c)
+      else row (line_at (all_classes files) (declared n c))) plain
 
-  pub package-row : (t : Assigned) → t ≡ assigned applets files → package_methods_of t n ≡ hidden_row (line_at (all_classes files) (declared n c))
-  package-row t is = ap (λ q. package_methods_of q n) is ∙ ap package_in at.1 ∙ ap (λ b. if b then [] else hidden_row (line_at (all_classes files) (declared n c))) plain
+  pub package-row : (t : Assigned) → t ≡ assigned applets files → package_methods_of t n
+      ≡ hidden_row (line_at (all_classes files) (declared n c))
+  package-row t is = ap (λ q. package_methods_of q n) is ∙ ap package_in at.1 ∙ ap (λ b. if b then []
+      else hidden_row (line_at (all_classes files) (declared n c))) plain

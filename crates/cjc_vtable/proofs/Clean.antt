@@ -17,8 +17,10 @@ use Rattle.cjc_bytes.specs.Order.{FilePlace, file_of}
 use Rattle.cjc_subset.specs.Flags.{is_unfit_method}
 use Rattle.cjc_subset.specs.Types.{is_unsupported_desc, is_int_desc}
 use Rattle.cjc_subset.specs.Limits.{has_deep_stack, has_many_locals}
-use Rattle.cjc_subset.specs.Overriding.{is_inherited, is_special, hides_one, changes_kind, lacks_code, method_against, class_against, supertype_breaks, overriding_breaks}
-use Rattle.cjc_subset.specs.Checks.{field_breaks, method_breaks, own_breaks, class_breaks, code_breaks, list_breaks, check_breaks}
+use Rattle.cjc_subset.specs.Overriding.{is_inherited, is_special, hides_one, changes_kind, lacks_code, method_against}
+use Rattle.cjc_subset.specs.Overriding.{class_against, supertype_breaks, overriding_breaks}
+use Rattle.cjc_subset.specs.Checks.{field_breaks, method_breaks, own_breaks, class_breaks, code_breaks, list_breaks}
+use Rattle.cjc_subset.specs.Checks.{check_breaks}
 use Rattle.cjc_vtable.specs.Kept.{IsUnbroken, BreaksNone}
 use Rattle.cjc_vtable.proofs.Filed.{Has, at_front, behind}
 
@@ -32,7 +34,8 @@ among-right b [] ys i = i
 among-right b (x ∷ xs) ys i = after (among-right b xs ys i)
 
 -- where nothing is broken no rule is
-pub breaks_none : (list : List ℕ) (files : Files) (codes : List MethodCode) (settings : Settings) → breaks list files ≡ [] → check_breaks list files codes settings ≡ [] → BreaksNone list files codes settings
+pub breaks_none : (list : List ℕ) (files : Files) (codes : List MethodCode) (settings : Settings)
+    → breaks list files ≡ [] → check_breaks list files codes settings ≡ [] → BreaksNone list files codes settings
 breaks_none list files codes settings e f = record { world = e; flags = off 304; access = off 305; code = off 307 }
   where
     off : (rule : ℕ) → IsUnbroken rule (check_breaks list files codes settings)
@@ -46,26 +49,32 @@ module _ (rule : ℕ) where
   unbroken-right xs ys h = λ b i e. h b (among-right b xs ys i) e
 
   -- at each of some items
-  unbroken-each : {A : Type 0} (breaks : ℕ → A → List Break) (i : ℕ) (x : A) (xs : List A) → Has x xs → IsUnbroken rule (each_from breaks i xs) → (n : ℕ) × IsUnbroken rule (breaks n x)
+  unbroken-each : {A : Type 0} (breaks : ℕ → A → List Break) (i : ℕ) (x : A) (xs : List A) → Has x xs
+      → IsUnbroken rule (each_from breaks i xs) → (n : ℕ) × IsUnbroken rule (breaks n x)
   unfolding each_from
   unbroken-each breaks i x [] h off = elim h [ ]
   unbroken-each breaks i x (y ∷ xs) at_front off = (i, unbroken-left (breaks i x) (each_from breaks (i + 1) xs) off)
-  unbroken-each breaks i x (y ∷ xs) (behind h) off = unbroken-each breaks (i + 1) x xs h (unbroken-right (breaks i y) (each_from breaks (i + 1) xs) off)
+  unbroken-each breaks i x (y ∷ xs) (behind h) off = unbroken-each breaks (i + 1) x xs h (unbroken-right (breaks i y)
+      (each_from breaks (i + 1) xs) off)
 
   unbroken-at : (b : Bool) (s : RulePlace) → IsUnbroken rule (at b s rule) → b ≡ false
   unbroken-at true s h = absurd (h (broken_at s rule) foremost refl)
   unbroken-at false s h = refl
 
-  module _ (list : List ℕ) (files : Files) (codes : List MethodCode) (settings : Settings) (off : IsUnbroken rule (check_breaks list files codes settings)) where
-    unbroken-class : (t : ClassTree) → Has t files.classes → (n : ℕ) × IsUnbroken rule (class_breaks files settings (file_of files.lines n) n t)
+  module _ (list : List ℕ) (files : Files) (codes : List MethodCode) (settings : Settings) (off : IsUnbroken rule
+      (check_breaks list files codes settings)) where
+    unbroken-class : (t : ClassTree) → Has t files.classes → (n : ℕ)
+        × IsUnbroken rule (class_breaks files settings (file_of files.lines n) n t)
     unfolding check_breaks
     unbroken-class t h =
         let A = list_breaks list files settings in
         let B = each (λ n c. class_breaks files settings (file_of files.lines n) n c) files.classes in
         let C = each (λ _ code. code_breaks files settings code) codes in
-        unbroken-each (λ n c. class_breaks files settings (file_of files.lines n) n c) 0 t files.classes h (unbroken-right A B (unbroken-left (A ++ B) C off))
+        unbroken-each (λ n c. class_breaks files settings (file_of files.lines n) n c) 0 t files.classes h
+        (unbroken-right A B (unbroken-left (A ++ B) C off))
 
-    pub unbroken-methods : (t : ClassTree) (m : MethodTree) → Has t files.classes → Has m t.methods → (f : FilePlace) × ((i : ℕ) × IsUnbroken rule (method_breaks settings f t i m))
+    pub unbroken-methods : (t : ClassTree) (m : MethodTree) → Has t files.classes → Has m t.methods → (f : FilePlace)
+        × ((i : ℕ) × IsUnbroken rule (method_breaks settings f t i m))
     unfolding class_breaks
     unbroken-methods t m h g =
         let r = unbroken-class t h in
@@ -73,10 +82,14 @@ module _ (rule : ℕ) where
         let A = own_breaks files settings f r.0 t in
         let B = each (λ i k. field_breaks settings f t i k) t.fields in
         let C = each (λ i k. method_breaks settings f t i k) t.methods in
-        let D = overriding_breaks files f t in
-        (f, unbroken-each (λ i k. method_breaks settings f t i k) 0 m t.methods g (unbroken-right (A ++ B) C (unbroken-left (A ++ B ++ C) D r.1)))
+        let D = overriding_breaks files f t in (
+          f,
+          unbroken-each (λ i k. method_breaks settings f t i k) 0 m t.methods g (unbroken-right (A
+              ++ B) C (unbroken-left (A ++ B ++ C) D r.1)),
+        )
 
-    unbroken-overriding : (t : ClassTree) → Has t files.classes → (f : FilePlace) × IsUnbroken rule (overriding_breaks files f t)
+    unbroken-overriding : (t : ClassTree) → Has t files.classes → (f : FilePlace)
+        × IsUnbroken rule (overriding_breaks files f t)
     unfolding class_breaks
     unbroken-overriding t h =
         let r = unbroken-class t h in
@@ -87,12 +100,17 @@ module _ (rule : ℕ) where
         let D = overriding_breaks files f t in
         (f, unbroken-right (A ++ B ++ C) D r.1)
 
-    against : (f : FilePlace) (t : ClassTree) (d : Class) → is_inherited (all_classes files) t d ≡ true → IsUnbroken rule (supertype_breaks (all_classes files) f t d) → IsUnbroken rule (class_against (all_classes files) f t d)
+    against : (f : FilePlace) (t : ClassTree) (d : Class) → is_inherited (all_classes files) t d ≡ true
+        → IsUnbroken rule (supertype_breaks (all_classes files) f t d)
+        → IsUnbroken rule (class_against (all_classes files) f t d)
     unfolding supertype_breaks
-    against f t d above h = subst (λ (v : Bool). IsUnbroken rule (if v then class_against (all_classes files) f t d else [])) above h
+    against f t d above h = subst (λ (v : Bool). IsUnbroken rule (if v then class_against (all_classes files) f t d
+        else [])) above h
 
     -- against a class of the package that stands above
-    pub against-declared : (t u : ClassTree) → Has t files.classes → Has u files.classes → is_inherited (all_classes files) t (declared 0 u) ≡ true → (f : FilePlace) × IsUnbroken rule (class_against (all_classes files) f t (declared 0 u))
+    pub against-declared : (t u : ClassTree) → Has t files.classes → Has u files.classes
+        → is_inherited (all_classes files) t (declared 0 u) ≡ true → (f : FilePlace)
+        × IsUnbroken rule (class_against (all_classes files) f t (declared 0 u))
     unfolding overriding_breaks
     against-declared t u h g above =
         let r = unbroken-overriding t h in
@@ -100,11 +118,16 @@ module _ (rule : ℕ) where
         let w = all_classes files in
         let A = at (lacks_code w t (declared 0 t)) (at_class f t) 307 in
         let B = each (λ _ d. supertype_breaks w f t (declared 0 d)) files.classes in
-        let C = each (λ _ s. each (λ _ d. supertype_breaks w f t (imported 0 d)) s.classes) files.exports in
-        (f, against f t (declared 0 u) above (unbroken-each (λ _ d. supertype_breaks w f t (declared 0 d)) 0 u files.classes g (unbroken-right A B (unbroken-left (A ++ B) C r.1))).1)
+        let C = each (λ _ s. each (λ _ d. supertype_breaks w f t (imported 0 d)) s.classes) files.exports in (
+          f,
+          against f t (declared 0 u) above (unbroken-each (λ _ d. supertype_breaks w f t (declared 0 d)) 0 u
+              files.classes g (unbroken-right A B (unbroken-left (A ++ B) C r.1))).1,
+        )
 
     -- against an imported class that stands above
-    pub against-imported : (t : ClassTree) (s : ExportTree) (d : ExportClass) → Has t files.classes → Has s files.exports → Has d s.classes → is_inherited (all_classes files) t (imported 0 d) ≡ true → (f : FilePlace) × IsUnbroken rule (class_against (all_classes files) f t (imported 0 d))
+    pub against-imported : (t : ClassTree) (s : ExportTree) (d : ExportClass) → Has t files.classes
+        → Has s files.exports → Has d s.classes → is_inherited (all_classes files) t (imported 0 d) ≡ true
+        → (f : FilePlace) × IsUnbroken rule (class_against (all_classes files) f t (imported 0 d))
     unfolding overriding_breaks
     against-imported t s d h g i above =
         let r = unbroken-overriding t h in
@@ -113,14 +136,20 @@ module _ (rule : ℕ) where
         let A = at (lacks_code w t (declared 0 t)) (at_class f t) 307 in
         let B = each (λ _ d. supertype_breaks w f t (declared 0 d)) files.classes in
         let C = each (λ _ s. each (λ _ d. supertype_breaks w f t (imported 0 d)) s.classes) files.exports in
-        let in_file = unbroken-each (λ _ s. each (λ _ d. supertype_breaks w f t (imported 0 d)) s.classes) 0 s files.exports g (unbroken-right (A ++ B) C r.1) in
-        (f, against f t (imported 0 d) above (unbroken-each (λ _ d. supertype_breaks w f t (imported 0 d)) 0 d s.classes i in_file.1).1)
+        let in_file = unbroken-each (λ _ s. each (λ _ d. supertype_breaks w f t (imported 0 d)) s.classes) 0 s
+        files.exports g (unbroken-right (A ++ B) C r.1) in (
+          f,
+          against f t (imported 0 d) above (unbroken-each (λ _ d. supertype_breaks w f t (imported 0 d)) 0 d s.classes
+              i in_file.1).1,
+        )
 
 -- ---- by rules
 
 module _ (list : List ℕ) (files : Files) (codes : List MethodCode) (settings : Settings) where
   -- 304
-  pub fit-method : IsUnbroken 304 (check_breaks list files codes settings) → (t : ClassTree) (m : MethodTree) → Has t files.classes → Has m t.methods → is_unfit_method (is_interface t.flags) m.flags m.name (is_some m.code) ≡ false
+  pub fit-method : IsUnbroken 304 (check_breaks list files codes settings) → (t : ClassTree) (m : MethodTree)
+      → Has t files.classes → Has m t.methods → is_unfit_method (is_interface t.flags) m.flags m.name (is_some m.code)
+      ≡ false
   unfolding method_breaks
   fit-method off t m h g =
       let r = unbroken-methods 304 list files codes settings off t m h g in
@@ -136,7 +165,8 @@ module _ (list : List ℕ) (files : Files) (codes : List MethodCode) (settings :
 
   module _ (t : ClassTree) (h : Has t files.classes) (f : FilePlace) (d : Class) where
     -- 305
-    seen : IsUnbroken 305 (class_against (all_classes files) f t d) → (m : MethodTree) → Has m t.methods → (not (is_special m.name) && hides_one d m.flags m.name m.desc) ≡ false
+    seen : IsUnbroken 305 (class_against (all_classes files) f t d) → (m : MethodTree) → Has m t.methods
+        → (not (is_special m.name) && hides_one d m.flags m.name m.desc) ≡ false
     unfolding class_against method_against
     seen off m g =
         let w = all_classes files in
@@ -145,7 +175,8 @@ module _ (list : List ℕ) (files : Files) (codes : List MethodCode) (settings :
         let r = unbroken-each 305 (λ i k. method_against f t d i k) 0 m t.methods g (unbroken-right 305 A B off) in
         let C = at (not (is_special m.name) && hides_one d m.flags m.name m.desc) (at_method f t r.0 m 0) 305 in
         let D = at (not (is_special m.name) && changes_kind d m.flags m.name m.desc) (at_method f t r.0 m 0) 306 in
-        unbroken-at 305 (not (is_special m.name) && hides_one d m.flags m.name m.desc) (at_method f t r.0 m 0) (unbroken-left 305 C D r.1)
+        unbroken-at 305 (not (is_special m.name) && hides_one d m.flags m.name m.desc) (at_method f t r.0 m 0)
+        (unbroken-left 305 C D r.1)
 
     -- 307
     coded : IsUnbroken 307 (class_against (all_classes files) f t d) → lacks_code (all_classes files) t d ≡ false
@@ -156,14 +187,28 @@ module _ (list : List ℕ) (files : Files) (codes : List MethodCode) (settings :
         let B = each (λ i k. method_against f t d i k) t.methods in
         unbroken-at 307 (lacks_code w t d) (at_class f t) (unbroken-left 307 A B off)
 
-  pub seen-declared : IsUnbroken 305 (check_breaks list files codes settings) → (t u : ClassTree) (m : MethodTree) → Has t files.classes → Has u files.classes → is_inherited (all_classes files) t (declared 0 u) ≡ true → Has m t.methods → (not (is_special m.name) && hides_one (declared 0 u) m.flags m.name m.desc) ≡ false
-  seen-declared off t u m h g above i = let r = against-declared 305 list files codes settings off t u h g above in seen t h r.0 (declared 0 u) r.1 m i
+  pub seen-declared : IsUnbroken 305 (check_breaks list files codes settings) → (t u : ClassTree) (m : MethodTree)
+      → Has t files.classes → Has u files.classes → is_inherited (all_classes files) t (declared 0 u) ≡ true
+      → Has m t.methods → (not (is_special m.name) && hides_one (declared 0 u) m.flags m.name m.desc) ≡ false
+  seen-declared off t u m h g above i = let r = against-declared 305 list files codes settings off t u h g above
+      in seen t h r.0 (declared 0 u) r.1 m i
 
-  pub seen-imported : IsUnbroken 305 (check_breaks list files codes settings) → (t : ClassTree) (s : ExportTree) (d : ExportClass) (m : MethodTree) → Has t files.classes → Has s files.exports → Has d s.classes → is_inherited (all_classes files) t (imported 0 d) ≡ true → Has m t.methods → (not (is_special m.name) && hides_one (imported 0 d) m.flags m.name m.desc) ≡ false
-  seen-imported off t s d m h g j above i = let r = against-imported 305 list files codes settings off t s d h g j above in seen t h r.0 (imported 0 d) r.1 m i
+  pub seen-imported : IsUnbroken 305 (check_breaks list files codes settings)
+      → (t : ClassTree) (s : ExportTree) (d : ExportClass) (m : MethodTree) → Has t files.classes → Has s files.exports
+      → Has d s.classes → is_inherited (all_classes files) t (imported 0 d) ≡ true → Has m t.methods
+      → (not (is_special m.name) && hides_one (imported 0 d) m.flags m.name m.desc) ≡ false
+  seen-imported off t s d m h g j above i = let r = against-imported 305 list files codes settings off t s d h g j above
+      in seen t h r.0 (imported 0 d) r.1 m i
 
-  pub coded-declared : IsUnbroken 307 (check_breaks list files codes settings) → (t u : ClassTree) → Has t files.classes → Has u files.classes → is_inherited (all_classes files) t (declared 0 u) ≡ true → lacks_code (all_classes files) t (declared 0 u) ≡ false
-  coded-declared off t u h g above = let r = against-declared 307 list files codes settings off t u h g above in coded t h r.0 (declared 0 u) r.1
+  pub coded-declared : IsUnbroken 307 (check_breaks list files codes settings) → (t u : ClassTree) → Has t files.classes
+      → Has u files.classes → is_inherited (all_classes files) t (declared 0 u) ≡ true
+      → lacks_code (all_classes files) t (declared 0 u) ≡ false
+  coded-declared off t u h g above = let r = against-declared 307 list files codes settings off t u h g above
+      in coded t h r.0 (declared 0 u) r.1
 
-  pub coded-imported : IsUnbroken 307 (check_breaks list files codes settings) → (t : ClassTree) (s : ExportTree) (d : ExportClass) → Has t files.classes → Has s files.exports → Has d s.classes → is_inherited (all_classes files) t (imported 0 d) ≡ true → lacks_code (all_classes files) t (imported 0 d) ≡ false
-  coded-imported off t s d h g j above = let r = against-imported 307 list files codes settings off t s d h g j above in coded t h r.0 (imported 0 d) r.1
+  pub coded-imported : IsUnbroken 307 (check_breaks list files codes settings)
+      → (t : ClassTree) (s : ExportTree) (d : ExportClass) → Has t files.classes → Has s files.exports → Has d s.classes
+      → is_inherited (all_classes files) t (imported 0 d) ≡ true → lacks_code (all_classes files) t (imported 0 d)
+      ≡ false
+  coded-imported off t s d h g j above = let r = against-imported 307 list files codes settings off t s d h g j above
+      in coded t h r.0 (imported 0 d) r.1

@@ -19,3 +19,4 @@ pub mod Tabled
 pub mod Numbers
 pub mod SlotNames
 pub mod MapPlaces
+pub mod SlotLaws

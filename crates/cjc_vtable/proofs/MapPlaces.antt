@@ -1,5 +1,6 @@
 -- The maps of the interfaces at some places, and the places of a class's interfaces.
-use Rattle.std.proofs.Common.{◌≡◌, ℕ, ◌+◌, ◌<◌, ◌≤◌, refl, sym, ap, ◌∙◌, arith, List, [], ◌∷◌, ◌++◌, length, map, drop, get_or, add-one, append_assoc, append-nil}
+use Rattle.std.proofs.Common.{◌≡◌, ℕ, ◌+◌, ◌<◌, ◌≤◌, refl, sym, ap, ◌∙◌, arith, List, [], ◌∷◌, ◌++◌, length, map, drop}
+use Rattle.std.proofs.Common.{get_or, add-one, append_assoc, append-nil}
 use Rattle.std.proofs.Math.Seq.{drop-cons}
 use Rattle.std.proofs.lemmas.Grind.{common_steps}
 use Rattle.std.proofs.lemmas.List.{map-append}
@@ -16,11 +17,15 @@ use Rattle.cjc_vtable.specs.Working.Naming.{index_of}
 use Rattle.cjc_vtable.specs.declared.table.InterfaceMap.{InterfaceMap}
 
 module _ (f : Class → InterfaceMap) (w : List Class) (places : List ℕ) (maps all : List InterfaceMap) where
-  one_place : (i : ℕ) → i < length places → at_places w (drop i places) ≡ option_to_list (slice_get w (get_or places i 0)) ++ at_places w (drop (i + 1) places)
+  one_place : (i : ℕ) → i < length places → at_places w (drop i places)
+      ≡ option_to_list (slice_get w (get_or places i 0)) ++ at_places w (drop (i + 1) places)
   unfolding at_places
-  one_place i lt = ap (at_places w) (drop-cons places i 0 lt) ∙ ap (λ n. option_to_list (slice_get w (get_or places i 0)) ++ at_places w (drop n places)) (sym (add-one i))
+  one_place i lt = ap (at_places w) (drop-cons places i 0 lt)
+      ∙ ap (λ n. option_to_list (slice_get w (get_or places i 0)) ++ at_places w (drop n places)) (sym (add-one i))
 
-  pub maps-next : (i : ℕ) (more : List InterfaceMap) → i < length places → more ≡ maps ++ map f (option_to_list (slice_get w (get_or places i 0))) → maps ++ map f (at_places w (drop i places)) ≡ all → more ++ map f (at_places w (drop (i + 1) places)) ≡ all
+  pub maps-next : (i : ℕ) (more : List InterfaceMap) → i < length places → more ≡ maps
+      ++ map f (option_to_list (slice_get w (get_or places i 0))) → maps ++ map f (at_places w (drop i places)) ≡ all
+      → more ++ map f (at_places w (drop (i + 1) places)) ≡ all
   maps-next i more lt e inv =
       let here = option_to_list (slice_get w (get_or places i 0)) in
       let rest = at_places w (drop (i + 1) places) in
@@ -36,20 +41,25 @@ module _ (f : Class → InterfaceMap) (w : List Class) (places : List ℕ) (maps
       let past : drop i places ≡ [] = grind (arith, common_steps) in
       sym (append-nil maps) ∙ ap (λ q. maps ++ map f (at_places w q)) (sym past) ∙ inv
 
-pub interfaces-are : (w : List Class) (c : Class) → known (each_once [] (gathered false (supertypes w c.supers) ++ gathered true (supertypes w c.interfaces))) ≡ known (interfaces_at w c)
+pub interfaces-are : (w : List Class) (c : Class) → known (each_once [] (gathered false (supertypes w c.supers)
+    ++ gathered true (supertypes w c.interfaces))) ≡ known (interfaces_at w c)
 unfolding interfaces_at
 interfaces-are w c = refl
 
 -- ---- one map
 
-some-indices : (all : Slots) (ss : List Signature) → map (index_of all) (map Some ss) ≡ map (λ s. or_zero (token all s)) ss
+some-indices : (all : Slots) (ss : List Signature) → map (index_of all) (map Some ss) ≡ map (λ s. or_zero (token all s))
+    ss
 some-indices all [] = refl
 some-indices all (s ∷ ss) = ap (λ q. or_zero (token all s) ∷ q) (some-indices all ss)
 
 made : List ℕ → List ℕ → InterfaceMap
 made name index = record { interface = name; index = index }
 
-pub map-is : (w : List Class) (all ms : Slots) (i : Class) (name index : List ℕ) → name ≡ i.name → index ≡ map (index_of all) ms → ms ≡ map Some (interface_methods w i) → record { interface = name; index = index } ≡ interface_map w all i
+pub map-is : (w : List Class) (all ms : Slots) (i : Class) (name index : List ℕ) → name ≡ i.name
+    → index ≡ map (index_of all) ms → ms ≡ map Some (interface_methods w i) → record { interface = name; index = index }
+    ≡ interface_map w all i
 unfolding made
 map-is w all ms i name index e f g =
-    ap (λ q. made q index) e ∙ ap (made i.name) (f ∙ ap (map (index_of all)) g ∙ some-indices all (interface_methods w i))
+    ap (λ q. made q index) e ∙ ap (made i.name) (f ∙ ap (map (index_of all)) g
+    ∙ some-indices all (interface_methods w i))

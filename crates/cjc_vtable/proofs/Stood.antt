@@ -1,10 +1,12 @@
 -- The classes that stand in a tree: superclasses and interfaces.
-use Rattle.std.proofs.Common.{◌≡◌, ℕ, refl, sym, ap, subst, ◌∙◌, Bool, true, false, List, [], ◌∷◌, ◌++◌, inl, inr, ⊎_elim}
+use Rattle.std.proofs.Common.{◌≡◌, ℕ, refl, sym, ap, subst, ◌∙◌, Bool, true, false, List, [], ◌∷◌, ◌++◌, inl, inr}
+use Rattle.std.proofs.Common.{⊎_elim}
 use Rattle.std.specs.Prelude.{◌||◌, ◌⊎◌, Some, if◌then◌else◌}
 use Rattle.std.specs.Str.{bytes_eq}
 use Rattle.cjc_world.specs.Classes.{Member, Class, class_named}
 use Rattle.cjc_bytes.specs.AccessFlags.{is_interface}
-use Rattle.cjc_world.specs.Supertypes.{Supertypes, End, Unknown, Known, AreSupertypes, ends, unknown_here, known_here, Lists, foremost, after, stands, stands_by_supers, upwards, is_one_named}
+use Rattle.cjc_world.specs.Supertypes.{Supertypes, End, Unknown, Known, AreSupertypes, ends, unknown_here, known_here}
+use Rattle.cjc_world.specs.Supertypes.{Lists, foremost, after, stands, stands_by_supers, upwards, is_one_named}
 use Rattle.cjc_world.specs.Interfaces.{where_listed, gathered, known}
 use Rattle.cjc_world.specs.Added.{added, own_methods, methods_of}
 use Rattle.cjc_tokens.specs.Members.{all_methods, In}
@@ -29,7 +31,8 @@ in-class m (c ∷ cs) i = ⊎_elim
     (λ j. let r = in-class m cs j in (r.0, further r.1, r.2))
     (In-split m c.methods (all_methods cs) i)
 
-pub in-interface : (m : Member) (cs : List Class) → In m (methods_of cs) → (d : Class) × Among d cs × In m (own_methods d)
+pub in-interface : (m : Member) (cs : List Class) → In m (methods_of cs) → (d : Class) × Among d cs
+    × In m (own_methods d)
 unfolding methods_of
 in-interface m [] i = elim i [ ]
 in-interface m (c ∷ cs) i = ⊎_elim
@@ -71,7 +74,8 @@ orr false b e = e
 pub upwards-stands : (k : Supertypes) (d : Class) → Among d (upwards k) → stands d.name k ≡ true
 upwards-stands End d i = elim i [ ]
 upwards-stands (Unknown x r) d i = orr (bytes_eq x d.name) (stands d.name r) (upwards-stands r d i)
-upwards-stands (Known c p q r) d at_head = or1 (bytes_eq c.name c.name) (stands c.name p) (stands c.name q) (stands c.name r) (bytes-refl c.name)
+upwards-stands (Known c p q r) d at_head = or1 (bytes_eq c.name c.name) (stands c.name p) (stands c.name q)
+    (stands c.name r) (bytes-refl c.name)
 upwards-stands (Known c p q r) d (further i) = ⊎_elim
     (λ j. or2 (bytes_eq c.name d.name) (stands d.name p) (stands d.name q) (stands d.name r) (upwards-stands p d j))
     (λ j. or4 (bytes_eq c.name d.name) (stands d.name p) (stands d.name q) (stands d.name r) (upwards-stands r d j))
@@ -80,9 +84,11 @@ upwards-stands (Known c p q r) d (further i) = ⊎_elim
 pub upwards-below : (k : Supertypes) (d : Class) → Among d (upwards k) → stands_by_supers d.name k ≡ true
 upwards-below End d i = elim i [ ]
 upwards-below (Unknown x r) d i = orr (bytes_eq x d.name) (stands_by_supers d.name r) (upwards-below r d i)
-upwards-below (Known c p q r) d at_head = orl (bytes_eq c.name c.name || stands_by_supers c.name p) (stands_by_supers c.name r) (orl (bytes_eq c.name c.name) (stands_by_supers c.name p) (bytes-refl c.name))
+upwards-below (Known c p q r) d at_head = orl (bytes_eq c.name c.name || stands_by_supers c.name p)
+    (stands_by_supers c.name r) (orl (bytes_eq c.name c.name) (stands_by_supers c.name p) (bytes-refl c.name))
 upwards-below (Known c p q r) d (further i) = ⊎_elim
-    (λ j. orl (bytes_eq c.name d.name || stands_by_supers d.name p) (stands_by_supers d.name r) (orr (bytes_eq c.name d.name) (stands_by_supers d.name p) (upwards-below p d j)))
+    (λ j. orl (bytes_eq c.name d.name || stands_by_supers d.name p) (stands_by_supers d.name r)
+    (orr (bytes_eq c.name d.name) (stands_by_supers d.name p) (upwards-below p d j)))
     (λ j. orr (bytes_eq c.name d.name || stands_by_supers d.name p) (stands_by_supers d.name r) (upwards-below r d j))
     (among-split d (upwards p) (upwards r) i)
 
@@ -93,7 +99,8 @@ among-named d (c ∷ cs) (further i) = orr (bytes_eq c.name d.name) (is_one_name
 
 -- the interfaces of a class and of what is listed behind it
 parts : (listed : Bool) (c : Class) (p q r : Supertypes) (d : Class) → Among d (known (gathered listed (Known c p q r)))
-    → (Among d (known (gathered false p)) ⊎ Among d (known (gathered true q))) ⊎ (((listed ≡ true) × (d ≡ c)) ⊎ Among d (known (gathered listed r)))
+    → (Among d (known (gathered false p)) ⊎ Among d (known (gathered true q))) ⊎ (((listed ≡ true) × (d ≡ c))
+    ⊎ Among d (known (gathered listed r)))
 unfolding gathered known
 parts listed c p q r d i =
     let A = gathered false p in
@@ -112,7 +119,8 @@ parts listed c p q r d i =
     by true h = (refl, among-one d c h)
     by false h = elim h [ ]
 
-behind-unknown : (listed : Bool) (x : List ℕ) (r : Supertypes) (d : Class) → Among d (known (gathered listed (Unknown x r))) → Among d (known (gathered listed r))
+behind-unknown : (listed : Bool) (x : List ℕ) (r : Supertypes) (d : Class)
+    → Among d (known (gathered listed (Unknown x r))) → Among d (known (gathered listed r))
 unfolding gathered known
 behind-unknown true x r d i = i
 behind-unknown false x r d i = i
@@ -121,9 +129,11 @@ none-gathered : (listed : Bool) (d : Class) → Among d (known (gathered listed 
 unfolding gathered known
 none-gathered listed d i = elim i [ ]
 
-pub gathered-stands : (listed : Bool) (k : Supertypes) (d : Class) → Among d (known (gathered listed k)) → stands d.name k ≡ true
+pub gathered-stands : (listed : Bool) (k : Supertypes) (d : Class) → Among d (known (gathered listed k))
+    → stands d.name k ≡ true
 gathered-stands listed End d i = absurd (none-gathered listed d i)
-gathered-stands listed (Unknown x r) d i = orr (bytes_eq x d.name) (stands d.name r) (gathered-stands listed r d (behind-unknown listed x r d i))
+gathered-stands listed (Unknown x r) d i = orr (bytes_eq x d.name) (stands d.name r) (gathered-stands listed r d
+    (behind-unknown listed x r d i))
 gathered-stands listed (Known c p q r) d i =
     let P = or2 (bytes_eq c.name d.name) (stands d.name p) (stands d.name q) (stands d.name r) in
     let Q = or3 (bytes_eq c.name d.name) (stands d.name p) (stands d.name q) (stands d.name r) in
@@ -131,7 +141,8 @@ gathered-stands listed (Known c p q r) d i =
     let H = or1 (bytes_eq c.name d.name) (stands d.name p) (stands d.name q) (stands d.name r) in
     ⊎_elim
     (λ a. ⊎_elim (λ j. P (gathered-stands false p d j)) (λ j. Q (gathered-stands true q d j)) a)
-    (λ a. ⊎_elim (λ j. H (ap (λ (v : Class). bytes_eq c.name v.name) j.1 ∙ bytes-refl c.name)) (λ j. R (gathered-stands listed r d j)) a)
+    (λ a. ⊎_elim (λ j. H (ap (λ (v : Class). bytes_eq c.name v.name) j.1 ∙ bytes-refl c.name))
+    (λ j. R (gathered-stands listed r d j)) a)
     (parts listed c p q r d i)
 
 -- ---- a class in a tree is that of its name
@@ -140,30 +151,40 @@ module _ (w : List Class) where
   itself-named : (x : List ℕ) (c : Class) → class_named w x ≡ Some c → class_named w c.name ≡ Some c
   itself-named x c e = ap (class_named w) (class_named-name w x c e) ∙ e
 
-  pub upwards-named : (xs : List (List ℕ)) (k : Supertypes) (d : Class) → AreSupertypes w xs k → Among d (upwards k) → class_named w d.name ≡ Some d
+  pub upwards-named : (xs : List (List ℕ)) (k : Supertypes) (d : Class) → AreSupertypes w xs k → Among d (upwards k)
+      → class_named w d.name ≡ Some d
   upwards-named xs k d ends i = elim i [ ]
   upwards-named (x ∷ xs) k d (unknown_here {next = r} e b) i = upwards-named xs r d b i
   upwards-named (x ∷ xs) k d (known_here {c = c} {supers = p} {interfaces = q} {next = r} e s t b) i =
       ⊎_elim
       (λ is. subst (λ (v : Class). class_named w v.name ≡ Some v) (sym is) (itself-named x c e))
-      (λ j. ⊎_elim (λ g. upwards-named c.supers p d s g) (λ g. upwards-named xs r d b g) (among-split d (upwards p) (upwards r) j))
+      (λ j. ⊎_elim (λ g. upwards-named c.supers p d s g) (λ g. upwards-named xs r d b g) (among-split d (upwards p)
+      (upwards r) j))
       (among-cons d c (upwards p ++ upwards r) i)
 
-  pub gathered-named : (listed : Bool) (xs : List (List ℕ)) (k : Supertypes) (d : Class) → AreSupertypes w xs k → Among d (known (gathered listed k)) → class_named w d.name ≡ Some d
+  pub gathered-named : (listed : Bool) (xs : List (List ℕ)) (k : Supertypes) (d : Class) → AreSupertypes w xs k
+      → Among d (known (gathered listed k)) → class_named w d.name ≡ Some d
   gathered-named listed xs k d ends i = absurd (none-gathered listed d i)
-  gathered-named listed (x ∷ xs) k d (unknown_here {next = r} e b) i = gathered-named listed xs r d b (behind-unknown listed x r d i)
+  gathered-named listed (x ∷ xs) k d (unknown_here {next = r} e b) i =
+      gathered-named listed xs r d b (behind-unknown listed x r d i)
   gathered-named listed (x ∷ xs) k d (known_here {c = c} {supers = p} {interfaces = q} {next = r} e s t b) i =
       ⊎_elim
       (λ a. ⊎_elim (λ j. gathered-named false c.supers p d s j) (λ j. gathered-named true c.interfaces q d t j) a)
-      (λ a. ⊎_elim (λ j. subst (λ (v : Class). class_named w v.name ≡ Some v) (sym j.1) (itself-named x c e)) (λ j. gathered-named listed xs r d b j) a)
+      (λ a. ⊎_elim (λ j. subst (λ (v : Class). class_named w v.name ≡ Some v) (sym j.1) (itself-named x c e))
+      (λ j. gathered-named listed xs r d b j) a)
       (parts listed c p q r d i)
 
   -- what is gathered is an interface
-  pub gathered-interface : ((x y : List ℕ) (c d : Class) → class_named w x ≡ Some c → Lists y c.interfaces → class_named w y ≡ Some d → is_interface d.flags ≡ true)
-      → (listed : Bool) (xs : List (List ℕ)) (k : Supertypes) (d : Class) → AreSupertypes w xs k → (listed ≡ true → (y : List ℕ) (e : Class) → Lists y xs → class_named w y ≡ Some e → is_interface e.flags ≡ true) → Among d (known (gathered listed k)) → is_interface d.flags ≡ true
+  pub gathered-interface : ((x y : List ℕ) (c d : Class) → class_named w x ≡ Some c → Lists y c.interfaces
+      → class_named w y ≡ Some d → is_interface d.flags ≡ true)
+      → (listed : Bool) (xs : List (List ℕ)) (k : Supertypes) (d : Class) → AreSupertypes w xs k
+      → (listed ≡ true → (y : List ℕ) (e : Class) → Lists y xs → class_named w y ≡ Some e → is_interface e.flags
+      ≡ true) → Among d (known (gathered listed k)) → is_interface d.flags ≡ true
   gathered-interface rule listed xs k d ends all i = absurd (none-gathered listed d i)
-  gathered-interface rule listed (x ∷ xs) k d (unknown_here {next = r} e b) all i = gathered-interface rule listed xs r d b (λ l y g v h. all l y g (after v) h) (behind-unknown listed x r d i)
-  gathered-interface rule listed (x ∷ xs) k d (known_here {c = c} {supers = p} {interfaces = q} {next = r} e s t b) all i =
+  gathered-interface rule listed (x ∷ xs) k d (unknown_here {next = r} e b) all i = gathered-interface rule listed xs r
+      d b (λ l y g v h. all l y g (after v) h) (behind-unknown listed x r d i)
+  gathered-interface rule listed (x ∷ xs) k d (known_here {c = c} {supers = p} {interfaces = q} {next = r} e s t b) all
+      i =
       ⊎_elim
       (λ a. ⊎_elim
       (λ j. gathered-interface rule false c.supers p d s (λ l y g v h. cc) j)
@@ -173,11 +194,15 @@ module _ (w : List Class) where
       (λ j. gathered-interface rule listed xs r d b (λ l y g v h. all l y g (after v) h) j) a)
       (parts listed c p q r d i)
 
-  module _ (rule : (x y : List ℕ) (c d : Class) → class_named w x ≡ Some c → c.is_imported ≡ true → Lists y c.supers → class_named w y ≡ Some d → d.is_imported ≡ true) where
+  module _ (rule : (x y : List ℕ) (c d : Class) → class_named w x ≡ Some c → c.is_imported ≡ true → Lists y c.supers
+      → class_named w y ≡ Some d → d.is_imported ≡ true) where
     -- above imported classes all are imported
-    upwards-imported : (xs : List (List ℕ)) (k : Supertypes) (d : Class) → AreSupertypes w xs k → ((y : List ℕ) (e : Class) → Lists y xs → class_named w y ≡ Some e → e.is_imported ≡ true) → Among d (upwards k) → d.is_imported ≡ true
+    upwards-imported : (xs : List (List ℕ)) (k : Supertypes) (d : Class) → AreSupertypes w xs k
+        → ((y : List ℕ) (e : Class) → Lists y xs → class_named w y ≡ Some e → e.is_imported ≡ true)
+        → Among d (upwards k) → d.is_imported ≡ true
     upwards-imported xs k d ends all i = elim i [ ]
-    upwards-imported (x ∷ xs) k d (unknown_here {next = r} e b) all i = upwards-imported xs r d b (λ y g v h. all y g (after v) h) i
+    upwards-imported (x ∷ xs) k d (unknown_here {next = r} e b) all i =
+        upwards-imported xs r d b (λ y g v h. all y g (after v) h) i
     upwards-imported (x ∷ xs) k d (known_here {c = c} {supers = p} {interfaces = q} {next = r} e s t b) all i =
         ⊎_elim
         (λ is. ap (λ (v : Class). v.is_imported) is ∙ all x c foremost e)
@@ -188,10 +213,13 @@ module _ (w : List Class) where
         (among-cons d c (upwards p ++ upwards r) i)
 
     -- the imported methods of a line are those of imported classes above
-    pub line-imported : (xs : List (List ℕ)) (k : Supertypes) (m : Member) → AreSupertypes w xs k → In m (imported_methods (line_in w k)) → (d : Class) × Among d (upwards k) × (d.is_imported ≡ true) × In m d.methods
+    pub line-imported : (xs : List (List ℕ)) (k : Supertypes) (m : Member) → AreSupertypes w xs k
+        → In m (imported_methods (line_in w k)) → (d : Class) × Among d (upwards k) × (d.is_imported ≡ true)
+        × In m d.methods
     line-imported xs k m ends i = elim i [ ]
     line-imported xs k m (unknown_here e b) i = elim i [ ]
-    line-imported (x ∷ xs) k m (known_here {c = c} {supers = p} {interfaces = q} {next = r} e s t b) i = by c.is_imported refl i (line-imported c.supers p m s)
+    line-imported (x ∷ xs) k m (known_here {c = c} {supers = p} {interfaces = q} {next = r} e s t b) i =
+        by c.is_imported refl i (line-imported c.supers p m s)
       where
         wide : (a b : List Class) (d : Class) → Among d a → Among d (a ++ b)
         wide [] b d j = elim j [ ]
@@ -204,8 +232,10 @@ module _ (w : List Class) where
             (λ j. upwards-imported c.supers p d s (λ y g v h. rule x y c g e f v h) j)
             (among-cons d c (upwards p) a)
 
-        by : (v : Bool) → c.is_imported ≡ v → In m (imported_methods (if v then Imported (c ∷ upwards p) else Declared c (added w c) (line_in w p)))
-            → (In m (imported_methods (line_in w p)) → (d : Class) × Among d (upwards p) × (d.is_imported ≡ true) × In m d.methods)
+        by : (v : Bool) → c.is_imported ≡ v → In m (imported_methods (if v then Imported (c ∷ upwards p)
+            else Declared c (added w c) (line_in w p)))
+            → (In m (imported_methods (line_in w p)) → (d : Class) × Among d (upwards p) × (d.is_imported ≡ true)
+            × In m d.methods)
             → (d : Class) × Among d (c ∷ (upwards p ++ upwards r)) × (d.is_imported ≡ true) × In m d.methods
         by true f i rest =
             let g = in-class m (c ∷ upwards p) i in

@@ -4,7 +4,8 @@ use Rattle.cjc_world.specs.declared.found.Found.{Found}
 use Rattle.cjc_world.specs.Classes.{Member, Class}
 use Rattle.cjc_bytes.specs.AccessFlags.{is_private}
 use Rattle.cjc_world.specs.Lookup.{or_else, first, is_selectable}
-use Rattle.cjc_tokens.specs.Members.{Signature, signature_of, has, signatures, is_exposed, is_constructor, is_initialiser, is_virtual, is_shown, is_hidden, all_methods, In, chosen}
+use Rattle.cjc_tokens.specs.Members.{Signature, signature_of, has, signatures, is_exposed, is_constructor}
+use Rattle.cjc_tokens.specs.Members.{is_initialiser, is_virtual, is_shown, is_hidden, all_methods, In, chosen}
 use Rattle.cjc_tokens.specs.Lines.{Line, Nowhere, Imported, Declared}
 use Rattle.cjc_tokens.specs.Slots.{slots, has_slot, own}
 
@@ -72,7 +73,8 @@ IsTold (Declared c given above) = IsTold above
 abbrev pub IsProper : Line → Type 0
 IsProper Nowhere = Unit {0}
 IsProper (Imported classes) = Unit {0}
-IsProper (Declared c given above) = (c.is_imported ≡ false) × ((s : Signature) → has_slot (slots above) s ≡ true → has (map signature_of given) s ≡ false) × IsProper above
+IsProper (Declared c given above) = (c.is_imported ≡ false) × ((s : Signature) → has_slot (slots above) s ≡ true
+    → has (map signature_of given) s ≡ false) × IsProper above
 
 -- all methods of the classes of a line
 abbrev pub methods_of_line : Line → List Member
@@ -86,14 +88,16 @@ is_package_visible flags = not (is_exposed flags) && not (is_private flags)
 
 -- Of a method and an inherited one, one is package-visible and the other public or protected.
 abbrev pub is_clash : (mine inherited : ℕ) → Bool
-is_clash mine inherited = (is_package_visible mine && is_exposed inherited) || (is_exposed mine && is_package_visible inherited)
+is_clash mine inherited = (is_package_visible mine && is_exposed inherited)
+    || (is_exposed mine && is_package_visible inherited)
 
 -- No class of the line has a method that clashes with one of its superclasses.
 abbrev pub KeepsAccess : Line → Type 0
 KeepsAccess Nowhere = Unit {0}
 KeepsAccess (Imported classes) = Unit {0}
 KeepsAccess (Declared c given above) =
-    ((m n : Member) → In m c.methods → In n (methods_of_line above) → signature_of m ≡ signature_of n → is_special (signature_of m) ≡ false → is_clash m.flags n.flags ≡ false)
+    ((m n : Member) → In m c.methods → In n (methods_of_line above) → signature_of m ≡ signature_of n
+    → is_special (signature_of m) ≡ false → is_clash m.flags n.flags ≡ false)
     × KeepsAccess above
 
 -- all methods of the imported classes of a line
@@ -107,11 +111,13 @@ abbrev pub KeepsImported : Line → Type 0
 KeepsImported Nowhere = Unit {0}
 KeepsImported (Imported classes) = Unit {0}
 KeepsImported (Declared c given above) =
-    ((m n : Member) → In m c.methods → In n (imported_methods above) → signature_of m ≡ signature_of n → is_special (signature_of m) ≡ false → (is_package_visible m.flags && is_package_visible n.flags) ≡ false)
+    ((m n : Member) → In m c.methods → In n (imported_methods above) → signature_of m ≡ signature_of n
+    → is_special (signature_of m) ≡ false → (is_package_visible m.flags && is_package_visible n.flags) ≡ false)
     × KeepsImported above
 
 -- the second line is the first, or begins at a superclass of it
 pub data Climbs : Line → Line → Type 0 where
   here : {l : Line} → Climbs l l
-  over : {cs ds : List Class} → ((m : Member) → In m (all_methods ds) → In m (all_methods cs)) → Climbs (Imported cs) (Imported ds)
+  over : {cs ds : List Class} → ((m : Member) → In m (all_methods ds) → In m (all_methods cs))
+      → Climbs (Imported cs) (Imported ds)
   up : {c : Class} {given : List Member} {l d : Line} → Climbs l d → Climbs (Declared c given l) d

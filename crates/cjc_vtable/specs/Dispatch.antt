@@ -1,6 +1,7 @@
 -- Dispatch by token (Java Card Virtual Machine Specification 2.2.2, sections 6.8 and 7.5): below a base and at an
 -- entry 0xFFFF it goes on at the superclass; at an imported class it asks that class's export file and its supers'.
-use Rattle.std.specs.Prelude.{ℕ, ◌+◌, ◌-◌, ◌==◌, List, [], ◌∷◌, length, position, ◌&&◌, nat_lt, Option, Some, None, option_map, if◌then◌else◌, slice_get}
+use Rattle.std.specs.Prelude.{ℕ, ◌+◌, ◌-◌, ◌==◌, List, [], ◌∷◌, length, position, ◌&&◌, nat_lt, Option, Some, None}
+use Rattle.std.specs.Prelude.{option_map, if◌then◌else◌, slice_get}
 use Rattle.std.specs.Str.{bytes_eq}
 use Rattle.cjc_world.specs.declared.found.Found.{Found}
 use Rattle.cjc_world.specs.Classes.{Class}
@@ -23,14 +24,16 @@ pub data Tower : Type 0 where
 abbrev pub tower_in : List Class → Supertypes → Tower
 tower_in w End = Missing
 tower_in w (Unknown name next) = Missing
-tower_in w (Known c supers interfaces next) = if c.is_imported then Exported (c ∷ upwards supers) else Info (table_of w c) (tower_in w supers)
+tower_in w (Known c supers interfaces next) = if c.is_imported then Exported (c ∷ upwards supers)
+    else Info (table_of w c) (tower_in w supers)
 
 abbrev pub tower_of : List Class → List ℕ → Tower
 tower_of w name = tower_in w (supertypes w (name ∷ []))
 
 -- a virtual method of a class by the token of its export file
 unfoldable pub own_by_token : ℕ → Class → Option Found
-own_by_token t c = option_map (λ i. member_at c (length c.fields + i)) (position (λ m. is_virtual m && (m.token == t)) c.methods)
+own_by_token t c = option_map (λ i. member_at c (length c.fields + i)) (position (λ m. is_virtual m && (m.token == t))
+    c.methods)
 
 -- at an entry; 0xFFFF goes on above, and past the table there is no method
 abbrev pub held : Option (Option Found) → Option Found → Option Found
@@ -51,7 +54,8 @@ dispatched (Info table above) t = at_table table.public_base table.public t (dis
 abbrev pub dispatched_hidden : Tower → ℕ → Option Found
 dispatched_hidden Missing t = None
 dispatched_hidden (Exported classes) t = None
-dispatched_hidden (Info table above) t = if nat_lt t table.package_base then dispatched_hidden above t else slice_get table.package (t - table.package_base)
+dispatched_hidden (Info table above) t = if nat_lt t table.package_base then dispatched_hidden above t
+    else slice_get table.package (t - table.package_base)
 
 -- the map of an interface, in this class or the nearest above that lists it
 abbrev pub map_in : List InterfaceMap → List ℕ → Option InterfaceMap → Option InterfaceMap

@@ -17,7 +17,8 @@ use Rattle.cjc_world.specs.Subtype.{starts}
 use Rattle.cjc_subset.specs.Checks.{check_breaks}
 use Rattle.cjc_tokens.specs.Members.{all_methods}
 use Rattle.cjc_vtable.specs.Calls.{IsOneToOne}
-use Rattle.cjc_vtable.specs.Laws.{KeepsRules, KeepsInterfaces, KeepsImported, VirtualCallsAgree, InterfaceCallsAgree, ImportedCallsAgree, TokensAreOnce}
+use Rattle.cjc_vtable.specs.Laws.{KeepsRules, KeepsInterfaces, KeepsImported, VirtualCallsAgree, InterfaceCallsAgree}
+use Rattle.cjc_vtable.specs.Laws.{ImportedCallsAgree, TokensAreOnce}
 
 -- none of these breaks is of the rule
 abbrev pub IsUnbroken : (rule : ℕ) → List Break → Type 0
@@ -38,14 +39,18 @@ pub record BreaksNone (list : List ℕ) (files : Files) (codes : List MethodCode
 pub record AreRead (files : Files) : Type 0 where
   pub package_name : starts 91 files.package_name ≡ false
   -- each class file and each export file is one that some bytes spell
-  pub classes : (n : ℕ) (c : ClassTree) → slice_get files.classes n ≡ Some c → (bytes : List ℕ) × FileSpells class_file c bytes
+  pub classes : (n : ℕ) (c : ClassTree) → slice_get files.classes n ≡ Some c → (bytes : List ℕ)
+      × FileSpells class_file c bytes
   pub exports : (e : ℕ) (t : ExportTree) → slice_get files.exports e ≡ Some t → IsWritable t
 
--- Export files don't contradict one another: along an imported class that is no interface and its supers, package-visible
--- methods included, one name and descriptor has one virtual token, and one virtual token has one name and descriptor. The
+-- Export files don't contradict one another: along an imported class that is no interface and its supers,
+-- package-visible
+-- methods included, one name and descriptor has one virtual token, and one virtual token has one name and descriptor.
+-- The
 -- tokens of an interface's methods are counted apart from those of its superclass java/lang/Object, from 0.
 abbrev pub ExportsAgree : List Class → Type 0
-ExportsAgree w = (x : List ℕ) (c : Class) → class_named w x ≡ Some c → c.is_imported ≡ true → is_interface c.flags ≡ false → IsOneToOne (c.methods ++ all_methods (upwards (supertypes w c.supers)))
+ExportsAgree w = (x : List ℕ) (c : Class) → class_named w x ≡ Some c → c.is_imported ≡ true → is_interface c.flags
+    ≡ false → IsOneToOne (c.methods ++ all_methods (upwards (supertypes w c.supers)))
 
 -- A package of read files that breaks none of these rules, and whose export files don't contradict one another.
 pub record IsKept (list : List ℕ) (files : Files) (codes : List MethodCode) (settings : Settings) : Type 0 where

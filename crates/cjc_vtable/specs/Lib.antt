@@ -5,3 +5,4 @@ pub mod Laws
 pub mod Kept
 pub mod Naming
 pub mod Working
+pub mod Meant

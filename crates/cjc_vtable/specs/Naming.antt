@@ -1,5 +1,6 @@
 -- The name and the descriptor that a method has which a look-up or a token means.
-use Rattle.std.specs.Prelude.{ℕ, ◌-◌, List, [], ◌++◌, length, nat_lt, Option, Some, None, option_map, option_and_then, slice_get, if◌then◌else◌}
+use Rattle.std.specs.Prelude.{ℕ, ◌-◌, List, [], ◌++◌, length, nat_lt, Option, Some, None, option_map, option_and_then}
+use Rattle.std.specs.Prelude.{slice_get, if◌then◌else◌}
 use Rattle.cjc_world.specs.declared.found.Found.{Found}
 use Rattle.cjc_world.specs.Files.{Files}
 use Rattle.cjc_world.specs.Classes.{Class, class_at}

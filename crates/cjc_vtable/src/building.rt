@@ -12,7 +12,7 @@ use crate::entries::{methods, table};
 use crate::maps::interface_maps;
 use crate::table::{ClassTable, ClassTables};
 use cjc_bytes::{NoMemory, Row};
-use cjc_class_order::class_order;
+use cjc_order::classes::class_order;
 use cjc_tokens::Tokens;
 use cjc_world::{Known, World};
 use std::alloc::Global;
@@ -26,7 +26,8 @@ fn class_table(
 ) -> Result<ClassTable, NoMemory>
     requires tokens { (applets : Bool) × (tokens.now ≡ assigned applets world.now) }
     requires class { IsClass world.now number }
-    ensures { (c : Tree) → slice_get world.now.classes number ≡ Some c → IfOk result (λ t. t ≡ table_of (all_classes world.now) (declared number c)) }
+    ensures { (c : Tree) → slice_get world.now.classes number ≡ Some c
+        → IfOk result (λ t. t ≡ table_of (all_classes world.now) (declared number c)) }
 {
     let class = Known::Declared(number, &world.classes().items()[number as usize]);
     let (public_base, public) = table(alloc, number, tokens.public_methods(number))?;

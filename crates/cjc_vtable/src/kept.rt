@@ -16,9 +16,12 @@ use cjc_world::lookup_laws;
 /// files don't contradict one another, keeps what dispatch rests on. So on an object of each of its classes dispatch
 /// by class tables and interface maps is selection by name, and a method keeps its token.
 pub fn package_laws()
-    ensures unbroken { (list : List ℕ) (files : Files) (codes : List MethodCode) (settings : Given) → breaks list files ≡ [] → check_breaks list files codes settings ≡ [] → BreaksNone list files codes settings }
-    ensures keeps { (list : List ℕ) (files : Files) (codes : List MethodCode) (settings : Given) → IsKept list files codes settings → Keeps (all_classes files) }
-    ensures calls { (list : List ℕ) (files : Files) (codes : List MethodCode) (settings : Given) → IsKept list files codes settings → CallsAgree (all_classes files) }
+    ensures unbroken { (list : List ℕ) (files : Files) (codes : List MethodCode) (settings : Given)
+        → breaks list files ≡ [] → check_breaks list files codes settings ≡ [] → BreaksNone list files codes settings }
+    ensures keeps { (list : List ℕ) (files : Files) (codes : List MethodCode) (settings : Given)
+        → IsKept list files codes settings → Keeps (all_classes files) }
+    ensures calls { (list : List ℕ) (files : Files) (codes : List MethodCode) (settings : Given)
+        → IsKept list files codes settings → CallsAgree (all_classes files) }
 {
     lookup_laws();
     dispatch_laws();

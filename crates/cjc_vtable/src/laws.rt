@@ -2,7 +2,8 @@
 
 ghost use Rattle.std.specs.Prelude.{List};
 ghost use Rattle.cjc_world.specs.Classes.{Class};
-ghost use Rattle.cjc_vtable.specs.Laws.{ImportedCallsAgree, InterfaceCallsAgree, KeepsImported, KeepsInterfaces, KeepsRules, TokensAreOnce, VirtualCallsAgree};
+ghost use Rattle.cjc_vtable.specs.Laws.{ImportedCallsAgree, InterfaceCallsAgree, KeepsImported, KeepsInterfaces};
+ghost use Rattle.cjc_vtable.specs.Laws.{KeepsRules, TokensAreOnce, VirtualCallsAgree};
 
 use cjc_world::lookup_laws;
 

@@ -8,6 +8,7 @@ mod kept;
 mod laws;
 mod maps;
 mod naming;
+pub mod slot_laws;
 mod table;
 
 pub use building::tables;

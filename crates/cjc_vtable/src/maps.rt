@@ -1,7 +1,8 @@
 //! The interface maps of a class: for each token of an interface the token of the class's method (Java Card
 //! Virtual Machine Specification 2.2.2, section 6.8). Called by `building`.
 
-ghost use Rattle.std.specs.Prelude.{◌≡◌, ◌++◌, Bool, false, map, option_map, option_to_list, slice_get, IfOk, OnOk, Some};
+ghost use Rattle.std.specs.Prelude.{◌≡◌, ◌++◌, Bool, false, map, option_map, option_to_list, slice_get, IfOk, OnOk};
+ghost use Rattle.std.specs.Prelude.{Some};
 ghost use Rattle.cjc_world.specs.Classes.{all_classes};
 ghost use Rattle.cjc_bytes.specs.AccessFlags.{is_interface};
 ghost use Rattle.cjc_world.specs.Interfaces.{known};
@@ -19,7 +20,7 @@ ghost use Rattle.cjc_vtable.specs.Tables.{interface_map};
 use crate::naming::named_row;
 use crate::table::InterfaceMap;
 use cjc_bytes::{Bytes, NoMemory, Row};
-use cjc_class_order::class_count;
+use cjc_order::classes::class_count;
 use cjc_tokens::{Slot, Tokens, interface_methods, token};
 use cjc_world::{Known, World, lookup_laws};
 use std::alloc::Global;
@@ -86,7 +87,8 @@ fn put_map(
     place: u32,
     maps: &mut Row<InterfaceMap>,
 ) -> Result<(), NoMemory>
-    ensures { OnOk result (maps.new ≡ maps.old ++ map (interface_map (all_classes world.now) (signs row.now)) (option_to_list (slice_get (all_classes world.now) place))) }
+    ensures { OnOk result (maps.new ≡ maps.old ++ map (interface_map (all_classes world.now) (signs row.now))
+        (option_to_list (slice_get (all_classes world.now) place))) }
 {
     match world.class_in(place) {
         None => Ok(()),
@@ -104,7 +106,8 @@ fn maps_at(
     row: &[Option<Slot<'_>>],
     places: &[u32],
 ) -> Result<Row<InterfaceMap>, NoMemory>
-    ensures { IfOk result (λ maps. maps ≡ map (interface_map (all_classes world.now) (signs row.now)) (at_places (all_classes world.now) places.now)) }
+    ensures { IfOk result (λ maps. maps ≡ map (interface_map (all_classes world.now) (signs row.now))
+        (at_places (all_classes world.now) places.now)) }
 {
     let mut maps = Row::new(alloc);
     for place in places {
@@ -147,7 +150,9 @@ pub(crate) fn interface_maps<'a>(
     requires class { IsOwn world.now number (class_of class) }
     requires plain { is_interface (class_of class).flags ≡ false }
     requires tokens { (applets : Bool) × (tokens.now ≡ assigned applets world.now) }
-    ensures { IfOk result (λ maps. maps ≡ map (interface_map (all_classes world.now) (slots (line_at (all_classes world.now) (class_of class.entry)))) (known (interfaces_at (all_classes world.now) (class_of class.entry)))) }
+    ensures { IfOk result (λ maps. maps
+        ≡ map (interface_map (all_classes world.now) (slots (line_at (all_classes world.now) (class_of class.entry))))
+        (known (interfaces_at (all_classes world.now) (class_of class.entry)))) }
 {
     let row = slots_of(alloc, world, tokens, class, number)?;
     let places = world.interfaces(alloc, class)?;

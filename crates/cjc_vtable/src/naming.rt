@@ -8,7 +8,7 @@ ghost use Rattle.cjc_tokens.specs.Members.{signature_of};
 ghost use Rattle.cjc_tokens.specs.Working.{signature_in, signs};
 ghost use Rattle.cjc_vtable.specs.Naming.{method_named, named, named_where};
 ghost use Rattle.cjc_vtable.specs.Working.Naming.{ids_at, signature_by};
-ghost use Rattle.cjc_class_order.specs.Numbers.{class_count};
+ghost use Rattle.cjc_order.specs.Classes.Numbers.{class_count};
 
 use cjc_bytes::{MemberId, NoMemory};
 use cjc_tokens::Slot;
@@ -43,7 +43,8 @@ fn class_with<'w, 'a>(world: &'w World<'a>, count: usize, found: Found) -> Optio
 
 /// A class's own method.
 fn own_at<'w>(class: Known<'w, '_>, place: usize) -> Option<Slot<'w>>
-    ensures { option_map signature_in result ≡ option_map signature_of (slice_get (class_of class.entry).methods place) }
+    ensures { option_map signature_in result ≡ option_map signature_of (slice_get (class_of class.entry).methods
+        place) }
 {
     if place < class.member_count(false) {
         let (name, desc) = class.member_at(false, place);

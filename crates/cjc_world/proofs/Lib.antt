@@ -27,3 +27,4 @@ pub mod Gets
 pub mod Walked
 pub mod Stepping
 pub mod Once
+pub mod UpwardLaws

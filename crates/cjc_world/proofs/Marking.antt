@@ -1,5 +1,6 @@
 -- One place more with its mark.
-use Rattle.std.proofs.Common.{◌≡◌, ℕ, zero, suc, ◌<◌, ◌≤◌, refl, sym, ap, ◌∙◌, arith, Bool, true, false, List, [], ◌∷◌, ◌++◌, length, slice_set, ⊎_elim}
+use Rattle.std.proofs.Common.{◌≡◌, ℕ, zero, suc, ◌<◌, ◌≤◌, refl, sym, ap, ◌∙◌, arith, Bool, true, false, List, [], ◌∷◌}
+use Rattle.std.proofs.Common.{◌++◌, length, slice_set, ⊎_elim}
 use Rattle.std.specs.Prelude.{◌||◌, ◌==◌, Some, slice_get}
 use Rattle.std.proofs.lemmas.Bool.Decides.{nat_tests}
 use Rattle.cjc_world.specs.Working.Places.{is_in}
@@ -24,7 +25,8 @@ or-true true = refl
 or-true false = refl
 
 in-last : (places : List ℕ) (q : ℕ) → is_in q (places ++ q ∷ []) ≡ true
-in-last places q = in-append q places (q ∷ []) ∙ ap (λ b. is_in q places || b) (or-false (q == q) ∙ same-refl q) ∙ or-true (is_in q places)
+in-last places q = in-append q places (q ∷ []) ∙ ap (λ b. is_in q places || b) (or-false (q == q) ∙ same-refl q)
+    ∙ or-true (is_in q places)
 
 in-other : (places : List ℕ) (q p : ℕ) → (p ≡ q → ⊥) → is_in p (places ++ q ∷ []) ≡ is_in p places
 in-other places q p n =
@@ -36,14 +38,19 @@ within [] p mark e = cc
 within (m ∷ marks) zero mark e = omega arith
 within (m ∷ marks) (suc p) mark e = let h = within marks p mark e in omega arith
 
-pub mark-set : (marks : List Bool) (places new : List ℕ) (q : ℕ) → AreMarked marks places → new ≡ places ++ q ∷ [] → AreMarked (slice_set marks q true) new
+pub mark-set : (marks : List Bool) (places new : List ℕ) (q : ℕ) → AreMarked marks places → new ≡ places ++ q ∷ []
+    → AreMarked (slice_set marks q true) new
 mark-set marks places new q inv is = λ p mark e. ⊎_elim
-    (λ (same : p ≡ q). set-here marks q mark (ap (slice_get (slice_set marks q true)) (sym same) ∙ e) ∙ sym (in-last places q) ∙ ap (λ v. is_in v (places ++ q ∷ [])) (sym same) ∙ ap (is_in p) (sym is))
-    (λ (other : p ≡ q → ⊥). inv p mark (sym (set-there marks q p other) ∙ e) ∙ sym (in-other places q p other) ∙ ap (is_in p) (sym is))
+    (λ (same : p ≡ q). set-here marks q mark (ap (slice_get (slice_set marks q true)) (sym same) ∙ e)
+    ∙ sym (in-last places q) ∙ ap (λ v. is_in v (places ++ q ∷ [])) (sym same) ∙ ap (is_in p) (sym is))
+    (λ (other : p ≡ q → ⊥). inv p mark (sym (set-there marks q p other) ∙ e) ∙ sym (in-other places q p other)
+    ∙ ap (is_in p) (sym is))
     (same_or p q)
 
 -- the place has no mark
-pub mark-over : (marks : List Bool) (places new : List ℕ) (q : ℕ) → length marks ≤ q → AreMarked marks places → new ≡ places ++ q ∷ [] → AreMarked marks new
+pub mark-over : (marks : List Bool) (places new : List ℕ) (q : ℕ) → length marks ≤ q → AreMarked marks places
+    → new ≡ places ++ q ∷ [] → AreMarked marks new
 mark-over marks places new q past inv is = λ p mark e.
     let l = within marks p mark e in
-    inv p mark e ∙ sym (in-other places q p (λ same. let s : p ≡ q = same in absurd (omega arith))) ∙ ap (is_in p) (sym is)
+    inv p mark e ∙ sym (in-other places q p (λ same. let s : p ≡ q = same in absurd (omega arith)))
+    ∙ ap (is_in p) (sym is)

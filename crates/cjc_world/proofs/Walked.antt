@@ -1,5 +1,6 @@
 -- Walks over the places of a table find what is found in the tree.
-use Rattle.std.proofs.Common.{◌≡◌, ℕ, ◌<◌, ◌≤◌, ◌+◌, refl, sym, ap, ◌∙◌, arith, Bool, true, false, List, [], ◌∷◌, ◌++◌, length, get_or, drop, add-one}
+use Rattle.std.proofs.Common.{◌≡◌, ℕ, ◌<◌, ◌≤◌, ◌+◌, refl, sym, ap, ◌∙◌, arith, Bool, true, false, List, [], ◌∷◌, ◌++◌}
+use Rattle.std.proofs.Common.{length, get_or, drop, add-one}
 use Rattle.std.specs.Prelude.{◌||◌, Option, Some, None, option_to_list, slice_get}
 use Rattle.std.specs.List.{list_any}
 use Rattle.std.specs.Str.{bytes_eq}
@@ -10,11 +11,14 @@ use Rattle.cjc_world.specs.declared.found.Found.{Found}
 use Rattle.cjc_world.specs.declared.tables.Above.{Above}
 use Rattle.cjc_world.specs.declared.tables.Order.TheVariants as orders
 use Rattle.cjc_world.specs.Classes.{Class, class_named}
-use Rattle.cjc_world.specs.Supertypes.{Supertypes, End, Unknown, Known, AreSupertypes, ends, unknown_here, known_here, known_as, supertypes_within, supertypes, upwards, line, is_below, stands, stands_by_supers}
+use Rattle.cjc_world.specs.Supertypes.{Supertypes, End, Unknown, Known, AreSupertypes, ends, unknown_here, known_here}
+use Rattle.cjc_world.specs.Supertypes.{known_as, supertypes_within, supertypes, upwards, line, is_below, stands}
+use Rattle.cjc_world.specs.Supertypes.{stands_by_supers}
 use Rattle.cjc_world.specs.Interfaces.{gathered, has_interface, known}
 use Rattle.cjc_world.specs.Lookup.{or_else, first, own_field, field_in, find_field, own_method}
 use Rattle.cjc_world.specs.Subtype.{is_subclass}
-use Rattle.cjc_world.specs.Working.Places.{place_named, places_of, joined, first_place, field_of, method_of, has_name, names, names_of, names_super, names_super_of}
+use Rattle.cjc_world.specs.Working.Places.{place_named, places_of, joined, first_place, field_of, method_of, has_name}
+use Rattle.cjc_world.specs.Working.Places.{names, names_of, names_super, names_super_of}
 use Rattle.cjc_world.specs.Working.Tables.{in_field_order, told, IsTable, row_at}
 use Rattle.cjc_world.proofs.Settled.{supertypes-AreSupertypes, supertypes-known}
 use Rattle.cjc_world.proofs.Cycles.{class_named-name}
@@ -26,14 +30,18 @@ use Rattle.cjc_world.proofs.Adding.{named-upwards, named-known, named-fields, an
 -- ---- one place further
 
 module _ (own : ℕ → Option Found) (ps : List ℕ) (i : ℕ) where
-  next : (d : ℕ) → i < length ps → first_place own (drop i ps) ≡ or_else (own (get_or ps i d)) (first_place own (drop (i + 1) ps))
+  next : (d : ℕ) → i < length ps → first_place own (drop i ps) ≡ or_else (own (get_or ps i d))
+      (first_place own (drop (i + 1) ps))
   unfolding first_place
-  next d l = ap (first_place own) (drop-cons ps i d l) ∙ ap (λ n. or_else (own (get_or ps i d)) (first_place own (drop n ps))) (sym (add-one i))
+  next d l = ap (first_place own) (drop-cons ps i d l)
+      ∙ ap (λ n. or_else (own (get_or ps i d)) (first_place own (drop n ps))) (sym (add-one i))
 
-  pub first-here : (d : ℕ) (f : Found) → i < length ps → Some f ≡ own (get_or ps i d) → first_place own (drop i ps) ≡ first_place own ps → Some f ≡ first_place own ps
+  pub first-here : (d : ℕ) (f : Found) → i < length ps → Some f ≡ own (get_or ps i d) → first_place own (drop i ps)
+      ≡ first_place own ps → Some f ≡ first_place own ps
   first-here d f l e kept = ap (λ o. or_else o (first_place own (drop (i + 1) ps))) e ∙ sym (next d l) ∙ kept
 
-  pub first-on : (d : ℕ) → i < length ps → None ≡ own (get_or ps i d) → first_place own (drop i ps) ≡ first_place own ps → first_place own (drop (i + 1) ps) ≡ first_place own ps
+  pub first-on : (d : ℕ) → i < length ps → None ≡ own (get_or ps i d) → first_place own (drop i ps) ≡ first_place own ps
+      → first_place own (drop (i + 1) ps) ≡ first_place own ps
   first-on d l e kept = ap (λ o. or_else o (first_place own (drop (i + 1) ps))) e ∙ sym (next d l) ∙ kept
 
   pub first-end : length ps ≤ i → first_place own (drop i ps) ≡ first_place own ps → None ≡ first_place own ps
@@ -43,7 +51,8 @@ module _ (own : ℕ → Option Found) (ps : List ℕ) (i : ℕ) where
 -- ---- the classes of a tree, and the places of a table
 
 module _ (w : List Class) where
-  first-places : (f : ℕ → Option Found) (g : Class → Option Found) (cs : List Class) → AreNamed w cs → ((d : Class) (q : ℕ) → slice_get w q ≡ Some d → f q ≡ g d) → first_place f (places_of w cs) ≡ first g cs
+  first-places : (f : ℕ → Option Found) (g : Class → Option Found) (cs : List Class) → AreNamed w cs
+      → ((d : Class) (q : ℕ) → slice_get w q ≡ Some d → f q ≡ g d) → first_place f (places_of w cs) ≡ first g cs
   unfolding AreNamed places_of first_place first
   first-places f g [] a same = refl
   first-places f g (d ∷ cs) a same =
@@ -52,11 +61,14 @@ module _ (w : List Class) where
       ∙ ap (λ o. or_else o (first_place f (places_of w cs))) (same d p.0 p.2)
       ∙ ap (or_else (g d)) (first-places f g cs a.1 same)
 
-  first-told : (f : ℕ → Option Found) (g : Class → Option Found) (cs : List Class) → AreNamed w cs → ((d : Class) (q : ℕ) → slice_get w q ≡ Some d → f q ≡ g d) → first_place f (joined [] (places_of w cs)) ≡ first g cs
+  first-told : (f : ℕ → Option Found) (g : Class → Option Found) (cs : List Class) → AreNamed w cs
+      → ((d : Class) (q : ℕ) → slice_get w q ≡ Some d → f q ≡ g d) → first_place f (joined [] (places_of w cs))
+      ≡ first g cs
   unfolding first_place
   first-told f g cs a same = first-joined f [] (places_of w cs) ∙ first-places f g cs a same
 
-  any-told : (f : ℕ → Bool) (g : Class → Bool) (cs : List Class) → AreNamed w cs → ((d : Class) (q : ℕ) → slice_get w q ≡ Some d → f q ≡ g d) → list_any f (joined [] (places_of w cs)) ≡ list_any g cs
+  any-told : (f : ℕ → Bool) (g : Class → Bool) (cs : List Class) → AreNamed w cs → ((d : Class) (q : ℕ)
+      → slice_get w q ≡ Some d → f q ≡ g d) → list_any f (joined [] (places_of w cs)) ≡ list_any g cs
   any-told f g cs a same = any-joined f [] (places_of w cs) ∙ any-places w f g cs a (λ d q _ _ e. same d q e)
 
 or_else-assoc : (f g h : Option Found) → or_else (or_else f g) h ≡ or_else f (or_else g h)
@@ -69,15 +81,20 @@ fields-first own End = refl
 fields-first own (Unknown x next) = fields-first own next
 fields-first own (Known c s i next) =
     ap (λ o. or_else (or_else (own c) (or_else o (field_in own s))) (field_in own next)) (fields-first own i)
-    ∙ ap (λ o. or_else (or_else (own c) (or_else (first own (in_field_order i)) o)) (field_in own next)) (fields-first own s)
-    ∙ ap (λ o. or_else (or_else (own c) (or_else (first own (in_field_order i)) (first own (in_field_order s)))) o) (fields-first own next)
-    ∙ or_else-assoc (own c) (or_else (first own (in_field_order i)) (first own (in_field_order s))) (first own (in_field_order next))
-    ∙ ap (λ o. or_else (own c) (or_else o (first own (in_field_order next)))) (sym (first-append own (in_field_order i) (in_field_order s)))
+    ∙ ap (λ o. or_else (or_else (own c) (or_else (first own (in_field_order i)) o)) (field_in own next))
+    (fields-first own s)
+    ∙ ap (λ o. or_else (or_else (own c) (or_else (first own (in_field_order i)) (first own (in_field_order s)))) o)
+    (fields-first own next)
+    ∙ or_else-assoc (own c) (or_else (first own (in_field_order i)) (first own (in_field_order s)))
+    (first own (in_field_order next))
+    ∙ ap (λ o. or_else (own c) (or_else o (first own (in_field_order next))))
+    (sym (first-append own (in_field_order i) (in_field_order s)))
     ∙ ap (or_else (own c)) (sym (first-append own (in_field_order i ++ in_field_order s) (in_field_order next)))
 
 -- ---- names in the tree: those of its classes, and those that they list
 
-regroup : (n a s b i c l : Bool) → (((n || (a || s)) || (b || i)) || (c || l)) ≡ ((n || c) || ((n || (a || b)) || ((i || s) || l)))
+regroup : (n a s b i c l : Bool) → (((n || (a || s)) || (b || i)) || (c || l)) ≡ ((n || c)
+    || ((n || (a || b)) || ((i || s) || l)))
 regroup true a s b i c l = refl
 regroup false true s b i true l = refl
 regroup false true s b i false l = refl
@@ -96,10 +113,12 @@ or-assoc : (a b c : Bool) → (a || (b || c)) ≡ ((a || b) || c)
 or-assoc true b c = refl
 or-assoc false b c = refl
 
-stands-listed : (w : List Class) (y : List ℕ) (xs : List (List ℕ)) (k : Supertypes) → AreSupertypes w xs k → stands y k ≡ (list_any (λ x. bytes_eq x y) xs || list_any (names y) (in_field_order k))
+stands-listed : (w : List Class) (y : List ℕ) (xs : List (List ℕ)) (k : Supertypes) → AreSupertypes w xs k
+    → stands y k ≡ (list_any (λ x. bytes_eq x y) xs || list_any (names y) (in_field_order k))
 stands-listed w y xs k ends = refl
 stands-listed w y (x ∷ xs) k (unknown_here {next = next} e n) =
-    ap (λ b. bytes_eq x y || b) (stands-listed w y xs next n) ∙ or-assoc (bytes_eq x y) (list_any (λ x. bytes_eq x y) xs) (list_any (names y) (in_field_order next))
+    ap (λ b. bytes_eq x y || b) (stands-listed w y xs next n)
+    ∙ or-assoc (bytes_eq x y) (list_any (λ x. bytes_eq x y) xs) (list_any (names y) (in_field_order next))
 stands-listed w y (x ∷ xs) k (known_here {c = c} {supers = s} {interfaces = i} {next = next} e sk ik n) =
     let I = list_any (names y) (in_field_order i) in
     let S = list_any (names y) (in_field_order s) in
@@ -112,8 +131,10 @@ stands-listed w y (x ∷ xs) k (known_here {c = c} {supers = s} {interfaces = i}
     ∙ ap (λ b. ((bytes_eq c.name y || (A || S)) || (B || I)) || b) (stands-listed w y xs next n)
     ∙ regroup (bytes_eq c.name y) A S B I C N
     ∙ ap (λ z. (bytes_eq z y || C) || ((bytes_eq c.name y || (A || B)) || ((I || S) || N))) (class_named-name w x c e)
-    ∙ ap (λ b. (bytes_eq x y || C) || ((bytes_eq c.name y || (A || B)) || (b || N))) (sym (list_any-append (names y) (in_field_order i) (in_field_order s)))
-    ∙ ap (λ b. (bytes_eq x y || C) || ((bytes_eq c.name y || (A || B)) || b)) (sym (list_any-append (names y) (in_field_order i ++ in_field_order s) (in_field_order next)))
+    ∙ ap (λ b. (bytes_eq x y || C) || ((bytes_eq c.name y || (A || B)) || (b || N)))
+    (sym (list_any-append (names y) (in_field_order i) (in_field_order s)))
+    ∙ ap (λ b. (bytes_eq x y || C) || ((bytes_eq c.name y || (A || B)) || b))
+    (sym (list_any-append (names y) (in_field_order i ++ in_field_order s) (in_field_order next)))
 
 -- the same of names on ways by supers alone
 
@@ -126,10 +147,12 @@ together false false true false l = refl
 together false false false true l = refl
 together false false false false l = refl
 
-below-listed : (w : List Class) (y : List ℕ) (xs : List (List ℕ)) (k : Supertypes) → AreSupertypes w xs k → stands_by_supers y k ≡ (list_any (λ x. bytes_eq x y) xs || list_any (names_super y) (upwards k))
+below-listed : (w : List Class) (y : List ℕ) (xs : List (List ℕ)) (k : Supertypes) → AreSupertypes w xs k
+    → stands_by_supers y k ≡ (list_any (λ x. bytes_eq x y) xs || list_any (names_super y) (upwards k))
 below-listed w y xs k ends = refl
 below-listed w y (x ∷ xs) k (unknown_here {next = next} e n) =
-    ap (λ b. bytes_eq x y || b) (below-listed w y xs next n) ∙ or-assoc (bytes_eq x y) (list_any (λ x. bytes_eq x y) xs) (list_any (names_super y) (upwards next))
+    ap (λ b. bytes_eq x y || b) (below-listed w y xs next n) ∙ or-assoc (bytes_eq x y) (list_any (λ x. bytes_eq x y) xs)
+    (list_any (names_super y) (upwards next))
 below-listed w y (x ∷ xs) k (known_here {c = c} {supers = s} {interfaces = i} {next = next} e sk ik n) =
     let S = list_any (names_super y) (upwards s) in
     let N = list_any (names_super y) (upwards next) in
@@ -139,7 +162,8 @@ below-listed w y (x ∷ xs) k (known_here {c = c} {supers = s} {interfaces = i} 
     ∙ ap (λ b. (bytes_eq c.name y || (A || S)) || b) (below-listed w y xs next n)
     ∙ together (bytes_eq c.name y) A S C N
     ∙ ap (λ z. (bytes_eq z y || C) || ((bytes_eq c.name y || A) || (S || N))) (class_named-name w x c e)
-    ∙ ap (λ b. (bytes_eq x y || C) || ((bytes_eq c.name y || A) || b)) (sym (list_any-append (names_super y) (upwards s) (upwards next)))
+    ∙ ap (λ b. (bytes_eq x y || C) || ((bytes_eq c.name y || A) || b)) (sym (list_any-append (names_super y) (upwards s)
+    (upwards next)))
 
 -- ---- by the table
 
@@ -159,38 +183,53 @@ module _ (w : List Class) (rows : List (Option Above)) (table : IsTable w rows) 
     unfolding told
     line-row = ap (row_at orders.Line) (table.tells x p place)
 
-    interfaces-row : row_at orders.Interfaces (slice_get rows p) ≡ joined [] (places_of w (known (gathered false (supertypes w (x ∷ [])))))
+    interfaces-row : row_at orders.Interfaces (slice_get rows p)
+        ≡ joined [] (places_of w (known (gathered false (supertypes w (x ∷ [])))))
     unfolding told
     interfaces-row = ap (row_at orders.Interfaces) (table.tells x p place)
 
-    fields-row : row_at orders.Fields (slice_get rows p) ≡ joined [] (places_of w (in_field_order (supertypes w (x ∷ []))))
+    fields-row : row_at orders.Fields (slice_get rows p)
+        ≡ joined [] (places_of w (in_field_order (supertypes w (x ∷ []))))
     unfolding told
     fields-row = ap (row_at orders.Fields) (table.tells x p place)
 
-    pub line-finds : (selecting : Bool) (name desc : List ℕ) → first_place (λ q. method_of selecting name desc (slice_get w q)) (row_at orders.Line (slice_get rows p)) ≡ first (own_method selecting name desc) (line w x)
+    pub line-finds : (selecting : Bool) (name desc : List ℕ)
+        → first_place (λ q. method_of selecting name desc (slice_get w q)) (row_at orders.Line (slice_get rows p))
+        ≡ first (own_method selecting name desc) (line w x)
     unfolding line
     line-finds selecting name desc =
         ap (first_place (λ q. method_of selecting name desc (slice_get w q))) line-row
-        ∙ first-told w (λ q. method_of selecting name desc (slice_get w q)) (own_method selecting name desc) (upwards (supertypes w (x ∷ []))) (named-upwards w (x ∷ []) (supertypes w (x ∷ [])) is_tree) (λ d q e. ap (method_of selecting name desc) e)
+        ∙ first-told w (λ q. method_of selecting name desc (slice_get w q)) (own_method selecting name desc)
+        (upwards (supertypes w (x ∷ []))) (named-upwards w (x ∷ []) (supertypes w (x ∷ [])) is_tree)
+        (λ d q e. ap (method_of selecting name desc) e)
 
-    pub interfaces-find : (name desc : List ℕ) → first_place (λ q. method_of false name desc (slice_get w q)) (row_at orders.Interfaces (slice_get rows p)) ≡ first (own_method false name desc) (known (gathered false (supertypes w (x ∷ []))))
+    pub interfaces-find : (name desc : List ℕ) → first_place (λ q. method_of false name desc (slice_get w q))
+        (row_at orders.Interfaces (slice_get rows p)) ≡ first (own_method false name desc)
+        (known (gathered false (supertypes w (x ∷ []))))
     interfaces-find name desc =
         ap (first_place (λ q. method_of false name desc (slice_get w q))) interfaces-row
-        ∙ first-told w (λ q. method_of false name desc (slice_get w q)) (own_method false name desc) (known (gathered false (supertypes w (x ∷ [])))) (named-known w false (x ∷ []) (supertypes w (x ∷ [])) is_tree) (λ d q e. ap (method_of false name desc) e)
+        ∙ first-told w (λ q. method_of false name desc (slice_get w q)) (own_method false name desc)
+        (known (gathered false (supertypes w (x ∷ [])))) (named-known w false (x ∷ []) (supertypes w (x ∷ []))
+        is_tree) (λ d q e. ap (method_of false name desc) e)
 
-    pub fields-find : (name desc : List ℕ) → first_place (λ q. field_of name desc (slice_get w q)) (row_at orders.Fields (slice_get rows p)) ≡ find_field w x name desc
+    pub fields-find : (name desc : List ℕ) → first_place (λ q. field_of name desc (slice_get w q))
+        (row_at orders.Fields (slice_get rows p)) ≡ find_field w x name desc
     unfolding find_field
     fields-find name desc =
         ap (first_place (λ q. field_of name desc (slice_get w q))) fields-row
-        ∙ first-told w (λ q. field_of name desc (slice_get w q)) (own_field name desc) (in_field_order (supertypes w (x ∷ []))) (named-fields w (x ∷ []) (supertypes w (x ∷ [])) is_tree) (λ d q e. ap (field_of name desc) e)
+        ∙ first-told w (λ q. field_of name desc (slice_get w q)) (own_field name desc)
+        (in_field_order (supertypes w (x ∷ []))) (named-fields w (x ∷ []) (supertypes w (x ∷ [])) is_tree)
+        (λ d q e. ap (field_of name desc) e)
         ∙ sym (fields-first (own_field name desc) (supertypes w (x ∷ [])))
 
-    pub line-below : (y : List ℕ) → list_any (λ q. names_super_of y (slice_get w q)) (row_at orders.Line (slice_get rows p)) ≡ is_below w x y
+    pub line-below : (y : List ℕ) → list_any (λ q. names_super_of y (slice_get w q))
+        (row_at orders.Line (slice_get rows p)) ≡ is_below w x y
     unfolding is_below
     line-below y =
         let c = place-class w x p place in
         ap (list_any (λ q. names_super_of y (slice_get w q))) line-row
-        ∙ any-told w (λ q. names_super_of y (slice_get w q)) (names_super y) (upwards (supertypes w (x ∷ []))) (named-upwards w (x ∷ []) (supertypes w (x ∷ [])) is_tree) (λ d q e. ap (names_super_of y) e)
+        ∙ any-told w (λ q. names_super_of y (slice_get w q)) (names_super y) (upwards (supertypes w (x ∷ [])))
+        (named-upwards w (x ∷ []) (supertypes w (x ∷ [])) is_tree) (λ d q e. ap (names_super_of y) e)
         ∙ itself c.0 c.2
         ∙ sym (below-listed w y (x ∷ []) (supertypes w (x ∷ [])) is_tree)
       where
@@ -198,25 +237,35 @@ module _ (w : List Class) (rows : List (Option Above)) (table : IsTable w rows) 
         absorbs true b r = refl
         absorbs false b r = refl
 
-        itself : (c : Class) → class_named w x ≡ Some c → list_any (names_super y) (upwards (supertypes w (x ∷ []))) ≡ ((bytes_eq x y || false) || list_any (names_super y) (upwards (supertypes w (x ∷ []))))
+        itself : (c : Class) → class_named w x ≡ Some c → list_any (names_super y) (upwards (supertypes w (x ∷ [])))
+            ≡ ((bytes_eq x y || false) || list_any (names_super y) (upwards (supertypes w (x ∷ []))))
         itself c e =
             ap (λ k. list_any (names_super y) (upwards k)) (supertypes-known w table.acyclic x c e)
-            ∙ absorbs (bytes_eq c.name y) (list_any (λ x. bytes_eq x y) c.supers) (list_any (names_super y) (upwards (supertypes w c.supers) ++ []))
-            ∙ ap (λ z. (bytes_eq z y || false) || list_any (names_super y) (upwards (Known c (supertypes w c.supers) (supertypes w c.interfaces) End))) (class_named-name w x c e)
-            ∙ ap (λ k. (bytes_eq x y || false) || list_any (names_super y) (upwards k)) (sym (supertypes-known w table.acyclic x c e))
+            ∙ absorbs (bytes_eq c.name y) (list_any (λ x. bytes_eq x y) c.supers) (list_any (names_super y)
+            (upwards (supertypes w c.supers) ++ []))
+            ∙ ap (λ z. (bytes_eq z y || false)
+            || list_any (names_super y) (upwards (Known c (supertypes w c.supers) (supertypes w c.interfaces) End)))
+            (class_named-name w x c e)
+            ∙ ap (λ k. (bytes_eq x y || false) || list_any (names_super y) (upwards k))
+            (sym (supertypes-known w table.acyclic x c e))
 
-    pub interfaces-have : (y : List ℕ) → list_any (λ q. has_name y (slice_get w q)) (row_at orders.Interfaces (slice_get rows p)) ≡ has_interface w x y
+    pub interfaces-have : (y : List ℕ) → list_any (λ q. has_name y (slice_get w q)) (row_at orders.Interfaces
+        (slice_get rows p)) ≡ has_interface w x y
     unfolding has_interface
     interfaces-have y =
         ap (list_any (λ q. has_name y (slice_get w q))) interfaces-row
-        ∙ any-told w (λ q. has_name y (slice_get w q)) (λ c. bytes_eq c.name y) (known (gathered false (supertypes w (x ∷ [])))) (named-known w false (x ∷ []) (supertypes w (x ∷ [])) is_tree) (λ d q e. ap (has_name y) e)
+        ∙ any-told w (λ q. has_name y (slice_get w q)) (λ c. bytes_eq c.name y)
+        (known (gathered false (supertypes w (x ∷ [])))) (named-known w false (x ∷ []) (supertypes w (x ∷ []))
+        is_tree) (λ d q e. ap (has_name y) e)
 
-    pub fields-stand : (y : List ℕ) → list_any (λ q. names_of y (slice_get w q)) (row_at orders.Fields (slice_get rows p)) ≡ is_subclass w x y
+    pub fields-stand : (y : List ℕ)
+        → list_any (λ q. names_of y (slice_get w q)) (row_at orders.Fields (slice_get rows p)) ≡ is_subclass w x y
     unfolding is_subclass
     fields-stand y =
         let c = place-class w x p place in
         ap (list_any (λ q. names_of y (slice_get w q))) fields-row
-        ∙ any-told w (λ q. names_of y (slice_get w q)) (names y) (in_field_order (supertypes w (x ∷ []))) (named-fields w (x ∷ []) (supertypes w (x ∷ [])) is_tree) (λ d q e. ap (names_of y) e)
+        ∙ any-told w (λ q. names_of y (slice_get w q)) (names y) (in_field_order (supertypes w (x ∷ [])))
+        (named-fields w (x ∷ []) (supertypes w (x ∷ [])) is_tree) (λ d q e. ap (names_of y) e)
         ∙ itself y c.0 c.2
         ∙ sym (stands-listed w y (x ∷ []) (supertypes w (x ∷ [])) is_tree)
       where
@@ -228,12 +277,20 @@ module _ (w : List Class) (rows : List (Option Above)) (table : IsTable w rows) 
         absorbs true b r = refl
         absorbs false b r = refl
 
-        itself : (y : List ℕ) (c : Class) → class_named w x ≡ Some c → list_any (names y) (in_field_order (supertypes w (x ∷ []))) ≡ ((bytes_eq x y || false) || list_any (names y) (in_field_order (supertypes w (x ∷ []))))
+        itself : (y : List ℕ) (c : Class) → class_named w x ≡ Some c
+            → list_any (names y) (in_field_order (supertypes w (x ∷ []))) ≡ ((bytes_eq x y || false)
+            || list_any (names y) (in_field_order (supertypes w (x ∷ []))))
         itself y c e =
             ap (λ k. list_any (names y) (in_field_order k)) (supertypes-known w table.acyclic x c e)
-            ∙ absorbs (bytes_eq c.name y) (list_any (λ x. bytes_eq x y) c.supers || list_any (λ x. bytes_eq x y) c.interfaces) (list_any (names y) (in_field_order (supertypes w c.interfaces) ++ in_field_order (supertypes w c.supers) ++ []))
-            ∙ ap (λ z. (bytes_eq z y || false) || list_any (names y) (in_field_order (Known c (supertypes w c.supers) (supertypes w c.interfaces) End))) (class_named-name w x c e)
-            ∙ ap (λ k. (bytes_eq x y || false) || list_any (names y) (in_field_order k)) (sym (supertypes-known w table.acyclic x c e))
+            ∙ absorbs (bytes_eq c.name y) (list_any (λ x. bytes_eq x y) c.supers
+            || list_any (λ x. bytes_eq x y) c.interfaces)
+            (list_any (names y) (in_field_order (supertypes w c.interfaces)
+            ++ in_field_order (supertypes w c.supers) ++ []))
+            ∙ ap (λ z. (bytes_eq z y || false)
+            || list_any (names y) (in_field_order (Known c (supertypes w c.supers) (supertypes w c.interfaces)
+            End))) (class_named-name w x c e)
+            ∙ ap (λ k. (bytes_eq x y || false) || list_any (names y) (in_field_order k))
+            (sym (supertypes-known w table.acyclic x c e))
 
   -- ---- of no class
 
@@ -261,10 +318,13 @@ module _ (w : List Class) (rows : List (Option Above)) (table : IsTable w rows) 
   unfolding find_field
   none-field name desc e = sym (ap (field_in (own_field name desc)) (nowhere e))
 
-  pub none-interfaces : (name desc : List ℕ) → place_named w x ≡ None → None ≡ first (own_method false name desc) (known (gathered false (supertypes w (x ∷ []))))
+  pub none-interfaces : (name desc : List ℕ) → place_named w x ≡ None
+      → None ≡ first (own_method false name desc) (known (gathered false (supertypes w (x ∷ []))))
   unfolding gathered known first
-  none-interfaces name desc e = sym (ap (λ k. first (own_method false name desc) (known (gathered false k))) (nowhere e))
+  none-interfaces name desc e = sym (ap (λ k. first (own_method false name desc) (known (gathered false k)))
+      (nowhere e))
 
-  pub none-line : (selecting : Bool) (name desc : List ℕ) → place_named w x ≡ None → None ≡ first (own_method selecting name desc) (line w x)
+  pub none-line : (selecting : Bool) (name desc : List ℕ) → place_named w x ≡ None
+      → None ≡ first (own_method selecting name desc) (line w x)
   unfolding line first
   none-line selecting name desc e = sym (ap (λ k. first (own_method selecting name desc) (upwards k)) (nowhere e))

@@ -12,4 +12,5 @@ is_accessible w holder named owner flags =
     is_public flags
     || (if is_private flags then not owner.is_imported && bytes_eq owner.name holder
     else not owner.is_imported
-    || (is_protected flags && is_below w holder owner.name && (is_static flags || is_below w named holder || is_below w holder named)))
+    || (is_protected flags && is_below w holder owner.name && (is_static flags || is_below w named holder
+    || is_below w holder named)))

@@ -1,6 +1,7 @@
 -- The methods that an abstract class gets: one for each method of its interfaces that it neither declares nor
 -- inherits from a superclass as a public or protected method that is not static.
-use Rattle.std.specs.Prelude.{ℕ, zero, suc, ◌+◌, ◌==◌, List, [], ◌∷◌, ◌++◌, map, length, slice_get, Bool, true, false, not, ◌&&◌, ◌||◌, if◌then◌else◌, Option, Some, None, codes}
+use Rattle.std.specs.Prelude.{ℕ, zero, suc, ◌+◌, ◌==◌, List, [], ◌∷◌, ◌++◌, map, length, slice_get, Bool, true, false}
+use Rattle.std.specs.Prelude.{not, ◌&&◌, ◌||◌, if◌then◌else◌, Option, Some, None, codes}
 use Rattle.std.specs.List.{list_any}
 use Rattle.std.specs.Str.{bytes_eq}
 use Rattle.cjc_bytes.specs.declared.fault.MemberId.{MemberId}
@@ -39,7 +40,8 @@ by_token (suc count) token ms = with_token token ms ++ by_token count (token + 1
 -- <clinit> is no method of an interface that another class has
 abbrev pub without_initialiser : List Member → List Member
 without_initialiser [] = []
-without_initialiser (m ∷ ms) = if bytes_eq m.name (codes "<clinit>") then without_initialiser ms else m ∷ without_initialiser ms
+without_initialiser (m ∷ ms) = if bytes_eq m.name (codes "<clinit>") then without_initialiser ms
+    else m ∷ without_initialiser ms
 
 -- An interface of an export file has its methods by the tokens that stand there. One of the package has the order
 -- of its class file.
@@ -81,7 +83,8 @@ lacking is_there given (m ∷ ms) =
 unfoldable pub added : List Class → Class → List Member
 added w c =
     if takes_added c
-    then lacking (λ m. declares_open m.name m.desc c || has_open m.name m.desc (supertypes w c.supers)) [] (asked_by (supertypes w c.supers) (supertypes w c.interfaces))
+    then lacking (λ m. declares_open m.name m.desc c || has_open m.name m.desc (supertypes w c.supers)) []
+    (asked_by (supertypes w c.supers) (supertypes w c.interfaces))
     else []
 
 -- a method of the class of this name, by its own name and its descriptor

@@ -1,5 +1,6 @@
 -- The classes of a package and of its export files, seen alike, in the order of the list.
-use Rattle.std.specs.Prelude.{ℕ, ◌+◌, List, [], ◌∷◌, ◌++◌, map, length, slice_get, Bool, true, false, not, ◌&&◌, ◌==◌, if◌then◌else◌, Option, Some, None}
+use Rattle.std.specs.Prelude.{ℕ, ◌+◌, List, [], ◌∷◌, ◌++◌, map, length, slice_get, Bool, true, false, not, ◌&&◌, ◌==◌}
+use Rattle.std.specs.Prelude.{if◌then◌else◌, Option, Some, None}
 use Rattle.std.specs.Str.{bytes_eq}
 use Rattle.cjc_bytes.specs.declared.settings.FileLine.{FileLine}
 use Rattle.cjc_classfile.specs.declared.tree.ClassTree.{ClassTree}
@@ -100,12 +101,14 @@ size None = 0
 size (Some t) = length t.classes
 
 -- the classes of these lines, where so many class files, export files and classes of export files stand before
-unfoldable pub classes_from : List ClassTree → List ExportTree → (class_files export_files imports : ℕ) → List FileLine → List Class
+unfoldable pub classes_from : List ClassTree → List ExportTree → (class_files export_files imports : ℕ) → List FileLine
+    → List Class
 classes_from classes exports c e i [] = []
 classes_from classes exports c e i (line ∷ lines) =
     if line.class_file
     then of_class_file c (slice_get classes c) ++ classes_from classes exports (c + 1) e i lines
-    else of_export_file i (slice_get exports e) ++ classes_from classes exports c (e + 1) (i + size (slice_get exports e)) lines
+    else of_export_file i (slice_get exports e) ++ classes_from classes exports c (e + 1)
+    (i + size (slice_get exports e)) lines
 
 -- the classes of all files, in the order of the lines of the list
 unfoldable pub all_classes : Files → List Class

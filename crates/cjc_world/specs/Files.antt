@@ -15,4 +15,9 @@ pub record Files : Type 0 where
 
 -- what a world is made of, from its four parts
 abbrev pub files_of : (package_name : List ℕ) → List FileLine → List ClassTree → List ExportTree → Files
-files_of package_name lines classes exports = record { package_name = package_name; lines = lines; classes = classes; exports = exports }
+files_of package_name lines classes exports = record {
+  package_name = package_name;
+  lines = lines;
+  classes = classes;
+  exports = exports;
+}

@@ -1,5 +1,6 @@
 -- The interfaces of a class, in order.
-use Rattle.std.specs.Prelude.{ℕ, List, [], ◌∷◌, ◌++◌, Bool, true, false, ◌||◌, if◌then◌else◌, Option, Some, None, option_to_list}
+use Rattle.std.specs.Prelude.{ℕ, List, [], ◌∷◌, ◌++◌, Bool, true, false, ◌||◌, if◌then◌else◌, Option, Some, None}
+use Rattle.std.specs.Prelude.{option_to_list}
 use Rattle.std.specs.Str.{bytes_eq}
 use Rattle.cjc_world.specs.Classes.{Class}
 use Rattle.cjc_world.specs.Supertypes.{Supertypes, End, Unknown, Known, supertypes, is_one_named}
@@ -20,7 +21,8 @@ unfoldable pub gathered : (listed : Bool) → Supertypes → List Interface
 gathered listed End = []
 gathered listed (Unknown name next) = where_listed listed (record { name = name; class = None }) ++ gathered listed next
 gathered listed (Known c supers interfaces next) =
-    gathered false supers ++ gathered true interfaces ++ where_listed listed (record { name = c.name; class = Some c }) ++ gathered listed next
+    gathered false supers ++ gathered true interfaces ++ where_listed listed (record { name = c.name; class = Some c })
+    ++ gathered listed next
 
 -- whether one of the interfaces has the name
 abbrev pub is_among : List Interface → List ℕ → Bool

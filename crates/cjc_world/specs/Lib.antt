@@ -11,3 +11,4 @@ pub mod Added
 pub mod Rules
 pub mod Laws
 pub mod Order
+pub mod Upwards

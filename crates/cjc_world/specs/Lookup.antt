@@ -1,6 +1,7 @@
 -- Look-up of fields and methods by name and descriptor, and selection (Java Virtual Machine Specification,
 -- sections 5.4.3 and 6.5, invokevirtual).
-use Rattle.std.specs.Prelude.{ℕ, ◌+◌, List, [], ◌∷◌, length, position, Bool, true, false, not, ◌&&◌, ◌==◌, if◌then◌else◌, Option, Some, None, option_map, codes}
+use Rattle.std.specs.Prelude.{ℕ, ◌+◌, List, [], ◌∷◌, length, position, Bool, true, false, not, ◌&&◌, ◌==◌}
+use Rattle.std.specs.Prelude.{if◌then◌else◌, Option, Some, None, option_map, codes}
 use Rattle.std.specs.Str.{bytes_eq}
 use Rattle.cjc_world.specs.declared.found.Found.{Found}
 use Rattle.cjc_world.specs.Classes.{Member, Class, class_named}
@@ -37,7 +38,8 @@ own_field name desc c = option_map (λ i. member_at c i) (position (λ f. is_cal
 abbrev pub field_in : (Class → Option Found) → Supertypes → Option Found
 field_in own End = None
 field_in own (Unknown name next) = field_in own next
-field_in own (Known c supers interfaces next) = or_else (or_else (own c) (or_else (field_in own interfaces) (field_in own supers))) (field_in own next)
+field_in own (Known c supers interfaces next) =
+    or_else (or_else (own c) (or_else (field_in own interfaces) (field_in own supers))) (field_in own next)
 
 -- the field of this name and descriptor, looked up from the class of this name on
 unfoldable pub find_field : List Class → (class name desc : List ℕ) → Option Found
@@ -56,20 +58,24 @@ is_wanted false flags = true
 
 -- a class's own method; selection passes over private and static ones
 unfoldable pub own_method : (selecting : Bool) → List ℕ → List ℕ → Class → Option Found
-own_method selecting name desc c = option_map (λ i. member_at c (length c.fields + i)) (position (λ m. is_wanted selecting m.flags && is_called name desc m) c.methods)
+own_method selecting name desc c = option_map (λ i. member_at c (length c.fields + i))
+    (position (λ m. is_wanted selecting m.flags && is_called name desc m) c.methods)
 
 -- The class, then its superclasses going upwards, then its interfaces in order.
 unfoldable pub find_method : List Class → (class name desc : List ℕ) → Option Found
-find_method w class name desc = or_else (first (own_method false name desc) (line w class)) (first (own_method false name desc) (known (gathered false (supertypes w (class ∷ [])))))
+find_method w class name desc = or_else (first (own_method false name desc) (line w class))
+    (first (own_method false name desc) (known (gathered false (supertypes w (class ∷ [])))))
 
 -- the method that a class declares, private and static ones too; none where there is no class
 abbrev pub own_of : (name desc : List ℕ) → Option Class → Option Found
 own_of name desc None = None
 own_of name desc (Some c) = own_method false name desc c
 
--- The method of an interface: its own, else that of the first of its superinterfaces, in their order, that declares one.
+-- The method of an interface: its own, else that of the first of its superinterfaces, in their order, that declares
+-- one.
 unfoldable pub method_of_interface : List Class → (interface name desc : List ℕ) → Option Found
-method_of_interface w interface name desc = or_else (own_of name desc (class_named w interface)) (first (own_method false name desc) (known (gathered false (supertypes w (interface ∷ [])))))
+method_of_interface w interface name desc = or_else (own_of name desc (class_named w interface))
+    (first (own_method false name desc) (known (gathered false (supertypes w (interface ∷ [])))))
 
 -- the class above all others
 abbrev pub object : List ℕ

@@ -1,6 +1,7 @@
 -- The order of the classes and of the methods of a package in its components (Java Card Virtual Machine Specification
 -- 2.2.2, sections 6.8 and 6.9, where a superclass stands before its subclasses).
-use Rattle.std.specs.Prelude.{ℕ, zero, suc, ◌+◌, ◌==◌, List, [], ◌∷◌, ◌++◌, length, Bool, true, false, not, ◌&&◌, ◌||◌, if◌then◌else◌, Option, Some, None, codes}
+use Rattle.std.specs.Prelude.{ℕ, zero, suc, ◌+◌, ◌==◌, List, [], ◌∷◌, ◌++◌, length, Bool, true, false, not, ◌&&◌, ◌||◌}
+use Rattle.std.specs.Prelude.{if◌then◌else◌, Option, Some, None, codes}
 use Rattle.std.specs.List.{list_any}
 use Rattle.std.specs.Str.{bytes_eq}
 use Rattle.cjc_world.specs.declared.found.Found.{Found}
@@ -33,7 +34,8 @@ names_waiting interfaces placed (Some c) = waits interfaces placed c
 unfoldable pub may_stand : List Class → (interfaces : Bool) → (placed : List ℕ) → Class → Bool
 may_stand w interfaces placed c =
     waits interfaces placed c
-    && not (list_any (λ x. names_waiting interfaces placed (class_named w x)) c.supers || list_any (λ x. names_waiting interfaces placed (class_named w x)) c.interfaces)
+    && not (list_any (λ x. names_waiting interfaces placed (class_named w x)) c.supers
+    || list_any (λ x. names_waiting interfaces placed (class_named w x)) c.interfaces)
 
 -- the earliest of these that may stand next
 unfoldable pub next : List Class → (interfaces : Bool) → (placed : List ℕ) → List Class → Option Class
@@ -48,7 +50,8 @@ and_then (Some c) rest = c ∷ rest c
 -- Each is the earliest in list order that may stand next, so many at most.
 unfoldable pub lined_up : List Class → (interfaces : Bool) → (count : ℕ) → (placed : List ℕ) → List Class
 lined_up w interfaces zero placed = []
-lined_up w interfaces (suc n) placed = and_then (next w interfaces placed w) (λ c. lined_up w interfaces n (placed ++ c.number ∷ []))
+lined_up w interfaces (suc n) placed = and_then (next w interfaces placed w) (λ c. lined_up w interfaces n (placed
+    ++ c.number ∷ []))
 
 -- the interfaces of the package in their order, or its classes that are no interfaces
 unfoldable pub in_order : List Class → (interfaces : Bool) → List Class
@@ -63,7 +66,8 @@ class_order w = in_order w true ++ in_order w false
 -- the methods of a class without <clinit>, the first of them counted at this place among its members
 abbrev pub written : Class → (place : ℕ) → List Member → List Found
 written c i [] = []
-written c i (m ∷ ms) = if bytes_eq m.name (codes "<clinit>") then written c (i + 1) ms else member_at c i ∷ written c (i + 1) ms
+written c i (m ∷ ms) = if bytes_eq m.name (codes "<clinit>") then written c (i + 1) ms else member_at c i
+    ∷ written c (i + 1) ms
 
 -- so many of a class, from a place on
 abbrev pub places : Class → (place count : ℕ) → List Found
@@ -72,7 +76,8 @@ places c i (suc n) = member_at c i ∷ places c (i + 1) n
 
 -- the methods of a class: those of its file without <clinit>, then those that it gets from its interfaces
 abbrev pub methods_of_class : List Class → Class → List Found
-methods_of_class w c = written c (length c.fields) c.methods ++ places c (length c.fields + length c.methods) (length (added w c))
+methods_of_class w c = written c (length c.fields) c.methods ++ places c (length c.fields + length c.methods)
+    (length (added w c))
 
 -- the methods of the classes, class by class
 abbrev pub methods_in_turn : List Class → List Class → List Found

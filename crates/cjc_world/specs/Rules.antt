@@ -1,5 +1,7 @@
 -- The rules of a world: a predicate for each, and where each is broken.
-use Rattle.std.specs.Prelude.{ℕ, ◌+◌, ◌-◌, ◌==◌, ◌^◌, List, [], ◌∷◌, ◌++◌, map, length, take, drop, slice_get, Bool, true, false, not, ◌&&◌, ◌||◌, nat_le, nat_lt, if◌then◌else◌, Option, Some, None, position, codes}
+use Rattle.std.specs.Prelude.{ℕ, ◌+◌, ◌-◌, ◌==◌, ◌^◌, List, [], ◌∷◌, ◌++◌, map, length, take, drop, slice_get, Bool}
+use Rattle.std.specs.Prelude.{true, false, not, ◌&&◌, ◌||◌, nat_le, nat_lt, if◌then◌else◌, Option, Some, None, position}
+use Rattle.std.specs.Prelude.{codes}
 use Rattle.std.specs.List.{list_any, list_all}
 use Rattle.std.specs.Str.{bytes_eq}
 use Rattle.cjc_bytes.specs.declared.order.FileKey.{FileKey}
@@ -36,7 +38,8 @@ is_slash_part (b ∷ bs) = (b == 47) && is_part bs
 
 -- the name of the package, a slash and one name part, which a class's name has to be
 unfoldable pub is_of_package : List ℕ → List ℕ → Bool
-is_of_package package_name name = bytes_eq (take (length package_name) name) package_name && is_slash_part (drop (length package_name) name)
+is_of_package package_name name = bytes_eq (take (length package_name) name) package_name
+    && is_slash_part (drop (length package_name) name)
 
 -- ---- 202: a class or package stands in two files, or a member twice in a class
 
@@ -55,7 +58,8 @@ is_second w c = is_other c (class_named w c.name)
 
 -- the package's own name, or that of an earlier export file
 unfoldable pub is_second_package : Files → (export_file : ℕ) → ExportTree → Bool
-is_second_package files e tree = bytes_eq tree.name files.package_name || list_any (λ t. bytes_eq t.name tree.name) (take e files.exports)
+is_second_package files e tree = bytes_eq tree.name files.package_name || list_any (λ t. bytes_eq t.name tree.name)
+    (take e files.exports)
 
 -- there is a first place, and it is before the second
 abbrev pub is_earlier : Option ℕ → ℕ → Bool
@@ -80,7 +84,8 @@ is_missing w name = is_none_of (class_named w name)
 -- behind [ of an array's descriptor: the class of the elements of all dimensions
 unfoldable pub is_element_missing : List Class → List ℕ → Bool
 is_element_missing w [] = false
-is_element_missing w (b ∷ bs) = if b == 91 then is_element_missing w bs else (b == 76) && is_missing w (take (length bs - 1) bs)
+is_element_missing w (b ∷ bs) = if b == 91 then is_element_missing w bs else (b == 76)
+    && is_missing w (take (length bs - 1) bs)
 
 -- of a type of a descriptor: the name of its class, the descriptor of an array, or nothing
 unfoldable pub is_type_missing : List Class → List ℕ → Bool
@@ -117,7 +122,8 @@ is_under_cycle w c = list_any (λ d. stands d.name (supertypes w (c.supers ++ c.
 unfoldable pub gets_missing : List Class → Class → Bool
 gets_missing w c = not (is_under_cycle w c) && list_any (λ m. is_desc_missing w m.desc) (added w c)
 
--- ---- 207: no export file is java/lang, or it lacks a class that is needed, or an exception is no subclass of Throwable
+-- ---- 207: no export file is java/lang, or it lacks a class that is needed, or an exception is no subclass of
+-- Throwable
 
 -- the export file has a class of the name
 abbrev pub has_class : ExportTree → List ℕ → Bool
@@ -182,7 +188,8 @@ lists_wrong w c =
     list_any (λ x. is_interface_of (class_named w x)) c.supers
     || list_any (λ x. is_class_of (class_named w x)) c.interfaces
     || (is_interface c.flags && list_any (λ x. not (bytes_eq x object)) c.supers)
-    || (c.is_imported && (list_any (λ x. is_of_class_file (class_named w x)) c.supers || list_any (λ x. is_of_class_file (class_named w x)) c.interfaces))
+    || (c.is_imported && (list_any (λ x. is_of_class_file (class_named w x)) c.supers
+    || list_any (λ x. is_of_class_file (class_named w x)) c.interfaces))
 
 -- ---- what is broken, and where
 
@@ -207,11 +214,13 @@ class_rules package_name w c =
 
 -- those that a field or method breaks, at its place among these
 unfoldable pub member_rules : List Class → Class → List Member → ℕ → (name desc : List ℕ) → List ℕ
-member_rules w c ms i name desc = when (is_twice ms i name desc) 202 ++ when (not c.is_imported && is_desc_missing w desc) 203
+member_rules w c ms i name desc = when (is_twice ms i name desc) 202 ++ when (not c.is_imported
+    && is_desc_missing w desc) 203
 
 -- a rule that is broken at a class of a file; the place 0 and no name stand for the file itself
 abbrev pub at_class : FileKey → List ℕ → ℕ → List ℕ → ℕ → Break
-at_class file file_name class class_name rule = broken_at (class_spot (record { key = file; name = file_name }) class class_name) rule
+at_class file file_name class class_name rule = broken_at (class_spot (record { key = file; name = file_name }) class
+    class_name) rule
 
 -- a field or a method, as a refusal names it
 abbrev pub told : (field : Bool) → (name desc : List ℕ) → List ℕ
@@ -230,13 +239,15 @@ members_before false c = length c.fields
 
 -- a rule that is broken at a field or method of a class
 abbrev pub at_member : FileKey → List ℕ → ℕ → List ℕ → ℕ → List ℕ → ℕ → Break
-at_member file file_name class class_name member text rule = broken_at (member_spot (record { key = file; name = file_name }) class class_name member text 0) rule
+at_member file file_name class class_name member text rule =
+    broken_at (member_spot (record { key = file; name = file_name }) class class_name member text 0) rule
 
 -- of the fields or the methods of a class from a place on
 unfoldable pub members_from : FileKey → List ℕ → ℕ → List Class → Class → (field : Bool) → ℕ → List Member → List Break
 members_from file file_name class w c field i [] = []
 members_from file file_name class w c field i (m ∷ rest) =
-    map (λ rule. at_member file file_name class c.name (members_before field c + i + 1) (told field m.name m.desc) rule) (member_rules w c (members field c) i m.name m.desc)
+    map (λ rule. at_member file file_name class c.name (members_before field c + i + 1) (told field m.name m.desc) rule)
+    (member_rules w c (members field c) i m.name m.desc)
     ++ members_from file file_name class w c field (i + 1) rest
 
 -- of a class, which has this number in its file, and of its fields and methods
@@ -255,22 +266,27 @@ classes_breaks package_name file file_name class w (c ∷ cs) =
 -- what is broken in a class file; nothing where there is no file
 abbrev pub class_file_breaks : Files → FileKey → List ℕ → List Class → ℕ → Option ClassTree → List Break
 class_file_breaks files file file_name w number None = []
-class_file_breaks files file file_name w number (Some c) = class_breaks files.package_name file file_name 1 w (declared number c)
+class_file_breaks files file file_name w number (Some c) = class_breaks files.package_name file file_name 1 w
+    (declared number c)
 
 -- what is broken in an export file, by its package's name first; nothing where there is no file
-abbrev pub export_file_breaks : Files → FileKey → List ℕ → List Class → (export_file number : ℕ) → Option ExportTree → List Break
+abbrev pub export_file_breaks : Files → FileKey → List ℕ → List Class → (export_file number : ℕ) → Option ExportTree
+    → List Break
 export_file_breaks files file file_name w e number None = []
 export_file_breaks files file file_name w e number (Some t) =
     map (λ rule. at_class file file_name 0 [] rule) (when (is_second_package files e t) 202)
     ++ classes_breaks files.package_name file file_name 1 w (numbered number t.classes)
 
 -- of the files of these lines, where so many lines, class files, export files and classes of export files stand before
-unfoldable pub breaks_from : Files → List Class → (file class_files export_files imports : ℕ) → List FileLine → List Break
+unfoldable pub breaks_from : Files → List Class → (file class_files export_files imports : ℕ) → List FileLine
+    → List Break
 breaks_from files w k c e i [] = []
 breaks_from files w k c e i (line ∷ lines) =
     if line.class_file
-    then class_file_breaks files (keys.Line k) line.name w c (slice_get files.classes c) ++ breaks_from files w (k + 1) (c + 1) e i lines
-    else export_file_breaks files (keys.Line k) line.name w e i (slice_get files.exports e) ++ breaks_from files w (k + 1) c (e + 1) (i + size (slice_get files.exports e)) lines
+    then class_file_breaks files (keys.Line k) line.name w c (slice_get files.classes c)
+    ++ breaks_from files w (k + 1) (c + 1) e i lines
+    else export_file_breaks files (keys.Line k) line.name w e i (slice_get files.exports e)
+    ++ breaks_from files w (k + 1) c (e + 1) (i + size (slice_get files.exports e)) lines
 
 -- All that is broken of 201, 202, 203, 204, 207 and 208; the list's name is that of the file.
 unfoldable pub breaks : (list : List ℕ) → Files → List Break

@@ -33,7 +33,8 @@ unfoldable pub is_element : List Class → List ℕ → List ℕ → Bool
 is_element w [] sup = bytes_eq [] sup
 is_element w (b ∷ bs) sup =
     bytes_eq (b ∷ bs) sup
-    || (if b == 91 then (if starts 91 sup then is_element w bs (element sup) else starts 76 sup && array_is w (inner sup))
+    || (if b == 91 then (if starts 91 sup then is_element w bs (element sup) else starts 76 sup
+    && array_is w (inner sup))
     else (b == 76) && starts 76 sup && is_subclass w (take (length bs - 1) bs) (inner sup))
 
 -- Types by name: that of a class, or the descriptor of an array. Arrays are java/lang/Object and its supers, and

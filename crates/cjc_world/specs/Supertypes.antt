@@ -1,6 +1,7 @@
 -- What stands above the classes of a world (Java Virtual Machine Specification, section 5.4): superclasses and
 -- superinterfaces over steps, as a relation and as a tree.
-use Rattle.std.specs.Prelude.{◌≡◌, ℕ, zero, suc, List, [], ◌∷◌, ◌++◌, length, Bool, true, false, ◌||◌, if◌then◌else◌, Option, Some, None}
+use Rattle.std.specs.Prelude.{◌≡◌, ℕ, zero, suc, List, [], ◌∷◌, ◌++◌, length, Bool, true, false, ◌||◌, if◌then◌else◌}
+use Rattle.std.specs.Prelude.{Option, Some, None}
 use Rattle.std.specs.List.{list_any}
 use Rattle.std.specs.Str.{bytes_eq}
 use Rattle.cjc_world.specs.Classes.{Class, class_named}
@@ -14,7 +15,8 @@ pub data Lists (name : List ℕ) : List (List ℕ) → Type 0 where
 -- of a name to a name that its file lists.
 pub data Above (w : List Class) : List ℕ → List ℕ → Type 0 where
   directly : {x y : List ℕ} (c : Class) → class_named w x ≡ Some c → Lists y (c.supers ++ c.interfaces) → Above w x y
-  onwards : {x y z : List ℕ} (c : Class) → class_named w x ≡ Some c → Lists y (c.supers ++ c.interfaces) → Above w y z → Above w x z
+  onwards : {x y z : List ℕ} (c : Class) → class_named w x ≡ Some c → Lists y (c.supers ++ c.interfaces) → Above w y z
+      → Above w x z
 
 -- No class is its own superclass or superinterface over steps.
 abbrev pub IsAcyclic : List Class → Type 0
@@ -29,8 +31,11 @@ pub data Supertypes : Type 0 where
 -- The tree is that of the names in the world. A name on a cycle has none.
 pub data AreSupertypes (w : List Class) : List (List ℕ) → Supertypes → Type 0 where
   ends : AreSupertypes w [] End
-  unknown_here : {x : List ℕ} {xs : List (List ℕ)} {next : Supertypes} → class_named w x ≡ None → AreSupertypes w xs next → AreSupertypes w (x ∷ xs) (Unknown x next)
-  known_here : {x : List ℕ} {xs : List (List ℕ)} {c : Class} {supers interfaces next : Supertypes} → class_named w x ≡ Some c → AreSupertypes w c.supers supers → AreSupertypes w c.interfaces interfaces → AreSupertypes w xs next → AreSupertypes w (x ∷ xs) (Known c supers interfaces next)
+  unknown_here : {x : List ℕ} {xs : List (List ℕ)} {next : Supertypes} → class_named w x ≡ None
+      → AreSupertypes w xs next → AreSupertypes w (x ∷ xs) (Unknown x next)
+  known_here : {x : List ℕ} {xs : List (List ℕ)} {c : Class} {supers interfaces next : Supertypes}
+      → class_named w x ≡ Some c → AreSupertypes w c.supers supers → AreSupertypes w c.interfaces interfaces
+      → AreSupertypes w xs next → AreSupertypes w (x ∷ xs) (Known c supers interfaces next)
 
 -- ---- the tree as a function: where no class stands above itself it is the one of the relation
 
@@ -57,7 +62,8 @@ supertypes w names = supertypes_within w (suc (length w)) names
 abbrev pub stands : List ℕ → Supertypes → Bool
 stands name End = false
 stands name (Unknown x next) = bytes_eq x name || stands name next
-stands name (Known c supers interfaces next) = bytes_eq c.name name || stands name supers || stands name interfaces || stands name next
+stands name (Known c supers interfaces next) = bytes_eq c.name name || stands name supers || stands name interfaces
+    || stands name next
 
 -- the tree of what a class lists, empty where there is no class
 abbrev pub above_of : List Class → Option Class → Supertypes
@@ -70,7 +76,8 @@ stands_above w x y = stands y (above_of w (class_named w x))
 
 -- it does so exactly where it stands above it by the relation
 abbrev pub StandsWhereAbove : List Class → Type 0
-StandsWhereAbove w = (x y : List ℕ) → (stands_above w x y ≡ true → Above w x y) × (Above w x y → stands_above w x y ≡ true)
+StandsWhereAbove w = (x y : List ℕ) → (stands_above w x y ≡ true → Above w x y) × (Above w x y
+    → stands_above w x y ≡ true)
 
 -- ---- going upwards
 
@@ -97,7 +104,8 @@ line w name = upwards (supertypes w (name ∷ []))
 abbrev pub stands_by_supers : List ℕ → Supertypes → Bool
 stands_by_supers name End = false
 stands_by_supers name (Unknown x next) = bytes_eq x name || stands_by_supers name next
-stands_by_supers name (Known c supers interfaces next) = bytes_eq c.name name || stands_by_supers name supers || stands_by_supers name next
+stands_by_supers name (Known c supers interfaces next) = bytes_eq c.name name || stands_by_supers name supers
+    || stands_by_supers name next
 
 -- The second is the first, or a superclass of it. Both are names, and some file may have neither.
 unfoldable pub is_below : List Class → (sub sup : List ℕ) → Bool

@@ -120,7 +120,8 @@ impl<'a> ClassIndex<'a> {
         desc: &[u8],
         ids: &mut Vec<MemberId>,
     ) -> Result<(), NoMemory>
-        ensures { OnOk result (ids.new.items ≡ got_one (λ n d. is_had (all_classes self.now) rows.now (class_of class.entry) line.now n d) (class_of class.entry).name ids.old.items name.now desc.now) }
+        ensures { OnOk result (ids.new.items ≡ got_one (λ n d. is_had (all_classes self.now) rows.now
+            (class_of class.entry) line.now n d) (class_of class.entry).name ids.old.items name.now desc.now) }
     {
         if self.is_had(rows, class, line, name, desc) || has_id(ids, name, desc) {
             return Ok(());
@@ -139,7 +140,8 @@ impl<'a> ClassIndex<'a> {
         interface: Known<'_, 'a>,
         ids: &mut Vec<MemberId>,
     ) -> Result<(), NoMemory>
-        ensures { OnOk result (ids.new.items ≡ got (λ n d. is_had (all_classes self.now) rows.now (class_of class.entry) line.now n d) (class_of class.entry).name ids.old.items (own_methods (class_of interface.entry))) }
+        ensures { OnOk result (ids.new.items ≡ got (λ n d. is_had (all_classes self.now) rows.now (class_of class.entry)
+            line.now n d) (class_of class.entry).name ids.old.items (own_methods (class_of interface.entry))) }
     {
         for position in 0..interface.member_count(false) {
             if let Some((name, desc)) = interface.asked(position) {
@@ -159,7 +161,8 @@ impl<'a> ClassIndex<'a> {
         interfaces: &[u32],
         ids: &mut Vec<MemberId>,
     ) -> Result<(), NoMemory>
-        ensures { OnOk result (ids.new.items ≡ got_all (all_classes self.now) (λ n d. is_had (all_classes self.now) rows.now (class_of class.entry) line.now n d) (class_of class.entry).name ids.old.items interfaces.now) }
+        ensures { OnOk result (ids.new.items ≡ got_all (all_classes self.now) (λ n d. is_had (all_classes self.now)
+            rows.now (class_of class.entry) line.now n d) (class_of class.entry).name ids.old.items interfaces.now) }
     {
         for place in interfaces {
             if let Some(interface) = self.class_in(*place) {
@@ -178,7 +181,8 @@ impl<'a> ClassIndex<'a> {
     ) -> Result<Row<MemberId>, NoMemory>
         requires part { IsPart (all_classes self.now) rows.now }
         requires ready { are_ready (all_classes self.now) rows.now (class_of class) ≡ true }
-        ensures { IfOk result (λ row. row ≡ map (named_by (class_of class.entry).name) (added (all_classes self.now) (class_of class.entry))) }
+        ensures { IfOk result (λ row. row ≡ map (named_by (class_of class.entry).name) (added (all_classes self.now)
+            (class_of class.entry))) }
     {
         let mut ids = Vec::new(alloc);
         if class.takes_added() {
@@ -204,7 +208,8 @@ impl<'a> ClassIndex<'a> {
         class: Known<'_, 'a>,
     ) -> Result<Row<MemberId>, NoMemory>
         requires { IsPart (all_classes self.now) rows.now }
-        ensures { IfOk result (λ row. are_ready (all_classes self.now) rows.now (class_of class.entry) ≡ true → row ≡ map (named_by (class_of class.entry).name) (added (all_classes self.now) (class_of class.entry))) }
+        ensures { IfOk result (λ row. are_ready (all_classes self.now) rows.now (class_of class.entry) ≡ true
+            → row ≡ map (named_by (class_of class.entry).name) (added (all_classes self.now) (class_of class.entry))) }
     {
         if self.are_ready(rows, class) {
             self.added_row(alloc, rows, class)
@@ -221,7 +226,8 @@ impl<'a> ClassIndex<'a> {
     ) -> Result<Row<Row<MemberId>>, NoMemory>
         requires { IsPart (all_classes self.now) rows.now }
         ensures count { IfOk result (λ added. length added ≡ length self.now.classes) }
-        ensures added { IfOk result (λ added. (i : ℕ) → is_number_ready self.now rows.now i ≡ true → slice_get added i ≡ Some (added_at self.now i)) }
+        ensures added { IfOk result (λ added. (i : ℕ) → is_number_ready self.now rows.now i ≡ true
+            → slice_get added i ≡ Some (added_at self.now i)) }
     {
         let mut added = Vec::new(alloc);
         for place in 0..self.class_count()? {

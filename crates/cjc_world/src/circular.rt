@@ -7,7 +7,8 @@ ghost use Rattle.cjc_world.specs.Supertypes.{is_below, stands_above};
 ghost use Rattle.cjc_world.specs.Rules.{throwable};
 ghost use Rattle.cjc_world.specs.Working.Known.{class_of};
 ghost use Rattle.cjc_world.specs.Working.Places.{has_name, place_named};
-ghost use Rattle.cjc_world.specs.Working.Steps.{any_stands, AreCycles, class_stands, IsBegun, IsDone, IsStep, name_stands, name_stands_at};
+ghost use Rattle.cjc_world.specs.Working.Steps.{any_stands, AreCycles, class_stands, IsBegun, IsDone, IsStep};
+ghost use Rattle.cjc_world.specs.Working.Steps.{name_stands, name_stands_at};
 
 use crate::class::Known;
 use crate::class_index::ClassIndex;
@@ -60,7 +61,8 @@ impl<'a> ClassIndex<'a> {
 
     /// Whether the name stands above the class at a place or is its name, one step further.
     fn class_stands(&self, known: &[bool], by_supers: bool, name: &[u8], place: u32) -> bool
-        ensures { result ≡ class_stands (all_classes self.now) by_supers name.now known.now (slice_get (all_classes self.now) place) }
+        ensures { result ≡ class_stands (all_classes self.now) by_supers name.now known.now
+            (slice_get (all_classes self.now) place) }
     {
         match self.class_in(place) {
             Some(class) => {
@@ -115,7 +117,8 @@ impl<'a> ClassIndex<'a> {
 
     /// Whether one of the classes that a class lists is it or stands below it.
     fn is_listed_below(&self, known: &[bool], class: Known<'_, 'a>) -> bool
-        ensures { let c = class_of class.entry in result ≡ (any_stands (all_classes self.now) c.name known.now c.supers || any_stands (all_classes self.now) c.name known.now c.interfaces) }
+        ensures { let c = class_of class.entry in result ≡ (any_stands (all_classes self.now) c.name known.now c.supers
+            || any_stands (all_classes self.now) c.name known.now c.interfaces) }
     {
         self.any_stands(known, class.name(), class.supers())
             || self.any_stands(known, class.name(), class.interfaces())
@@ -123,7 +126,8 @@ impl<'a> ClassIndex<'a> {
 
     /// Whether the class at a place is its own super.
     fn is_own(&self, alloc: Global, place: u32) -> Result<bool, NoMemory>
-        ensures { IfOk result (λ own. (x : List ℕ) → place_named (all_classes self.now) x ≡ Some place → own ≡ stands_above (all_classes self.now) x x) }
+        ensures { IfOk result (λ own. (x : List ℕ) → place_named (all_classes self.now) x ≡ Some place
+            → own ≡ stands_above (all_classes self.now) x x) }
     {
         match self.class_in(place) {
             Some(class) => {

@@ -1,7 +1,8 @@
 //! `Known`, a class of a world whichever kind of file it is from: its name, flags, supers and members, lent. So
 //! walks over classes need not tell class files from export files.
 
-ghost use Rattle.std.specs.Prelude.{◌≡◌, ◌<◌, ◌+◌, ◌^◌, ◌&&◌, ◌==◌, get_or, length, MatchOption, None, Some, option_map, position, slice_get};
+ghost use Rattle.std.specs.Prelude.{◌≡◌, ◌<◌, ◌+◌, ◌^◌, ◌&&◌, ◌==◌, get_or, length, MatchOption, None, Some};
+ghost use Rattle.std.specs.Prelude.{option_map, position, slice_get};
 ghost use Rattle.std.specs.Str.{bytes_eq};
 ghost use Rattle.std.specs.List.{find, list_any};
 ghost use Rattle.cjc_world.specs.Classes.{Member};
@@ -50,13 +51,15 @@ fn is_wanted(selecting: bool, flags: u16) -> bool
 
 /// Whether one of the methods is public or protected, is not static, and has this name and descriptor.
 fn class_opens(methods: &[MethodTree<'_>], name: &[u8], desc: &[u8]) -> bool
-    ensures { result ≡ list_any (λ m. is_open m.flags && (bytes_eq m.name name.now && bytes_eq m.desc desc.now)) methods.now }
+    ensures { result ≡ list_any (λ m. is_open m.flags && (bytes_eq m.name name.now && bytes_eq m.desc desc.now))
+        methods.now }
 {
     methods.iter().any(|m| is_open(m.flags) && (m.name.items() == name && m.desc.items() == desc))
 }
 
 fn export_opens(methods: &[ExportMethod], name: &[u8], desc: &[u8]) -> bool
-    ensures { result ≡ list_any (λ m. is_open m.flags && (bytes_eq m.name name.now && bytes_eq m.desc desc.now)) methods.now }
+    ensures { result ≡ list_any (λ m. is_open m.flags && (bytes_eq m.name name.now && bytes_eq m.desc desc.now))
+        methods.now }
 {
     methods.iter().any(|m| is_open(m.flags) && (m.name.items() == name && m.desc.items() == desc))
 }
@@ -72,7 +75,8 @@ fn class_method_at<'w>(
     methods: &'w [MethodTree<'_>],
     position: usize,
 ) -> Option<(&'w [u8], &'w [u8])>
-    ensures { MatchOption result (slice_get methods.now position ≡ None) (λ p. (m : ClassMethod) × (slice_get methods.now position ≡ Some m) × (m.name ≡ p.0.now) × (m.desc ≡ p.1.now)) }
+    ensures { MatchOption result (slice_get methods.now position ≡ None) (λ p. (m : ClassMethod)
+        × (slice_get methods.now position ≡ Some m) × (m.name ≡ p.0.now) × (m.desc ≡ p.1.now)) }
 {
     let method = methods.get(position)?;
     Some((method.name.items(), method.desc.items()))
@@ -86,7 +90,8 @@ fn with_token(methods: &[ExportMethod], token: usize) -> Option<&ExportMethod>
 }
 
 fn export_method_at(methods: &[ExportMethod], token: usize) -> Option<(&[u8], &[u8])>
-    ensures { MatchOption result (find (λ m. m.token == token) methods.now ≡ None) (λ p. (m : ImportedMethod) × (find (λ m. m.token == token) methods.now ≡ Some m) × (m.name ≡ p.0.now) × (m.desc ≡ p.1.now)) }
+    ensures { MatchOption result (find (λ m. m.token == token) methods.now ≡ None) (λ p. (m : ImportedMethod)
+        × (find (λ m. m.token == token) methods.now ≡ Some m) × (m.name ≡ p.0.now) × (m.desc ≡ p.1.now)) }
 {
     let method = with_token(methods, token)?;
     Some((method.name.items(), method.desc.items()))
@@ -114,7 +119,8 @@ fn class_method(
     name: &[u8],
     desc: &[u8],
 ) -> Option<usize>
-    ensures { result ≡ position (λ m. is_wanted selecting m.flags && (bytes_eq m.name name.now && bytes_eq m.desc desc.now)) methods.now }
+    ensures { result ≡ position (λ m. is_wanted selecting m.flags && (bytes_eq m.name name.now
+        && bytes_eq m.desc desc.now)) methods.now }
 {
     methods.iter().position(|m| {
         is_wanted(selecting, m.flags) && (m.name.items() == name && m.desc.items() == desc)
@@ -127,7 +133,8 @@ fn export_method(
     name: &[u8],
     desc: &[u8],
 ) -> Option<usize>
-    ensures { result ≡ position (λ m. is_wanted selecting m.flags && (bytes_eq m.name name.now && bytes_eq m.desc desc.now)) methods.now }
+    ensures { result ≡ position (λ m. is_wanted selecting m.flags && (bytes_eq m.name name.now
+        && bytes_eq m.desc desc.now)) methods.now }
 {
     methods.iter().position(|m| {
         is_wanted(selecting, m.flags) && (m.name.items() == name && m.desc.items() == desc)
@@ -217,7 +224,8 @@ impl<'w, 'a> Known<'w, 'a> {
 
     #[tactic(auto, using(crate::proofs::Places::position_of_map))]
     fn method_place(self, selecting: bool, name: &[u8], desc: &[u8]) -> Option<usize>
-        ensures { result ≡ position (λ m. is_wanted selecting m.flags && is_called name.now desc.now m) (class_of self.entry).methods }
+        ensures { result ≡ position (λ m. is_wanted selecting m.flags && is_called name.now desc.now m)
+            (class_of self.entry).methods }
     {
         match self {
             Known::Declared(_, class) => class_method(class.methods.items(), selecting, name, desc),
@@ -322,7 +330,8 @@ impl<'w, 'a> Known<'w, 'a> {
 
     /// The name and the descriptor of the method at a position, which in an export file is its token.
     fn positioned(self, position: usize) -> Option<(&'w [u8], &'w [u8])>
-        ensures { MatchOption result (positioned (class_of self.entry) position ≡ None) (λ p. IsNamed (positioned (class_of self.entry) position) p.0.now p.1.now) }
+        ensures { MatchOption result (positioned (class_of self.entry) position ≡ None)
+            (λ p. IsNamed (positioned (class_of self.entry) position) p.0.now p.1.now) }
     {
         match self {
             Known::Declared(_, class) => class_method_at(class.methods.items(), position),
@@ -332,7 +341,8 @@ impl<'w, 'a> Known<'w, 'a> {
 
     /// The same of the own methods that other classes have from an interface: `<clinit>` is none.
     pub(crate) fn asked(self, position: usize) -> Option<(&'w [u8], &'w [u8])>
-        ensures { MatchOption result (asked (class_of self.entry) position ≡ None) (λ p. IsNamed (asked (class_of self.entry) position) p.0.now p.1.now) }
+        ensures { MatchOption result (asked (class_of self.entry) position ≡ None)
+            (λ p. IsNamed (asked (class_of self.entry) position) p.0.now p.1.now) }
     {
         let (name, desc) = self.positioned(position)?;
         if name == INITIALISER {

@@ -56,7 +56,12 @@ impl<'a> Model for ClassIndex<'a> {
 
     ghost Value = { Files };
 
-    ghost view = { λ w. record { package_name = w.package; lines = w.lines; classes = w.classes; exports = w.exports } };
+    ghost view = { λ w. record {
+      package_name = w.package;
+      lines = w.lines;
+      classes = w.classes;
+      exports = w.exports;
+    } };
 
     ghost invariant = { λ w. IsClassIndex w.lines w.classes w.exports w.spots w.names w.numbers };
 }

@@ -19,8 +19,10 @@ pub fn subtype_laws()
 /// names, and `supertypes` is it. Look-up and selection from a class go through its superclass.
 pub fn lookup_laws()
     ensures acyclic { (list : List ℕ) (files : Files) → breaks list files ≡ [] → IsAcyclic (all_classes files) }
-    ensures are_supertypes { (w : List Class) → IsAcyclic w → (xs : List (List ℕ)) → AreSupertypes w xs (supertypes w xs) }
-    ensures one_supertypes { (w : List Class) (xs : List (List ℕ)) (j k : Supertypes) → AreSupertypes w xs j → AreSupertypes w xs k → j ≡ k }
+    ensures are_supertypes { (w : List Class) → IsAcyclic w → (xs : List (List ℕ))
+        → AreSupertypes w xs (supertypes w xs) }
+    ensures one_supertypes { (w : List Class) (xs : List (List ℕ)) (j k : Supertypes) → AreSupertypes w xs j
+        → AreSupertypes w xs k → j ≡ k }
     ensures line { (w : List Class) → IsAcyclic w → LineGoesUp w }
     ensures selection { (w : List Class) → IsAcyclic w → SelectionGoesUp w }
     ensures lookup { (w : List Class) → IsAcyclic w → LookupGoesUp w }

@@ -17,6 +17,7 @@ mod rules;
 mod spot;
 mod tables;
 mod unchecked;
+pub mod upward_laws;
 mod world;
 
 pub use class::Known;

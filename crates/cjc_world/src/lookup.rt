@@ -11,7 +11,8 @@ ghost use Rattle.cjc_world.specs.Working.Known.{class_of};
 ghost use Rattle.cjc_world.specs.Lookup.{find_field, find_method, first, method_of_interface, own_method, own_of};
 ghost use Rattle.cjc_world.specs.Subtype.{is_subclass};
 ghost use Rattle.cjc_world.specs.Working.Tables.{IsTable};
-ghost use Rattle.cjc_world.specs.Working.Places.{field_of, first_place, has_name, method_of, names, names_of, names_super, names_super_of};
+ghost use Rattle.cjc_world.specs.Working.Places.{field_of, first_place, has_name, method_of, names, names_of};
+ghost use Rattle.cjc_world.specs.Working.Places.{names_super, names_super_of};
 
 use crate::class::Known;
 use crate::class_index::ClassIndex;
@@ -88,7 +89,8 @@ impl<'a> ClassIndex<'a> {
 
     /// The field of the first of these classes that has one.
     pub(crate) fn first_field(&self, places: &[u32], name: &[u8], desc: &[u8]) -> Option<Found>
-        ensures { result ≡ first_place (λ p. field_of name.now desc.now (slice_get (all_classes self.now) p)) places.now }
+        ensures { result ≡ first_place (λ p. field_of name.now desc.now (slice_get (all_classes self.now) p))
+            places.now }
     {
         for place in places {
             if let Some(found) = self.field_in(*place, name, desc) {
@@ -106,7 +108,8 @@ impl<'a> ClassIndex<'a> {
         name: &[u8],
         desc: &[u8],
     ) -> Option<Found>
-        ensures { result ≡ first_place (λ p. method_of selecting name.now desc.now (slice_get (all_classes self.now) p)) places.now }
+        ensures { result ≡ first_place (λ p. method_of selecting name.now desc.now (slice_get (all_classes self.now) p))
+            places.now }
     {
         for place in places {
             if let Some(found) = self.method_in(*place, selecting, name, desc) {
@@ -226,7 +229,8 @@ impl<'a> ClassIndex<'a> {
         desc: &[u8],
     ) -> Option<Found>
         requires { IsTable (all_classes self.now) rows.now }
-        ensures { result ≡ first (own_method false name.now desc.now) (known (gathered false (supertypes (all_classes self.now) (class.now ∷ [])))) }
+        ensures { result ≡ first (own_method false name.now desc.now)
+            (known (gathered false (supertypes (all_classes self.now) (class.now ∷ [])))) }
     {
         match self.place_named(class) {
             Some(place) => {

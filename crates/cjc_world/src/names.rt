@@ -37,7 +37,8 @@ impl Names {
 
     /// Notes the place of a name that has none.
     pub(crate) fn note(&mut self, alloc: Global, name: &[u8], place: u32) -> Result<(), NoMemory>
-        ensures { OnOk result ((x : List ℕ) → place_in self.new x ≡ cond (bytes_eq name.now x) (Some place) (place_in self.old x)) }
+        ensures { OnOk result ((x : List ℕ) → place_in self.new x ≡ cond (bytes_eq name.now x) (Some place)
+            (place_in self.old x)) }
     {
         let name = Vec::from_slice(alloc, name)?;
         self.places.insert(name, place)?;

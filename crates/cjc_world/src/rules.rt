@@ -11,7 +11,14 @@ ghost use Rattle.cjc_world.specs.Working.Unchecked.{IsHeld};
 ghost use Rattle.cjc_world.specs.Supertypes.{is_below, stands_above};
 ghost use Rattle.cjc_world.specs.Working.Known.{class_of};
 ghost use Rattle.cjc_world.specs.Lookup.{object};
-ghost use Rattle.cjc_world.specs.Rules.{breaks, breaks_from, class_breaks, class_file_breaks, classes_breaks, export_file_breaks, is_second_package, class_rules, is_earlier, member_rules, members, members_before, members_from, told, gets_missing, has_array_exceptions, has_class, has_exception, has_language, has_needed, has_other_exceptions, has_roots, head, is_class_of, is_desc_missing, is_element_missing, is_interface_of, is_missing, is_of_class_file, is_of_package, is_part, is_part_byte, is_second, is_slash_part, is_type_missing, lists_missing, lists_wrong, same_place, throwable};
+ghost use Rattle.cjc_world.specs.Rules.{breaks, breaks_from, class_breaks, class_file_breaks, classes_breaks};
+ghost use Rattle.cjc_world.specs.Rules.{export_file_breaks, is_second_package, class_rules, is_earlier, member_rules};
+ghost use Rattle.cjc_world.specs.Rules.{members, members_before, members_from, told, gets_missing};
+ghost use Rattle.cjc_world.specs.Rules.{has_array_exceptions, has_class, has_exception, has_language, has_needed};
+ghost use Rattle.cjc_world.specs.Rules.{has_other_exceptions, has_roots, head, is_class_of, is_desc_missing};
+ghost use Rattle.cjc_world.specs.Rules.{is_element_missing, is_interface_of, is_missing, is_of_class_file};
+ghost use Rattle.cjc_world.specs.Rules.{is_of_package, is_part, is_part_byte, is_second, is_slash_part};
+ghost use Rattle.cjc_world.specs.Rules.{is_type_missing, lists_missing, lists_wrong, same_place, throwable};
 
 use crate::class::Known;
 use crate::class_index::ClassIndex;
@@ -157,7 +164,9 @@ impl<'a> ClassIndex<'a> {
     }
 
     fn lists_declared(&self, class: Known<'_, 'a>) -> bool
-        ensures { result ≡ (list_any (λ x. is_of_class_file (class_named (all_classes self.now) x)) (class_of class.entry).supers || list_any (λ x. is_of_class_file (class_named (all_classes self.now) x)) (class_of class.entry).interfaces) }
+        ensures { result ≡ (list_any (λ x. is_of_class_file (class_named (all_classes self.now) x))
+            (class_of class.entry).supers || list_any (λ x. is_of_class_file (class_named (all_classes self.now) x))
+            (class_of class.entry).interfaces) }
     {
         self.any_declared(class.supers()) || self.any_declared(class.interfaces())
     }
@@ -218,7 +227,8 @@ impl<'a> ClassIndex<'a> {
 
     /// Whether a type of the descriptor names a class that is in no file.
     fn is_any_missing(&self, desc: &Desc<'_>) -> bool
-        ensures { result ≡ list_any (λ p. is_type_missing (all_classes self.now) p.class) (desc.now.params ++ desc.now.result ∷ []) }
+        ensures { result ≡ list_any (λ p. is_type_missing (all_classes self.now) p.class) (desc.now.params
+            ++ desc.now.result ∷ []) }
     {
         for i in 0..desc.params() {
             if self.is_type_missing(desc.class(i)) {
@@ -252,7 +262,8 @@ impl<'a> ClassIndex<'a> {
         name: &[u8],
         desc: &[u8],
     ) -> Option<u16>
-        ensures { result ≡ head (member_rules (all_classes self.now) (class_of class.entry) (members field (class_of class.entry)) place name.now desc.now) }
+        ensures { result ≡ head (member_rules (all_classes self.now) (class_of class.entry)
+            (members field (class_of class.entry)) place name.now desc.now) }
     {
         if is_earlier(class.place(field, name, desc), place) {
             Some(202)
@@ -272,7 +283,8 @@ impl<'a> ClassIndex<'a> {
         known: Known<'w, 'a>,
         field: bool,
     ) -> Option<Break<'w>>
-        ensures { option_map break_of result ≡ head (members_from file file_name.now class (all_classes self.now) (class_of known.entry) field 0 (members field (class_of known.entry))) }
+        ensures { option_map break_of result ≡ head (members_from file file_name.now class (all_classes self.now)
+            (class_of known.entry) field 0 (members field (class_of known.entry))) }
     {
         for place in 0..known.member_count(field) {
             let (name, desc) = known.member_at(field, place);
@@ -427,7 +439,8 @@ impl<'a> UncheckedWorld<'a> {
         known: Known<'w, 'a>,
         field: bool,
     ) -> Option<Break<'w>>
-        ensures { option_map break_of result ≡ head (members_from file file_name.now class (all_classes self.now) (class_of known.entry) field 0 (members field (class_of known.entry))) }
+        ensures { option_map break_of result ≡ head (members_from file file_name.now class (all_classes self.now)
+            (class_of known.entry) field 0 (members field (class_of known.entry))) }
     {
         self.class_index
             .member_break(file, file_name, class, known, field)
@@ -442,7 +455,8 @@ impl<'a> UncheckedWorld<'a> {
         known: Known<'w, 'a>,
     ) -> Option<Break<'w>>
         requires { IsHeld self.now known }
-        ensures { option_map break_of result ≡ head (class_breaks self.now.package_name file file_name.now class (all_classes self.now) (class_of known.entry)) }
+        ensures { option_map break_of result ≡ head (class_breaks self.now.package_name file file_name.now class
+            (all_classes self.now) (class_of known.entry)) }
     {
         if let Some(rule) = self.class_rule(known) {
             return Some(Break {
@@ -475,7 +489,8 @@ impl<'a> UncheckedWorld<'a> {
         classes: &'w [ExportClass],
     ) -> Option<Break<'w>>
         requires { number + length classes.now < 2 ^ 32 }
-        ensures { option_map break_of result ≡ head (classes_breaks self.now.package_name file file_name.now 1 (all_classes self.now) (numbered number classes.now)) }
+        ensures { option_map break_of result ≡ head (classes_breaks self.now.package_name file file_name.now 1
+            (all_classes self.now) (numbered number classes.now)) }
     {
         for (place, class) in classes.iter().enumerate() {
             let known = Known::Imported(number + place as u32, class);
@@ -494,7 +509,8 @@ impl<'a> UncheckedWorld<'a> {
         file_name: &'w [u8],
         place: u32,
     ) -> Option<Break<'w>>
-        ensures { option_map break_of result ≡ head (class_file_breaks self.now file file_name.now (all_classes self.now) place (slice_get self.now.classes place)) }
+        ensures { option_map break_of result ≡ head (class_file_breaks self.now file file_name.now
+            (all_classes self.now) place (slice_get self.now.classes place)) }
     {
         match self.classes().items().get(place as usize) {
             Some(class) => self.class_break(file, file_name, 1, Known::Declared(place, class)),
@@ -511,7 +527,8 @@ impl<'a> UncheckedWorld<'a> {
         place: u32,
         number: u32,
     ) -> Result<Option<Break<'w>>, NoMemory>
-        ensures { IfOk result (λ b. option_map break_of b ≡ head (export_file_breaks self.now file file_name.now (all_classes self.now) place number (slice_get self.now.exports place))) }
+        ensures { IfOk result (λ b. option_map break_of b ≡ head (export_file_breaks self.now file file_name.now
+            (all_classes self.now) place number (slice_get self.now.exports place))) }
     {
         let tree = match self.exports().items().get(place as usize) {
             Some(tree) => tree,
@@ -539,7 +556,8 @@ impl<'a> UncheckedWorld<'a> {
 
     /// The first rule that the files break, in the order of the list.
     fn files_break(&self) -> Result<Option<Break<'_>>, NoMemory>
-        ensures { IfOk result (λ b. option_map break_of b ≡ head (breaks_from self.now (all_classes self.now) 0 0 0 0 self.now.lines)) }
+        ensures { IfOk result (λ b. option_map break_of b ≡ head (breaks_from self.now (all_classes self.now) 0 0 0 0
+            self.now.lines)) }
     {
         let mut classes = 0;
         let mut exports = 0;

@@ -1,7 +1,8 @@
 //! Where a world keeps each of its classes: in which file of which kind, and at which place there. Only the
 //! indices and rules of the world see it; whoever asks the world gets `Found` or `Known`.
 
-ghost use Rattle.std.specs.Prelude.{◌≡◌, ◌<◌, ◌^◌, ◌+◌, ◌++◌, ℕ, List, IfOk, OnOk, true, All, length, slice_get, option_map};
+ghost use Rattle.std.specs.Prelude.{◌≡◌, ◌<◌, ◌^◌, ◌+◌, ◌++◌, ℕ, List, IfOk, OnOk, true, All, length, slice_get};
+ghost use Rattle.std.specs.Prelude.{option_map};
 ghost use Rattle.cjc_classfile.specs.declared.tree.ClassTree.{ClassTree as ClassFile};
 ghost use Rattle.cjc_export.specs.declared.tree.ExportTree.{ExportTree as ExportFile};
 ghost use Rattle.cjc_world.specs.Classes.{size, numbered, of_class_file, of_export_file};
@@ -84,7 +85,8 @@ fn put_class(
     classes: &[ClassTree<'_>],
     place: u32,
 ) -> Result<(), NoMemory>
-    ensures { (exports : List ExportFile) → OnOk result (Grows classes.now exports spots.old.items spots.new.items (of_class_file place (slice_get classes.now place))) }
+    ensures { (exports : List ExportFile) → OnOk result (Grows classes.now exports spots.old.items spots.new.items
+        (of_class_file place (slice_get classes.now place))) }
 {
     if let Some(class) = classes.get(place as usize) {
         if !is_counted(class) {
@@ -140,7 +142,8 @@ fn put_export(
     place: u32,
     number: u32,
 ) -> Result<(), NoMemory>
-    ensures { (classes : List ClassFile) → OnOk result (Grows classes exports.now spots.old.items spots.new.items (of_export_file number (slice_get exports.now place))) }
+    ensures { (classes : List ClassFile) → OnOk result (Grows classes exports.now spots.old.items spots.new.items
+        (of_export_file number (slice_get exports.now place))) }
 {
     if let Some(tree) = exports.get(place as usize) {
         sum(number, tree.classes.items().len())?;

@@ -8,7 +8,8 @@ ghost use Rattle.cjc_world.specs.Supertypes.{IsAcyclic};
 ghost use Rattle.cjc_world.specs.declared.tables.Order.TheVariants as orders;
 ghost use Rattle.cjc_world.specs.Working.Known.{class_of};
 ghost use Rattle.cjc_world.specs.Working.Places.{is_in, joined};
-ghost use Rattle.cjc_world.specs.Working.Tables.{above_at, are_ready, Closer, is_ready, is_ready_at, is_row, IsPart, piece, pieces, row_at, row_in};
+ghost use Rattle.cjc_world.specs.Working.Tables.{above_at, are_ready, Closer, is_ready, is_ready_at, is_row, IsPart};
+ghost use Rattle.cjc_world.specs.Working.Tables.{piece, pieces, row_at, row_in};
 
 use crate::class::Known;
 use crate::class_index::ClassIndex;
@@ -185,7 +186,8 @@ impl<'a> ClassIndex<'a> {
         names: &[Bytes],
         places: &mut Places,
     ) -> Result<(), NoMemory>
-        ensures { OnOk result (places.new ≡ joined places.old (pieces (all_classes self.now) order listed rows.now names.now)) }
+        ensures { OnOk result (places.new ≡ joined places.old (pieces (all_classes self.now) order listed rows.now
+            names.now)) }
     {
         for name in names {
             put_piece(rows, order, listed, self.place_named(name.items()), places)?;
@@ -201,7 +203,8 @@ impl<'a> ClassIndex<'a> {
         rows: &[Option<Above>],
         class: Known<'_, '_>,
     ) -> Result<Row<u32>, NoMemory>
-        ensures { IfOk result (λ places. places ≡ (above_at (all_classes self.now) rows.now 0 (class_of class.entry)).interfaces) }
+        ensures { IfOk result (λ places. places
+            ≡ (above_at (all_classes self.now) rows.now 0 (class_of class.entry)).interfaces) }
     {
         let mut places = Places::new(alloc, self.count())?;
         self.put_pieces(rows, Order::Interfaces, false, class.supers(), &mut places)?;
@@ -222,7 +225,8 @@ impl<'a> ClassIndex<'a> {
         rows: &[Option<Above>],
         class: Known<'_, '_>,
     ) -> Result<Row<u32>, NoMemory>
-        ensures { IfOk result (λ places. places ≡ joined [] (pieces (all_classes self.now) orders.Line false rows.now (class_of class.entry).supers)) }
+        ensures { IfOk result (λ places. places ≡ joined [] (pieces (all_classes self.now) orders.Line false rows.now
+            (class_of class.entry).supers)) }
     {
         let mut places = Places::new(alloc, self.count())?;
         self.put_pieces(rows, Order::Line, false, class.supers(), &mut places)?;

@@ -1,7 +1,8 @@
 //! All classes with what stands above each, and the cycles where there are any: what the rules of a world are
 //! tested on, before there is a world.
 
-ghost use Rattle.std.specs.Prelude.{◌≡◌, ℕ, [], true, is_some, length, slice_get, IfSome, IfNone, IfOk, MatchOption, Some};
+ghost use Rattle.std.specs.Prelude.{◌≡◌, ℕ, [], true, is_some, length, slice_get, IfSome, IfNone, IfOk, MatchOption};
+ghost use Rattle.std.specs.Prelude.{Some};
 ghost use Rattle.std.specs.List.{list_all};
 ghost use Rattle.cjc_world.specs.Added.{added_at};
 ghost use Rattle.cjc_world.specs.Classes.{all_classes};
@@ -72,7 +73,8 @@ fn tables_of(alloc: Global, class_index: &ClassIndex<'_>) -> Result<Tables, NoMe
     ensures part { IfOk result (λ t. IsPart (all_classes class_index.now) t.above) }
     ensures all { IfOk result (λ t. list_all is_some t.above ≡ true → IsAcyclic (all_classes class_index.now)) }
     ensures count { IfOk result (λ t. length t.added ≡ length class_index.now.classes) }
-    ensures added { IfOk result (λ t. (i : ℕ) → is_number_ready class_index.now t.above i ≡ true → slice_get t.added i ≡ Some (added_at class_index.now i)) }
+    ensures added { IfOk result (λ t. (i : ℕ) → is_number_ready class_index.now t.above i ≡ true
+        → slice_get t.added i ≡ Some (added_at class_index.now i)) }
 {
     let above = class_index.above_all(alloc)?;
     let added = class_index.added_rows(alloc, above.items())?;
@@ -85,7 +87,8 @@ fn cycles_of(
     class_index: &ClassIndex<'_>,
     rows: &[Option<Above>],
 ) -> Result<Option<Cycles>, NoMemory>
-    ensures { IfOk result (λ o. MatchOption o (list_all is_some rows.now ≡ true) (λ c. AreCycles (all_classes class_index.now) c)) }
+    ensures { IfOk result (λ o. MatchOption o (list_all is_some rows.now ≡ true)
+        (λ c. AreCycles (all_classes class_index.now) c)) }
 {
     if all_there(rows) {
         Ok(None)

@@ -1,7 +1,8 @@
 //! `World`, the package with the export files that it stands on, once its rules are tested, and look-up of
 //! classes, fields and methods in it. Nothing here takes memory but `new`.
 
-ghost use Rattle.std.specs.Prelude.{◌≡◌, ◌<◌, [], ◌++◌, true, false, length, slice_get, option_map, IfSome, IfOk, IfErr, OnOk};
+ghost use Rattle.std.specs.Prelude.{◌≡◌, ◌<◌, [], ◌++◌, true, false, length, slice_get, option_map, IfSome, IfOk};
+ghost use Rattle.std.specs.Prelude.{IfErr, OnOk};
 ghost use Rattle.cjc_world.specs.Classes.{all_classes, class_at, class_named};
 ghost use Rattle.cjc_world.specs.Files.{files_of};
 ghost use Rattle.cjc_bytes.specs.Breaks.{IsFirstRefusal};
@@ -73,7 +74,8 @@ impl<'a> World<'a> {
     ) -> Result<World<'a>, Fault>
         ensures made { IfOk result (λ w. w ≡ files_of package_name.now lines classes.entry exports) }
         ensures unbroken { OnOk result (breaks list.now (files_of package_name.now lines classes.entry exports) ≡ []) }
-        ensures refused { IfErr result (IsFirstRefusal (breaks list.now (files_of package_name.now lines classes.entry exports))) }
+        ensures refused { IfErr result (IsFirstRefusal (breaks list.now (files_of package_name.now lines classes.entry
+            exports))) }
     {
         let class_index = ClassIndex::new(alloc, package_name, lines, classes, exports)?;
         let unchecked = UncheckedWorld::new(alloc, class_index)?;
@@ -141,7 +143,9 @@ impl<'a> World<'a> {
 
     /// The interfaces of a class that some file has, in order, each once, as places in the order of the list.
     pub fn interfaces(&self, alloc: Global, class: Known<'_, '_>) -> Result<Row<u32>, NoMemory>
-        ensures { IfOk result (λ places. at_places (all_classes self.now) places ≡ known (each_once [] (gathered false (supertypes (all_classes self.now) (class_of class.entry).supers) ++ gathered true (supertypes (all_classes self.now) (class_of class.entry).interfaces)))) }
+        ensures { IfOk result (λ places. at_places (all_classes self.now) places
+            ≡ known (each_once [] (gathered false (supertypes (all_classes self.now) (class_of class.entry).supers)
+            ++ gathered true (supertypes (all_classes self.now) (class_of class.entry).interfaces)))) }
     {
         let places = self.class_index.interfaces(alloc, self.rows(), class)?;
         Ok(places)
@@ -150,7 +154,8 @@ impl<'a> World<'a> {
     /// The superclasses of a class going upwards, of an imported class the supers that its file lists in the order
     /// of the file, each once, as places in the order of the list.
     pub fn superclasses(&self, alloc: Global, class: Known<'_, '_>) -> Result<Row<u32>, NoMemory>
-        ensures { IfOk result (λ places. at_places (all_classes self.now) places ≡ once [] (upwards (supertypes (all_classes self.now) (class_of class.entry).supers))) }
+        ensures { IfOk result (λ places. at_places (all_classes self.now) places
+            ≡ once [] (upwards (supertypes (all_classes self.now) (class_of class.entry).supers))) }
     {
         let places = self.class_index.line_above(alloc, self.rows(), class)?;
         Ok(places)

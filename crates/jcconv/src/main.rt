@@ -3,8 +3,8 @@
 #![tactic(auto)]
 
 use cjc_bytes::{Bytes, Row};
-use cjc_command::Status;
 use cjc_run::{run, status_line};
+use cjc_shelf::command::Status;
 use cjc_shelf::{DiskShelf, StdSink};
 use std::alloc::Global;
 use std::process::ExitCode;

@@ -2,7 +2,8 @@
 use Rattle.std.specs.Prelude.{ℕ, Option, Some, None}
 use Rattle.cjc_capread.specs.declared.opcode.OpInfo.{OpInfo}
 use Rattle.cjc_capread.specs.declared.opcode.Shape.{Shape}
-use Rattle.cjc_capread.specs.declared.opcode.Shape.TheVariants.{NoOp, Switch, Bare, Bytes1, Bytes2, Bytes3, Bytes4, Index1, Index2, Typed, Call}
+use Rattle.cjc_capread.specs.declared.opcode.Shape.TheVariants.{NoOp, Switch, Bare, Bytes1, Bytes2, Bytes3, Bytes4}
+use Rattle.cjc_capread.specs.declared.opcode.Shape.TheVariants.{Index1, Index2, Typed, Call}
 
 -- an opcode of this length, with its index there
 abbrev pub of_three : ℕ → ℕ → ℕ → Option OpInfo

@@ -1,6 +1,8 @@
 -- Initialisers as the code reads them, instruction by instruction: what they have put so far, and how far they are in a
 -- statement.
-use Rattle.std.specs.Prelude.{◌≡◌, ℕ, List, [], ◌∷◌, ◌++◌, length, replicate, slice_set, nat_lt, nat_le, Bool, true, false, ◌==◌, ◌&&◌, if◌then◌else◌, Option, Some, None, option_map, Result, Ok, Err, ℤ, pos, negsuc}
+use Rattle.std.specs.Prelude.{◌≡◌, ℕ, List, [], ◌∷◌, ◌++◌, length, replicate, slice_set, nat_lt, nat_le, Bool, true}
+use Rattle.std.specs.Prelude.{false, ◌==◌, ◌&&◌, if◌then◌else◌, Option, Some, None, option_map, Result, Ok, Err, ℤ, pos}
+use Rattle.std.specs.Prelude.{negsuc}
 use Rattle.cjc_bytes.specs.Breaks.{Break, at, each, broken_at}
 use Rattle.cjc_bytes.specs.Order.{FilePlace, file_of}
 use Rattle.cjc_bytes.specs.declared.fault.MemberId.{MemberId}
@@ -115,12 +117,14 @@ or_wrong at (Some s) go = go s
 module _ (files : Files) (number : ℕ) (c : ClassTree) where
   -- these contents are put in the field at this place, an array of theirs is made, and the statement is over
   abbrev pub state_with : Contents → MemberId → State → ℕ → State
-  state_with contents id s k = state (slice_set s.fields k (held_by contents)) (s.arrays ++ array_in (own_field c id) contents) stages.Free
+  state_with contents id s k = state (slice_set s.fields k (held_by contents)) (s.arrays
+      ++ array_in (own_field c id) contents) stages.Free
 
   -- putstatic
   abbrev pub after_put : Option Contents → MemberId → State → Option State
   after_put None id s = None
-  after_put (Some contents) id s = option_map (λ k. state_with contents id s k) (place_for files number c s.fields contents id)
+  after_put (Some contents) id s = option_map (λ k. state_with contents id s k) (place_for files number c s.fields
+      contents id)
 
   -- putstatic puts what is on the stack; getstatic can not stand in an initialiser
   abbrev pub after_static : Bool → MemberId → State → Option State
@@ -165,7 +169,8 @@ with_read code before (Err at) = Err at
 
 -- an initialiser of a class
 unfoldable pub after_initialiser : Files → ClassTree → MethodCode → Puts → Result Puts ℕ
-after_initialiser files c code before = with_read code before (ended (read files code.class c (state (nothing_in c) before.arrays stages.Free) code.insns))
+after_initialiser files c code before =
+    with_read code before (ended (read files code.class c (state (nothing_in c) before.arrays stages.Free) code.insns))
 
 -- the class, where the code is of its initialiser
 abbrev pub after_class : Files → MethodCode → Puts → Option ClassTree → Result Puts ℕ
@@ -184,7 +189,8 @@ and_then (Err at) go = Err at
 -- those of all methods, or the first offset with which an initialiser is none
 unfoldable pub after_codes : Files → Puts → List MethodCode → Result Puts ℕ
 after_codes files before [] = Ok before
-after_codes files before (code ∷ codes) = and_then (after_code files before code) (λ later. after_codes files later codes)
+after_codes files before (code ∷ codes) = and_then (after_code files before code) (λ later. after_codes files later
+    codes)
 
 -- ---- what is broken
 
@@ -200,7 +206,8 @@ breaks_at breaks (Some at) = breaks at
 
 -- at an offset of the method of this code
 unfoldable pub offset_break : Files → MethodCode → (offset : ℕ) → List Break
-offset_break files code offset = of_code files code.class code.method (λ f c m. broken_at (at_method f c code.method m offset) 308 ∷ [])
+offset_break files code offset = of_code files code.class code.method (λ f c m. broken_at (at_method f c code.method m
+    offset) 308 ∷ [])
 
 -- at the offset with which the code of a method is no initialiser, where it should be one
 unfoldable pub code_breaks : Files → MethodCode → List Break
@@ -212,7 +219,8 @@ class_breaks f c = at (is_wrong_class c) (at_class f c) 308
 
 -- All that is broken of 308, at the classes and in their initialisers.
 unfoldable pub image_breaks : Files → List MethodCode → List Break
-image_breaks files codes = each (λ n c. class_breaks (file_of files.lines n) c) files.classes ++ each (λ _ code. code_breaks files code) codes
+image_breaks files codes = each (λ n c. class_breaks (file_of files.lines n) c) files.classes
+    ++ each (λ _ code. code_breaks files code) codes
 
 -- ---- what the code holds
 

@@ -4,8 +4,8 @@ use Rattle.cjc_range.specs.Span.{Span}
 use Rattle.cjc_range.specs.Landmarks.{round_row}
 use Rattle.cjc_types.specs.declared.cell.Cell.{Cell}
 use Rattle.cjc_types.specs.Steps as typed
-use Rattle.cjc_range_flow.specs.Frames.{StackOf, Cells, Clash}
-use Rattle.cjc_range_flow.specs.Flow.{number_range, number_ranges}
+use Rattle.cjc_intervals.specs.Frames.{StackOf, Cells, Clash}
+use Rattle.cjc_intervals.specs.Flow.{number_range, number_ranges}
 
 -- each interval, moved outwards to the landmarks where this is asked
 abbrev pub rounded_cells : Bool → List Span → List Span

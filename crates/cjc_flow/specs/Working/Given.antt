@@ -1,4 +1,5 @@
--- What an instruction does to intervals, where it is known which constant it gets and what the elements of its array are.
+-- What an instruction does to intervals, where it is known which constant it gets and what the elements of its array
+-- are.
 use Rattle.std.specs.Prelude.{List, [], ◌∷◌, ◌++◌, drop, Option, Some, None, ℤ}
 use Rattle.cjc_range.specs.Span.{Span, full}
 use Rattle.cjc_code.specs.declared.insn.JInsn.{JInsn}
@@ -9,9 +10,9 @@ use Rattle.cjc_types.specs.declared.state.State.{State}
 use Rattle.cjc_types.specs.Steps.{takes}
 use Rattle.cjc_types.specs.Steps as typed
 use Rattle.cjc_types.specs.Search.{cells_of}
-use Rattle.cjc_range_flow.specs.Frames.{StackOf, Cells, Clash, RangeState, stack_of}
-use Rattle.cjc_range_flow.specs.Values.{element_range}
-use Rattle.cjc_range_flow.specs.Steps.{gives, locals_after}
+use Rattle.cjc_intervals.specs.Frames.{StackOf, Cells, Clash, RangeState, stack_of}
+use Rattle.cjc_intervals.specs.Values.{element_range}
+use Rattle.cjc_intervals.specs.Steps.{gives, locals_after}
 
 -- what an array load gives from a stack of these types
 abbrev pub element_given : JOp → (types : List Cell) → Span
@@ -45,4 +46,7 @@ stack_by value element op locals (Cells s) = stack_of (behind_by value element o
 
 -- the intervals of a frame behind an instruction
 abbrev pub after_by : (value : Option ℤ) → (element : Span) → JOp → RangeState → RangeState
-after_by value element op x = record { stack = stack_by value element op x.locals x.stack; locals = locals_after op x.locals x.stack }
+after_by value element op x = record {
+  stack = stack_by value element op x.locals x.stack;
+  locals = locals_after op x.locals x.stack;
+}

@@ -5,7 +5,7 @@ use Rattle.cjc_world.specs.Classes.{Class}
 use Rattle.cjc_types.specs.declared.table.TypeTable.{TypeTable}
 use Rattle.cjc_types.specs.Flow.{Body}
 use Rattle.cjc_types.specs.Tables.{IsTypeTable, rows_of}
-use Rattle.cjc_range_flow.specs.Flow.{is_target}
+use Rattle.cjc_intervals.specs.Flow.{is_target}
 use Rattle.cjc_flow.specs.Working.Given.{elements_of}
 
 -- The types are the method's table, the elements are what its array loads give by it, and `first` says whether a jump,

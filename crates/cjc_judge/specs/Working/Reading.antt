@@ -29,7 +29,8 @@ pub record IsReadAs (lines : List FileLine) (files : List (List ℕ)) (read : Tr
 
 -- The refusal is of this method by this rule.
 abbrev pub BreaksBy : (file : List ℕ) → ClassTree → (method rule : ℕ) → Refusal → Type 0
-BreaksBy file tree method rule r = (offset : ℕ) × CodeBreaks tree method rule offset × (r ≡ code_refusal_of file tree method (record { rule = rule; offset = offset }))
+BreaksBy file tree method rule r = (offset : ℕ) × CodeBreaks tree method rule offset
+    × (r ≡ code_refusal_of file tree method (record { rule = rule; offset = offset }))
 
 -- The refusal is the first of a class's methods by this rule.
 pub record FirstIn (file : List ℕ) (tree : ClassTree) (rule : ℕ) (r : Refusal) : Type 0 where
@@ -38,16 +39,21 @@ pub record FirstIn (file : List ℕ) (tree : ClassTree) (rule : ℕ) (r : Refusa
   pub first : (k other : ℕ) → k < method → CodeBreaks tree k rule other → ⊥
 
 -- What decoding one method gives: its instructions, or its place by rule 303, or how it breaks rule 103.
-abbrev pub DecodesMethod : (file : List ℕ) → (class : ℕ) → ClassTree → (method : ℕ) → (old new : List MethodCode) → (from to : List UnsupportedInsn) → Result Unit Fault → Type 0
+abbrev pub DecodesMethod : (file : List ℕ) → (class : ℕ) → ClassTree → (method : ℕ) → (old new : List MethodCode)
+    → (from to : List UnsupportedInsn) → Result Unit Fault → Type 0
 DecodesMethod file class tree method old new from to (Ok done) =
-    (new ≡ old ++ code_with class method (decoding_at tree method)) × (to ≡ from ++ unsupported_with class method (decoding_at tree method)) × ((offset : ℕ) → CodeBreaks tree method 103 offset → ⊥)
+    (new ≡ old ++ code_with class method (decoding_at tree method))
+    × (to ≡ from ++ unsupported_with class method (decoding_at tree method)) × ((offset : ℕ)
+    → CodeBreaks tree method 103 offset → ⊥)
 DecodesMethod file class tree method old new from to (Err (faults.Refused r)) = BreaksBy file tree method 103 r
 DecodesMethod file class tree method old new from to (Err faults.NoMemory) = Unit {0}
 
 -- What decoding the methods of a class gives, whose place in the package this is.
-abbrev pub DecodesClass : (file : List ℕ) → (class : ℕ) → ClassTree → (old new : List MethodCode) → (from to : List UnsupportedInsn) → Result Unit Fault → Type 0
+abbrev pub DecodesClass : (file : List ℕ) → (class : ℕ) → ClassTree → (old new : List MethodCode)
+    → (from to : List UnsupportedInsn) → Result Unit Fault → Type 0
 DecodesClass file class tree old new from to (Ok done) =
-    (new ≡ old ++ of_methods code_with class 0 tree tree.methods) × (to ≡ from ++ of_methods unsupported_with class 0 tree tree.methods) × AreInstructions tree
+    (new ≡ old ++ of_methods code_with class 0 tree tree.methods)
+    × (to ≡ from ++ of_methods unsupported_with class 0 tree tree.methods) × AreInstructions tree
 DecodesClass file class tree old new from to (Err (faults.Refused r)) = FirstIn file tree 103 r
 DecodesClass file class tree old new from to (Err faults.NoMemory) = Unit {0}
 
@@ -57,7 +63,8 @@ DecodesClass file class tree old new from to (Err faults.NoMemory) = Unit {0}
 pub record IsFirstInFile (line : FileLine) (bytes : List ℕ) (r : Refusal) : Type 0 where
   pub breach : FileBreach line bytes
   pub is : r ≡ file_refusal line bytes breach
-  pub first : (index : ℕ) (other : FileBreach line bytes) → NotAfter (file_rank index line bytes breach) (file_rank index line bytes other)
+  pub first : (index : ℕ) (other : FileBreach line bytes) → NotAfter (file_rank index line bytes breach)
+      (file_rank index line bytes other)
 
 -- The file's tree is put behind those that were read, with what its methods are decoded to.
 abbrev pub Puts : FileTree → Trees → Trees → Type 0

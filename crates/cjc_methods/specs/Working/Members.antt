@@ -11,7 +11,8 @@ own class i = record { imported = false; class = class; member = i }
 -- the methods of a class file, the first of which has this place, without <clinit>
 abbrev pub written : (class place : ℕ) → List MethodTree → List Found
 written class i [] = []
-written class i (m ∷ ms) = if bytes_eq m.name (codes "<clinit>") then written class (i + 1) ms else own class i ∷ written class (i + 1) ms
+written class i (m ∷ ms) = if bytes_eq m.name (codes "<clinit>") then written class (i + 1) ms else own class i
+    ∷ written class (i + 1) ms
 
 -- so many members from a place on
 abbrev pub places : (class place count : ℕ) → List Found

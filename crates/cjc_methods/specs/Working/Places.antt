@@ -51,7 +51,8 @@ pub record HasPlace (files : Files) (codes : List MethodCode) (n i k : ℕ) : Ty
 
 -- a method without a place has no code
 abbrev pub HasNone : Files → (n i : ℕ) → Type 0
-HasNone files n i = (class : ClassTree) (method : MethodTree) → slice_get files.classes n ≡ Some class → slice_get class.methods i ≡ Some method → method.code ≡ None
+HasNone files n i = (class : ClassTree) (method : MethodTree) → slice_get files.classes n ≡ Some class
+    → slice_get class.methods i ≡ Some method → method.code ≡ None
 
 -- the place of a method's code is this, or the method has no code where there is no place
 abbrev pub IsPlaced : Files → List MethodCode → (n i : ℕ) → Option ℕ → Type 0

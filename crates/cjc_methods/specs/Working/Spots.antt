@@ -19,7 +19,8 @@ spot_in files c f m offset =
 -- 417 at a member of a class
 abbrev pub words_at : Files → Found → Option Class → List Break
 words_at files f None = []
-words_at files f (Some c) = let m = method_in (all_classes files) c f.member in at (has_many_words m) (spot_in files c f m 0) 417
+words_at files f (Some c) = let m = method_in (all_classes files) c f.member
+    in at (has_many_words m) (spot_in files c f m 0) 417
 
 -- 417 of a method by the numbers of its class and member
 abbrev pub word_breaks_in : Files → Found → List Break

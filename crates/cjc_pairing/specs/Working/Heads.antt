@@ -6,11 +6,11 @@ use Rattle.cjc_bytes.specs.declared.order.FileKey.TheVariants as keys
 use Rattle.cjc_bytes.specs.Refused.{in_file}
 use Rattle.cjc_bytes.specs.Told.{break_of}
 use Rattle.cjc_capread.specs.declared.tree.ClassDescriptor.{ClassDescriptor}
-use Rattle.cjc_paired.specs.Pairs.{cell_spots, count_spots, head_of, method_spots}
-use Rattle.cjc_sentences.specs.Complete.{Complete}
-use Rattle.cjc_sentences.specs.Consistent.{break_at}
-use Rattle.cjc_sentences.specs.declared.spot.ComponentPlace.{ComponentPlace}
-use Rattle.cjc_sentences.specs.Spots.{in_info, unless}
+use Rattle.cjc_components.specs.Paired.Pairs.{cell_spots, count_spots, head_of, method_spots}
+use Rattle.cjc_check_rules.specs.Complete.{Complete}
+use Rattle.cjc_check_rules.specs.Consistent.{break_at}
+use Rattle.cjc_check_rules.specs.declared.spot.ComponentPlace.{ComponentPlace}
+use Rattle.cjc_check_rules.specs.Spots.{in_info, unless}
 use Rattle.cjc_world.specs.declared.image.StaticImage.{StaticImage}
 use Rattle.cjc_world.specs.Classes.{all_classes}
 use Rattle.cjc_world.specs.Files.{Files}
@@ -21,7 +21,12 @@ IsHead spots b = option_to_list (option_map break_of b) ≡ map (break_at 719) (
 
 -- an offset of the info of a component, by its tag and the name of its file
 abbrev pub place_in : (component : ℕ) → (file : List ℕ) → (at : ℕ) → Place
-place_in component file at = record { file = keys.Component component; class = 0; member = 0; place = in_file file (3 + at) }
+place_in component file at = record {
+  file = keys.Component component;
+  class = 0;
+  member = 0;
+  place = in_file file (3 + at);
+}
 
 -- the number of methods of a class that begins at an offset of Descriptor, where it has not so many
 abbrev pub count_spots_at : (at : ℕ) → ClassDescriptor → (count : ℕ) → List ComponentPlace

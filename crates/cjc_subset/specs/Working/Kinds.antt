@@ -1,4 +1,5 @@
--- Which kinds of methods a class of the package has, told by flags alone: what is broken against another class follows from
+-- Which kinds of methods a class of the package has, told by flags alone: what is broken against another class follows
+-- from
 -- the kinds of both where neither name nor descriptor is looked at.
 use Rattle.std.specs.Prelude.{ℕ, List, Bool, not, ◌&&◌, ◌||◌}
 use Rattle.std.specs.List.{list_any}

@@ -5,7 +5,8 @@ use Rattle.cjc_fixpoint.specs.Lattice.{IsLattice}
 use Rattle.cjc_types.specs.declared.cell.Cell.{Cell}
 use Rattle.cjc_types.specs.declared.cell.Cell.TheVariants.{Number, Refs, Unusable}
 use Rattle.cjc_types.specs.Names.{IsSet, IsWithin, union}
-use Rattle.cjc_types.specs.Working.NameLaws.{union_left, union_right, union_least, set_union, length_within, same_within}
+use Rattle.cjc_types.specs.Working.NameLaws.{union_left, union_right, union_least, set_union, length_within}
+use Rattle.cjc_types.specs.Working.NameLaws.{same_within}
 use Rattle.cjc_types.specs.Cells.{most_names, refs, IsNameSet, IsCell, IsCellBelow, joined_cell, cell_rank, cells}
 
 -- each cell is below itself
@@ -43,12 +44,14 @@ refs_above less names h = go (leb (length names) most_names)
     go false = tt
 
 -- the cell of a set is below each reference whose types the set is within
-pub refs_below : (names more : List (List ℕ)) → IsSet names → IsNameSet more → IsWithin names more → IsCellBelow (refs names) (Refs more)
+pub refs_below : (names more : List (List ℕ)) → IsSet names → IsNameSet more → IsWithin names more
+    → IsCellBelow (refs names) (Refs more)
 refs_below names more set own h = go (leb (length names) most_names) refl
   where
     go : (b : Bool) → leb (length names) most_names ≡ b → IsCellBelow (cond b (Refs names) Unusable) (Refs more)
     go true e = h
-    go false e = let le = length_within names more set own.set h in let few = own.few in let many = leb-false _ _ e in absurd (omega (arith, le, few, many))
+    go false e = let le = length_within names more set own.set h in let few = own.few in let many = leb-false _ _ e
+        in absurd (omega (arith, le, few, many))
 
 -- the cell of a set is below that of each set that it is within
 pub refs_up : (xs ys : List (List ℕ)) → IsSet xs → IsSet ys → IsWithin xs ys → IsCellBelow (refs xs) (refs ys)
@@ -85,7 +88,8 @@ above_right (Refs xs) (Refs ys) = refs_above ys (union xs ys) (union_right xs ys
 above_right (Refs xs) Unusable = tt
 above_right Unusable y = tt
 
-least : (x y z : Cell) → IsCell x → IsCell y → IsCell z → IsCellBelow x z → IsCellBelow y z → IsCellBelow (joined_cell x y) z
+least : (x y z : Cell) → IsCell x → IsCell y → IsCell z → IsCellBelow x z → IsCellBelow y z
+    → IsCellBelow (joined_cell x y) z
 least x y Unusable own_x own_y own_z h k = tt
 least Number Number Number own_x own_y own_z h k = tt
 least Number (Refs ys) Number own_x own_y own_z h k = absurd k
@@ -94,7 +98,8 @@ least (Refs xs) y Number own_x own_y own_z h k = absurd h
 least Unusable y Number own_x own_y own_z h k = absurd h
 least Number y (Refs zs) own_x own_y own_z h k = absurd h
 least (Refs xs) Number (Refs zs) own_x own_y own_z h k = absurd k
-least (Refs xs) (Refs ys) (Refs zs) own_x own_y own_z h k = refs_below (union xs ys) zs (set_union xs ys own_y.set) own_z (union_least xs ys zs h k)
+least (Refs xs) (Refs ys) (Refs zs) own_x own_y own_z h k = refs_below (union xs ys) zs (set_union xs ys own_y.set)
+    own_z (union_least xs ys zs h k)
 least (Refs xs) Unusable (Refs zs) own_x own_y own_z h k = absurd k
 least Unusable y (Refs zs) own_x own_y own_z h k = absurd h
 
@@ -118,7 +123,8 @@ rises Number Number own_x own_y h l = tt
 rises Number (Refs ys) own_x own_y h l = absurd h
 rises Number Unusable own_x own_y h l = absurd (omega (arith, l))
 rises (Refs xs) Number own_x own_y h l = absurd h
-rises (Refs xs) (Refs ys) own_x own_y h l = let same = same_within xs ys own_x.set own_y.set h l in subst (λ (zs : List (List ℕ)). IsWithin zs xs) same (λ n is. is)
+rises (Refs xs) (Refs ys) own_x own_y h l = let same = same_within xs ys own_x.set own_y.set h l
+    in subst (λ (zs : List (List ℕ)). IsWithin zs xs) same (λ n is. is)
 rises (Refs xs) Unusable own_x own_y h l = let few = own_x.few in absurd (omega (arith, few, l))
 rises Unusable y own_x own_y h l = tt
 
@@ -128,7 +134,8 @@ same_cell Number Number own_x own_y h k = refl
 same_cell Number (Refs ys) own_x own_y h k = absurd h
 same_cell Number Unusable own_x own_y h k = absurd k
 same_cell (Refs xs) Number own_x own_y h k = absurd h
-same_cell (Refs xs) (Refs ys) own_x own_y h k = ap Refs (same_within xs ys own_x.set own_y.set h (length_within ys xs own_y.set own_x.set k))
+same_cell (Refs xs) (Refs ys) own_x own_y h k =
+    ap Refs (same_within xs ys own_x.set own_y.set h (length_within ys xs own_y.set own_x.set k))
 same_cell (Refs xs) Unusable own_x own_y h k = absurd k
 same_cell Unusable Number own_x own_y h k = absurd h
 same_cell Unusable (Refs ys) own_x own_y h k = absurd h

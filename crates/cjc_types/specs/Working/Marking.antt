@@ -27,4 +27,5 @@ with_handlers insns marked (c ∷ more) = with_handlers insns (with_mark marked 
 
 -- the first place is marked, and each to which a jump, a switch or a handler of the method leads
 abbrev pub with_all : Body → List Bool
-with_all b = with_handlers b.insns (with_jumps b.insns (with_mark (replicate (length b.insns) false) (Some 0)) b.insns) b.catches
+with_all b = with_handlers b.insns (with_jumps b.insns (with_mark (replicate (length b.insns) false) (Some 0)) b.insns)
+    b.catches

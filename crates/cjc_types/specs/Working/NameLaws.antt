@@ -50,7 +50,8 @@ pub insert_cases : (n m : List ℕ) (xs : List (List ℕ)) → In m (insert n xs
 insert_cases n m [] h = h
 insert_cases n m (x ∷ xs) h = go (compare n x) h (insert_cases n m xs)
   where
-    go : (o : Ordering) → In m (placed o n x xs (insert n xs)) → (In m (insert n xs) → (n ≡ m) ⊎ In m xs) → (n ≡ m) ⊎ ((x ≡ m) ⊎ In m xs)
+    go : (o : Ordering) → In m (placed o n x xs (insert n xs)) → (In m (insert n xs) → (n ≡ m) ⊎ In m xs) → (n ≡ m)
+        ⊎ ((x ≡ m) ⊎ In m xs)
     go Less h rest = h
     go Equal h rest = inr h
     go Greater (inl is) rest = inr (inl is)
@@ -64,13 +65,15 @@ union_right (x ∷ xs) ys n h = union_right xs (insert x ys) n (insert_old x n y
 -- the first set is within the union
 pub union_left : (xs ys : List (List ℕ)) → IsWithin xs (union xs ys)
 union_left [] ys n h = absurd h
-union_left (x ∷ xs) ys n (inl is) = subst (λ (m : List ℕ). In m (union xs (insert x ys))) is (union_right xs (insert x ys) x (insert_new x ys))
+union_left (x ∷ xs) ys n (inl is) = subst (λ (m : List ℕ). In m (union xs (insert x ys))) is
+    (union_right xs (insert x ys) x (insert_new x ys))
 union_left (x ∷ xs) ys n (inr later) = union_left xs (insert x ys) n later
 
 -- the union of two sets is within each set that both are within
 pub union_least : (xs ys zs : List (List ℕ)) → IsWithin xs zs → IsWithin ys zs → IsWithin (union xs ys) zs
 union_least [] ys zs h k n is = k n is
-union_least (x ∷ xs) ys zs h k n is = union_least xs (insert x ys) zs (λ m later. h m (inr later)) (λ m has. go m (insert_cases x m ys has)) n is
+union_least (x ∷ xs) ys zs h k n is = union_least xs (insert x ys) zs (λ m later. h m (inr later))
+    (λ m has. go m (insert_cases x m ys has)) n is
   where
     go : (m : List ℕ) → (x ≡ m) ⊎ In m ys → In m zs
     go m (inl same) = h m (inl same)
@@ -148,7 +151,8 @@ counted (x ∷ xs) (y ∷ ys) h k w = go (w x (inl refl)) (counted xs ys h.1 k.1
         let le = (rest (behind y (x ∷ xs) ys (first, before_weaker y x xs first h.0) w)).0 in
         (omega (arith, le), λ l. absurd (omega (arith, le, l)))
 
-    go : (y ≡ x) ⊎ In x ys → (IsWithin xs ys → Counts xs ys) → (IsWithin (x ∷ xs) ys → Counts (x ∷ xs) ys) → Counts (x ∷ xs) (y ∷ ys)
+    go : (y ≡ x) ⊎ In x ys → (IsWithin xs ys → Counts xs ys) → (IsWithin (x ∷ xs) ys → Counts (x ∷ xs) ys)
+        → Counts (x ∷ xs) (y ∷ ys)
     go (inl e) rest more = same (sym e) rest
     go (inr is) rest more = later is more
 

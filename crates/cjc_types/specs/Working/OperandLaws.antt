@@ -16,14 +16,16 @@ module _ {Cell : Type 0} (Own : Cell → Type 0) where
 
     pub all_read_own : (ks : List ℕ) (xs : List Cell) → All Own xs → All Own (map (λ k. get_or xs k missing) ks)
     all_read_own [] xs h = All-nil Own
-    all_read_own (k ∷ ks) xs h = All-cons Own (get_or xs k missing) (map (λ i. get_or xs i missing) ks) (read_own xs k h) (all_read_own ks xs h)
+    all_read_own (k ∷ ks) xs h = All-cons Own (get_or xs k missing) (map (λ i. get_or xs i missing) ks)
+        (read_own xs k h) (all_read_own ks xs h)
 
 module _ {Cell : Type 0} (Below : Cell → Cell → Type 0) where
   pub below_same : ((x : Cell) → Below x x) → (xs : List Cell) → AllZip Below xs xs
   below_same same [] = tt
   below_same same (x ∷ xs) = (same x, below_same same xs)
 
-  pub below_append : (xs ys us vs : List Cell) → AllZip Below xs ys → AllZip Below us vs → AllZip Below (xs ++ us) (ys ++ vs)
+  pub below_append : (xs ys us vs : List Cell) → AllZip Below xs ys → AllZip Below us vs
+      → AllZip Below (xs ++ us) (ys ++ vs)
   below_append [] [] us vs h k = k
   below_append [] (y ∷ ys) us vs h k = absurd h
   below_append (x ∷ xs) [] us vs h k = absurd h
@@ -44,6 +46,7 @@ module _ {Cell : Type 0} (Below : Cell → Cell → Type 0) where
     read_up (x ∷ xs) (y ∷ ys) zero h = h.0
     read_up (x ∷ xs) (y ∷ ys) (suc k) h = read_up xs ys k h.1
 
-    pub all_read_up : (ks : List ℕ) (xs ys : List Cell) → AllZip Below xs ys → AllZip Below (map (λ k. get_or xs k missing) ks) (map (λ k. get_or ys k missing) ks)
+    pub all_read_up : (ks : List ℕ) (xs ys : List Cell) → AllZip Below xs ys
+        → AllZip Below (map (λ k. get_or xs k missing) ks) (map (λ k. get_or ys k missing) ks)
     all_read_up [] xs ys h = tt
     all_read_up (k ∷ ks) xs ys h = (read_up xs ys k h, all_read_up ks xs ys h)

@@ -1,5 +1,6 @@
 -- What the cells of types and of elements are: own cells, which grow with the cells that they come from.
-use Rattle.std.proofs.Common.{◌≡◌, ◌≤◌, ◌<◌, ◌+◌, ◌==◌, ℕ, Bool, true, false, cond, List, [], ◌∷◌, length, drop, get_or, Option, Some, None, All, refl, sym, ◌∙◌, ap, subst, inl, inr, arith}
+use Rattle.std.proofs.Common.{◌≡◌, ◌≤◌, ◌<◌, ◌+◌, ◌==◌, ℕ, Bool, true, false, cond, List, [], ◌∷◌, length, drop, get_or}
+use Rattle.std.proofs.Common.{Option, Some, None, All, refl, sym, ◌∙◌, ap, subst, inl, inr, arith}
 use Rattle.std.proofs.lemmas.List.{drop_more}
 use Rattle.std.proofs.lemmas.List.Elements.{All-nil, All-cons}
 use Rattle.cjc_bytes.specs.Descriptor.{Part}
@@ -12,7 +13,8 @@ use Rattle.cjc_types.specs.Names.{In, IsSet, IsWithin}
 use Rattle.cjc_types.specs.Working.NameLaws.{insert_new, insert_old, insert_cases, set_insert}
 use Rattle.cjc_types.specs.Cells.{most_names, refs, IsCell, IsCellBelow}
 use Rattle.cjc_types.specs.Working.CellLaws.{own_refs, refs_up}
-use Rattle.cjc_types.specs.Types.{cell_of, value_of, is_void, result_of, held, with_held, elements, element_of, as_reference}
+use Rattle.cjc_types.specs.Types.{cell_of, value_of, is_void, result_of, held, with_held, elements, element_of}
+use Rattle.cjc_types.specs.Types.{as_reference}
 
 one_name : 1 ≤ most_names
 unfolding most_names
@@ -68,12 +70,15 @@ elements_old (x ∷ xs) names n h = elements_old xs (with_held (held x) names) n
 
 elements_new : (xs names : List (List ℕ)) (m n : List ℕ) → In m xs → held m ≡ Some n → In n (elements xs names)
 elements_new [] names m n h is = absurd h
-elements_new (x ∷ xs) names m n (inl same) is = elements_old xs (with_held (held x) names) n (subst (λ (o : Option (List ℕ)). In n (with_held o names)) (sym (ap held same ∙ is)) (insert_new n names))
+elements_new (x ∷ xs) names m n (inl same) is = elements_old xs (with_held (held x) names) n
+    (subst (λ (o : Option (List ℕ)). In n (with_held o names)) (sym (ap held same ∙ is)) (insert_new n names))
 elements_new (x ∷ xs) names m n (inr later) is = elements_new xs (with_held (held x) names) m n later is
 
-elements_least : (xs names zs : List (List ℕ)) → IsWithin names zs → ((m n : List ℕ) → In m xs → held m ≡ Some n → In n zs) → IsWithin (elements xs names) zs
+elements_least : (xs names zs : List (List ℕ)) → IsWithin names zs → ((m n : List ℕ) → In m xs → held m ≡ Some n
+    → In n zs) → IsWithin (elements xs names) zs
 elements_least [] names zs h k = h
-elements_least (x ∷ xs) names zs h k = elements_least xs (with_held (held x) names) zs (go (held x) refl) (λ m n has is. k m n (inr has) is)
+elements_least (x ∷ xs) names zs h k = elements_least xs (with_held (held x) names) zs (go (held x) refl)
+    (λ m n has is. k m n (inr has) is)
   where
     go : (found : Option (List ℕ)) → held x ≡ found → IsWithin (with_held found names) zs
     go None e n is = h n is
@@ -83,7 +88,8 @@ elements_least (x ∷ xs) names zs h k = elements_least xs (with_held (held x) n
     ]
 
 elements_up : (xs ys : List (List ℕ)) → IsWithin xs ys → IsWithin (elements xs []) (elements ys [])
-elements_up xs ys h = elements_least xs [] (elements ys []) (λ n is. absurd is) (λ m n has is. elements_new ys [] m n (h m has) is)
+elements_up xs ys h = elements_least xs [] (elements ys []) (λ n is. absurd is) (λ m n has is. elements_new ys [] m n
+    (h m has) is)
 
 -- what an array load gives from an own cell is own
 pub own_element : (opcode : ℕ) (x : Cell) → IsCell x → IsCell (element_of opcode x)
@@ -107,7 +113,8 @@ element_up opcode Unusable (Refs ys) h = absurd h
 element_up opcode (Refs xs) (Refs ys) h = go (opcode == jvm.aaload)
   where
     go : (b : Bool) → IsCellBelow (cond b (refs (elements xs [])) Number) (cond b (refs (elements ys [])) Number)
-    go true = refs_up (elements xs []) (elements ys []) (set_elements xs [] tt) (set_elements ys [] tt) (elements_up xs ys h)
+    go true = refs_up (elements xs []) (elements ys []) (set_elements xs [] tt) (set_elements ys [] tt)
+        (elements_up xs ys h)
     go false = tt
 
 -- ---- references
@@ -129,7 +136,11 @@ reference_up (Refs xs) (Refs ys) h = h
 -- ---- a step of the loop over arrays
 
 -- what the arrays from a place on hold is what those behind it do, with what the one there holds put in first
-pub elements_next : (types names more : List (List ℕ)) (i : ℕ) (array given : List ℕ) → i < length types → array ≡ get_or types i array → given ≡ array → more ≡ with_held (held given) names → elements (drop (i + 1) types) more ≡ elements (drop i types) names
+pub elements_next : (types names more : List (List ℕ)) (i : ℕ) (array given : List ℕ) → i < length types
+    → array ≡ get_or types i array → given ≡ array → more ≡ with_held (held given) names
+    → elements (drop (i + 1) types) more ≡ elements (drop i types) names
 elements_next types names more i array given lt read same is =
-    let split : drop i types ≡ array ∷ drop (i + 1) types = drop_more types i array lt ∙ ap (λ (n : List ℕ). n ∷ drop (i + 1) types) (sym read) in
-    ap (elements (drop (i + 1) types)) (is ∙ ap (λ (n : List ℕ). with_held (held n) names) same) ∙ ap (λ (zs : List (List ℕ)). elements zs names) (sym split)
+    let split : drop i types ≡ array ∷ drop (i + 1) types = drop_more types i array lt
+    ∙ ap (λ (n : List ℕ). n ∷ drop (i + 1) types) (sym read) in
+    ap (elements (drop (i + 1) types)) (is ∙ ap (λ (n : List ℕ). with_held (held n) names) same)
+    ∙ ap (λ (zs : List (List ℕ)). elements zs names) (sym split)

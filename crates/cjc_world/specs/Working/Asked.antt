@@ -1,5 +1,6 @@
 -- How added methods are found by tables.
-use Rattle.std.specs.Prelude.{◌≡◌, ℕ, zero, suc, ◌+◌, ◌==◌, List, [], ◌∷◌, ◌++◌, slice_get, Bool, false, ◌&&◌, ◌||◌, if◌then◌else◌, Option, Some, None, option_to_list, codes}
+use Rattle.std.specs.Prelude.{◌≡◌, ℕ, zero, suc, ◌+◌, ◌==◌, List, [], ◌∷◌, ◌++◌, slice_get, Bool, false, ◌&&◌, ◌||◌}
+use Rattle.std.specs.Prelude.{if◌then◌else◌, Option, Some, None, option_to_list, codes}
 use Rattle.std.specs.List.{list_any, find}
 use Rattle.std.specs.Str.{bytes_eq}
 use Rattle.cjc_bytes.specs.declared.fault.MemberId.{MemberId}
@@ -45,7 +46,8 @@ is_asked_at w name desc p = is_asked_of name desc (slice_get w p)
 abbrev pub is_open_of : List Class → List (Option Above) → List ℕ → List ℕ → ℕ → Option Class → Bool
 is_open_of w rows name desc p None = false
 is_open_of w rows name desc p (Some c) =
-    declares_open name desc c || (takes_added c && list_any (λ q. is_asked_at w name desc q) (row_at orders.Interfaces (slice_get rows p)))
+    declares_open name desc c || (takes_added c && list_any (λ q. is_asked_at w name desc q) (row_at orders.Interfaces
+    (slice_get rows p)))
 
 -- whether the class at a place declares such a method that is open, or gets it
 abbrev pub is_open_at : List Class → List (Option Above) → List ℕ → List ℕ → ℕ → Bool
@@ -60,8 +62,10 @@ abbrev pub has_id : List MemberId → List ℕ → List ℕ → Bool
 has_id ids name desc = list_any (λ i. bytes_eq i.name name && bytes_eq i.desc desc) ids
 
 -- what was got, and one more method where a class neither has nor got it
-unfoldable pub got_one : (List ℕ → List ℕ → Bool) → (class : List ℕ) → List MemberId → (name desc : List ℕ) → List MemberId
-got_one is_there class ids name desc = if is_there name desc || has_id ids name desc then ids else ids ++ record { class = class; name = name; desc = desc } ∷ []
+unfoldable pub got_one : (List ℕ → List ℕ → Bool) → (class : List ℕ) → List MemberId → (name desc : List ℕ)
+    → List MemberId
+got_one is_there class ids name desc = if is_there name desc || has_id ids name desc then ids else ids
+    ++ record { class = class; name = name; desc = desc } ∷ []
 
 -- what was got, and of these methods each that a class neither has nor got
 unfoldable pub got : (List ℕ → List ℕ → Bool) → (class : List ℕ) → List MemberId → List Member → List MemberId
@@ -74,6 +78,8 @@ methods_of_option None = []
 methods_of_option (Some c) = own_methods c
 
 -- the same of the own methods of the interfaces at these places, one interface after the other
-unfoldable pub got_all : List Class → (List ℕ → List ℕ → Bool) → (class : List ℕ) → List MemberId → List ℕ → List MemberId
+unfoldable pub got_all : List Class → (List ℕ → List ℕ → Bool) → (class : List ℕ) → List MemberId → List ℕ
+    → List MemberId
 got_all w is_there class ids [] = ids
-got_all w is_there class ids (p ∷ ps) = got_all w is_there class (got is_there class ids (methods_of_option (slice_get w p))) ps
+got_all w is_there class ids (p ∷ ps) =
+    got_all w is_there class (got is_there class ids (methods_of_option (slice_get w p))) ps

@@ -1,5 +1,6 @@
 -- The index from class names to places in the list, and what it answers; with it a roster is complete.
-use Rattle.std.specs.Prelude.{◌≡◌, ℕ, suc, List, [], ◌∷◌, Bool, true, false, if◌then◌else◌, Option, Some, None, option_map}
+use Rattle.std.specs.Prelude.{◌≡◌, ℕ, suc, List, [], ◌∷◌, Bool, true, false, if◌then◌else◌, Option, Some, None}
+use Rattle.std.specs.Prelude.{option_map}
 use Rattle.std.specs.HashMap.{get_by}
 use Rattle.std.specs.Str.{bytes_eq}
 use Rattle.cjc_bytes.specs.declared.settings.FileLine.{FileLine}
@@ -25,10 +26,13 @@ is_named (Some c) name = bytes_eq c.name name
 -- the place of the first spot of a class of the name
 unfoldable pub spot_named : List ClassTree → List ExportTree → List ClassPlace → List ℕ → Option ℕ
 spot_named classes exports [] name = None
-spot_named classes exports (s ∷ ss) name = if is_named (at classes exports s) name then Some 0 else option_map suc (spot_named classes exports ss name)
+spot_named classes exports (s ∷ ss) name = if is_named (at classes exports s) name then Some 0
+    else option_map suc (spot_named classes exports ss name)
 
--- The spots are those of all classes, in order, each name is noted at its first class, and each number at the class of its kind.
-pub record IsClassIndex (lines : List FileLine) (classes : List ClassTree) (exports : List ExportTree) (spots : List ClassPlace) (names : Names) (numbers : Numbers) : Type 0 where
+-- The spots are those of all classes, in order, each name is noted at its first class, and each number at the class of
+-- its kind.
+pub record IsClassIndex (lines : List FileLine) (classes : List ClassTree) (exports : List ExportTree)
+    (spots : List ClassPlace) (names : Names) (numbers : Numbers) : Type 0 where
   pub indexed : IsIndexed lines classes exports spots
   pub named : (name : List ℕ) → place_in names name ≡ place_named (classes_from classes exports 0 0 0 lines) name
   pub declared : numbers.declared ≡ places_of false 0 spots

@@ -10,7 +10,8 @@ is_of_kind imported b = if b then imported else not imported
 -- the places of the spots of one kind, where so many stand before
 unfoldable pub places_of : (imported : Bool) → ℕ → List ClassPlace → List ℕ
 places_of imported n [] = []
-places_of imported n (s ∷ ss) = if is_of_kind imported s.imported then n ∷ places_of imported (n + 1) ss else places_of imported (n + 1) ss
+places_of imported n (s ∷ ss) = if is_of_kind imported s.imported then n ∷ places_of imported (n + 1) ss
+    else places_of imported (n + 1) ss
 
 -- the noted places of one kind
 abbrev pub places_in : Bool → Numbers → List ℕ

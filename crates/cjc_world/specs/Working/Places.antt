@@ -1,5 +1,6 @@
 -- Classes by their places in the order of the list, and lists of places without repeats.
-use Rattle.std.specs.Prelude.{ℕ, suc, List, [], ◌∷◌, ◌++◌, ◌==◌, ◌||◌, Bool, false, if◌then◌else◌, Option, Some, None, option_map, option_to_list, slice_get}
+use Rattle.std.specs.Prelude.{ℕ, suc, List, [], ◌∷◌, ◌++◌, ◌==◌, ◌||◌, Bool, false, if◌then◌else◌, Option, Some, None}
+use Rattle.std.specs.Prelude.{option_map, option_to_list, slice_get}
 use Rattle.std.specs.List.{list_any}
 use Rattle.std.specs.Str.{bytes_eq}
 use Rattle.cjc_world.specs.declared.found.Found.{Found}
@@ -54,7 +55,8 @@ has_name name (Some c) = bytes_eq c.name name
 
 -- the class has the name, or lists it
 abbrev pub names : List ℕ → Class → Bool
-names name c = bytes_eq c.name name || (list_any (λ x. bytes_eq x name) c.supers || list_any (λ x. bytes_eq x name) c.interfaces)
+names name c = bytes_eq c.name name || (list_any (λ x. bytes_eq x name) c.supers
+    || list_any (λ x. bytes_eq x name) c.interfaces)
 
 -- there is a class, and it has the name or lists it
 abbrev pub names_of : List ℕ → Option Class → Bool

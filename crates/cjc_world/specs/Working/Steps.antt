@@ -1,5 +1,6 @@
 -- Which classes a name stands above, found step by step in any world, also in one with cycles.
-use Rattle.std.specs.Prelude.{◌≡◌, ℕ, ◌<◌, List, [], ◌∷◌, length, slice_get, Bool, true, false, not, ◌&&◌, ◌||◌, Option, Some, None, unwrap_or}
+use Rattle.std.specs.Prelude.{◌≡◌, ℕ, ◌<◌, List, [], ◌∷◌, length, slice_get, Bool, true, false, not, ◌&&◌, ◌||◌, Option}
+use Rattle.std.specs.Prelude.{Some, None, unwrap_or}
 use Rattle.std.specs.List.{list_any}
 use Rattle.std.specs.Str.{bytes_eq}
 use Rattle.cjc_world.specs.declared.circular.Cycles.{Cycles}
@@ -34,7 +35,8 @@ class_stands w by_supers name known (Some c) =
 
 -- the next step, of all classes
 abbrev pub IsStep : List Class → (by_supers : Bool) → List ℕ → (known next : List Bool) → Type 0
-IsStep w by_supers name known next = (p : ℕ) → p < length w → slice_get next p ≡ Some (class_stands w by_supers name known (slice_get w p))
+IsStep w by_supers name known next = (p : ℕ) → p < length w
+    → slice_get next p ≡ Some (class_stands w by_supers name known (slice_get w p))
 
 -- the first step: the classes that have the name
 abbrev pub IsBegun : List Class → List ℕ → List Bool → Type 0
@@ -42,7 +44,8 @@ IsBegun w name known = (p : ℕ) → p < length w → slice_get known p ≡ Some
 
 -- all steps
 abbrev pub IsDone : List Class → (by_supers : Bool) → List ℕ → List Bool → Type 0
-IsDone w by_supers name known = (x : List ℕ) (p : ℕ) → place_named w x ≡ Some p → slice_get known p ≡ Some (standing by_supers name (supertypes w (x ∷ [])))
+IsDone w by_supers name known = (x : List ℕ) (p : ℕ) → place_named w x ≡ Some p
+    → slice_get known p ≡ Some (standing by_supers name (supertypes w (x ∷ [])))
 
 -- Of the class of each name: whether it is its own super, and whether it is below java/lang/Throwable.
 pub record AreCycles (w : List Class) (c : Cycles) : Type 0 where

@@ -1,11 +1,13 @@
 -- What a world keeps of its classes where no class is its own super, and how it is made, supers first.
-use Rattle.std.specs.Prelude.{◌≡◌, ◌⊎◌, ℕ, ◌<◌, ◌≤◌, List, [], ◌∷◌, ◌++◌, length, slice_get, Bool, true, false, ◌&&◌, if◌then◌else◌, Option, Some, None}
+use Rattle.std.specs.Prelude.{◌≡◌, ◌⊎◌, ℕ, ◌<◌, ◌≤◌, List, [], ◌∷◌, ◌++◌, length, slice_get, Bool, true, false, ◌&&◌}
+use Rattle.std.specs.Prelude.{if◌then◌else◌, Option, Some, None}
 use Rattle.std.specs.List.{list_all}
 use Rattle.cjc_world.specs.declared.tables.Above.{Above}
 use Rattle.cjc_world.specs.declared.tables.Order.{Order}
 use Rattle.cjc_world.specs.declared.tables.Order.TheVariants as orders
 use Rattle.cjc_world.specs.Classes.{Class}
-use Rattle.cjc_world.specs.Supertypes.{Supertypes, End, Unknown, Known, AreSupertypes, IsAcyclic, supertypes, upwards, Above as StandsAbove}
+use Rattle.cjc_world.specs.Supertypes.{Supertypes, End, Unknown, Known, AreSupertypes, IsAcyclic, supertypes, upwards}
+use Rattle.cjc_world.specs.Supertypes.{Above as StandsAbove}
 use Rattle.cjc_world.specs.Interfaces.{gathered, known}
 use Rattle.cjc_world.specs.Working.Places.{place_named, places_of, is_in, joined}
 
@@ -13,7 +15,8 @@ use Rattle.cjc_world.specs.Working.Places.{place_named, places_of, is_in, joined
 abbrev pub in_field_order : Supertypes → List Class
 in_field_order End = []
 in_field_order (Unknown name next) = in_field_order next
-in_field_order (Known c supers interfaces next) = c ∷ in_field_order interfaces ++ in_field_order supers ++ in_field_order next
+in_field_order (Known c supers interfaces next) = c ∷ in_field_order interfaces ++ in_field_order supers
+    ++ in_field_order next
 
 -- what is kept of a class, of whose name this is the tree
 unfoldable pub told : List Class → Supertypes → Above
@@ -30,7 +33,8 @@ IsClear w x = (z : List ℕ) → (x ≡ z) ⊎ StandsAbove w x z → StandsAbove
 -- No class is its own super, and of the class of each name is kept what stands above it.
 pub record IsTable (w : List Class) (rows : List (Option Above)) : Type 0 where
   pub acyclic : IsAcyclic w
-  pub tells : (x : List ℕ) (p : ℕ) → place_named w x ≡ Some p → slice_get rows p ≡ Some (Some (told w (supertypes w (x ∷ []))))
+  pub tells : (x : List ℕ) (p : ℕ) → place_named w x ≡ Some p
+      → slice_get rows p ≡ Some (Some (told w (supertypes w (x ∷ []))))
 
 -- ---- while it is made
 
@@ -60,8 +64,10 @@ pieces w order listed rows (x ∷ xs) = piece order listed rows (place_named w x
 unfoldable pub above_at : List Class → List (Option Above) → ℕ → Class → Above
 above_at w rows p c = record {
   line = joined (p ∷ []) (pieces w orders.Line false rows c.supers);
-  interfaces = joined (joined [] (pieces w orders.Interfaces false rows c.supers)) (pieces w orders.Interfaces true rows c.interfaces);
-  fields = joined (joined (p ∷ []) (pieces w orders.Fields false rows c.interfaces)) (pieces w orders.Fields false rows c.supers);
+  interfaces = joined (joined [] (pieces w orders.Interfaces false rows c.supers)) (pieces w orders.Interfaces true rows
+      c.interfaces);
+  fields = joined (joined (p ∷ []) (pieces w orders.Fields false rows c.interfaces)) (pieces w orders.Fields false rows
+      c.supers);
 }
 
 -- the row is there
@@ -85,7 +91,8 @@ are_ready w rows c = list_all (λ x. is_ready w rows x) c.supers && list_all (λ
 
 -- each row that is there is right
 abbrev pub AreRight : List Class → List (Option Above) → Type 0
-AreRight w rows = (x : List ℕ) (p : ℕ) (a : Above) → place_named w x ≡ Some p → slice_get rows p ≡ Some (Some a) → (tree : Supertypes) × AreSupertypes w (x ∷ []) tree × (a ≡ told w tree)
+AreRight w rows = (x : List ℕ) (p : ℕ) (a : Above) → place_named w x ≡ Some p → slice_get rows p ≡ Some (Some a)
+    → (tree : Supertypes) × AreSupertypes w (x ∷ []) tree × (a ≡ told w tree)
 
 -- Each row that is there is right, and a class has its row where no cycle is at it or above it.
 pub record IsPart (w : List Class) (rows : List (Option Above)) : Type 0 where
@@ -101,4 +108,5 @@ pub record Closer (w : List Class) (old new : List (Option Above)) (from to : �
   pub count : length new ≡ length old
   pub right : AreRight w old → AreRight w new
   pub stays : (p : ℕ) → is_row (slice_get old p) ≡ true → is_row (slice_get new p) ≡ true
-  pub settles : (p : ℕ) (c : Class) → from ≤ p → p < to → slice_get w p ≡ Some c → are_ready w old c ≡ true → is_row (slice_get new p) ≡ true
+  pub settles : (p : ℕ) (c : Class) → from ≤ p → p < to → slice_get w p ≡ Some c → are_ready w old c ≡ true
+      → is_row (slice_get new p) ≡ true

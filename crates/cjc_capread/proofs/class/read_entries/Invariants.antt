@@ -5,4 +5,5 @@ use Rattle.cjc_capread.specs.Until.{until}
 use Rattle.cjc_capread.proofs.class.read_entries.Given as goal
 
 abbrev pub invariant-loop : goal.invariant-loop
-invariant-loop l = read (until (l.end - l.counter) l.end next_entry l.so_far) l.cursor ≡ read (until l.end l.end next_entry no_entries) l.fn.cursor
+invariant-loop l = read (until (l.end - l.counter) l.end next_entry l.so_far) l.cursor
+    ≡ read (until l.end l.end next_entry no_entries) l.fn.cursor

@@ -6,4 +6,5 @@ use Rattle.cjc_capread.specs.Class.{implemented_interface}
 use Rattle.cjc_capread.proofs.class.read_implemented_interfaces.Given as goal
 
 abbrev pub invariant-loop : goal.invariant-loop
-invariant-loop l = with_front l.interfaces (read (repeated (l.count - l.counter) implemented_interface) l.cursor) ≡ read (repeated l.count implemented_interface) l.fn.cursor
+invariant-loop l = with_front l.interfaces (read (repeated (l.count - l.counter) implemented_interface) l.cursor)
+    ≡ read (repeated l.count implemented_interface) l.fn.cursor

@@ -6,4 +6,5 @@ use Rattle.cjc_capread.specs.Descriptor.{class_descriptor}
 use Rattle.cjc_capread.proofs.descriptor.read_classes.Given as goal
 
 abbrev pub invariant-loop : goal.invariant-loop
-invariant-loop l = with_front l.classes (read (repeated (l.count - l.counter) class_descriptor) l.cursor) ≡ read (repeated l.count class_descriptor) l.fn.cursor
+invariant-loop l = with_front l.classes (read (repeated (l.count - l.counter) class_descriptor) l.cursor)
+    ≡ read (repeated l.count class_descriptor) l.fn.cursor

@@ -6,4 +6,5 @@ use Rattle.cjc_capread.specs.Descriptor.{field_descriptor}
 use Rattle.cjc_capread.proofs.descriptor.read_fields.Given as goal
 
 abbrev pub invariant-loop : goal.invariant-loop
-invariant-loop l = with_front l.fields (read (repeated (l.count - l.counter) field_descriptor) l.cursor) ≡ read (repeated l.count field_descriptor) l.fn.cursor
+invariant-loop l = with_front l.fields (read (repeated (l.count - l.counter) field_descriptor) l.cursor)
+    ≡ read (repeated l.count field_descriptor) l.fn.cursor

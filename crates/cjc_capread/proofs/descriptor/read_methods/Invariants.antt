@@ -6,4 +6,5 @@ use Rattle.cjc_capread.specs.Descriptor.{method_descriptor}
 use Rattle.cjc_capread.proofs.descriptor.read_methods.Given as goal
 
 abbrev pub invariant-loop : goal.invariant-loop
-invariant-loop l = with_front l.methods (read (repeated (l.count - l.counter) method_descriptor) l.cursor) ≡ read (repeated l.count method_descriptor) l.fn.cursor
+invariant-loop l = with_front l.methods (read (repeated (l.count - l.counter) method_descriptor) l.cursor)
+    ≡ read (repeated l.count method_descriptor) l.fn.cursor

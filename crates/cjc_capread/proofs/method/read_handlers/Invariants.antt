@@ -6,4 +6,5 @@ use Rattle.cjc_capread.specs.Method.{handler}
 use Rattle.cjc_capread.proofs.method.read_handlers.Given as goal
 
 abbrev pub invariant-loop : goal.invariant-loop
-invariant-loop l = with_front l.handlers (read (repeated (l.count - l.counter) handler) l.cursor) ≡ read (repeated l.count handler) l.fn.cursor
+invariant-loop l = with_front l.handlers (read (repeated (l.count - l.counter) handler) l.cursor)
+    ≡ read (repeated l.count handler) l.fn.cursor

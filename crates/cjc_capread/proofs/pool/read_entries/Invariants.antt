@@ -6,4 +6,5 @@ use Rattle.cjc_capread.specs.Pool.{pool_entry}
 use Rattle.cjc_capread.proofs.pool.read_entries.Given as goal
 
 abbrev pub invariant-loop : goal.invariant-loop
-invariant-loop l = with_front l.entries (read (repeated (l.count - l.counter) pool_entry) l.cursor) ≡ read (repeated l.count pool_entry) l.fn.cursor
+invariant-loop l = with_front l.entries (read (repeated (l.count - l.counter) pool_entry) l.cursor)
+    ≡ read (repeated l.count pool_entry) l.fn.cursor

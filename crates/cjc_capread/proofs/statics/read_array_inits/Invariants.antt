@@ -6,4 +6,5 @@ use Rattle.cjc_capread.specs.StaticField.{array_init}
 use Rattle.cjc_capread.proofs.statics.read_array_inits.Given as goal
 
 abbrev pub invariant-loop : goal.invariant-loop
-invariant-loop l = with_front l.array_inits (read (repeated (l.count - l.counter) array_init) l.cursor) ≡ read (repeated l.count array_init) l.fn.cursor
+invariant-loop l = with_front l.array_inits (read (repeated (l.count - l.counter) array_init) l.cursor)
+    ≡ read (repeated l.count array_init) l.fn.cursor

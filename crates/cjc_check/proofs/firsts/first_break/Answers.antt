@@ -1,10 +1,10 @@
 use Rattle.std.proofs.Common.{[], ◌∷◌, true, refl, ◌∙◌}
 use Rattle.std.specs.Prelude.{flat_map, ◌&&◌}
-use Rattle.cjc_sentences.specs.ClassRefs.{class_ref_spots, super_spots}
-use Rattle.cjc_sentences.specs.Consistent.{breaks_of, is_true, sentence}
-use Rattle.cjc_sentences.specs.Imports.{import_spots}
-use Rattle.cjc_sentences.specs.PoolEntries.{pool_spots}
-use Rattle.cjc_sentences.specs.Tables.{map_spots, table_spots}
+use Rattle.cjc_check_rules.specs.ClassRefs.{class_ref_spots, super_spots}
+use Rattle.cjc_check_rules.specs.Consistent.{breaks_of, is_true, sentence}
+use Rattle.cjc_check_rules.specs.Imports.{import_spots}
+use Rattle.cjc_check_rules.specs.PoolEntries.{pool_spots}
+use Rattle.cjc_check_rules.specs.Tables.{map_spots, table_spots}
 use Rattle.cjc_check.specs.Firsts.{from_whole}
 use Rattle.cjc_check.proofs.firsts.first_break.Goals as goal
 
@@ -25,9 +25,14 @@ returns c = λ t exports are.
     let s705 = sentence 705 refs (super_spots t exports) ∷ s706 in
     let s704 = sentence 704 imports (class_ref_spots t exports) ∷ s705 in
     let f709 = c.from_whole-whole.ensures t exports are in
-    let f708 = c.with_sentence-entries.ensures supers (pool_spots t exports) (flat_map breaks_of s709) is_supers are.linked.entries f709 in
-    let f707 = c.with_sentence-maps.ensures supers (map_spots t exports) (flat_map breaks_of s708) is_supers are.linked.maps f708 in
-    let f706 = c.with_sentence-tables.ensures supers (table_spots t) (flat_map breaks_of s707) is_supers are.linked.tables f707 in
-    let f705 = c.with_sentence-extended.ensures refs (super_spots t exports) (flat_map breaks_of s706) is_refs are.linked.supers f706 in
-    let f704 = c.with_sentence-class_refs.ensures imports (class_ref_spots t exports) (flat_map breaks_of s705) n703 are.linked.class_refs f705 in
+    let f708 = c.with_sentence-entries.ensures supers (pool_spots t exports) (flat_map breaks_of s709) is_supers
+    are.linked.entries f709 in
+    let f707 = c.with_sentence-maps.ensures supers (map_spots t exports) (flat_map breaks_of s708) is_supers
+    are.linked.maps f708 in
+    let f706 = c.with_sentence-tables.ensures supers (table_spots t) (flat_map breaks_of s707) is_supers
+    are.linked.tables f707 in
+    let f705 = c.with_sentence-extended.ensures refs (super_spots t exports) (flat_map breaks_of s706) is_refs
+    are.linked.supers f706 in
+    let f704 = c.with_sentence-class_refs.ensures imports (class_ref_spots t exports) (flat_map breaks_of s705) n703
+    are.linked.class_refs f705 in
     c.with_sentence.ensures true (import_spots t.import exports) (flat_map breaks_of s704) refl are.counted.imports f704

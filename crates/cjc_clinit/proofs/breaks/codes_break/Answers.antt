@@ -20,15 +20,19 @@ loop-code-preserved c =
     let x = c.code-item.result in
     let before = puts c.loop-code.rows c.loop-code.arrays in
     let later = puts c.code_break.new.rows c.code_break.new.arrays in
-    let all = c.first-least.ensures (each (λ _ code. code_breaks w code) (take i codes)) (code_breaks w x) c.loop-code.invariant.0 c.in_ok-broken.ensures.first in (
-      each_more (λ _ (y : MethodCode). code_breaks w y) i codes x (option_map break_of c.first-least.result) c.loop-code-test.true c.code-item.is all,
-      joining break_of (each (λ _ code. code_breaks w code) (take i codes)) (code_breaks w x) c.loop-code.least c.in_ok-broken.broken c.first-least.result _ _ _ c.loop-code.invariant.0 c.in_ok-broken.ensures.first all
+    let all = c.first-least.ensures (each (λ _ code. code_breaks w code) (take i codes)) (code_breaks w x)
+    c.loop-code.invariant.0 c.in_ok-broken.ensures.first in (
+      each_more (λ _ (y : MethodCode). code_breaks w y) i codes x (option_map break_of c.first-least.result)
+          c.loop-code-test.true c.code-item.is all,
+      joining break_of (each (λ _ code. code_breaks w code) (take i codes)) (code_breaks w x) c.loop-code.least
+          c.in_ok-broken.broken c.first-least.result _ _ _ c.loop-code.invariant.0 c.in_ok-broken.ensures.first all
           (λ (p : after_codes w before (drop i codes) ≡ after_codes w (puts c.args.rows.now c.args.arrays.now) codes) (q : after_code w before x ≡ Ok later). sym (codes-next w codes i x before (Ok later) c.loop-code-test.true c.code-item.is q) ∙ p)
           c.loop-code.invariant.1 c.in_ok-broken.ensures.puts,
     )
 
 pub returns-clause-first : goal.returns-clause-first
-returns-clause-first c = each_all (λ _ (x : MethodCode). code_breaks c.args.world.now x) c.loop-code.code-index c.args.codes.now (option_map break_of c.loop-code.least) c.loop-code-test.false c.loop-code.invariant.0
+returns-clause-first c = each_all (λ _ (x : MethodCode). code_breaks c.args.world.now x) c.loop-code.code-index
+    c.args.codes.now (option_map break_of c.loop-code.least) c.loop-code-test.false c.loop-code.invariant.0
 
 pub returns-clause-puts : goal.returns-clause-puts
 returns-clause-puts c =

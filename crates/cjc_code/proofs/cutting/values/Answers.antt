@@ -8,7 +8,9 @@ through n y z h e = h ∙ ap count e
 
 pub returns : goal.returns
 returns c =
-    let span = to_z w64 (of_z w64 (to_z w64 (of_z w64 (to_z w64 (of_z w64 c.from.result) -ℤ to_z w64 (of_z w64 c.from-2.result))) +ℤ pos 1)) in
+    let span = to_z w64
+    (of_z w64 (to_z w64 (of_z w64 (to_z w64 (of_z w64 c.from.result) -ℤ to_z w64 (of_z w64 c.from-2.result))) +ℤ pos
+    1)) in
     let values = (c.args.high -ℤ c.args.low) +ℤ pos 1 in
     let e : span ≡ values = omega (arith, ints) in
     through c.count.result span values c.count.ensures e

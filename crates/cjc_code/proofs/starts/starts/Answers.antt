@@ -14,7 +14,8 @@ loop-insn-preserved c =
     let d = c.insn-item.result in
     let old = c.loop-insn.starts.items in
     let new = c.marked-starts.result.items in
-    let here : d ≡ get_or insns i d = c.insn-item.is ∙ ap (λ (rs : List Raw). get_or rs i d) c.items-insn-items.ensures in
+    let here : d ≡ get_or insns i d = c.insn-item.is ∙ ap (λ (rs : List Raw). get_or rs i d) c.items-insn-items.ensures
+    in
     let same : c.from.result ≡ (get_or insns i d).at = c.from.ensures ∙ ap (λ (r : Raw). r.at) here in
     let lt : i < length insns = omega (arith, ap length c.items-insn-items.ensures) in
     marks_next insns i d c.args.size old new lt (c.marked-starts.ensures ∙ ap (put old) same) c.loop-insn.invariant
@@ -25,4 +26,5 @@ returns c =
     let insns = c.args.cut.now.insns in
     let old = c.loop-insn.starts.items in
     let le : length insns ≤ c.loop-insn.insn-index = omega (arith, ap length c.items-insn-items.ensures) in
-    c.marked.ensures ∙ marks_end insns c.loop-insn.insn-index c.args.cut.now.stop c.args.size old le c.loop-insn.invariant
+    c.marked.ensures ∙ marks_end insns c.loop-insn.insn-index c.args.cut.now.stop c.args.size old le
+    c.loop-insn.invariant

@@ -22,11 +22,17 @@ returns g c n h =
     record {
       bytes =
           c.in_ok-put_code.ensures
-          ∙ (ap (λ xs. xs ++ all_written ks token_of (label_at places l.length) places 0 insns c.items-2.result.now) c.in_ok-bytes.ensures
-          ∙ (ap (λ ps. header_bytes m ++ all_written ks token_of (label_at ps l.length) ps 0 insns c.items-2.result.now) c.items-places.ensures
-          ∙ (ap (λ is. header_bytes m ++ all_written ks token_of (label_at l.places l.length) l.places 0 is c.items-2.result.now) c.items-insns.ensures
-          ∙ (ap (λ ws. header_bytes m ++ all_written ks token_of (label_at l.places l.length) l.places 0 m.insns ws) c.items-2.ensures
+          ∙ (ap (λ xs. xs ++ all_written ks token_of (label_at places l.length) places 0 insns c.items-2.result.now)
+          c.in_ok-bytes.ensures
+          ∙ (ap (λ ps. header_bytes m ++ all_written ks token_of (label_at ps l.length) ps 0 insns c.items-2.result.now)
+          c.items-places.ensures
+          ∙ (ap (λ is. header_bytes m ++ all_written ks token_of (label_at l.places l.length) l.places 0 is
+          c.items-2.result.now) c.items-insns.ensures
+          ∙ (ap (λ ws. header_bytes m ++ all_written ks token_of (label_at l.places l.length) l.places 0 m.insns ws)
+          c.items-2.ensures
           ∙ whole_written ks token_of n m l c.requires h))));
-      ones = c.in_ok-mark_all.ensures.ones ∙ (ap (λ xs. xs ++ all_marked 1 (length c.items.result.now) places 0 insns) c.new-ones.ensures ∙ marked 1);
-      twos = c.in_ok-mark_all.ensures.twos ∙ (ap (λ xs. xs ++ all_marked 2 (length c.items.result.now) places 0 insns) c.new-twos.ensures ∙ marked 2);
+      ones = c.in_ok-mark_all.ensures.ones ∙ (ap (λ xs. xs ++ all_marked 1 (length c.items.result.now) places 0 insns)
+          c.new-ones.ensures ∙ marked 1);
+      twos = c.in_ok-mark_all.ensures.twos ∙ (ap (λ xs. xs ++ all_marked 2 (length c.items.result.now) places 0 insns)
+          c.new-twos.ensures ∙ marked 2);
     }

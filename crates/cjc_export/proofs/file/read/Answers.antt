@@ -15,18 +15,23 @@ pub returns-in-Ok-clause-breaks : goal.returns-in-Ok-clause-breaks
 returns-in-Ok-clause-breaks c = λ k. ok_breaks export_file c.args.bytes.now c.in-Ok.tree k c.in-Ok.ensures
 
 pub returns-in-Err-Broken-clause-only : goal.returns-in-Err-Broken-clause-only
-returns-in-Err-Broken-clause-only c = λ t. err_only export_file c.args.bytes.now c.in-Err-Broken.at t (rw c.in-Err-Broken.field-0-is at c.in-Err-Broken.ensures)
+returns-in-Err-Broken-clause-only c = λ t. err_only export_file c.args.bytes.now c.in-Err-Broken.at t
+    (rw c.in-Err-Broken.field-0-is at c.in-Err-Broken.ensures)
 
 pub returns-in-Err-Broken-clause-refused : goal.returns-in-Err-Broken-clause-refused
 returns-in-Err-Broken-clause-refused c =
-    err_refused export_file c.args.bytes.now c.in-Err-Broken.at (refusal c.args.file.now 104) c.refused.result (rw c.in-Err-Broken.field-0-is at c.in-Err-Broken.ensures) c.refused.ensures
+    err_refused export_file c.args.bytes.now c.in-Err-Broken.at (refusal c.args.file.now 104) c.refused.result
+    (rw c.in-Err-Broken.field-0-is at c.in-Err-Broken.ensures) c.refused.ensures
 
 pub returns-in-Err-Broken-clause-breaks : goal.returns-in-Err-Broken-clause-breaks
 returns-in-Err-Broken-clause-breaks c = λ k.
-    err_breaks export_file c.args.bytes.now c.in-Err-Broken.at k (refusal c.args.file.now 104) c.refused.result (rw c.in-Err-Broken.field-0-is at c.in-Err-Broken.ensures) c.refused.ensures
+    err_breaks export_file c.args.bytes.now c.in-Err-Broken.at k (refusal c.args.file.now 104) c.refused.result
+    (rw c.in-Err-Broken.field-0-is at c.in-Err-Broken.ensures) c.refused.ensures
 
 pub returns-in-Ok-clause-writable : goal.returns-in-Ok-clause-writable
-returns-in-Ok-clause-writable c = IsWritable-spelt c.in-Ok.tree c.args.bytes.now (AreBytes-slice c.args.bytes.now (λ i. (c.type_inv.bytes i).fits)) (file_ok export_file c.args.bytes.now c.in-Ok.tree c.in-Ok.ensures)
+returns-in-Ok-clause-writable c = IsWritable-spelt c.in-Ok.tree c.args.bytes.now (AreBytes-slice c.args.bytes.now
+    (λ i. (c.type_inv.bytes i).fits)) (file_ok export_file c.args.bytes.now c.in-Ok.tree c.in-Ok.ensures)
 
 pub returns-in-Ok-clause-no_longer : goal.returns-in-Ok-clause-no_longer
-returns-in-Ok-clause-no_longer c = length-written c.in-Ok.tree c.args.bytes.now (AreBytes-slice c.args.bytes.now (λ i. (c.type_inv.bytes i).fits)) (file_ok export_file c.args.bytes.now c.in-Ok.tree c.in-Ok.ensures)
+returns-in-Ok-clause-no_longer c = length-written c.in-Ok.tree c.args.bytes.now (AreBytes-slice c.args.bytes.now
+    (λ i. (c.type_inv.bytes i).fits)) (file_ok export_file c.args.bytes.now c.in-Ok.tree c.in-Ok.ensures)

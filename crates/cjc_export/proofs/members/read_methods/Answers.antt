@@ -9,4 +9,6 @@ returns-in_err-read_method c =
     let p = err_from_is_err_and c.from_residual.result c.from_residual.ensures.1 in
     let left = c.loop-behind._behind in
     let more : left ≡ suc (left - 1) = omega arith in
-    rw (p.1, p.2) (grown_fails (method c.args.pool.now c.args.of_interface c.args.count) c.args.count left (left - 1) c.args.cursor.now c.loop-behind.cursor c.read_method.new.cursor c.loop-behind.methods c.in_err-read_method.field-0.0 more c.in_err-read_method.ensures c.loop-behind.invariant)
+    rw (p.1, p.2) (grown_fails (method c.args.pool.now c.args.of_interface c.args.count) c.args.count left (left - 1)
+    c.args.cursor.now c.loop-behind.cursor c.read_method.new.cursor c.loop-behind.methods
+    c.in_err-read_method.field-0.0 more c.in_err-read_method.ensures c.loop-behind.invariant)

@@ -6,4 +6,5 @@ use Rattle.cjc_export.specs.Written.{method_needs}
 use Rattle.cjc_export.proofs.needs.need_methods.Given as goal
 
 abbrev pub invariant-loop-method : goal.invariant-loop-method
-invariant-loop-method l = insert_all same l.pool (flat_map method_needs (drop l.method-index l.methods)) ≡ insert_all same l.fn.pool (flat_map method_needs l.methods)
+invariant-loop-method l = insert_all same l.pool (flat_map method_needs (drop l.method-index l.methods))
+    ≡ insert_all same l.fn.pool (flat_map method_needs l.methods)

@@ -6,4 +6,5 @@ use Rattle.cjc_export.specs.Pool.{entry}
 use Rattle.cjc_export.proofs.pool.read_pool.Given as goal
 
 abbrev pub invariant-loop : goal.invariant-loop
-invariant-loop l = with_front l.pool (read (repeated (l.count - l.counter) entry) l.cursor) ≡ read (repeated l.count entry) l.fn.cursor
+invariant-loop l = with_front l.pool (read (repeated (l.count - l.counter) entry) l.cursor)
+    ≡ read (repeated l.count entry) l.fn.cursor

@@ -16,7 +16,10 @@ loop-edge-preserved g c =
     let steps = c.in-Some.ensures.steps.0 in
     let own = first_of (λ e. flow.Own e.state) _ c.in-Some.edge _ steps inv.own in
     record {
-      own_row = subst (λ (r : Option _). OwnMaybe flow r) (sym c.in_ok-row.ensures) (merged_own flow laws c.loop-edge.row (picked c.args.to c.in-Some.edge) inv.own_row (picked_own flow laws c.args.to c.in-Some.edge own));
+      own_row = subst (λ (r : Option _). OwnMaybe flow r) (sym c.in_ok-row.ensures)
+          (merged_own flow laws c.loop-edge.row (picked c.args.to c.in-Some.edge) inv.own_row
+          (picked_own flow laws c.args.to c.in-Some.edge own));
       own = rest_of (λ e. flow.Own e.state) _ c.in-Some.edge _ steps inv.own;
-      rest = more_step flow c.args.to c.loop-edge.row c.in_ok-row.row _ c.in-Some.edge _ _ c.in_ok-row.ensures steps inv.rest;
+      rest = more_step flow c.args.to c.loop-edge.row c.in_ok-row.row _ c.in-Some.edge _ _ c.in_ok-row.ensures steps
+          inv.rest;
     }

@@ -11,5 +11,6 @@ invariant-loop-edge g l =
     record {
       own_row : OwnMaybe flow l.row;
       own : (e : Edge g.row.F-State.Denot) → Contains (into_iter_items l.edge-iterator) e → flow.Own e.state;
-      rest : handed_more flow l.to l.row (into_iter_items l.edge-iterator) ≡ handed flow l.to (into_iter_items l.initial.edge-iterator);
+      rest : handed_more flow l.to l.row (into_iter_items l.edge-iterator)
+          ≡ handed flow l.to (into_iter_items l.initial.edge-iterator);
     }

@@ -23,7 +23,10 @@ loop-edge-preserved g c =
     record {
       own_row = did.own;
       own = rest_of (λ e. flow.Own e.state) _ c.in-Some.edge _ steps inv.own;
-      own_out = λ k. subst (λ (o : Option _). OwnMaybe flow o) (sym (did.out k)) (one_own flow laws c.args.marks.now k (state_at nat_cmp c.loop-edge.out k) c.in-Some.edge (inv.own_out k) own);
-      dealt = λ k. hand_step flow (to_segment c.args.marks.now) k (state_at nat_cmp c.loop-edge.out k) (state_at nat_cmp c.deal_one.new.out k) _ c.in-Some.edge _ _ (did.out k) steps (inv.dealt k);
-      rest = λ lt. more_step flow c.args.next c.loop-edge.row c.in_ok-row.row _ c.in-Some.edge _ _ (did.next lt) steps (inv.rest lt);
+      own_out = λ k. subst (λ (o : Option _). OwnMaybe flow o) (sym (did.out k)) (one_own flow laws c.args.marks.now k
+          (state_at nat_cmp c.loop-edge.out k) c.in-Some.edge (inv.own_out k) own);
+      dealt = λ k. hand_step flow (to_segment c.args.marks.now) k (state_at nat_cmp c.loop-edge.out k)
+          (state_at nat_cmp c.deal_one.new.out k) _ c.in-Some.edge _ _ (did.out k) steps (inv.dealt k);
+      rest = λ lt. more_step flow c.args.next c.loop-edge.row c.in_ok-row.row _ c.in-Some.edge _ _ (did.next lt) steps
+          (inv.rest lt);
     }

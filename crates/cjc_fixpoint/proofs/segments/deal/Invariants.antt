@@ -15,6 +15,9 @@ invariant-loop-edge g l =
       own_row : OwnMaybe flow l.row;
       own : (e : Edge g.row.F-State.Denot) → Contains (into_iter_items l.edge-iterator) e → flow.Own e.state;
       own_out : (k : ℕ) → OwnMaybe flow (state_at nat_cmp l.out k);
-      dealt : (k : ℕ) → handed_more flow k (state_at nat_cmp l.out k) (filter_map (to_segment l.marks) (into_iter_items l.edge-iterator)) ≡ handed_more flow k (state_at nat_cmp l.initial.out k) (filter_map (to_segment l.marks) (into_iter_items l.initial.edge-iterator));
-      rest : l.next < l.end → handed_more flow l.next l.row (into_iter_items l.edge-iterator) ≡ handed flow l.next (into_iter_items l.initial.edge-iterator);
+      dealt : (k : ℕ) → handed_more flow k (state_at nat_cmp l.out k) (filter_map (to_segment l.marks)
+          (into_iter_items l.edge-iterator)) ≡ handed_more flow k (state_at nat_cmp l.initial.out k)
+          (filter_map (to_segment l.marks) (into_iter_items l.initial.edge-iterator));
+      rest : l.next < l.end → handed_more flow l.next l.row (into_iter_items l.edge-iterator)
+          ≡ handed flow l.next (into_iter_items l.initial.edge-iterator);
     }

@@ -10,7 +10,8 @@ use Rattle.cjc_fixpoint.proofs.segments.run.Goals as goal
 
 pub returns-in-None : goal.returns-in-None
 returns-in-None g c k =
-    hand_over (g.F.Flow.meaning c.args.flow.now) c.args.marks.now (g.F.Repeating.again c.args.flow.now) k _ _ _ _ c.loop-at.asks c.loop-at.row c.in-None.is (c.loop-at.invariant.rest k)
+    hand_over (g.F.Flow.meaning c.args.flow.now) c.args.marks.now (g.F.Repeating.again c.args.flow.now) k _ _ _ _
+    c.loop-at.asks c.loop-at.row c.in-None.is (c.loop-at.invariant.rest k)
 
 pub loop-at-preserved : goal.loop-at-preserved
 loop-at-preserved g c =
@@ -23,6 +24,11 @@ loop-at-preserved g c =
     let own = own_of flow c.loop-at.row c.in-Some.state c.in-Some.is c.loop-at.invariant.own in
     record {
       own = did.own;
-      own_out = λ k. subst (λ (o : Option _). OwnMaybe flow o) (sym (did.out k)) (asked_own flow laws marks k (state_at nat_cmp c.loop-at.out k) (c.loop-at.asks || is_some (mark_of marks (at + 1))) at c.in-Some.state (c.loop-at.invariant.own_out k) own);
-      rest = λ k. hand_run flow marks again at c.repeats-asks.result c.repeats-asks.ensures k (state_at nat_cmp c.loop-at.out k) (state_at nat_cmp c.go_on.new.out k) _ c.args.end c.loop-at.asks c.loop-at.row c.in-Some.state c.in_ok-row.row c.loop-at-test.true c.in-Some.is (did.out k) did.next (c.loop-at.invariant.rest k);
+      own_out = λ k. subst (λ (o : Option _). OwnMaybe flow o) (sym (did.out k)) (asked_own flow laws marks k
+          (state_at nat_cmp c.loop-at.out k) (c.loop-at.asks || is_some (mark_of marks (at + 1))) at c.in-Some.state
+          (c.loop-at.invariant.own_out k) own);
+      rest = λ k. hand_run flow marks again at c.repeats-asks.result c.repeats-asks.ensures k
+          (state_at nat_cmp c.loop-at.out k) (state_at nat_cmp c.go_on.new.out k) _ c.args.end c.loop-at.asks
+          c.loop-at.row c.in-Some.state c.in_ok-row.row c.loop-at-test.true c.in-Some.is (did.out k) did.next
+          (c.loop-at.invariant.rest k);
     }

@@ -13,5 +13,7 @@ invariant-loop-at g l =
     record {
       own : OwnMaybe flow l.row;
       own_out : (k : ℕ) → OwnMaybe flow (state_at nat_cmp l.out k);
-      rest : (k : ℕ) → handed_more flow k (state_at nat_cmp l.out k) (short_run flow l.marks again (l.end - l.at) l.at l.asks l.row) ≡ handed_more flow k (state_at nat_cmp l.initial.out k) (short_run flow l.marks again (l.end - l.start) l.start true (Some l.fn.state));
+      rest : (k : ℕ) → handed_more flow k (state_at nat_cmp l.out k) (short_run flow l.marks again (l.end - l.at) l.at
+          l.asks l.row) ≡ handed_more flow k (state_at nat_cmp l.initial.out k) (short_run flow l.marks again
+          (l.end - l.start) l.start true (Some l.fn.state));
     }

@@ -15,7 +15,8 @@ overflow_cast-items g c =
     rw c.items-items.ensures (omega (arith, few, fits))
 
 pub solve-requires : goal.solve-requires
-solve-requires g c = gathering_stays (shortened (g.F.Flow.meaning c.args.flow.now) c.args.places c.items-items.result.now (g.F.Repeating.again c.args.flow.now)) (length c.items-items.result.now)
+solve-requires g c = gathering_stays (shortened (g.F.Flow.meaning c.args.flow.now) c.args.places
+    c.items-items.result.now (g.F.Repeating.again c.args.flow.now)) (length c.items-items.result.now)
 
 pub returns-clause-stands : goal.returns-clause-stands
 returns-clause-stands g c =
@@ -25,7 +26,10 @@ returns-clause-stands g c =
     let rows = c.in_ok-rows.rows in
     let is_items = c.items-items.ensures in
     let is_marks = c.of.ensures ∙ c.in_ok-from_slice.ensures.items ∙ is_items in
-    let solved : IsLeastClosed (gathering (shortened flow places c.args.marks.now again) (length c.args.marks.now)) (length c.args.marks.now) rows =
-    subst (λ (marks : List ℕ). IsLeastClosed (gathering (shortened flow places marks again) (length marks)) (length marks) rows) is_items c.in_ok-rows.ensures in
+    let solved : IsLeastClosed (gathering (shortened flow places c.args.marks.now again) (length c.args.marks.now))
+    (length c.args.marks.now) rows =
+    subst (λ (marks : List ℕ). IsLeastClosed (gathering (shortened flow places marks again) (length marks))
+    (length marks) rows) is_items c.in_ok-rows.ensures in
     subst (λ (marks : List ℕ). StandsForLeast flow places marks rows) (sym is_marks)
-    (short_stands flow (g.met.F.Flow.laws c.args.flow.now) places c.args.marks.now again (g.met.F.Repeating.repeated c.args.flow.now) rows c.requires.marks c.requires.stays c.requires.meets solved)
+    (short_stands flow (g.met.F.Flow.laws c.args.flow.now) places c.args.marks.now again (g.met.F.Repeating.repeated
+    c.args.flow.now) rows c.requires.marks c.requires.stays c.requires.meets solved)

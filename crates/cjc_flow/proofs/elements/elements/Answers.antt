@@ -14,11 +14,18 @@ loop-place-preserved c =
     let method = c.args.method.now in
     let rows = rows_of method c.args.types.now in
     let insn = c.index-insns-place.result in
-    let there : slice_get method.insns c.loop-place.place ≡ Some insn = subst (λ (is : List JInsn). slice_get is c.loop-place.place ≡ Some insn) c.requires.insns (slice_get-get_or c.args.insns.now c.loop-place.place insn c.loop-place-test.true ∙ ap Some (sym c.index-insns-place.is)) in
+    let there : slice_get method.insns c.loop-place.place ≡ Some insn =
+    subst (λ (is : List JInsn). slice_get is c.loop-place.place ≡ Some insn) c.requires.insns
+    (slice_get-get_or c.args.insns.now c.loop-place.place insn c.loop-place-test.true
+    ∙ ap Some (sym c.index-insns-place.is)) in
     record {
-      walk = c.in_ok-advance.ensures.ok ∙ ap (λ (s : Walking State). record { at = s.at + 1; rows = s.rows }) c.loop-place.invariant.walk;
-      done = elements_step method.insns rows c.loop-place.place insn (option_map state_of c.frame.result.now) c.element_at.result c.loop-place.elements c.push.new.self there
-          (subst (λ (s : Walking State). slice_get s.rows s.at ≡ Some (option_map state_of c.frame.result.now)) c.loop-place.invariant.walk c.frame.ensures) c.element_at.ensures c.loop-place.invariant.done c.in_ok-push.ensures.ok;
+      walk = c.in_ok-advance.ensures.ok ∙ ap (λ (s : Walking State). record { at = s.at + 1; rows = s.rows })
+          c.loop-place.invariant.walk;
+      done = elements_step method.insns rows c.loop-place.place insn (option_map state_of c.frame.result.now)
+          c.element_at.result c.loop-place.elements c.push.new.self there
+          (subst (λ (s : Walking State). slice_get s.rows s.at ≡ Some (option_map state_of c.frame.result.now))
+          c.loop-place.invariant.walk c.frame.ensures) c.element_at.ensures c.loop-place.invariant.done
+          c.in_ok-push.ensures.ok;
     }
 
 pub returns : goal.returns
@@ -28,4 +35,9 @@ returns c =
     let few = elements_few method.insns rows in
     let over = c.loop-place-test.false in
     let same = ap length c.requires.insns in
-    c.loop-place.invariant.done ∙ take_all c.loop-place.place (elements_of method.insns rows) (omega (arith, few, over, same))
+    c.loop-place.invariant.done ∙ take_all c.loop-place.place (elements_of method.insns rows) (omega (
+      arith,
+      few,
+      over,
+      same,
+    ))

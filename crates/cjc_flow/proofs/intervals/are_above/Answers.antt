@@ -5,7 +5,9 @@ use Rattle.cjc_flow.proofs.intervals.are_above.Goals as goal
 
 pub loop-i-preserved : goal.loop-i-preserved
 loop-i-preserved c =
-    above_step join_row c.args.left.now c.args.right.now c.loop-i.i c.index-left-i.result c.index-right-i.result c.loop-i-test.true c.requires c.index-left-i.is c.index-right-i.is (c.if-not-is_wider.ensures refl) c.loop-i.invariant
+    above_step join_row c.args.left.now c.args.right.now c.loop-i.i c.index-left-i.result c.index-right-i.result
+    c.loop-i-test.true c.requires c.index-left-i.is c.index-right-i.is (c.if-not-is_wider.ensures refl)
+    c.loop-i.invariant
 
 pub returns : goal.returns
 returns c = λ _.

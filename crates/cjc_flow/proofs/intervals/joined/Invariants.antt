@@ -4,4 +4,5 @@ use Rattle.cjc_range.specs.Rows.{join_row}
 use Rattle.cjc_flow.proofs.intervals.joined.Given as goal
 
 abbrev pub invariant-loop-i : goal.invariant-loop-i
-invariant-loop-i l = l.cells.items ≡ take l.i (joined join_row l.initial.cells.items l.right) ++ drop l.i l.initial.cells.items
+invariant-loop-i l = l.cells.items ≡ take l.i (joined join_row l.initial.cells.items l.right)
+    ++ drop l.i l.initial.cells.items

@@ -1,5 +1,5 @@
 use Rattle.std.proofs.Common.{◌≡◌, map, take}
-use Rattle.cjc_range_flow.specs.Steps.{operand}
+use Rattle.cjc_intervals.specs.Steps.{operand}
 use Rattle.cjc_flow.proofs.steps.operands.Given as goal
 
 abbrev pub invariant-loop-place : goal.invariant-loop-place

@@ -5,4 +5,6 @@ use Rattle.cjc_types.specs.Marks.{is_place}
 use Rattle.cjc_flow.proofs.targets.leads_to.Given as goal
 
 abbrev pub invariant-loop-offset : goal.invariant-loop-offset
-invariant-loop-offset l = list_any (λ (offset : ℕ). is_place (place_at l.method.insns offset) l.at) (drop l.offset-index l.offsets) ≡ list_any (λ (offset : ℕ). is_place (place_at l.method.insns offset) l.at) l.offsets
+invariant-loop-offset l = list_any (λ (offset : ℕ). is_place (place_at l.method.insns offset) l.at)
+    (drop l.offset-index l.offsets) ≡ list_any (λ (offset : ℕ). is_place (place_at l.method.insns offset) l.at)
+    l.offsets

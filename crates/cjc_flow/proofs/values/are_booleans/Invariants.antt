@@ -1,6 +1,6 @@
 use Rattle.std.proofs.Common.{◌≡◌, drop}
 use Rattle.std.specs.List.{list_all}
-use Rattle.cjc_range_flow.specs.Values.{is_boolean_array}
+use Rattle.cjc_intervals.specs.Values.{is_boolean_array}
 use Rattle.cjc_flow.proofs.values.are_booleans.Given as goal
 
 abbrev pub invariant-loop-name : goal.invariant-loop-name

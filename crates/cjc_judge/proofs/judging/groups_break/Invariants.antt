@@ -6,4 +6,5 @@ use Rattle.cjc_judge.proofs.Folds.{BreaksBelow}
 use Rattle.cjc_judge.proofs.judging.groups_break.Given as goal
 
 abbrev pub invariant-loop-group : goal.invariant-loop-group
-invariant-loop-group l = IsFirstIn (BreaksBelow (EarlyBreaks l.list l.world l.codes l.unsupported_insns) l.groups l.group-index) (option_map break_of l.least)
+invariant-loop-group l = IsFirstIn (BreaksBelow (EarlyBreaks l.list l.world l.codes l.unsupported_insns) l.groups
+    l.group-index) (option_map break_of l.least)

@@ -12,18 +12,25 @@ pub loop-place-init : goal.loop-place-init
 loop-place-init c = none_below (BreaksRange c.args.world.now) c.args.codes.now
 
 pub bounds-types-place : goal.bounds-types-place
-bounds-types-place c = let sized = tables_sized c.args.world.now c.args.codes.now c.args.types.now c.requires.types in omega (arith, sized, c.loop-place-test.true)
+bounds-types-place c = let sized = tables_sized c.args.world.now c.args.codes.now c.args.types.now c.requires.types
+    in omega (arith, sized, c.loop-place-test.true)
 
 pub range_break-requires-clause-code : goal.range_break-requires-clause-code
-range_break-requires-clause-code c = subst (λ (x : MethodCode). IsOfPackage c.args.world.now x) (sym c.index-codes-place.is) (c.requires.codes c.loop-place.place c.index-codes-place.result c.loop-place-test.true)
+range_break-requires-clause-code c = subst (λ (x : MethodCode). IsOfPackage c.args.world.now x)
+    (sym c.index-codes-place.is) (c.requires.codes c.loop-place.place c.index-codes-place.result c.loop-place-test.true)
 
 pub range_break-requires-clause-types : goal.range_break-requires-clause-types
-range_break-requires-clause-types c = table_of c.args.world.now c.args.codes.now c.args.types.now c.loop-place.place c.index-codes-place.result c.index-types-place.result c.requires.types c.loop-place-test.true c.index-codes-place.is c.index-types-place.is
+range_break-requires-clause-types c = table_of c.args.world.now c.args.codes.now c.args.types.now c.loop-place.place
+    c.index-codes-place.result c.index-types-place.result c.requires.types c.loop-place-test.true c.index-codes-place.is
+    c.index-types-place.is
 
 pub loop-place-preserved : goal.loop-place-preserved
 loop-place-preserved c =
-    more_below (BreaksRange c.args.world.now) c.args.codes.now c.loop-place.place c.index-codes-place.result (option_map break_of c.loop-place.least) (option_map break_of c.in_ok-broken.broken) (option_map break_of c.first-least.result)
+    more_below (BreaksRange c.args.world.now) c.args.codes.now c.loop-place.place c.index-codes-place.result
+    (option_map break_of c.loop-place.least) (option_map break_of c.in_ok-broken.broken)
+    (option_map break_of c.first-least.result)
     c.loop-place-test.true c.index-codes-place.is c.first-least.ensures c.loop-place.invariant c.in_ok-broken.ensures
 
 pub returns : goal.returns
-returns c = all_below (BreaksRange c.args.world.now) c.args.codes.now c.loop-place.place (option_map break_of c.loop-place.least) c.loop-place-test.false c.loop-place.invariant
+returns c = all_below (BreaksRange c.args.world.now) c.args.codes.now c.loop-place.place
+    (option_map break_of c.loop-place.least) c.loop-place-test.false c.loop-place.invariant

@@ -10,25 +10,37 @@ pub returns-in_err-answer-clause-refused : goal.returns-in_err-answer-clause-ref
 returns-in_err-answer-clause-refused c =
     let found = c.in_ok-broken.ensures in
     let p = err_from_is_err_and c.from_residual-in_err-answer.result c.from_residual-in_err-answer.ensures.1 in
-    rw (p.1, p.2) (early_fault c.args.list.now c.args.world.now c.args.codes.now c.args.unsupported_insns.now c.args.groups.now _
-    (first_of (EarlyBreaksAny c.args.list.now c.args.world.now c.args.codes.now c.args.unsupported_insns.now c.args.groups.now) found.0 _ found.1 (c.in_err-answer.ensures.refused found.0 found.2)))
+    rw (p.1, p.2) (early_fault c.args.list.now c.args.world.now c.args.codes.now c.args.unsupported_insns.now
+    c.args.groups.now _
+    (first_of (EarlyBreaksAny c.args.list.now c.args.world.now c.args.codes.now c.args.unsupported_insns.now
+    c.args.groups.now) found.0 _ found.1 (c.in_err-answer.ensures.refused found.0 found.2)))
 
 pub returns-in_err-types-clause-refused : goal.returns-in_err-types-clause-refused
 returns-in_err-types-clause-refused c =
     let found = c.in_ok-broken.ensures in
-    let none = none_of (EarlyBreaksAny c.args.list.now c.args.world.now c.args.codes.now c.args.unsupported_insns.now c.args.groups.now) (option_map break_of c.in_ok-broken.broken) found.0 found.1 (c.in_ok-answer.ensures.ok found.0 found.2) in
+    let none = none_of (EarlyBreaksAny c.args.list.now c.args.world.now c.args.codes.now c.args.unsupported_insns.now
+    c.args.groups.now) (option_map break_of c.in_ok-broken.broken) found.0 found.1 (c.in_ok-answer.ensures.ok
+    found.0 found.2) in
     let p = err_from_is_err_and c.from_residual-in_err-types.result c.from_residual-in_err-types.ensures.1 in
-    rw (p.1, p.2) (types_first c.args.list.now c.args.world.now c.args.codes.now c.args.unsupported_insns.now c.args.groups.now none _ c.in_err-types.ensures.refused)
+    rw (p.1, p.2) (types_first c.args.list.now c.args.world.now c.args.codes.now c.args.unsupported_insns.now
+    c.args.groups.now none _ c.in_err-types.ensures.refused)
 
 pub returns-in_err-test_ranges-clause-refused : goal.returns-in_err-test_ranges-clause-refused
 returns-in_err-test_ranges-clause-refused c =
     let found = c.in_ok-broken.ensures in
-    let none = none_of (EarlyBreaksAny c.args.list.now c.args.world.now c.args.codes.now c.args.unsupported_insns.now c.args.groups.now) (option_map break_of c.in_ok-broken.broken) found.0 found.1 (c.in_ok-answer.ensures.ok found.0 found.2) in
-    let p = err_from_is_err_and c.from_residual-in_err-test_ranges.result c.from_residual-in_err-test_ranges.ensures.1 in
-    rw (p.1, p.2) (ranges_first c.args.list.now c.args.world.now c.args.codes.now c.args.unsupported_insns.now c.args.groups.now none c.in_ok-types.ensures.unbroken _ c.in_err-test_ranges.ensures.refused)
+    let none = none_of (EarlyBreaksAny c.args.list.now c.args.world.now c.args.codes.now c.args.unsupported_insns.now
+    c.args.groups.now) (option_map break_of c.in_ok-broken.broken) found.0 found.1 (c.in_ok-answer.ensures.ok
+    found.0 found.2) in
+    let p = err_from_is_err_and c.from_residual-in_err-test_ranges.result c.from_residual-in_err-test_ranges.ensures.1
+    in
+    rw (p.1, p.2) (ranges_first c.args.list.now c.args.world.now c.args.codes.now c.args.unsupported_insns.now
+    c.args.groups.now none c.in_ok-types.ensures.unbroken _ c.in_err-test_ranges.ensures.refused)
 
 pub returns-clause-unbroken : goal.returns-clause-unbroken
 returns-clause-unbroken c =
     let found = c.in_ok-broken.ensures in
-    let none = none_of (EarlyBreaksAny c.args.list.now c.args.world.now c.args.codes.now c.args.unsupported_insns.now c.args.groups.now) (option_map break_of c.in_ok-broken.broken) found.0 found.1 (c.in_ok-answer.ensures.ok found.0 found.2) in
-    unbroken c.args.list.now c.args.world.now c.args.codes.now c.args.unsupported_insns.now c.args.groups.now none c.in_ok-types.ensures.unbroken c.in_ok-test_ranges.ensures.unbroken
+    let none = none_of (EarlyBreaksAny c.args.list.now c.args.world.now c.args.codes.now c.args.unsupported_insns.now
+    c.args.groups.now) (option_map break_of c.in_ok-broken.broken) found.0 found.1 (c.in_ok-answer.ensures.ok
+    found.0 found.2) in
+    unbroken c.args.list.now c.args.world.now c.args.codes.now c.args.unsupported_insns.now c.args.groups.now none
+    c.in_ok-types.ensures.unbroken c.in_ok-test_ranges.ensures.unbroken

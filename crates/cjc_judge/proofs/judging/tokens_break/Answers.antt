@@ -11,17 +11,22 @@ use Rattle.cjc_judge.proofs.Firsts.{high_at}
 use Rattle.cjc_judge.proofs.judging.tokens_break.Goals as goal
 
 pub returns-in-None : goal.returns-in-None
-returns-in-None c = subst (IsFirstHigh (nat_lt 0 (length c.args.settings.now.applets)) c.args.world.now) c.in-None.is c.in_ok-first_high.ensures
+returns-in-None c = subst (IsFirstHigh (nat_lt 0 (length c.args.settings.now.applets)) c.args.world.now) c.in-None.is
+    c.in_ok-first_high.ensures
 
 pub returns-in-Some : goal.returns-in-Some
 returns-in-Some c =
     let files = c.args.world.now in
     let n = c.in-Some.number in
     let x = c.index-items-number.result in
-    let high = subst (IsFirstHigh (nat_lt 0 (length c.args.settings.now.applets)) files) c.in-Some.is c.in_ok-first_high.ensures in
-    let same : x ≡ high.0 = c.index-items-number.is ∙ ap (λ q. get_or q n x) (c.items.ensures ∙ c.classes.ensures) ∙ get_or_from_slice_get files.classes n high.0 x high.1 in
+    let high = subst (IsFirstHigh (nat_lt 0 (length c.args.settings.now.applets)) files) c.in-Some.is
+    c.in_ok-first_high.ensures in
+    let same : x ≡ high.0 = c.index-items-number.is ∙ ap (λ q. get_or q n x) (c.items.ensures ∙ c.classes.ensures)
+    ∙ get_or_from_slice_get files.classes n high.0 x high.1 in
     let lines = c.items-in-Some.ensures ∙ c.lines.ensures in
-    high_at (tested_breaks (nat_lt 0 (length c.args.settings.now.applets)) files) (file_of files.lines n) (file_place_of c.file_of-file.result) x (spot_of c.class_spot.result)
+    high_at (tested_breaks (nat_lt 0 (length c.args.settings.now.applets)) files) (file_of files.lines n)
+    (file_place_of c.file_of-file.result) x (spot_of c.class_spot.result)
     (c.file_of-file.ensures ∙ ap (λ (ls : List FileLine). file_of ls n) lines)
     c.class_spot.ensures
-    (subst (λ (t : ClassTree). IsFirst (at_class (file_of files.lines n) t.name) (tested_breaks (nat_lt 0 (length c.args.settings.now.applets)) files)) (sym same) high.2)
+    (subst (λ (t : ClassTree). IsFirst (at_class (file_of files.lines n) t.name)
+    (tested_breaks (nat_lt 0 (length c.args.settings.now.applets)) files)) (sym same) high.2)

@@ -7,4 +7,5 @@ use Rattle.cjc_judge.proofs.Folds.{BreaksBelow}
 use Rattle.cjc_judge.proofs.judging.types_break.Given as goal
 
 abbrev pub invariant-loop-code : goal.invariant-loop-code
-invariant-loop-code l = IsFirstIn (BreaksBelow (BreaksType l.world) l.codes l.code-index) (option_map break_of l.least) × IfNone l.least (AreTables l.world (take l.code-index l.codes) l.types)
+invariant-loop-code l = IsFirstIn (BreaksBelow (BreaksType l.world) l.codes l.code-index) (option_map break_of l.least)
+    × IfNone l.least (AreTables l.world (take l.code-index l.codes) l.types)

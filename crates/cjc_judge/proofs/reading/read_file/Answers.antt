@@ -9,7 +9,9 @@ returns-in_err-read c =
     rw (p.1, p.2) (export_stops _ _ c.args.trees.now c.args.trees.now _ c.if-line.false stop)
 
 pub returns-then-line : goal.returns-then-line
-returns-then-line c = as_class c.args.line.now c.args.bytes.now c.args.trees.now _ _ c.if-line.true _ c.items.ensures c.read_class.ensures
+returns-then-line c = as_class c.args.line.now c.args.bytes.now c.args.trees.now _ _ c.if-line.true _ c.items.ensures
+    c.read_class.ensures
 
 pub returns-in_ok-push : goal.returns-in_ok-push
-returns-in_ok-push c = export_read c.args.line.now c.args.bytes.now c.args.trees.now _ _ c.if-line.false c.in_ok-read.ensures.found c.in_ok-read.ensures.writable c.in_ok-push.ensures.ok
+returns-in_ok-push c = export_read c.args.line.now c.args.bytes.now c.args.trees.now _ _ c.if-line.false
+    c.in_ok-read.ensures.found c.in_ok-read.ensures.writable c.in_ok-push.ensures.ok

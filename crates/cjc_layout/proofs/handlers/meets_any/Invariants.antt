@@ -1,5 +1,5 @@
 use Rattle.std.proofs.Common.{◌≡◌, drop, map}
-use Rattle.cjc_lower.specs.Handlers.{meets_any}
+use Rattle.cjc_ncode.specs.Lowering.Handlers.{meets_any}
 use Rattle.cjc_layout.proofs.handlers.meets_any.Given as goal
 
 abbrev pub invariant-loop-k : goal.invariant-loop-k

@@ -24,10 +24,12 @@ loop-k-preserved-in-Continue-1 c =
     let s : c.loop-k.k - 1 + 1 ≡ c.loop-k.k = omega (arith, c.loop-k-test.true) in
     let lt : c.loop-k.k - 1 < length cs = omega (arith, c.loop-k-test.true, c.loop-k.invariant.0) in
     let e = there cs (c.loop-k.k - 1) d lt c.index-catches-k.is in
-    let q : c.place_for-place.result ≡ place_for d.target (map now items) = c.place_for-place.ensures ∙ ap (λ xs. place_for d.target (map now xs)) c.deref.ensures.value in (
+    let q : c.place_for-place.result ≡ place_for d.target (map now items) = c.place_for-place.ensures
+    ∙ ap (λ xs. place_for d.target (map now xs)) c.deref.ensures.value in (
       omega (arith, lt),
       ap (map now) c.in_ok-insert.ensures.items ∙ map_insert now items c.place_for-place.result _
-          ∙ ap (λ n. insert (map now items) n d) q ∙ insert_place d (map now items) ∙ ap (inserted d) c.loop-k.invariant.1
+          ∙ ap (λ n. insert (map now items) n d) q ∙ insert_place d (map now items)
+          ∙ ap (inserted d) c.loop-k.invariant.1
           ∙ ap (λ n. inserted d (table_order (drop n cs))) (sym s)
           ∙ order_more cs (c.loop-k.k - 1) d e (sym c.has_range.ensures ∙ c.if-has_range.true),
     )

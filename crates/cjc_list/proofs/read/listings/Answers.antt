@@ -1,4 +1,5 @@
-use Rattle.cjc_list.proofs.Decided.{listed_spelt, spelt_listed, listed_broken, broken_listed, one_list, one_refusal, not_both, always_one}
+use Rattle.cjc_list.proofs.Decided.{listed_spelt, spelt_listed, listed_broken, broken_listed, one_list, one_refusal}
+use Rattle.cjc_list.proofs.Decided.{not_both, always_one}
 use Rattle.cjc_list.proofs.read.listings.Goals as goal
 
 pub returns-clause-spells : goal.returns-clause-spells

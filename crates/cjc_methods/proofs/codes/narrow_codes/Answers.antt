@@ -1,7 +1,7 @@
 use Rattle.std.proofs.Common.{ap, ◌∙◌}
 use Rattle.std.specs.Prelude.{map}
 use Rattle.cjc_ncode.specs.PoolOrder.{pool_order}
-use Rattle.cjc_narrow.specs.Selected.{near_fields}
+use Rattle.cjc_narrow.specs.Rows.Selected.{near_fields}
 use Rattle.cjc_components.specs.Written.{code_at}
 use Rattle.cjc_methods.proofs.Again.{by_own_pool}
 use Rattle.cjc_methods.proofs.Own.{if_more}
@@ -12,5 +12,6 @@ returns c = λ rows are.
     let files = c.args.world.now in
     let members = c.args.members.now in
     let pool = c.in_ok-pool.ensures ∙ ap pool_order c.items-3.ensures in
-    if_more (λ ns e. by_own_pool files rows members _ c.in_ok-first.first ns (c.in_ok-first.ensures rows are) (e ∙ ap (λ keys. map (code_at files (near_fields keys) rows) members) pool))
+    if_more (λ ns e. by_own_pool files rows members _ c.in_ok-first.first ns (c.in_ok-first.ensures rows are) (e
+    ∙ ap (λ keys. map (code_at files (near_fields keys) rows) members) pool))
     c.codes_at-3.result (c.codes_at-3.ensures rows are)

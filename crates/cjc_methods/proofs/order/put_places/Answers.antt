@@ -5,5 +5,6 @@ use Rattle.cjc_methods.proofs.order.put_places.Goals as goal
 
 pub loop-k-preserved : goal.loop-k-preserved
 loop-k-preserved c =
-    ap (λ out. out ++ places c.args.class (c.args.first + (c.loop-k.k + 1)) (c.args.count - (c.loop-k.k + 1))) c.in_ok-push.ensures.ok
+    ap (λ out. out ++ places c.args.class (c.args.first + (c.loop-k.k + 1)) (c.args.count - (c.loop-k.k + 1)))
+    c.in_ok-push.ensures.ok
     ∙ places_next c.loop-k.out c.args.class c.args.first c.loop-k.k c.args.count _ c.loop-k-test.true c.loop-k.invariant

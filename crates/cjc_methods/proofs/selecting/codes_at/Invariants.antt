@@ -1,8 +1,8 @@
 use Rattle.std.proofs.Common.{◌≡◌, ◌++◌, List, drop}
 use Rattle.std.specs.Prelude.{map, Option}
 use Rattle.cjc_types.specs.declared.state.State.{State}
-use Rattle.cjc_by_name.specs.Linked.{Method}
-use Rattle.cjc_narrow.specs.Selected.{near_fields}
+use Rattle.cjc_jvm_semantics.specs.Linked.{Method}
+use Rattle.cjc_narrow.specs.Rows.Selected.{near_fields}
 use Rattle.cjc_components.specs.Written.{code_at}
 use Rattle.cjc_methods.specs.Ready.{AreRows}
 use Rattle.cjc_methods.proofs.selecting.codes_at.Given as goal
@@ -10,4 +10,5 @@ use Rattle.cjc_methods.proofs.selecting.codes_at.Given as goal
 abbrev pub invariant-loop-member : goal.invariant-loop-member
 invariant-loop-member l =
     (rows : Method → List (Option State)) → AreRows l.world l.sources.codes.now l.sources.types.now rows
-    → l.out ++ map (code_at l.world (near_fields l.pool) rows) (drop l.member-index l.members) ≡ map (code_at l.world (near_fields l.pool) rows) l.members
+    → l.out ++ map (code_at l.world (near_fields l.pool) rows) (drop l.member-index l.members)
+    ≡ map (code_at l.world (near_fields l.pool) rows) l.members

@@ -11,5 +11,7 @@ loop-member-init c = each_none (λ _ (f : Found). word_breaks_in c.args.world.no
 
 pub loop-member-preserved : goal.loop-member-preserved
 loop-member-preserved c =
-    each_more (λ _ (f : Found). word_breaks_in c.args.world.now f) c.loop-member.member-index c.args.members.now _ (option_map break_of c.first-least.result) c.loop-member-test.true
-    (read_twice c.args.members.now c.loop-member.member-index _ c.loop-member-test.true) (c.first-least.ensures _ _ c.loop-member.invariant c.in_ok-broken.ensures)
+    each_more (λ _ (f : Found). word_breaks_in c.args.world.now f) c.loop-member.member-index c.args.members.now _
+    (option_map break_of c.first-least.result) c.loop-member-test.true
+    (read_twice c.args.members.now c.loop-member.member-index _ c.loop-member-test.true) (c.first-least.ensures _ _
+    c.loop-member.invariant c.in_ok-broken.ensures)

@@ -6,4 +6,5 @@ use Rattle.cjc_methods.specs.Working.Spots.{word_breaks_in}
 use Rattle.cjc_methods.proofs.words.first_break.Given as goal
 
 abbrev pub invariant-loop-member : goal.invariant-loop-member
-invariant-loop-member l = IsFirstOf (each (λ _ f. word_breaks_in l.world f) (take l.member-index l.members)) (option_map break_of l.least)
+invariant-loop-member l = IsFirstOf (each (λ _ f. word_breaks_in l.world f) (take l.member-index l.members))
+    (option_map break_of l.least)

@@ -9,4 +9,5 @@ pub returns : goal.returns
 returns c = λ p k e is.
     let f = c.args.member in
     let m = method_in (all_classes c.args.world.now) k f.member in
-    c.spot_in.ensures k m is (c.method_in-method.ensures k is) ∙ ap (λ (files : Files). spot_in files k f m c.args.offset) (sym e)
+    c.spot_in.ensures k m is (c.method_in-method.ensures k is)
+    ∙ ap (λ (files : Files). spot_in files k f m c.args.offset) (sym e)

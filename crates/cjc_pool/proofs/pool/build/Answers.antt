@@ -9,9 +9,12 @@ use Rattle.cjc_pool.proofs.pool.build.Goals as goal
 
 pub returns-clause-made : goal.returns-clause-made
 returns-clause-made c =
-    let calls = c.in_ok-calls.ensures ∙ ap (λ (ms : List NMethod). insert_all same_key [] (flat_map method_calls ms)) c.items-3.ensures in
-    let tokens = c.in_ok-tokens.ensures ∙ ap (map (key_token c.args.world.now c.args.tokens.now)) (c.items-4.ensures ∙ c.keys-2.ensures) in
+    let calls = c.in_ok-calls.ensures ∙ ap (λ (ms : List NMethod). insert_all same_key [] (flat_map method_calls ms))
+    c.items-3.ensures in
+    let tokens = c.in_ok-tokens.ensures ∙ ap (map (key_token c.args.world.now c.args.tokens.now)) (c.items-4.ensures
+    ∙ c.keys-2.ensures) in
     record {
       keys = c.in_ok-numbers.ensures ∙ ap pool_order c.items.ensures;
-      token = token_found c.args.world.now c.args.tokens.now c.args.methods.now c.in_ok-numbers.numbers c.in_ok-calls.calls c.in_ok-tokens.tokens calls tokens;
+      token = token_found c.args.world.now c.args.tokens.now c.args.methods.now c.in_ok-numbers.numbers
+          c.in_ok-calls.calls c.in_ok-tokens.tokens calls tokens;
     }

@@ -41,7 +41,8 @@ returns-then-other-ge0-2-clause-holds c x y h k =
     let d : FitsSigned w32 c.other-else-self-ge0.inside.low = search rules in
     let e : FitsSigned w32 c.other-else-self-ge0.inside.high = search rules in
     let left : IsWord c.args.self = word_of c.args.self _ _ c.self.view_is a b c.self.invariant in
-    let right : IsWord c.args.other = word_of c.args.other _ _ c.other-else-self-ge0.view_is d e c.other-else-self-ge0.invariant in
+    let right : IsWord c.args.other = word_of c.args.other _ _ c.other-else-self-ge0.view_is d e
+    c.other-else-self-ge0.invariant in
     and_holds c.args.self c.args.other _ x y left right (returns-then-other-ge0-2-clause-row c) h k
 
 pub returns-else-other-ge0-2-clause-row : goal.returns-else-other-ge0-2-clause-row

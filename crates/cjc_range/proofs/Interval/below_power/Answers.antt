@@ -2,7 +2,8 @@ use Rattle.std.proofs.Common.{inl, inr, arith}
 use Rattle.std.proofs.lemmas.Int.{ints}
 use Rattle.cjc_range.specs.Span.{span}
 use Rattle.cjc_range.proofs.Bits.{below_power_down}
-use Rattle.cjc_range.proofs.Interval.below_power.Goals.{else-self-ge0-via-then-self-ge0+else-other-ge0, else-self-ge0-via-else-self-ge0}
+use Rattle.cjc_range.proofs.Interval.below_power.Goals.{else-self-ge0-via-then-self-ge0+else-other-ge0}
+use Rattle.cjc_range.proofs.Interval.below_power.Goals.{else-self-ge0-via-else-self-ge0}
 use Rattle.cjc_range.proofs.Interval.below_power.Goals as goal
 
 pub returns-else-self-ge0 : goal.returns-else-self-ge0

@@ -9,7 +9,8 @@ pub between-requires-clause-order : goal.between-requires-clause-order
 between-requires-clause-order c =
     let s = c.args.self in
     let word = c.low_bits.ensures.word in
-    let e = bits_up s.low s.high c.args.shift (word_fits s s.low word (low_held s word)) (word_fits s s.high word (high_held s word)) word.ordered c.requires.negative in
+    let e = bits_up s.low s.high c.args.shift (word_fits s s.low word (low_held s word)) (word_fits s s.high word
+    (high_held s word)) word.ordered c.requires.negative in
     let low = rw c.low_bits.ensures.value at c.from.ensures in
     let high = rw c.high_bits.ensures at c.from-2.ensures in
     omega (arith, ints, e, low, high)

@@ -10,4 +10,5 @@ below_power-requires-clause-bound c =
 pub returns-clause-row : goal.returns-clause-row
 returns-clause-row c =
     let is = c.next_power_of_two.ensures in
-    or_row_is c.args.self c.args.other _ c.from.result c.next_power_of_two.result (omega arith) is.power is.lower_bound is.upper_bound c.below_power.ensures
+    or_row_is c.args.self c.args.other _ c.from.result c.next_power_of_two.result (omega arith) is.power is.lower_bound
+    is.upper_bound c.below_power.ensures

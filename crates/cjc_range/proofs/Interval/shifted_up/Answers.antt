@@ -10,7 +10,13 @@ clipped-requires c =
     let g : FitsSigned w32 c.self.inside.high = search rules in
     let low : c.from.result ≡ c.self.inside.low = omega (arith, ints) in
     let high : c.from-2.result ≡ c.self.inside.high = omega (arith, ints) in
-    rw (low, high, shl_exact c.self.inside.low c.args.shift f c.requires, shl_exact c.self.inside.high c.args.shift g c.requires)
+    rw (
+      low,
+      high,
+      shl_exact c.self.inside.low c.args.shift f c.requires,
+      shl_exact c.self.inside.high c.args.shift g
+          c.requires,
+    )
     (mul_up c.self.inside.low c.self.inside.high (2 ^ c.args.shift) c.self.invariant)
 
 pub returns : goal.returns
@@ -20,4 +26,10 @@ returns c =
     let low : c.from.result ≡ c.self.inside.low = omega (arith, ints) in
     let high : c.from-2.result ≡ c.self.inside.high = omega (arith, ints) in
     rw (← c.self.view_is)
-    (rw (low, high, shl_exact c.self.inside.low c.args.shift f c.requires, shl_exact c.self.inside.high c.args.shift g c.requires) at c.clipped.ensures)
+    (rw (
+      low,
+      high,
+      shl_exact c.self.inside.low c.args.shift f c.requires,
+      shl_exact c.self.inside.high c.args.shift g
+          c.requires,
+    ) at c.clipped.ensures)

@@ -7,10 +7,12 @@ pub returns-then-other-clause-row : goal.returns-then-other-clause-row
 returns-then-other-clause-row c = grind (arith, common_steps)
 
 pub returns-then-other-clause-holds : goal.returns-then-other-clause-holds
-returns-then-other-clause-holds c x y h k = rw (returns-then-other-clause-row c) (shl_holds c.args.self c.args.other x y h k)
+returns-then-other-clause-holds c x y h k = rw (returns-then-other-clause-row c) (shl_holds c.args.self c.args.other x y
+    h k)
 
 pub returns-else-other-clause-row : goal.returns-else-other-clause-row
 returns-else-other-clause-row c = grind (arith, common_steps)
 
 pub returns-else-other-clause-holds : goal.returns-else-other-clause-holds
-returns-else-other-clause-holds c x y h k = rw (returns-else-other-clause-row c) (shl_holds c.args.self c.args.other x y h k)
+returns-else-other-clause-holds c x y h k = rw (returns-else-other-clause-row c) (shl_holds c.args.self c.args.other x y
+    h k)

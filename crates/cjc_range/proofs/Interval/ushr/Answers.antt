@@ -23,4 +23,5 @@ returns-else-negative-clause-holds c x y h k =
     let f : FitsSigned w32 c.self.inside.low = search rules in
     let g : FitsSigned w32 c.self.inside.high = search rules in
     let word : IsWord c.args.self = word_of c.args.self _ _ c.self.view_is f g c.self.invariant in
-    rw (returns-else-negative-clause-row c) (ushr_holds c.args.self c.args.other x y (word_fits c.args.self x word h) h k)
+    rw (returns-else-negative-clause-row c) (ushr_holds c.args.self c.args.other x y (word_fits c.args.self x word h) h
+    k)

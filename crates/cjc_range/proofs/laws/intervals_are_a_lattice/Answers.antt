@@ -1,4 +1,5 @@
-use Rattle.cjc_range.proofs.Order.{within_refl, within_trans, within_both, join_word, join_left, join_right, join_least, width_up, width_rises, width_small}
+use Rattle.cjc_range.proofs.Order.{within_refl, within_trans, within_both, join_word, join_left, join_right, join_least}
+use Rattle.cjc_range.proofs.Order.{width_up, width_rises, width_small}
 use Rattle.cjc_range.proofs.laws.intervals_are_a_lattice.Goals as goal
 
 pub returns-clause-reflexive : goal.returns-clause-reflexive

@@ -1,4 +1,6 @@
-use Rattle.cjc_range.proofs.Order.{within_trans, add_monotone, sub_monotone, mul_monotone, div_monotone, rem_monotone, neg_monotone, shl_monotone, shr_monotone, to_byte_monotone, to_short_monotone, join_monotone}
+use Rattle.cjc_range.proofs.Order.{within_trans, add_monotone, sub_monotone, mul_monotone, div_monotone, rem_monotone}
+use Rattle.cjc_range.proofs.Order.{neg_monotone, shl_monotone, shr_monotone, to_byte_monotone, to_short_monotone}
+use Rattle.cjc_range.proofs.Order.{join_monotone}
 use Rattle.cjc_range.proofs.OrderBits.{ushr_monotone, and_monotone, or_monotone}
 use Rattle.cjc_range.proofs.Rounding.{round_monotone}
 use Rattle.cjc_range.proofs.laws.intervals_are_monotone.Goals as goal

@@ -1,4 +1,5 @@
-use Rattle.cjc_range.proofs.Spans.{add_holds, sub_holds, mul_holds, div_holds, rem_holds, neg_holds, shl_holds, shr_holds, ushr_holds, to_byte_holds, to_short_holds}
+use Rattle.cjc_range.proofs.Spans.{add_holds, sub_holds, mul_holds, div_holds, rem_holds, neg_holds, shl_holds}
+use Rattle.cjc_range.proofs.Spans.{shr_holds, ushr_holds, to_byte_holds, to_short_holds}
 use Rattle.cjc_range.proofs.Bits.{word_fits, or_holds, xor_holds, and_holds, or_row_fits, and_row_fits}
 use Rattle.cjc_range.proofs.Order.{held_wider}
 use Rattle.cjc_range.proofs.Rounding.{round_within}

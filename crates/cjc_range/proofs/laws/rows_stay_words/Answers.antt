@@ -1,4 +1,5 @@
-use Rattle.cjc_range.proofs.Order.{add_word, sub_word, mul_word, div_word, rem_word, neg_word, shl_word, shr_word, to_byte_word, to_short_word, join_word}
+use Rattle.cjc_range.proofs.Order.{add_word, sub_word, mul_word, div_word, rem_word, neg_word, shl_word, shr_word}
+use Rattle.cjc_range.proofs.Order.{to_byte_word, to_short_word, join_word}
 use Rattle.cjc_range.proofs.OrderBits.{ushr_word, and_word, or_word}
 use Rattle.cjc_range.proofs.Rounding.{round_word}
 use Rattle.cjc_range.proofs.laws.rows_stay_words.Goals as goal

@@ -1,4 +1,4 @@
-use Rattle.cjc_command.proofs.Acting.{acts_end, acts_published}
+use Rattle.cjc_shelf.proofs.CommandLaws.Acting.{acts_end, acts_published}
 use Rattle.cjc_run.specs.Asked.{asked}
 use Rattle.cjc_run.specs.Command.{command_of}
 use Rattle.cjc_run.proofs.top.act.Goals as goal

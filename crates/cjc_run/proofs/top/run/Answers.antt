@@ -1,5 +1,5 @@
 use Rattle.std.proofs.Common.{sym}
-use Rattle.cjc_command.proofs.Acting.{is_decided, is_complete}
+use Rattle.cjc_shelf.proofs.CommandLaws.Acting.{is_decided, is_complete}
 use Rattle.cjc_run.specs.Asked.{asked}
 use Rattle.cjc_run.specs.Command.{command_of}
 use Rattle.cjc_run.proofs.Promising.{promised}

@@ -4,4 +4,5 @@ use Rattle.cjc_script_text.specs.Printed.{note_line}
 use Rattle.cjc_script_text.proofs.printing.put_notes.Given as goal
 
 abbrev pub invariant-loop-note : goal.invariant-loop-note
-invariant-loop-note l = l.out ++ flat_map note_line (drop l.note-index l.notes) ≡ l.initial.out ++ flat_map note_line l.notes
+invariant-loop-note l = l.out ++ flat_map note_line (drop l.note-index l.notes) ≡ l.initial.out
+    ++ flat_map note_line l.notes

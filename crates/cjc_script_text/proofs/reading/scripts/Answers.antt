@@ -1,4 +1,5 @@
-use Rattle.cjc_script_text.proofs.Decided.{scripted_spelt, spelt_scripted, scripted_broken, broken_scripted, one_script, one_refusal, not_both, always_one}
+use Rattle.cjc_script_text.proofs.Decided.{scripted_spelt, spelt_scripted, scripted_broken, broken_scripted, one_script}
+use Rattle.cjc_script_text.proofs.Decided.{one_refusal, not_both, always_one}
 use Rattle.cjc_script_text.proofs.reading.scripts.Goals as goal
 
 pub returns-clause-spells : goal.returns-clause-spells

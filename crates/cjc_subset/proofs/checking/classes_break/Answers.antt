@@ -10,7 +10,8 @@ use Rattle.cjc_bytes.proofs.Firsts.{each_none, each_more, each_all}
 use Rattle.cjc_subset.proofs.checking.classes_break.Goals as goal
 
 pub loop-number-init : goal.loop-number-init
-loop-number-init c = each_none (λ (n : ℕ) (x : ClassTree). class_breaks c.args.world.now c.args.settings.now (file_of c.args.world.now.lines n) n x) c.args.world.now.classes
+loop-number-init c = each_none (λ (n : ℕ) (x : ClassTree). class_breaks c.args.world.now c.args.settings.now
+    (file_of c.args.world.now.lines n) n x) c.args.world.now.classes
 
 pub loop-number-preserved : goal.loop-number-preserved
 loop-number-preserved c =
@@ -18,14 +19,21 @@ loop-number-preserved c =
     let files = c.args.world.now in
     let classes = c.items-classes.ensures ∙ c.classes.ensures in
     let within = subst (λ (xs : List ClassTree). i < length xs) classes c.loop-number-test.true in
-    let is = c.index-classes-number.is ∙ ap (λ (xs : List ClassTree). get_or xs i c.index-classes-number.result) classes in
+    let is = c.index-classes-number.is ∙ ap (λ (xs : List ClassTree). get_or xs i c.index-classes-number.result) classes
+    in
     let f : FilePlace = file_place_of c.file_of-file.result in
-    let file : f ≡ file_of files.lines i = c.file_of-file.ensures ∙ ap (λ (ls : List FileLine). file_of ls i) (c.items.ensures ∙ c.lines.ensures) in
-    each_more (λ (n : ℕ) (x : ClassTree). class_breaks files c.args.settings.now (file_of files.lines n) n x) i files.classes c.index-classes-number.result (option_map break_of c.first-least.result) within is
+    let file : f ≡ file_of files.lines i = c.file_of-file.ensures ∙ ap (λ (ls : List FileLine). file_of ls i)
+    (c.items.ensures ∙ c.lines.ensures) in
+    each_more (λ (n : ℕ) (x : ClassTree). class_breaks files c.args.settings.now (file_of files.lines n) n x) i
+    files.classes c.index-classes-number.result (option_map break_of c.first-least.result) within is
     (c.first-least.ensures _ _ c.loop-number.invariant
-    (subst (λ (p : FilePlace). IsFirstOf (class_breaks files c.args.settings.now p i c.index-classes-number.result) (option_map break_of c.in_ok-broken.broken)) file (c.in_ok-broken.ensures f c.class_spot-spot.ensures)))
+    (subst (λ (p : FilePlace). IsFirstOf (class_breaks files c.args.settings.now p i c.index-classes-number.result)
+    (option_map break_of c.in_ok-broken.broken)) file (c.in_ok-broken.ensures f c.class_spot-spot.ensures)))
 
 pub returns : goal.returns
 returns c =
-    let past = subst (λ (xs : List ClassTree). length xs ≤ c.loop-number.number) (c.items-classes.ensures ∙ c.classes.ensures) c.loop-number-test.false in
-    each_all (λ (n : ℕ) (x : ClassTree). class_breaks c.args.world.now c.args.settings.now (file_of c.args.world.now.lines n) n x) c.loop-number.number c.args.world.now.classes (option_map break_of c.loop-number.least) past c.loop-number.invariant
+    let past = subst (λ (xs : List ClassTree). length xs ≤ c.loop-number.number) (c.items-classes.ensures
+    ∙ c.classes.ensures) c.loop-number-test.false in
+    each_all (λ (n : ℕ) (x : ClassTree). class_breaks c.args.world.now c.args.settings.now
+    (file_of c.args.world.now.lines n) n x) c.loop-number.number c.args.world.now.classes
+    (option_map break_of c.loop-number.least) past c.loop-number.invariant

@@ -7,4 +7,5 @@ use Rattle.cjc_bytes.specs.Order.{file_of}
 use Rattle.cjc_subset.proofs.checking.classes_break.Given as goal
 
 abbrev pub invariant-loop-number : goal.invariant-loop-number
-invariant-loop-number l = IsFirstOf (each (λ n x. class_breaks l.world l.settings (file_of l.world.lines n) n x) (take l.number l.world.classes)) (option_map break_of l.least)
+invariant-loop-number l = IsFirstOf (each (λ n x. class_breaks l.world l.settings (file_of l.world.lines n) n x)
+    (take l.number l.world.classes)) (option_map break_of l.least)

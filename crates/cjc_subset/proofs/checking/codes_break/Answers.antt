@@ -9,8 +9,11 @@ pub loop-code-init : goal.loop-code-init
 loop-code-init c = each_none (λ i (x : MethodCode). code_breaks c.args.world.now c.args.settings.now x) c.args.codes.now
 
 pub loop-code-preserved : goal.loop-code-preserved
-loop-code-preserved c = each_more (λ i (x : MethodCode). code_breaks c.args.world.now c.args.settings.now x) c.loop-code.code-index c.args.codes.now c.code-item.result (option_map break_of c.first-least.result) c.loop-code-test.true c.code-item.is
+loop-code-preserved c = each_more (λ i (x : MethodCode). code_breaks c.args.world.now c.args.settings.now x)
+    c.loop-code.code-index c.args.codes.now c.code-item.result (option_map break_of c.first-least.result)
+    c.loop-code-test.true c.code-item.is
     (c.first-least.ensures _ _ (c.loop-code.invariant) (c.code_break.ensures))
 
 pub returns : goal.returns
-returns c = each_all (λ i (x : MethodCode). code_breaks c.args.world.now c.args.settings.now x) c.loop-code.code-index c.args.codes.now (option_map break_of c.loop-code.least) c.loop-code-test.false (c.loop-code.invariant)
+returns c = each_all (λ i (x : MethodCode). code_breaks c.args.world.now c.args.settings.now x) c.loop-code.code-index
+    c.args.codes.now (option_map break_of c.loop-code.least) c.loop-code-test.false (c.loop-code.invariant)

@@ -6,4 +6,5 @@ use Rattle.cjc_bytes.specs.Breaks.{IsFirstOf, each}
 use Rattle.cjc_subset.proofs.checking.codes_break.Given as goal
 
 abbrev pub invariant-loop-code : goal.invariant-loop-code
-invariant-loop-code l = IsFirstOf (each (λ i x. code_breaks l.world l.settings x) (take l.code-index l.codes)) (option_map break_of l.least)
+invariant-loop-code l = IsFirstOf (each (λ i x. code_breaks l.world l.settings x) (take l.code-index l.codes))
+    (option_map break_of l.least)

@@ -14,5 +14,7 @@ returns c = λ f e.
     c.first-2.ensures _ _
     (c.first.ensures _ _
     (at_same 301 _ (c.is_unsupported_desc.ensures ∙ ap is_unsupported_desc desc) there c.broken-unsupported.ensures)
-    (at_same 302 _ (c.has_unsettled_int.ensures ∙ ap (λ d. not c.args.settings.now.ints && is_int_desc d) desc) there c.broken-int.ensures))
-    (at_same 304 _ (c.is_unfit_field-unfit.ensures ∙ ap (λ b. is_unfit_field b c.args.field.now.flags) c.is_interface.ensures) there c.broken.ensures)
+    (at_same 302 _ (c.has_unsettled_int.ensures ∙ ap (λ d. not c.args.settings.now.ints && is_int_desc d) desc) there
+    c.broken-int.ensures))
+    (at_same 304 _ (c.is_unfit_field-unfit.ensures ∙ ap (λ b. is_unfit_field b c.args.field.now.flags)
+    c.is_interface.ensures) there c.broken.ensures)

@@ -8,4 +8,6 @@ use Rattle.cjc_bytes.specs.Breaks.{IsFirstOf, each}
 use Rattle.cjc_subset.proofs.checking.fields_break.Given as goal
 
 abbrev pub invariant-loop-place : goal.invariant-loop-place
-invariant-loop-place l = (f : FilePlace) → spot_of l.spot ≡ at_class f l.class → IsFirstOf (each (λ i x. field_breaks l.settings f l.class i x) (take l.place l.class.fields)) (option_map break_of l.least)
+invariant-loop-place l = (f : FilePlace) → spot_of l.spot ≡ at_class f l.class
+    → IsFirstOf (each (λ i x. field_breaks l.settings f l.class i x) (take l.place l.class.fields))
+    (option_map break_of l.least)

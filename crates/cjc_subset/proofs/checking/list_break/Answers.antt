@@ -19,9 +19,11 @@ returns c =
     (c.first-2.ensures _ _
     (c.first-front.ensures _ _
     (c.first.ensures _ _
-    (at_same 309 _ (c.has_unfit_applets.ensures ∙ ap (λ (xs : List AppletLine). has_unfit_applets w xs) applets) here c.broken-unfit.ensures)
+    (at_same 309 _ (c.has_unfit_applets.ensures ∙ ap (λ (xs : List AppletLine). has_unfit_applets w xs) applets) here
+    c.broken-unfit.ensures)
     (at_same 401 _ c.has_many_exported.ensures here c.broken-exported.ensures))
-    (at_same 402 _ (ap (λ (xs : List ClassTree). nat_lt 255 (length xs)) (c.items.ensures ∙ c.classes.ensures)) here c.broken-classes.ensures))
+    (at_same 402 _ (ap (λ (xs : List ClassTree). nat_lt 255 (length xs)) (c.items.ensures ∙ c.classes.ensures)) here
+    c.broken-classes.ensures))
     (at_same 407 _ c.has_many_handlers.ensures here c.broken-handlers.ensures))
     (at_same 408 _ (ap (λ (xs : List ℕ). nat_lt 255 (length xs)) c.package.ensures) here c.broken-package.ensures))
     (at_same 409 _ (ap (λ (xs : List AppletLine). nat_lt 255 (length xs)) applets) here c.broken-lines.ensures)

@@ -13,8 +13,10 @@ returns c = λ f e.
     (c.first-2.ensures _ _
     (c.first.ensures _ _
     (c.first-types.ensures _ _
-    (at_same 301 _ (c.has_unsupported.ensures ∙ ap (λ (ms : List MemberId). has_unsupported ms) added) e c.broken-unsupported.ensures)
-    (at_same 302 _ (c.adds_int.ensures ∙ ap (λ (ms : List MemberId). not c.args.settings.now.ints && has_int ms) added) e c.broken-int.ensures))
+    (at_same 301 _ (c.has_unsupported.ensures ∙ ap (λ (ms : List MemberId). has_unsupported ms) added) e
+    c.broken-unsupported.ensures)
+    (at_same 302 _ (c.adds_int.ensures ∙ ap (λ (ms : List MemberId). not c.args.settings.now.ints && has_int ms) added)
+    e c.broken-int.ensures))
     (at_same 304 _ c.is_unfit_class.ensures e c.broken-unfit.ensures))
     (at_same 403 _ c.in_ok-has_many_interfaces.ensures e c.broken-interfaces.ensures))
     (at_same 406 _ c.has_many_cells.ensures e c.broken-cells.ensures)

@@ -10,9 +10,12 @@ pub loop-name-preserved : goal.loop-name-preserved
 loop-name-preserved c =
     let rest = drop (c.loop-name.name-index + 1) c.args.names.now in
     let known = c.loop-name.known in
-    ap (λ (ks : List (List ℕ)). noted ks rest) (c.in_ok-note_one.ensures ∙ ap (λ (x : List ℕ). if list_any (λ y. bytes_eq y x) known then known else known ++ x ∷ []) c.items.ensures)
-    ∙ sym (name_on c.args.names.now c.loop-name.name-index c.name-item.result c.loop-name-test.true c.name-item.is known)
+    ap (λ (ks : List (List ℕ)). noted ks rest) (c.in_ok-note_one.ensures
+    ∙ ap (λ (x : List ℕ). if list_any (λ y. bytes_eq y x) known then known else known ++ x ∷ []) c.items.ensures)
+    ∙ sym (name_on c.args.names.now c.loop-name.name-index c.name-item.result c.loop-name-test.true c.name-item.is
+    known)
     ∙ c.loop-name.invariant
 
 pub returns : goal.returns
-returns c = sym (names_done c.args.names.now c.loop-name.known c.loop-name.name-index c.loop-name-test.false) ∙ c.loop-name.invariant
+returns c = sym (names_done c.args.names.now c.loop-name.known c.loop-name.name-index c.loop-name-test.false)
+    ∙ c.loop-name.invariant

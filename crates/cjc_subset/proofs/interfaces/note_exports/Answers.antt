@@ -10,11 +10,16 @@ use Rattle.cjc_subset.proofs.interfaces.note_exports.Goals as goal
 pub loop-tree-preserved : goal.loop-tree-preserved
 loop-tree-preserved c =
     let f = λ (d : ExportTree). listed_by_imported (all_classes c.args.world.now) c.args.class.now d.classes in
-    ap (λ (ks : List (List ℕ)). noted ks (flat_map f (drop (c.loop-tree.tree-index + 1) c.args.exports.now))) (c.in_ok-note_imported.ensures ∙ ap (λ (xs : List ExportClass). noted c.loop-tree.known (listed_by_imported (all_classes c.args.world.now) c.args.class.now xs)) c.items.ensures)
-    ∙ sym (list_on f c.args.exports.now c.loop-tree.tree-index c.loop-tree.known c.tree-item.result c.loop-tree-test.true c.tree-item.is)
+    ap (λ (ks : List (List ℕ)). noted ks (flat_map f (drop (c.loop-tree.tree-index + 1) c.args.exports.now)))
+    (c.in_ok-note_imported.ensures
+    ∙ ap (λ (xs : List ExportClass). noted c.loop-tree.known (listed_by_imported (all_classes c.args.world.now)
+    c.args.class.now xs)) c.items.ensures)
+    ∙ sym (list_on f c.args.exports.now c.loop-tree.tree-index c.loop-tree.known c.tree-item.result
+    c.loop-tree-test.true c.tree-item.is)
     ∙ c.loop-tree.invariant
 
 pub returns : goal.returns
 returns c =
     let f = λ (d : ExportTree). listed_by_imported (all_classes c.args.world.now) c.args.class.now d.classes in
-    sym (lists_done f c.args.exports.now c.loop-tree.tree-index c.loop-tree.known c.loop-tree-test.false) ∙ c.loop-tree.invariant
+    sym (lists_done f c.args.exports.now c.loop-tree.tree-index c.loop-tree.known c.loop-tree-test.false)
+    ∙ c.loop-tree.invariant

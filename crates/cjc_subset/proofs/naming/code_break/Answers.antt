@@ -21,8 +21,16 @@ returns c =
     let d = c.in_ok-method.ensures.lookup in
     let f : FilePlace = file_place_of c.file_of-file.result in
     let lines = c.items-3.ensures ∙ c.lines.ensures in
-    let in_classes : slice_get files.classes code.class ≡ Some class = ap (λ xs. slice_get xs code.class) (sym (c.items.ensures ∙ c.classes.ensures)) ∙ slice_get_read c.items.result.now (length c.items.result.now) code.class class refl a.3.0 a.1 in
-    let in_methods : slice_get class.methods code.method ≡ Some method = ap (λ xs. slice_get xs code.method) (sym c.items-2.ensures) ∙ slice_get_read c.items-2.result.now (length c.items-2.result.now) code.method method refl d.3.0 d.1 in
-    let file : f ≡ file_of files.lines code.class = c.file_of-file.ensures ∙ ap (λ (ls : List FileLine). file_of ls code.class) lines in
-    code_there files code.class code.method (λ f c m. method_breaks files f c code.method m code.insns) class method f (option_map break_of c.method_break.result) in_classes in_methods file
-    (subst (λ (is : List JInsn). IsFirstOf (method_breaks files f class code.method method is) (option_map break_of c.method_break.result)) c.items-4.ensures (c.method_break.ensures f c.class_spot-spot.ensures))
+    let in_classes : slice_get files.classes code.class ≡ Some class = ap (λ xs. slice_get xs code.class)
+    (sym (c.items.ensures ∙ c.classes.ensures)) ∙ slice_get_read c.items.result.now (length c.items.result.now)
+    code.class class refl a.3.0 a.1 in
+    let in_methods : slice_get class.methods code.method ≡ Some method = ap (λ xs. slice_get xs code.method)
+    (sym c.items-2.ensures) ∙ slice_get_read c.items-2.result.now (length c.items-2.result.now) code.method method
+    refl d.3.0 d.1 in
+    let file : f ≡ file_of files.lines code.class = c.file_of-file.ensures
+    ∙ ap (λ (ls : List FileLine). file_of ls code.class) lines in
+    code_there files code.class code.method (λ f c m. method_breaks files f c code.method m code.insns) class method f
+    (option_map break_of c.method_break.result) in_classes in_methods file
+    (subst (λ (is : List JInsn). IsFirstOf (method_breaks files f class code.method method is)
+    (option_map break_of c.method_break.result)) c.items-4.ensures (c.method_break.ensures f
+    c.class_spot-spot.ensures))

@@ -6,4 +6,5 @@ use Rattle.cjc_subset.specs.Names.{code_breaks}
 use Rattle.cjc_subset.proofs.naming.codes_break.Given as goal
 
 abbrev pub invariant-loop-code : goal.invariant-loop-code
-invariant-loop-code l = IsFirstOf (each (λ _ x. code_breaks l.world x) (take l.code-index l.codes)) (option_map break_of l.least)
+invariant-loop-code l = IsFirstOf (each (λ _ x. code_breaks l.world x) (take l.code-index l.codes))
+    (option_map break_of l.least)

@@ -8,4 +8,6 @@ use Rattle.cjc_subset.specs.Names.{insn_breaks}
 use Rattle.cjc_subset.proofs.naming.insns_break.Given as goal
 
 abbrev pub invariant-loop-insn : goal.invariant-loop-insn
-invariant-loop-insn l = (f : FilePlace) → spot_of l.spot ≡ at_class f l.class → IsFirstOf (each (λ _ x. insn_breaks l.world f l.class l.place l.method x) (take l.insn-index l.insns)) (option_map break_of l.least)
+invariant-loop-insn l = (f : FilePlace) → spot_of l.spot ≡ at_class f l.class
+    → IsFirstOf (each (λ _ x. insn_breaks l.world f l.class l.place l.method x) (take l.insn-index l.insns))
+    (option_map break_of l.least)

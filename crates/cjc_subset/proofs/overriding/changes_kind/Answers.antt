@@ -14,13 +14,15 @@ pub returns-then-changes_at : goal.returns-then-changes_at
 returns-then-changes_at c =
     let p = λ (k : Member). is_called c.args.name.now c.args.desc.now k && is_of_other_kind c.args.flags k.flags in
     let within = subst (λ n. c.loop-place.place < n) c.member_count-place-end.ensures c.loop-place-test.true in
-    any_here p (class_of c.args.known).methods c.loop-place.place nobody _ within (sym c.if-changes_at.true ∙ c.changes_at.ensures nobody) c.loop-place.invariant
+    any_here p (class_of c.args.known).methods c.loop-place.place nobody _ within (sym c.if-changes_at.true
+    ∙ c.changes_at.ensures nobody) c.loop-place.invariant
 
 pub loop-place-preserved : goal.loop-place-preserved
 loop-place-preserved c =
     let p = λ (k : Member). is_called c.args.name.now c.args.desc.now k && is_of_other_kind c.args.flags k.flags in
     let within = subst (λ n. c.loop-place.place < n) c.member_count-place-end.ensures c.loop-place-test.true in
-    any_on p (class_of c.args.known).methods c.loop-place.place nobody _ within (sym c.if-changes_at.false ∙ c.changes_at.ensures nobody) c.loop-place.invariant
+    any_on p (class_of c.args.known).methods c.loop-place.place nobody _ within (sym c.if-changes_at.false
+    ∙ c.changes_at.ensures nobody) c.loop-place.invariant
 
 pub returns : goal.returns
 returns c =

@@ -7,4 +7,5 @@ use Rattle.cjc_subset.specs.Overriding.{changes_kind, is_of_other_kind}
 use Rattle.cjc_subset.proofs.overriding.changes_kind.Given as goal
 
 abbrev pub invariant-loop-place : goal.invariant-loop-place
-invariant-loop-place l = list_any (λ k. is_called l.name l.desc k && is_of_other_kind l.flags k.flags) (drop l.place (class_of l.known).methods) ≡ changes_kind (class_of l.known) l.flags l.name l.desc
+invariant-loop-place l = list_any (λ k. is_called l.name l.desc k && is_of_other_kind l.flags k.flags)
+    (drop l.place (class_of l.known).methods) ≡ changes_kind (class_of l.known) l.flags l.name l.desc

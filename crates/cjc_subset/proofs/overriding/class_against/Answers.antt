@@ -4,4 +4,5 @@ use Rattle.cjc_subset.proofs.overriding.class_against.Goals as goal
 
 pub returns : goal.returns
 unfolding class_against
-returns c = λ f e. c.first.ensures _ _ (at_same 307 _ c.in_ok-lacking.ensures e c.broken.ensures) (c.methods_against.ensures f e)
+returns c = λ f e. c.first.ensures _ _ (at_same 307 _ c.in_ok-lacking.ensures e c.broken.ensures)
+    (c.methods_against.ensures f e)

@@ -9,4 +9,6 @@ use Rattle.cjc_bytes.specs.Breaks.{IsFirstOf, each}
 use Rattle.cjc_subset.proofs.overriding.declared_break.Given as goal
 
 abbrev pub invariant-loop-place : goal.invariant-loop-place
-invariant-loop-place l = (f : FilePlace) → spot_of l.spot ≡ at_class f l.class → IsFirstOf (each (λ _ d. supertype_breaks (all_classes l.world) f l.class (declared 0 d)) (take l.place l.others)) (option_map break_of l.least)
+invariant-loop-place l = (f : FilePlace) → spot_of l.spot ≡ at_class f l.class
+    → IsFirstOf (each (λ _ d. supertype_breaks (all_classes l.world) f l.class (declared 0 d)) (take l.place l.others))
+    (option_map break_of l.least)

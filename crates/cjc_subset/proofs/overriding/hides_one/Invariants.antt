@@ -7,4 +7,5 @@ use Rattle.cjc_subset.specs.Overriding.{hides_one, is_out_of_sight}
 use Rattle.cjc_subset.proofs.overriding.hides_one.Given as goal
 
 abbrev pub invariant-loop-place : goal.invariant-loop-place
-invariant-loop-place l = list_any (λ k. is_called l.name l.desc k && is_out_of_sight (class_of l.known).is_imported l.flags k.flags) (drop l.place (class_of l.known).methods) ≡ hides_one (class_of l.known) l.flags l.name l.desc
+invariant-loop-place l = list_any (λ k. is_called l.name l.desc k && is_out_of_sight (class_of l.known).is_imported
+    l.flags k.flags) (drop l.place (class_of l.known).methods) ≡ hides_one (class_of l.known) l.flags l.name l.desc

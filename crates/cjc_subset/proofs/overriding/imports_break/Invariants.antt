@@ -9,4 +9,6 @@ use Rattle.cjc_bytes.specs.Breaks.{IsFirstOf, each}
 use Rattle.cjc_subset.proofs.overriding.imports_break.Given as goal
 
 abbrev pub invariant-loop-tree : goal.invariant-loop-tree
-invariant-loop-tree l = (f : FilePlace) → spot_of l.spot ≡ at_class f l.class → IsFirstOf (each (λ _ t. each (λ _ d. supertype_breaks (all_classes l.world) f l.class (imported 0 d)) t.classes) (take l.tree-index l.exports)) (option_map break_of l.least)
+invariant-loop-tree l = (f : FilePlace) → spot_of l.spot ≡ at_class f l.class
+    → IsFirstOf (each (λ _ t. each (λ _ d. supertype_breaks (all_classes l.world) f l.class (imported 0 d)) t.classes)
+    (take l.tree-index l.exports)) (option_map break_of l.least)

@@ -16,7 +16,8 @@ returns-then-branch c =
     let p = λ (k : Member). has_no_code (all_classes c.args.world.now) c.args.class.now d k in
     let within = subst (λ n. c.loop-place.place < n) c.member_count-place-end.ensures c.loop-place-test.true in
     let concrete = sym c.is_abstract.ensures ∙ c.if-is_abstract.false in
-    any_here p d.methods c.loop-place.place nobody (list_any p d.methods) within (sym c.if-branch.true ∙ c.in_ok-lacks_code_at.ensures nobody) c.loop-place.invariant
+    any_here p d.methods c.loop-place.place nobody (list_any p d.methods) within (sym c.if-branch.true
+    ∙ c.in_ok-lacks_code_at.ensures nobody) c.loop-place.invariant
     ∙ sym (ap (λ b. not b && list_any p d.methods) concrete)
 
 pub loop-place-preserved : goal.loop-place-preserved
@@ -24,7 +25,8 @@ loop-place-preserved c =
     let d = class_of c.args.known in
     let p = λ (k : Member). has_no_code (all_classes c.args.world.now) c.args.class.now d k in
     let within = subst (λ n. c.loop-place.place < n) c.member_count-place-end.ensures c.loop-place-test.true in
-    any_on p d.methods c.loop-place.place nobody (list_any p d.methods) within (sym c.if-branch.false ∙ c.in_ok-lacks_code_at.ensures nobody) c.loop-place.invariant
+    any_on p d.methods c.loop-place.place nobody (list_any p d.methods) within (sym c.if-branch.false
+    ∙ c.in_ok-lacks_code_at.ensures nobody) c.loop-place.invariant
 
 pub returns : goal.returns
 returns c =

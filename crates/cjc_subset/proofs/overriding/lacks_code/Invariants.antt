@@ -6,4 +6,6 @@ use Rattle.cjc_subset.specs.Overriding.{has_no_code}
 use Rattle.cjc_subset.proofs.overriding.lacks_code.Given as goal
 
 abbrev pub invariant-loop-place : goal.invariant-loop-place
-invariant-loop-place l = list_any (λ k. has_no_code (all_classes l.world) l.class (class_of l.known) k) (drop l.place (class_of l.known).methods) ≡ list_any (λ k. has_no_code (all_classes l.world) l.class (class_of l.known) k) (class_of l.known).methods
+invariant-loop-place l = list_any (λ k. has_no_code (all_classes l.world) l.class (class_of l.known) k)
+    (drop l.place (class_of l.known).methods) ≡ list_any (λ k. has_no_code (all_classes l.world) l.class
+    (class_of l.known) k) (class_of l.known).methods

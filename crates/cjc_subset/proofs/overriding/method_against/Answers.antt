@@ -4,4 +4,5 @@ use Rattle.cjc_subset.proofs.overriding.method_against.Goals as goal
 
 pub returns : goal.returns
 unfolding method_against
-returns c = λ f e. c.first.ensures _ _ (at_same 305 _ c.breaks_sight.ensures (c.method_spot-spot.ensures f e) c.broken.ensures) (at_same 306 _ c.breaks_kind.ensures (c.method_spot-spot.ensures f e) c.broken-2.ensures)
+returns c = λ f e. c.first.ensures _ _ (at_same 305 _ c.breaks_sight.ensures (c.method_spot-spot.ensures f e)
+    c.broken.ensures) (at_same 306 _ c.breaks_kind.ensures (c.method_spot-spot.ensures f e) c.broken-2.ensures)

@@ -9,4 +9,6 @@ use Rattle.cjc_bytes.specs.Breaks.{IsFirstOf, each}
 use Rattle.cjc_subset.proofs.overriding.methods_against.Given as goal
 
 abbrev pub invariant-loop-place : goal.invariant-loop-place
-invariant-loop-place l = (f : FilePlace) → spot_of l.spot ≡ at_class f l.class → IsFirstOf (each (λ i m. method_against f l.class (class_of l.known) i m) (take l.place l.class.methods)) (option_map break_of l.least)
+invariant-loop-place l = (f : FilePlace) → spot_of l.spot ≡ at_class f l.class
+    → IsFirstOf (each (λ i m. method_against f l.class (class_of l.known) i m) (take l.place l.class.methods))
+    (option_map break_of l.least)

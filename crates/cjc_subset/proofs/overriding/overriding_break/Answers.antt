@@ -14,6 +14,12 @@ unfolding overriding_breaks
 returns c = λ f e.
     let w = all_classes c.args.world.now in
     let class = c.args.class.now in
-    let declareds = subst (λ (xs : List ClassTree). IsFirstOf (each (λ _ d. supertype_breaks w f class (declared 0 d)) xs) (option_map break_of c.in_ok-declared.declared)) (c.items.ensures ∙ c.classes.ensures) (c.in_ok-declared.ensures f e) in
-    let importeds = subst (λ (xs : List ExportTree). IsFirstOf (each (λ _ t. each (λ _ d. supertype_breaks w f class (imported 0 d)) t.classes) xs) (option_map break_of c.in_ok-imported.imported)) (c.items-2.ensures ∙ c.exports.ensures) (c.in_ok-imported.ensures f e) in
-    c.first-2.ensures _ _ (c.first.ensures _ _ (at_same 307 _ c.in_ok-lacking.ensures e c.broken.ensures) declareds) importeds
+    let declareds = subst (λ (xs : List ClassTree). IsFirstOf (each (λ _ d. supertype_breaks w f class (declared 0 d))
+    xs) (option_map break_of c.in_ok-declared.declared)) (c.items.ensures ∙ c.classes.ensures)
+    (c.in_ok-declared.ensures f e) in
+    let importeds =
+    subst (λ (xs : List ExportTree). IsFirstOf (each (λ _ t. each (λ _ d. supertype_breaks w f class (imported 0 d))
+    t.classes) xs) (option_map break_of c.in_ok-imported.imported)) (c.items-2.ensures ∙ c.exports.ensures)
+    (c.in_ok-imported.ensures f e) in
+    c.first-2.ensures _ _ (c.first.ensures _ _ (at_same 307 _ c.in_ok-lacking.ensures e c.broken.ensures) declareds)
+    importeds

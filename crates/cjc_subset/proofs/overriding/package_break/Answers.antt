@@ -10,5 +10,6 @@ returns-else-may_break c = λ f e.
     let own = c.args.class.now in
     let other = c.args.other.now in
     let unmet : may_break (kinds_of own) (kinds_of other) ≡ false =
-    ap (λ (k : Kinds). may_break k (kinds_of other)) (sym c.requires.own) ∙ ap (λ (k : Kinds). may_break c.args.own k) (sym c.requires.kinds) ∙ sym c.may_break.ensures ∙ c.if-may_break.false in
+    ap (λ (k : Kinds). may_break k (kinds_of other)) (sym c.requires.own) ∙ ap (λ (k : Kinds). may_break c.args.own k)
+    (sym c.requires.kinds) ∙ sym c.may_break.ensures ∙ c.if-may_break.false in
     nothing_broken (all_classes c.args.world.now) f own other unmet

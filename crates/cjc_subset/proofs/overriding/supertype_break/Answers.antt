@@ -8,7 +8,10 @@ use Rattle.cjc_subset.proofs.Supertypes.{supertypes_above, supertypes_not_above}
 use Rattle.cjc_subset.proofs.overriding.supertype_break.Goals as goal
 
 pub returns-then-is_inherited : goal.returns-then-is_inherited
-returns-then-is_inherited c = λ f e. subst (λ (bs : List Break). IfOk c.class_against.result (λ b. IsFirstOf bs (option_map break_of b))) (supertypes_above (all_classes c.args.world.now) f c.args.class.now (class_of c.args.known) (sym c.is_inherited.ensures ∙ c.if-is_inherited.true)) (c.class_against.ensures f e)
+returns-then-is_inherited c = λ f e. subst (λ (bs : List Break). IfOk c.class_against.result
+    (λ b. IsFirstOf bs (option_map break_of b))) (supertypes_above (all_classes c.args.world.now) f c.args.class.now
+    (class_of c.args.known) (sym c.is_inherited.ensures ∙ c.if-is_inherited.true)) (c.class_against.ensures f e)
 
 pub returns-else-is_inherited : goal.returns-else-is_inherited
-returns-else-is_inherited c = λ f e. supertypes_not_above (all_classes c.args.world.now) f c.args.class.now (class_of c.args.known) (sym c.is_inherited.ensures ∙ c.if-is_inherited.false)
+returns-else-is_inherited c = λ f e. supertypes_not_above (all_classes c.args.world.now) f c.args.class.now
+    (class_of c.args.known) (sym c.is_inherited.ensures ∙ c.if-is_inherited.false)

@@ -8,5 +8,6 @@ pub returns : goal.returns
 returns c =
     ap (λ (s : RulePlace). broken_at s 413)
     (c.of_class.ensures
-    ∙ ap (λ (f : FilePlace). class_spot f 1 c.items-2.result.now) (c.file_of-file.ensures ∙ ap (λ (ls : List FileLine). file_of ls c.args.number) (c.items.ensures ∙ c.lines.ensures))
+    ∙ ap (λ (f : FilePlace). class_spot f 1 c.items-2.result.now) (c.file_of-file.ensures
+    ∙ ap (λ (ls : List FileLine). file_of ls c.args.number) (c.items.ensures ∙ c.lines.ensures))
     ∙ ap (λ (n : List ℕ). class_spot (file_of c.args.world.now.lines c.args.number) 1 n) c.items-2.ensures)

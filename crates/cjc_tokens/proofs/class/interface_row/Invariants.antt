@@ -6,4 +6,5 @@ use Rattle.cjc_tokens.specs.Working.{signs}
 use Rattle.cjc_tokens.proofs.class.interface_row.Given as goal
 
 abbrev pub invariant-loop-slot : goal.invariant-loop-slot
-invariant-loop-slot l = (ss : List Signature) → signs l.methods ≡ map Some ss → l.row ≡ map (λ s. method_of_interface (all_classes l.world) l.interface s.name s.desc) (take l.slot-index ss)
+invariant-loop-slot l = (ss : List Signature) → signs l.methods ≡ map Some ss
+    → l.row ≡ map (λ s. method_of_interface (all_classes l.world) l.interface s.name s.desc) (take l.slot-index ss)

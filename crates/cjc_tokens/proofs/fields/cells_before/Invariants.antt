@@ -5,6 +5,7 @@ use Rattle.cjc_tokens.proofs.fields.cells_before.Given as goal
 
 abbrev pub invariant-loop-field : goal.invariant-loop-field
 invariant-loop-field l = record {
-  rest : l.sum + cells_of (λ g. is_instance g && nat_lt (group g) l.place) (drop l.field-index l.fields) ≡ cells_of (λ g. is_instance g && nat_lt (group g) l.place) l.fields;
+  rest : l.sum + cells_of (λ g. is_instance g && nat_lt (group g) l.place) (drop l.field-index l.fields)
+      ≡ cells_of (λ g. is_instance g && nat_lt (group g) l.place) l.fields;
   few : cells_of (λ g. is_instance g && nat_lt (group g) l.place) l.fields ≤ 255;
 }

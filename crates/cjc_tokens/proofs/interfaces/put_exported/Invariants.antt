@@ -7,4 +7,7 @@ use Rattle.cjc_tokens.specs.Working.{signs}
 use Rattle.cjc_tokens.proofs.interfaces.put_exported.Given as goal
 
 abbrev pub invariant-loop-token : goal.invariant-loop-token
-invariant-loop-token l = with_new (signs l.row.items) (map signature_of (without_initialiser (by_token (length l.methods - l.token) l.token (map method_of_export l.methods)))) ≡ with_new (signs l.initial.row.items) (map signature_of (without_initialiser (by_token (length l.methods) 0 (map method_of_export l.methods))))
+invariant-loop-token l =
+    with_new (signs l.row.items) (map signature_of (without_initialiser (by_token (length l.methods - l.token) l.token
+    (map method_of_export l.methods)))) ≡ with_new (signs l.initial.row.items)
+    (map signature_of (without_initialiser (by_token (length l.methods) 0 (map method_of_export l.methods))))

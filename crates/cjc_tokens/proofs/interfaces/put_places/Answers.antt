@@ -19,12 +19,17 @@ loop-place-preserved c =
     elim c.match-class_in.branch [
       | in-Some+in_ok-put_own b ↦
           ap (λ q. with_new (signs q.items) (map signature_of (methods_of (at_places w (drop (i + 1) ps))))) b.row-is
-          ∙ offer-at w (signs c.loop-place.row.items) (signs b.put_own.new.row.items) whole ps i 0 (class_of b.in-Some.class) c.loop-place-test.true b.in-Some.ensures.at b.in_ok-put_own.ensures c.loop-place.invariant
+          ∙ offer-at w (signs c.loop-place.row.items) (signs b.put_own.new.row.items) whole ps i 0
+          (class_of b.in-Some.class) c.loop-place-test.true b.in-Some.ensures.at b.in_ok-put_own.ensures
+          c.loop-place.invariant
       | in_default b ↦
           ap (λ q. with_new (signs q.items) (map signature_of (methods_of (at_places w (drop (i + 1) ps))))) b.row-is
-          ∙ offer-over w (signs c.loop-place.row.items) whole ps i 0 c.loop-place-test.true b.in_default.ensures.at c.loop-place.invariant
+          ∙ offer-over w (signs c.loop-place.row.items) whole ps i 0 c.loop-place-test.true b.in_default.ensures.at
+          c.loop-place.invariant
     ]
 
 pub returns : goal.returns
 returns c =
-    offer-past (all_classes c.args.world.now) (signs c.loop-place.row.items) (with_new (signs c.args.row.now.items) (map signature_of (methods_of (at_places (all_classes c.args.world.now) c.args.places.now)))) c.args.places.now c.loop-place.place-index c.loop-place-test.false c.loop-place.invariant
+    offer-past (all_classes c.args.world.now) (signs c.loop-place.row.items) (with_new (signs c.args.row.now.items)
+    (map signature_of (methods_of (at_places (all_classes c.args.world.now) c.args.places.now)))) c.args.places.now
+    c.loop-place.place-index c.loop-place-test.false c.loop-place.invariant

@@ -9,5 +9,6 @@ use Rattle.cjc_tokens.proofs.interfaces.put_places.Given as goal
 
 abbrev pub invariant-loop-place : goal.invariant-loop-place
 invariant-loop-place l =
-    with_new (signs l.row.items) (map signature_of (methods_of (at_places (all_classes l.world) (drop l.place-index l.places))))
+    with_new (signs l.row.items)
+    (map signature_of (methods_of (at_places (all_classes l.world) (drop l.place-index l.places))))
     ≡ with_new (signs l.initial.row.items) (map signature_of (methods_of (at_places (all_classes l.world) l.places)))

@@ -7,4 +7,5 @@ use Rattle.cjc_tokens.proofs.line.added_to.Goals as goal
 pub returns : goal.returns
 unfolding added_at
 returns c = λ d.
-    c.items.ensures ∙ c.added.ensures ∙ ap (added_to (all_classes c.args.world.now) c.args.class) (slice_get-get_or c.args.world.now.classes c.args.class d c.requires)
+    c.items.ensures ∙ c.added.ensures ∙ ap (added_to (all_classes c.args.world.now) c.args.class)
+    (slice_get-get_or c.args.world.now.classes c.args.class d c.requires)

@@ -9,8 +9,16 @@ returns c = λ line given rows named.
     let class : Class = declared c.args.number c.args.class.now in
     let x = c.args.class.now.name in
     let ids = c.args.added.now in
-    let one = subst (λ q. Renewed class given false q c.in_ok-shown.shown.items) c.deref.ensures.value (renewed-ids x given ids class false c.deref.result.now c.in_ok-shown.shown.items named c.in_ok-shown.ensures) in
-    let shown = shown-step class given line c.args.above.now.shown.items c.in_ok-shown.shown.items c.offer_methods.new.row.items c.offer_added.new.row.items rows.shown_slots rows.shown_methods one c.in_ok-offer_methods.ensures (offered-ids x given ids class c.offer_methods.new.row.items c.offer_added.new.row.items named c.in_ok-offer_added.ensures) in
-    let two = subst (λ q. Renewed class given true q c.in_ok-hidden.hidden.items) c.deref-2.ensures.value (renewed-ids x given ids class true c.deref-2.result.now c.in_ok-hidden.hidden.items named c.in_ok-hidden.ensures) in
-    let hidden = hidden-step class given line c.args.above.now.hidden.items c.in_ok-hidden.hidden.items c.offer_methods-2.new.row.items rows.hidden_slots_are rows.hidden_methods two c.in_ok-offer_methods-2.ensures in
+    let one = subst (λ q. Renewed class given false q c.in_ok-shown.shown.items) c.deref.ensures.value
+    (renewed-ids x given ids class false c.deref.result.now c.in_ok-shown.shown.items named c.in_ok-shown.ensures)
+    in
+    let shown = shown-step class given line c.args.above.now.shown.items c.in_ok-shown.shown.items
+    c.offer_methods.new.row.items c.offer_added.new.row.items rows.shown_slots rows.shown_methods one
+    c.in_ok-offer_methods.ensures (offered-ids x given ids class c.offer_methods.new.row.items
+    c.offer_added.new.row.items named c.in_ok-offer_added.ensures) in
+    let two = subst (λ q. Renewed class given true q c.in_ok-hidden.hidden.items) c.deref-2.ensures.value
+    (renewed-ids x given ids class true c.deref-2.result.now c.in_ok-hidden.hidden.items named
+    c.in_ok-hidden.ensures) in
+    let hidden = hidden-step class given line c.args.above.now.hidden.items c.in_ok-hidden.hidden.items
+    c.offer_methods-2.new.row.items rows.hidden_slots_are rows.hidden_methods two c.in_ok-offer_methods-2.ensures in
     record { shown_slots = shown.0; shown_methods = shown.1; hidden_slots_are = hidden.0; hidden_methods = hidden.1 }

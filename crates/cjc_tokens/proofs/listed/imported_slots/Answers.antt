@@ -18,6 +18,9 @@ returns c =
     let k = class_of c.args.class in
     let tree = supertypes w k.supers in
     let classes = ap (map class_of) c.deref.ensures.value ∙ c.in_ok-classes.ensures in
-    let all = ap (λ cs. listed_slots (all_methods cs)) classes ∙ slots-once w k k.supers tree (c.lookup_laws.ensures.are_supertypes w c.acyclic.ensures k.supers) in
-    let line : line_at w k ≡ Imported (k ∷ upwards tree) = ap (λ b. if b then Imported (k ∷ upwards tree) else Declared k (added w k) (line_in w tree)) c.requires in
-    IfOk-weaker c.listed.result _ (λ row. signs row.items ≡ slots (line_at w k)) (λ row h. h ∙ all ∙ ap slots (sym line)) c.listed.ensures
+    let all = ap (λ cs. listed_slots (all_methods cs)) classes
+    ∙ slots-once w k k.supers tree (c.lookup_laws.ensures.are_supertypes w c.acyclic.ensures k.supers) in
+    let line : line_at w k ≡ Imported (k ∷ upwards tree) = ap (λ b. if b then Imported (k ∷ upwards tree)
+    else Declared k (added w k) (line_in w tree)) c.requires in
+    IfOk-weaker c.listed.result _ (λ row. signs row.items ≡ slots (line_at w k)) (λ row h. h ∙ all
+    ∙ ap slots (sym line)) c.listed.ensures

@@ -6,4 +6,6 @@ use Rattle.cjc_tokens.specs.Working.{overlay, signs}
 use Rattle.cjc_tokens.proofs.listed.listed.Given as goal
 
 abbrev pub invariant-loop-class : goal.invariant-loop-class
-invariant-loop-class l = overlay (signs l.row.items) (listed_slots (all_methods (map class_of (drop l.class-index l.classes)))) ≡ listed_slots (all_methods (map class_of l.classes))
+invariant-loop-class l =
+    overlay (signs l.row.items) (listed_slots (all_methods (map class_of (drop l.class-index l.classes))))
+    ≡ listed_slots (all_methods (map class_of l.classes))

@@ -10,4 +10,5 @@ returns-then-not-is_virtual c = λ m is.
     let f = c.member_flags-flags.ensures m ∙ ap (λ (q : Member). q.flags) (sym is) in
     let n = c.member_at.ensures.name m ∙ ap (λ (q : Member). q.name) (sym is) in
     let v : is_virtual_by c.member_flags-flags.result c.member_at.result.0.now ≡ false = grind arith in
-    sym (ap (overlay (signs c.args.row.now.items)) (sym (one-none m c.member_flags-flags.result c.member_at.result.0.now f n v)) ∙ overlay-nil (signs c.args.row.now.items))
+    sym (ap (overlay (signs c.args.row.now.items)) (sym (one-none m c.member_flags-flags.result c.member_at.result.0.now
+    f n v)) ∙ overlay-nil (signs c.args.row.now.items))

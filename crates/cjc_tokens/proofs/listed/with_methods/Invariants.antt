@@ -9,5 +9,6 @@ use Rattle.cjc_tokens.proofs.listed.with_methods.Given as goal
 abbrev pub invariant-loop-slot : goal.invariant-loop-slot
 invariant-loop-slot l = record {
   slots : signs l.row.items ≡ signs (take l.slot-index l.slots);
-  methods : methods_in l.row.items ≡ map (meant_by (λ s. first (own is_virtual s) (map class_of l.classes))) (signs (take l.slot-index l.slots));
+  methods : methods_in l.row.items ≡ map (meant_by (λ s. first (own is_virtual s) (map class_of l.classes)))
+      (signs (take l.slot-index l.slots));
 }

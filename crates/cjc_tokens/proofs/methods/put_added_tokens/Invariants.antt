@@ -5,4 +5,5 @@ use Rattle.cjc_tokens.specs.Working.{member_of, signs}
 use Rattle.cjc_tokens.proofs.methods.put_added_tokens.Given as goal
 
 abbrev pub invariant-loop-id : goal.invariant-loop-id
-invariant-loop-id l = l.tokens ≡ l.initial.tokens ++ map (λ m. token (signs l.rows.shown.items) (signature_of (member_of m))) (take l.id-index l.added)
+invariant-loop-id l = l.tokens ≡ l.initial.tokens
+    ++ map (λ m. token (signs l.rows.shown.items) (signature_of (member_of m))) (take l.id-index l.added)

@@ -7,6 +7,7 @@ use Rattle.cjc_tokens.proofs.methods.put_method_tokens.Given as goal
 
 abbrev pub invariant-loop-place : goal.invariant-loop-place
 invariant-loop-place l = record {
-  tokens : l.tokens ≡ l.initial.tokens ++ class_method_tokens l.exported (signs l.rows.shown.items) (signs l.rows.hidden.items) (map method_of_class l.methods) 0 (take l.place (map method_of_class l.methods));
+  tokens : l.tokens ≡ l.initial.tokens ++ class_method_tokens l.exported (signs l.rows.shown.items)
+      (signs l.rows.hidden.items) (map method_of_class l.methods) 0 (take l.place (map method_of_class l.methods));
   bounds : l.bounds ≡ count_by is_open_bound (take l.place (map method_of_class l.methods));
 }

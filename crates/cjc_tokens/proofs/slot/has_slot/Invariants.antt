@@ -4,4 +4,5 @@ use Rattle.cjc_tokens.specs.Working.{signs}
 use Rattle.cjc_tokens.proofs.slot.has_slot.Given as goal
 
 abbrev pub invariant-loop-slot : goal.invariant-loop-slot
-invariant-loop-slot l = has_slot (signs (drop l.slot-index l.row)) (record { name = l.name; desc = l.desc }) ≡ has_slot (signs l.row) (record { name = l.name; desc = l.desc })
+invariant-loop-slot l = has_slot (signs (drop l.slot-index l.row)) (record { name = l.name; desc = l.desc })
+    ≡ has_slot (signs l.row) (record { name = l.name; desc = l.desc })

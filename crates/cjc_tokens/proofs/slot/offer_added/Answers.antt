@@ -3,7 +3,8 @@ use Rattle.cjc_tokens.proofs.slot.offer_added.Goals as goal
 
 pub loop-id-preserved : goal.loop-id-preserved
 loop-id-preserved c =
-    rw (ids-more c.args.added.now c.loop-id.id-index c.id-item.result c.items-name.result.now c.items-desc.result.now c.loop-id-test.true c.id-item.is c.items-name.ensures c.items-desc.ensures)
+    rw (ids-more c.args.added.now c.loop-id.id-index c.id-item.result c.items-name.result.now c.items-desc.result.now
+    c.loop-id-test.true c.id-item.is c.items-name.ensures c.items-desc.ensures)
     (c.in_ok-put_new.ensures _ _ _ c.loop-id.invariant c.got-found.ensures)
 
 pub returns : goal.returns

@@ -7,4 +7,6 @@ use Rattle.cjc_tokens.proofs.slot.token.Goals as goal
 
 pub returns : goal.returns
 unfolding token
-returns c = c.slot_place.ensures ∙ sym (position_of_map (λ slot. holds slot (record { name = c.args.name.now; desc = c.args.desc.now })) (option_map signature_in) c.args.row.now)
+returns c = c.slot_place.ensures
+    ∙ sym (position_of_map (λ slot. holds slot (record { name = c.args.name.now; desc = c.args.desc.now }))
+    (option_map signature_in) c.args.row.now)

@@ -7,6 +7,13 @@ use Rattle.cjc_types.proofs.inference.first_broken.Given as goal
 
 abbrev pub invariant-loop-place : goal.invariant-loop-place
 invariant-loop-place l = record {
-  walk : l.walk ≡ record { at = l.place; rows = full (type_flow l.method) (length l.method.insns) l.table.marks l.table.rows };
-  first : first_from (all_classes l.world) l.method l.place (drop l.place l.method.insns) (drop l.place (full (type_flow l.method) (length l.method.insns) l.table.marks l.table.rows)) ≡ first_from (all_classes l.world) l.method 0 l.method.insns (full (type_flow l.method) (length l.method.insns) l.table.marks l.table.rows);
+  walk : l.walk ≡ record {
+    at = l.place;
+    rows = full (type_flow l.method) (length l.method.insns) l.table.marks
+        l.table.rows;
+  };
+  first : first_from (all_classes l.world) l.method l.place (drop l.place l.method.insns)
+      (drop l.place (full (type_flow l.method) (length l.method.insns) l.table.marks l.table.rows))
+      ≡ first_from (all_classes l.world) l.method 0 l.method.insns (full (type_flow l.method) (length l.method.insns)
+      l.table.marks l.table.rows);
 }

@@ -9,10 +9,12 @@ use Rattle.cjc_types.proofs.inference.least_table.Goals as goal
 pub solve-requires-clause-marks : goal.solve-requires-clause-marks
 solve-requires-clause-marks c =
     let b = c.args.marked.now.method.now in
-    subst (λ (n : ℕ). AreMarks n c.args.marked.now.marks.now) (sym c.places.ensures) (subst (λ (ms : List ℕ). AreMarks (length b.insns) ms) (sym c.args.marked.now.marked) (marks_are b))
+    subst (λ (n : ℕ). AreMarks n c.args.marked.now.marks.now) (sym c.places.ensures)
+    (subst (λ (ms : List ℕ). AreMarks (length b.insns) ms) (sym c.args.marked.now.marked) (marks_are b))
 
 pub solve-requires-clause-stays : goal.solve-requires-clause-stays
-solve-requires-clause-stays c = subst (λ (n : ℕ). StaysWithin (type_flow c.args.marked.now.method.now) n) (sym c.places.ensures) (type_flow_stays c.args.marked.now.method.now)
+solve-requires-clause-stays c = subst (λ (n : ℕ). StaysWithin (type_flow c.args.marked.now.method.now) n)
+    (sym c.places.ensures) (type_flow_stays c.args.marked.now.method.now)
 
 pub solve-requires-clause-meets : goal.solve-requires-clause-meets
 solve-requires-clause-meets c =

@@ -17,7 +17,8 @@ reference Number e = absurd cc
 reference (Refs names) e = (names, refl)
 reference Unusable e = absurd cc
 
-of_class : (w : List Class) (class : List ℕ) (cell : Cell) → is_of w class cell ≡ true → (names : List (List ℕ)) × (cell ≡ Refs names) × (list_all (λ name. is_subtype w name class) names ≡ true)
+of_class : (w : List Class) (class : List ℕ) (cell : Cell) → is_of w class cell ≡ true → (names : List (List ℕ))
+    × (cell ≡ Refs names) × (list_all (λ name. is_subtype w name class) names ≡ true)
 of_class w class Number e = absurd cc
 of_class w class (Refs names) e = (names, refl, e)
 of_class w class Unusable e = absurd cc

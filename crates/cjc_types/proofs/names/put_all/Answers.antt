@@ -6,6 +6,9 @@ use Rattle.cjc_types.proofs.names.put_all.Goals as goal
 
 pub loop-name-preserved : goal.loop-name-preserved
 loop-name-preserved c = record {
-  set = subst IsSet (sym c.in_ok-put_shared.ensures) (set_insert c.name-item.result c.loop-name.set.items c.loop-name.invariant.set);
-  union = union_next c.args.names.now c.loop-name.set.items c.put_shared.new.set.items c.loop-name.name-index c.name-item.result c.name-item.result c.loop-name-test.true c.name-item.is refl c.in_ok-put_shared.ensures ∙ c.loop-name.invariant.union;
+  set = subst IsSet (sym c.in_ok-put_shared.ensures) (set_insert c.name-item.result c.loop-name.set.items
+      c.loop-name.invariant.set);
+  union = union_next c.args.names.now c.loop-name.set.items c.put_shared.new.set.items c.loop-name.name-index
+      c.name-item.result c.name-item.result c.loop-name-test.true c.name-item.is refl c.in_ok-put_shared.ensures
+      ∙ c.loop-name.invariant.union;
 }

@@ -10,7 +10,11 @@ returns-then-left-cells c =
     let within = c.loop-count.invariant.within in
     let next : c.loop-count.count ≡ i + 1 = omega (arith, some) in
     let lt : i < length c.args.parts.now = omega (arith, some, within) in
-    let is = read_part c.args.parts.now i c.index-parts-count.result c.items-cells.result.now c.items-cells.ensures c.index-parts-count.is in (
-      deep_within c.args.parts.now i c.loop-count.count c.args.k c.loop-count.left c.items-cells.result.now lt next is c.if-left-cells.true c.loop-count.invariant.same,
-      deep_read c.args.parts.now i c.loop-count.count c.args.k c.loop-count.left c.items-cells.result.now c.index-cells-cells.result Unusable lt next is c.if-left-cells.true c.loop-count.invariant.same c.loop-count.invariant.read c.index-cells-cells.is,
+    let is = read_part c.args.parts.now i c.index-parts-count.result c.items-cells.result.now c.items-cells.ensures
+    c.index-parts-count.is in (
+      deep_within c.args.parts.now i c.loop-count.count c.args.k c.loop-count.left c.items-cells.result.now lt next is
+          c.if-left-cells.true c.loop-count.invariant.same,
+      deep_read c.args.parts.now i c.loop-count.count c.args.k c.loop-count.left c.items-cells.result.now
+          c.index-cells-cells.result Unusable lt next is c.if-left-cells.true c.loop-count.invariant.same
+          c.loop-count.invariant.read c.index-cells-cells.is,
     )

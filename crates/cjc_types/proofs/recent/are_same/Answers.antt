@@ -12,5 +12,7 @@ loop-i-preserved c =
     let answer = c.ne.ensures in
     let equal = c.if-ne.false in
     let texts : c.items.result.now ≡ c.items-in-loop-i.result.now = grind (arith, bytes_eq-Decides, answer, equal) in
-    let same : c.index-left-i.result ≡ c.index-right-i.result = sym c.items.ensures ∙ texts ∙ c.items-in-loop-i.ensures in
-    same_more c.args.left.now c.args.right.now c.loop-i.i c.index-left-i.result c.index-right-i.result lt sized c.index-left-i.is c.index-right-i.is same c.loop-i.invariant
+    let same : c.index-left-i.result ≡ c.index-right-i.result = sym c.items.ensures ∙ texts ∙ c.items-in-loop-i.ensures
+    in
+    same_more c.args.left.now c.args.right.now c.loop-i.i c.index-left-i.result c.index-right-i.result lt sized
+    c.index-left-i.is c.index-right-i.is same c.loop-i.invariant

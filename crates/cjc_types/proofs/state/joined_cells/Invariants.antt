@@ -4,4 +4,5 @@ use Rattle.cjc_types.specs.Cells.{joined_cell}
 use Rattle.cjc_types.proofs.state.joined_cells.Given as goal
 
 abbrev pub invariant-loop-i : goal.invariant-loop-i
-invariant-loop-i l = l.cells.items ≡ take l.i (joined joined_cell l.initial.cells.items l.right) ++ drop l.i l.initial.cells.items
+invariant-loop-i l = l.cells.items ≡ take l.i (joined joined_cell l.initial.cells.items l.right)
+    ++ drop l.i l.initial.cells.items

@@ -6,6 +6,9 @@ use Rattle.cjc_types.proofs.types.elements.Goals as goal
 
 pub loop-array-preserved : goal.loop-array-preserved
 loop-array-preserved c = record {
-  set = subst IsSet (sym c.in_ok-put_held.ensures) (set_held (held c.items.result.now) c.loop-array.names.items c.loop-array.invariant.set);
-  elements = elements_next c.args.types.now c.loop-array.names.items c.put_held.new.names.items c.loop-array.array-index c.array-item.result c.items.result.now c.loop-array-test.true c.array-item.is c.items.ensures c.in_ok-put_held.ensures ∙ c.loop-array.invariant.elements;
+  set = subst IsSet (sym c.in_ok-put_held.ensures) (set_held (held c.items.result.now) c.loop-array.names.items
+      c.loop-array.invariant.set);
+  elements = elements_next c.args.types.now c.loop-array.names.items c.put_held.new.names.items c.loop-array.array-index
+      c.array-item.result c.items.result.now c.loop-array-test.true c.array-item.is c.items.ensures
+      c.in_ok-put_held.ensures ∙ c.loop-array.invariant.elements;
 }

@@ -17,7 +17,8 @@ interface_maps-requires-clause-class c =
     let n = c.args.number in
     let k = c.requires.class in
     let x = c.index-items-number.result in
-    let same : x ≡ k.1 = c.index-items-number.is ∙ ap (λ q. get_or q n x) (c.items.ensures ∙ c.classes.ensures) ∙ get_or_from_slice_get c.args.world.now.classes n k.1 x k.2 in
+    let same : x ≡ k.1 = c.index-items-number.is ∙ ap (λ q. get_or q n x) (c.items.ensures ∙ c.classes.ensures)
+    ∙ get_or_from_slice_get c.args.world.now.classes n k.1 x k.2 in
     (k.0, k.1, k.2, ap (declared n) same)
 
 pub returns : goal.returns
@@ -28,13 +29,19 @@ returns c = λ t there.
     let one : k.1 ≡ t = cc (k.2, there) in
     let plain = subst (λ (q : Tree). is_interface q.flags ≡ false) one k.3 in
     let x = c.index-items-number.result in
-    let same : x ≡ t = c.index-items-number.is ∙ ap (λ q. get_or q n x) (c.items.ensures ∙ c.classes.ensures) ∙ get_or_from_slice_get c.args.world.now.classes n t x there in
-    tabled w n t c.public_methods.result.now c.package_methods.result.now c.in_ok-public_base.public_base c.in_ok-package_base.package_base c.in_ok-public_base.public c.in_ok-package_base.entries c.in_ok-package.package c.in_ok-maps.maps
-    (c.public_methods.ensures ∙ public-row c.args.world.now c.requires.tokens.0 n t there plain c.args.tokens.now c.requires.tokens.1)
-    (c.package_methods.ensures ∙ package-row c.args.world.now c.requires.tokens.0 n t there plain c.args.tokens.now c.requires.tokens.1)
+    let same : x ≡ t = c.index-items-number.is ∙ ap (λ q. get_or q n x) (c.items.ensures ∙ c.classes.ensures)
+    ∙ get_or_from_slice_get c.args.world.now.classes n t x there in
+    tabled w n t c.public_methods.result.now c.package_methods.result.now c.in_ok-public_base.public_base
+    c.in_ok-package_base.package_base c.in_ok-public_base.public c.in_ok-package_base.entries
+    c.in_ok-package.package c.in_ok-maps.maps
+    (c.public_methods.ensures ∙ public-row c.args.world.now c.requires.tokens.0 n t there plain c.args.tokens.now
+    c.requires.tokens.1)
+    (c.package_methods.ensures ∙ package-row c.args.world.now c.requires.tokens.0 n t there plain c.args.tokens.now
+    c.requires.tokens.1)
     c.in_ok-public_base.ensures.base
     c.in_ok-public_base.ensures.entries
     c.in_ok-package_base.ensures.base
     c.in_ok-package_base.ensures.entries
     (c.in_ok-package.ensures ∙ ap methods c.items-2.ensures)
-    (c.in_ok-maps.ensures ∙ ap (λ (q : Tree). map (interface_map w (slots (line_at w (declared n q)))) (known (interfaces_at w (declared n q)))) same)
+    (c.in_ok-maps.ensures ∙ ap (λ (q : Tree). map (interface_map w (slots (line_at w (declared n q))))
+    (known (interfaces_at w (declared n q)))) same)

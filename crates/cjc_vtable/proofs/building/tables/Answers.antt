@@ -4,8 +4,8 @@ use Rattle.cjc_bytes.specs.AccessFlags.{is_interface}
 use Rattle.cjc_world.specs.Files.{Files}
 use Rattle.cjc_world.specs.Classes.{all_classes, declared}
 use Rattle.cjc_world.specs.Order.{in_order}
-use Rattle.cjc_class_order.specs.Numbers.{declared_at}
-use Rattle.cjc_class_order.specs.Numbers.{IsOfKind}
+use Rattle.cjc_order.specs.Classes.Numbers.{declared_at}
+use Rattle.cjc_order.specs.Classes.Numbers.{IsOfKind}
 use Rattle.cjc_vtable.specs.Working.Standing.{IsClass}
 use Rattle.cjc_vtable.specs.Tables.{class_tables, table_of}
 use Rattle.cjc_vtable.proofs.Rows.{rows-next, rows-end}
@@ -23,7 +23,8 @@ pub class_table-requires-clause-class : goal.class_table-requires-clause-class
 class_table-requires-clause-class c =
     let i = c.loop-number.number-index in
     let is = c.items-number-items.ensures in
-    subst (λ (q : List ℕ). IsClass c.args.world.now (get_or q i 0)) (sym is) (of_order c.args.world.now _ (c.in_ok-order.ensures.classes i 0 (subst (λ (q : List ℕ). i < length q) is c.loop-number-test.true)))
+    subst (λ (q : List ℕ). IsClass c.args.world.now (get_or q i 0)) (sym is) (of_order c.args.world.now _
+    (c.in_ok-order.ensures.classes i 0 (subst (λ (q : List ℕ). i < length q) is c.loop-number-test.true)))
 
 pub loop-number-preserved : goal.loop-number-preserved
 loop-number-preserved c =
@@ -32,9 +33,12 @@ loop-number-preserved c =
     let ns = c.items-number-items.result.now in
     let i = c.loop-number.number-index in
     let is = c.items-number-items.ensures in
-    let k = subst (λ (q : List ℕ). IsClass c.args.world.now (get_or q i 0)) (sym is) (of_order c.args.world.now _ (c.in_ok-order.ensures.classes i 0 (subst (λ (q : List ℕ). i < length q) is c.loop-number-test.true))) in
-    rows-next (λ n. option_map (table_of w) (declared_at trees n)) ns i 0 c.loop-number.rows c.push.new.self c.in_ok-class_table.field-0 c.loop-number-test.true
-    (ap (λ o. option_map (table_of w) (option_map (declared (get_or ns i 0)) o)) k.2 ∙ ap (λ t. Some t) (sym (c.in_ok-class_table.ensures k.1 k.2)))
+    let k = subst (λ (q : List ℕ). IsClass c.args.world.now (get_or q i 0)) (sym is) (of_order c.args.world.now _
+    (c.in_ok-order.ensures.classes i 0 (subst (λ (q : List ℕ). i < length q) is c.loop-number-test.true))) in
+    rows-next (λ n. option_map (table_of w) (declared_at trees n)) ns i 0 c.loop-number.rows c.push.new.self
+    c.in_ok-class_table.field-0 c.loop-number-test.true
+    (ap (λ o. option_map (table_of w) (option_map (declared (get_or ns i 0)) o)) k.2
+    ∙ ap (λ t. Some t) (sym (c.in_ok-class_table.ensures k.1 k.2)))
     c.in_ok-push.ensures.ok
     c.loop-number.invariant
 
@@ -43,6 +47,7 @@ unfolding class_tables
 returns c =
     let w = all_classes c.args.world.now in
     let trees = c.args.world.now.classes in
-    rows-end (table_of w) (declared_at trees) c.items-number-items.result.now c.loop-number.number-index (in_order w false) c.loop-number.rows c.loop-number-test.false
+    rows-end (table_of w) (declared_at trees) c.items-number-items.result.now c.loop-number.number-index
+    (in_order w false) c.loop-number.rows c.loop-number-test.false
     (c.in_ok-order.ensures.order ∙ ap (map (declared_at trees)) (sym c.items-number-items.ensures))
     c.loop-number.invariant

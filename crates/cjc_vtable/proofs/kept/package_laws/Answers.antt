@@ -9,12 +9,14 @@ returns-clause-unbroken c = breaks_none
 pub returns-clause-keeps : goal.returns-clause-keeps
 returns-clause-keeps c = λ list files codes settings kept.
     let acyclic = c.lookup_laws.ensures.acyclic list files kept.unbroken.world in
-    keeps list files codes settings kept acyclic (c.lookup_laws.ensures.are_supertypes (all_classes files) acyclic) (c.lookup_laws.ensures.one_supertypes (all_classes files))
+    keeps list files codes settings kept acyclic (c.lookup_laws.ensures.are_supertypes (all_classes files) acyclic)
+    (c.lookup_laws.ensures.one_supertypes (all_classes files))
 
 pub returns-clause-calls : goal.returns-clause-calls
 returns-clause-calls c = λ list files codes settings kept.
     let acyclic = c.lookup_laws.ensures.acyclic list files kept.unbroken.world in
-    let all = keeps list files codes settings kept acyclic (c.lookup_laws.ensures.are_supertypes (all_classes files) acyclic) (c.lookup_laws.ensures.one_supertypes (all_classes files)) in
+    let all = keeps list files codes settings kept acyclic (c.lookup_laws.ensures.are_supertypes (all_classes files)
+    acyclic) (c.lookup_laws.ensures.one_supertypes (all_classes files)) in
     record {
       virtual_calls = c.dispatch_laws.ensures.virtual_calls (all_classes files) all.rules;
       interface_calls = c.dispatch_laws.ensures.interface_calls (all_classes files) all.rules all.interfaces;

@@ -9,7 +9,8 @@ use Rattle.cjc_vtable.proofs.maps.interface_map.Goals as goal
 pub returns : goal.returns
 returns c =
     let all = signs c.args.row.now in
-    map-is (all_classes c.args.world.now) all (signs c.in_ok-methods.methods.items) (class_of c.args.interface) c.in_ok-interface.interface c.in_ok-index.index
+    map-is (all_classes c.args.world.now) all (signs c.in_ok-methods.methods.items) (class_of c.args.interface)
+    c.in_ok-interface.interface c.in_ok-index.index
     (c.in_ok-interface.ensures ∙ c.name.ensures)
     (c.in_ok-index.ensures ∙ ap (λ q. map (index_of all) (signs q)) c.deref.ensures.value)
     c.in_ok-methods.ensures

@@ -10,10 +10,12 @@ pub loop-place-preserved : goal.loop-place-preserved
 loop-place-preserved c =
     let w = all_classes c.args.world.now in
     let f = interface_map w (signs c.args.row.now) in
-    maps-next f w c.args.places.now c.loop-place.maps (map f (at_places w c.args.places.now)) c.loop-place.place-index c.put_map.new.maps c.loop-place-test.true c.in_ok-put_map.ensures c.loop-place.invariant
+    maps-next f w c.args.places.now c.loop-place.maps (map f (at_places w c.args.places.now)) c.loop-place.place-index
+    c.put_map.new.maps c.loop-place-test.true c.in_ok-put_map.ensures c.loop-place.invariant
 
 pub returns : goal.returns
 returns c =
     let w = all_classes c.args.world.now in
     let f = interface_map w (signs c.args.row.now) in
-    maps-end f w c.args.places.now c.loop-place.maps (map f (at_places w c.args.places.now)) c.loop-place.place-index c.loop-place-test.false c.loop-place.invariant
+    maps-end f w c.args.places.now c.loop-place.maps (map f (at_places w c.args.places.now)) c.loop-place.place-index
+    c.loop-place-test.false c.loop-place.invariant

@@ -6,4 +6,6 @@ use Rattle.cjc_vtable.specs.Tables.{interface_map}
 use Rattle.cjc_vtable.proofs.maps.maps_at.Given as goal
 
 abbrev pub invariant-loop-place : goal.invariant-loop-place
-invariant-loop-place l = l.maps ++ map (interface_map (all_classes l.world) (signs l.row)) (at_places (all_classes l.world) (drop l.place-index l.places)) ≡ map (interface_map (all_classes l.world) (signs l.row)) (at_places (all_classes l.world) l.places)
+invariant-loop-place l = l.maps ++ map (interface_map (all_classes l.world) (signs l.row))
+    (at_places (all_classes l.world) (drop l.place-index l.places))
+    ≡ map (interface_map (all_classes l.world) (signs l.row)) (at_places (all_classes l.world) l.places)

@@ -15,6 +15,9 @@ returns c =
     let n = c.args.number in
     let t = c.requires.tokens in
     let k = c.requires.class in
-    let there : class_at w false n ≡ Some (class_of c.args.class) = own_listed c.args.world.now n k.0 ∙ ap (option_map (declared n)) k.2 ∙ ap Some (sym k.3) in
-    let named = slots-named c.args.world.now t.0 n (class_of c.args.class) (c.lookup_laws.ensures.are_supertypes w c.acyclic.ensures) there c.requires.plain in
-    subst (λ q. IfOk c.named_row.result (λ row. signs row.items ≡ q)) (ap (map (named_where w)) (c.public_methods.ensures ∙ ap (λ q. public_methods_of q n) t.1) ∙ named) c.named_row.ensures
+    let there : class_at w false n ≡ Some (class_of c.args.class) = own_listed c.args.world.now n k.0
+    ∙ ap (option_map (declared n)) k.2 ∙ ap Some (sym k.3) in
+    let named = slots-named c.args.world.now t.0 n (class_of c.args.class) (c.lookup_laws.ensures.are_supertypes w
+    c.acyclic.ensures) there c.requires.plain in
+    subst (λ q. IfOk c.named_row.result (λ row. signs row.items ≡ q)) (ap (map (named_where w))
+    (c.public_methods.ensures ∙ ap (λ q. public_methods_of q n) t.1) ∙ named) c.named_row.ensures

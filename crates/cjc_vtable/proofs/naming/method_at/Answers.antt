@@ -10,5 +10,6 @@ returns-else-place-count c =
     let le : length (class_of c.args.class).methods ≤ c.args.place = omega arith in
     c.id_at.ensures
     ∙ ap (λ q. option_map signature_by (slice_get q (c.args.place - c.member_count-count.result))) c.ids_at.ensures
-    ∙ ap (λ n. option_map signature_by (slice_get (ids_at c.args.world.now c.args.found) (c.args.place - n))) c.member_count-count.ensures
+    ∙ ap (λ n. option_map signature_by (slice_get (ids_at c.args.world.now c.args.found) (c.args.place - n)))
+    c.member_count-count.ensures
     ∙ sym (added-place c.args.world.now c.args.found (class_of c.args.class) c.args.place c.requires le)

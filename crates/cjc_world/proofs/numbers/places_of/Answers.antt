@@ -15,11 +15,15 @@ loop-place-preserved c =
           ap (λ v. Vec.items v ++ places_of b (i + 1) (drop (i + 1) ss)) w.places-is
           ∙ ap (λ ps. ps ++ places_of b (i + 1) (drop (i + 1) ss)) w.in_ok-push.ensures.items
           ∙ append_assoc c.loop-place.places.items (i ∷ []) (places_of b (i + 1) (drop (i + 1) ss))
-          ∙ ap (λ ps. c.loop-place.places.items ++ ps) (sym (place-here b ss i _ c.loop-place-test.true (sym c.is_of_kind.ensures ∙ w.if-is_of_kind.true)))
+          ∙ ap (λ ps. c.loop-place.places.items
+          ++ ps) (sym (place-here b ss i _ c.loop-place-test.true (sym c.is_of_kind.ensures
+          ∙ w.if-is_of_kind.true)))
           ∙ c.loop-place.invariant
       | else-is_of_kind w ↦
           ap (λ v. Vec.items v ++ places_of b (i + 1) (drop (i + 1) ss)) w.places-is
-          ∙ ap (λ ps. c.loop-place.places.items ++ ps) (sym (place-over b ss i _ c.loop-place-test.true (sym c.is_of_kind.ensures ∙ w.if-is_of_kind.false)))
+          ∙ ap (λ ps. c.loop-place.places.items
+          ++ ps) (sym (place-over b ss i _ c.loop-place-test.true (sym c.is_of_kind.ensures
+          ∙ w.if-is_of_kind.false)))
           ∙ c.loop-place.invariant
     ]
 
@@ -27,5 +31,6 @@ pub returns : goal.returns
 returns c =
     c.of.ensures
     ∙ sym (append-nil c.loop-place.places.items)
-    ∙ ap (λ ps. c.loop-place.places.items ++ ps) (sym (place-end c.args.imported c.args.spots.now c.loop-place.place c.loop-place-test.false))
+    ∙ ap (λ ps. c.loop-place.places.items ++ ps) (sym (place-end c.args.imported c.args.spots.now c.loop-place.place
+    c.loop-place-test.false))
     ∙ c.loop-place.invariant

@@ -8,14 +8,16 @@ use Rattle.cjc_world.proofs.rules.is_of_package.Goals as goal
 pub returns-then-name-package_name : goal.returns-then-name-package_name
 unfolding is_of_package
 returns-then-name-package_name c =
-    ap (λ b. b && is_slash_part (drop (length c.args.package_name.now) c.args.name.now)) (sym (front_too_short c.args.package_name.now c.args.name.now c.if-name-package_name.true))
+    ap (λ b. b && is_slash_part (drop (length c.args.package_name.now) c.args.name.now))
+    (sym (front_too_short c.args.package_name.now c.args.name.now c.if-name-package_name.true))
 
 pub returns-then-eq : goal.returns-then-eq
 unfolding is_of_package
 returns-then-eq c =
     let front : true ≡ bytes_eq (take (length c.args.package_name.now) c.args.name.now) c.args.package_name.now =
     sym c.if-eq.true ∙ c.eq.ensures ∙ ap (λ f. bytes_eq f c.args.package_name.now) c.split_at.ensures.front in
-    c.is_slash_part.ensures ∙ ap is_slash_part c.split_at.ensures.back ∙ ap (λ b. b && is_slash_part (drop (length c.args.package_name.now) c.args.name.now)) front
+    c.is_slash_part.ensures ∙ ap is_slash_part c.split_at.ensures.back
+    ∙ ap (λ b. b && is_slash_part (drop (length c.args.package_name.now) c.args.name.now)) front
 
 pub returns-else-eq : goal.returns-else-eq
 unfolding is_of_package

@@ -16,4 +16,5 @@ returns-in_ok-put c =
     ∙ ap (λ o. joined old (piece c.args.order c.args.listed c.args.rows.now o)) (sym c.in-Some.is)
 
 pub returns-in_default : goal.returns-in_default
-returns-in_default c = sym (joined-nil c.args.places.now) ∙ ap (λ o. joined c.args.places.now (piece c.args.order c.args.listed c.args.rows.now o)) (sym c.in_default.is)
+returns-in_default c = sym (joined-nil c.args.places.now)
+    ∙ ap (λ o. joined c.args.places.now (piece c.args.order c.args.listed c.args.rows.now o)) (sym c.in_default.is)

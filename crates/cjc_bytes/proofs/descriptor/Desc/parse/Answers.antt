@@ -12,7 +12,8 @@ pub returns-in-None-clause-parts : goal.returns-in-None-clause-parts
 returns-in-None-clause-parts c = desc_found c.args.bytes.now (sym c.first_bad.ensures ∙ c.in-None.is)
 
 pub returns-in-Some-clause-only : goal.returns-in-Some-clause-only
-returns-in-Some-clause-only c = λ d h. no_parts c.args.bytes.now d c.in-Some.at (sym c.first_bad.ensures ∙ c.in-Some.is) h
+returns-in-Some-clause-only c = λ d h. no_parts c.args.bytes.now d c.in-Some.at (sym c.first_bad.ensures
+    ∙ c.in-Some.is) h
 
 pub returns-in-Some-clause-bad : goal.returns-in-Some-clause-bad
 returns-in-Some-clause-bad c = longest c.args.bytes.now c.in-Some.at (sym c.first_bad.ensures ∙ c.in-Some.is)

@@ -5,4 +5,6 @@ use Rattle.cjc_flow.proofs.intervals.Intervals.is_above.Goals as goal
 
 pub returns : goal.returns
 returns c = λ h.
-    above_view join_row c.as_slice.result.now c.as_slice-2.result.now c.args.self.now c.args.other.now (ap reverse c.as_slice.ensures.value ∙ c.self.view_is) (ap reverse c.as_slice-2.ensures.value ∙ c.other.view_is) c.requires (c.are_above.ensures h)
+    above_view join_row c.as_slice.result.now c.as_slice-2.result.now c.args.self.now c.args.other.now
+    (ap reverse c.as_slice.ensures.value ∙ c.self.view_is) (ap reverse c.as_slice-2.ensures.value ∙ c.other.view_is)
+    c.requires (c.are_above.ensures h)

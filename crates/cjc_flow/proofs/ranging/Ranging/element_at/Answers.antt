@@ -7,5 +7,8 @@ use Rattle.cjc_flow.proofs.Loading.{element_kept}
 use Rattle.cjc_flow.proofs.ranging.Ranging.element_at.Goals as goal
 
 pub returns : goal.returns
-returns c = subst (λ (r : Ranged). (insn : JInsn) → slice_get r.body.insns c.args.at ≡ Some insn → c.kept_at.result ≡ element_at insn (get_or r.types c.args.at None)) c.self.view_is
-    (λ insn is. c.kept_at.ensures ∙ ap (λ (es : List (Option Span)). get_or es c.args.at None) c.items.ensures ∙ element_kept c.self.inside.method c.self.inside.types.now c.self.inside.elements c.self.invariant.elements_are c.args.at insn is)
+returns c = subst (λ (r : Ranged). (insn : JInsn) → slice_get r.body.insns c.args.at ≡ Some insn
+    → c.kept_at.result ≡ element_at insn (get_or r.types c.args.at None)) c.self.view_is
+    (λ insn is. c.kept_at.ensures ∙ ap (λ (es : List (Option Span)). get_or es c.args.at None) c.items.ensures
+    ∙ element_kept c.self.inside.method c.self.inside.types.now c.self.inside.elements c.self.invariant.elements_are
+    c.args.at insn is)

@@ -10,4 +10,6 @@ pub returns : goal.returns
 returns c =
     let body = ap (λ (r : Ranged). r.body) c.self.view_is in
     subst (λ (b : Body). c.is_marked.result ≡ is_marked b c.args.at) body
-    (c.is_marked.ensures ∙ marked_is c.self.inside.method c.items.result.now c.args.at (c.items.ensures ∙ c.self.invariant.typed.marks) (λ e. subst (λ (b : Body). 0 < length b.insns) (sym body) (c.requires e)) (mark_of c.items.result.now c.args.at) refl)
+    (c.is_marked.ensures ∙ marked_is c.self.inside.method c.items.result.now c.args.at (c.items.ensures
+    ∙ c.self.invariant.typed.marks) (λ e. subst (λ (b : Body). 0 < length b.insns) (sym body) (c.requires e))
+    (mark_of c.items.result.now c.args.at) refl)

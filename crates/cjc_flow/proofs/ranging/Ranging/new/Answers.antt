@@ -13,10 +13,12 @@ invariant_of-result c =
     let types = c.args.types.now in
     record {
       classes = all_classes c.args.world.now;
-      typed = subst (λ (b : Body). IsTypeTable (all_classes c.args.world.now) b types) (sym method) (c.requires.types of.0 of.1 of.2 of.3);
+      typed = subst (λ (b : Body). IsTypeTable (all_classes c.args.world.now) b types) (sym method)
+          (c.requires.types of.0 of.1 of.2 of.3);
       elements_are = c.in_ok-elements.ensures;
       first_is = c.in_ok-first.ensures;
-      few = subst (λ (b : Body). length b.insns < 2 ^ 32) (sym method) (insns_few c.args.world.now c.args.code.now of.0 of.1 of.2 of.3);
+      few = subst (λ (b : Body). length b.insns < 2 ^ 32) (sym method) (insns_few c.args.world.now c.args.code.now of.0
+          of.1 of.2 of.3);
     }
 
 pub returns : goal.returns

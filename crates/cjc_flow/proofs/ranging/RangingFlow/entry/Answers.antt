@@ -1,5 +1,5 @@
 use Rattle.std.proofs.Common.{◌≡◌, sym, ◌∙◌, subst}
-use Rattle.cjc_range_flow.specs.Flow.{entry}
+use Rattle.cjc_intervals.specs.Flow.{entry}
 use Rattle.cjc_types.specs.Tables.{rows_of}
 use Rattle.cjc_flow.specs.Working.Kept.{Ranged}
 use Rattle.cjc_flow.proofs.Loading.{rows_sized}

@@ -3,4 +3,5 @@ use Rattle.cjc_types.specs.Flow.{handler_edge}
 use Rattle.cjc_types.proofs.method.Method.put_handlers.Given as goal
 
 abbrev pub invariant-loop-catch : goal.invariant-loop-catch
-invariant-loop-catch l = l.edges ≡ l.initial.edges ++ filter_map (handler_edge l.self.insns l.offset l.before) (take l.catch-index l.catch-items)
+invariant-loop-catch l = l.edges ≡ l.initial.edges ++ filter_map (handler_edge l.self.insns l.offset l.before)
+    (take l.catch-index l.catch-items)

@@ -4,7 +4,8 @@ use Rattle.cjc_types.proofs.operands.Operands.below.Given as goal
 
 abbrev pub invariant-loop-left : goal.invariant-loop-left
 invariant-loop-left l = record {
-  rest : drop l.left (reverse (bottom_up l.parts.items ++ l.own.items)) ≡ drop l.count (reverse (bottom_up l.initial.parts.items ++ l.initial.own.items));
+  rest : drop l.left (reverse (bottom_up l.parts.items ++ l.own.items))
+      ≡ drop l.count (reverse (bottom_up l.initial.parts.items ++ l.initial.own.items));
   deep : l.deep ≡ length (bottom_up l.parts.items);
   fits : l.deep + length l.own.items < 2 ^ 64;
 }

@@ -11,20 +11,24 @@ pub parts_rank-requires-clause-own : goal.parts_rank-requires-clause-own
 parts_rank-requires-clause-own c =
     let s = c.self.inside in
     subst (λ (zs : List (List Cell)). All IsCell (bottom_up zs)) (sym c.deref.ensures.value)
-    (All-left IsCell (bottom_up s.parts.items) s.own.items (all_view IsCell (bottom_up s.parts.items ++ s.own.items) c.args.self.now c.self.view_is c.requires.own))
+    (All-left IsCell (bottom_up s.parts.items) s.own.items (all_view IsCell (bottom_up s.parts.items
+    ++ s.own.items) c.args.self.now c.self.view_is c.requires.own))
 
 pub cells_rank-requires-clause-own : goal.cells_rank-requires-clause-own
 cells_rank-requires-clause-own c =
     let s = c.self.inside in
     subst (λ (zs : List Cell). All IsCell zs) (sym c.deref-2.ensures.value)
-    (All-right IsCell (bottom_up s.parts.items) s.own.items (all_view IsCell (bottom_up s.parts.items ++ s.own.items) c.args.self.now c.self.view_is c.requires.own))
+    (All-right IsCell (bottom_up s.parts.items) s.own.items (all_view IsCell (bottom_up s.parts.items
+    ++ s.own.items) c.args.self.now c.self.view_is c.requires.own))
 
 pub returns-clause-rank : goal.returns-clause-rank
 returns-clause-rank c =
     let s = c.self.inside in
     let deep : List Cell = bottom_up s.parts.items in
-    ap (λ (n : ℕ). n + c.cells_rank.result) (c.parts_rank.ensures.rank ∙ ap (λ (zs : List (List Cell)). sum_by cell_rank (bottom_up zs)) c.deref.ensures.value)
-    ∙ ap (λ (n : ℕ). sum_by cell_rank deep + n) (c.cells_rank.ensures.rank ∙ ap (λ (zs : List Cell). sum_by cell_rank zs) c.deref-2.ensures.value)
+    ap (λ (n : ℕ). n + c.cells_rank.result) (c.parts_rank.ensures.rank
+    ∙ ap (λ (zs : List (List Cell)). sum_by cell_rank (bottom_up zs)) c.deref.ensures.value)
+    ∙ ap (λ (n : ℕ). sum_by cell_rank deep + n) (c.cells_rank.ensures.rank
+    ∙ ap (λ (zs : List Cell). sum_by cell_rank zs) c.deref-2.ensures.value)
     ∙ sym (sum_by-append cell_rank deep s.own.items)
     ∙ sum_reversed cell_rank (deep ++ s.own.items)
     ∙ ap (λ (zs : List Cell). sum_by cell_rank zs) c.self.view_is

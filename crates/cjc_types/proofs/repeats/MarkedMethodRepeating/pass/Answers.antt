@@ -10,4 +10,5 @@ is_marked-requires c = ascend c.args.self.now.method.now c.items.result.now (c.i
 pub returns : goal.returns
 returns c =
     subst (λ (o : Option State). IfOk c.go_on.result (λ next. next ≡ o))
-    (sym (pass_is c.args.self.now.method.now c.items.result.now c.args.at c.args.before (c.items.ensures ∙ c.args.self.now.marked) (sym c.if-is_marked.false ∙ c.is_marked.ensures))) c.go_on.ensures
+    (sym (pass_is c.args.self.now.method.now c.items.result.now c.args.at c.args.before (c.items.ensures
+    ∙ c.args.self.now.marked) (sym c.if-is_marked.false ∙ c.is_marked.ensures))) c.go_on.ensures

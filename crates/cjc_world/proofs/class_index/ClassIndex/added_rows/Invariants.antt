@@ -7,5 +7,6 @@ use Rattle.cjc_world.proofs.class_index.ClassIndex.added_rows.Given as goal
 abbrev pub invariant-loop-place : goal.invariant-loop-place
 invariant-loop-place l = record {
   count : length l.added.items ≡ l.place;
-  made : (i : ℕ) → i < l.place → is_number_ready l.self l.rows i ≡ true → slice_get l.added.items i ≡ Some (added_at l.self i);
+  made : (i : ℕ) → i < l.place → is_number_ready l.self l.rows i ≡ true → slice_get l.added.items i
+      ≡ Some (added_at l.self i);
 }

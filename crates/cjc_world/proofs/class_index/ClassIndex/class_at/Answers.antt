@@ -12,7 +12,9 @@ returns-in_err-place-clause-at c =
     let inv = c.self.invariant in
     let few = (let i = inv.indexed in i.count ∙ ap length (sym i.all)) in
     ap (option_map class_of) c.from_residual.ensures
-    ∙ sym (number-none r.classes r.exports c.args.imported r.lines r.spots inv.indexed.all few c.args.class (ap (λ ps. slice_get ps c.args.class) (sym (noted-places c.args.imported r.numbers r.spots inv.declared inv.imported)) ∙ sym c.get.ensures ∙ c.in_err-place.was))
+    ∙ sym (number-none r.classes r.exports c.args.imported r.lines r.spots inv.indexed.all few c.args.class
+    (ap (λ ps. slice_get ps c.args.class) (sym (noted-places c.args.imported r.numbers r.spots inv.declared
+    inv.imported)) ∙ sym c.get.ensures ∙ c.in_err-place.was))
     ∙ ap (λ f. class_at (all_classes f) c.args.imported c.args.class) c.self.view_is
 
 pub returns-clause-at : goal.returns-clause-at
@@ -23,5 +25,7 @@ returns-clause-at c =
     let few = (let i = inv.indexed in i.count ∙ ap length (sym i.all)) in
     c.class_in.ensures.at
     ∙ ap (λ f. slice_get (all_classes f) c.in_ok-place.place) (sym c.self.view_is)
-    ∙ number-place r.classes r.exports c.args.imported r.lines r.spots inv.indexed.all few c.args.class c.in_ok-place.place (ap (λ ps. slice_get ps c.args.class) (sym (noted-places c.args.imported r.numbers r.spots inv.declared inv.imported)) ∙ sym c.get.ensures ∙ c.in_ok-place.was)
+    ∙ number-place r.classes r.exports c.args.imported r.lines r.spots inv.indexed.all few c.args.class
+    c.in_ok-place.place (ap (λ ps. slice_get ps c.args.class) (sym (noted-places c.args.imported r.numbers r.spots
+    inv.declared inv.imported)) ∙ sym c.get.ensures ∙ c.in_ok-place.was)
     ∙ ap (λ f. class_at (all_classes f) c.args.imported c.args.class) c.self.view_is

@@ -11,7 +11,8 @@ pub returns-in_err-spot-clause-at : goal.returns-in_err-spot-clause-at
 unfolding all_classes
 returns-in_err-spot-clause-at c =
     ap (option_map class_of) c.from_residual.ensures
-    ∙ got_none (all_classes c.args.self.now) c.args.place (subst (λ n. n ≤ c.args.place) c.spots.ensures.count c.in_err-spot.ensures.lookup.3)
+    ∙ got_none (all_classes c.args.self.now) c.args.place (subst (λ n. n ≤ c.args.place) c.spots.ensures.count
+    c.in_err-spot.ensures.lookup.3)
 
 pub returns-clause-at : goal.returns-clause-at
 unfolding all_classes
@@ -19,10 +20,12 @@ returns-clause-at c =
     let files = c.args.self.now in
     let ss = c.spots.result.now in
     c.at.ensures
-    ∙ spot-class files.classes files.exports ss (c.spots.ensures.count ∙ ap length (sym c.spots.ensures.all)) c.args.place c.in_ok-spot.spot.now
+    ∙ spot-class files.classes files.exports ss (c.spots.ensures.count ∙ ap length (sym c.spots.ensures.all))
+    c.args.place c.in_ok-spot.spot.now
     (sym (got_some ss c.args.place c.in_ok-spot.spot.now c.in_ok-spot.ensures.lookup.3.0 c.in_ok-spot.ensures.lookup.1))
     ∙ ap (λ w. slice_get w c.args.place) c.spots.ensures.all
 
 pub returns-clause-counted : goal.returns-clause-counted
 unfolding all_classes
-returns-clause-counted c = placed-counted (all_classes c.args.self.now) c.spots.ensures.counted c.args.place c.at.result (returns-clause-at c)
+returns-clause-counted c = placed-counted (all_classes c.args.self.now) c.spots.ensures.counted c.args.place c.at.result
+    (returns-clause-at c)

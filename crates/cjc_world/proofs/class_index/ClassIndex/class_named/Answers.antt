@@ -7,7 +7,8 @@ use Rattle.cjc_world.proofs.class_index.ClassIndex.class_named.Goals as goal
 
 pub returns-in_err-place-clause-named : goal.returns-in_err-place-clause-named
 returns-in_err-place-clause-named c =
-    ap (option_map class_of) c.from_residual.ensures ∙ sym (place-none (all_classes c.args.self.now) c.args.name.now (sym c.in_err-place.ensures))
+    ap (option_map class_of) c.from_residual.ensures ∙ sym (place-none (all_classes c.args.self.now) c.args.name.now
+    (sym c.in_err-place.ensures))
 
 pub returns-clause-named : goal.returns-clause-named
 returns-clause-named c =

@@ -13,6 +13,8 @@ returns c =
       own = λ x p e.
           let d = place-class w x p e in
           let l = slice_get_within w p d.0 d.1 in
-          ap (λ xs. slice_get xs p) c.of.ensures ∙ c.loop-place.invariant.made x p (let n = c.count-place-end.ensures in let t = c.loop-place-test.false in omega arith) e;
-      below = λ x p e. ap (λ xs. slice_get xs p) c.of-2.ensures ∙ done-below w c.in_ok-below.below.items c.in_ok-below.ensures x p e;
+          ap (λ xs. slice_get xs p) c.of.ensures ∙ c.loop-place.invariant.made x p (let n = c.count-place-end.ensures
+          in let t = c.loop-place-test.false in omega arith) e;
+      below = λ x p e. ap (λ xs. slice_get xs p) c.of-2.ensures ∙ done-below w c.in_ok-below.below.items
+          c.in_ok-below.ensures x p e;
     }

@@ -8,5 +8,6 @@ use Rattle.cjc_world.proofs.class_index.ClassIndex.cycles.Given as goal
 abbrev pub invariant-loop-place : goal.invariant-loop-place
 invariant-loop-place l = record {
   count : length l.own.items ≡ l.place;
-  made : (x : List ℕ) (p : ℕ) → p < l.place → place_named (all_classes l.self) x ≡ Some p → slice_get l.own.items p ≡ Some (stands_above (all_classes l.self) x x);
+  made : (x : List ℕ) (p : ℕ) → p < l.place → place_named (all_classes l.self) x ≡ Some p → slice_get l.own.items p
+      ≡ Some (stands_above (all_classes l.self) x x);
 }

@@ -15,15 +15,20 @@ loop-place-preserved c =
     elim c.match-class_in.branch [
       | in-Some+in_ok-get_methods b ↦
           ap (λ v. got_all w there name v.items (drop (i + 1) c.args.interfaces.now)) b.ids-is
-          ∙ all-some w there name c.loop-place.ids.items b.get_methods.new.ids.items c.args.interfaces.now i 0 (class_of b.in-Some.interface) c.loop-place-test.true (sym b.in-Some.ensures.at) b.in_ok-get_methods.ensures
+          ∙ all-some w there name c.loop-place.ids.items b.get_methods.new.ids.items c.args.interfaces.now i 0
+          (class_of b.in-Some.interface) c.loop-place-test.true (sym b.in-Some.ensures.at)
+          b.in_ok-get_methods.ensures
           ∙ c.loop-place.invariant
       | in_default b ↦
           ap (λ v. got_all w there name v.items (drop (i + 1) c.args.interfaces.now)) b.ids-is
-          ∙ all-none w there name c.loop-place.ids.items c.args.interfaces.now i 0 c.loop-place-test.true (sym b.in_default.ensures.at)
+          ∙ all-none w there name c.loop-place.ids.items c.args.interfaces.now i 0 c.loop-place-test.true
+          (sym b.in_default.ensures.at)
           ∙ c.loop-place.invariant
     ]
 
 pub returns : goal.returns
 returns c =
-    all-end (all_classes c.args.self.now) (λ n d. is_had (all_classes c.args.self.now) c.args.rows.now (class_of c.args.class) c.args.line.now n d) (class_of c.args.class).name c.loop-place.ids.items c.args.interfaces.now c.loop-place.place-index c.loop-place-test.false
+    all-end (all_classes c.args.self.now) (λ n d. is_had (all_classes c.args.self.now) c.args.rows.now
+    (class_of c.args.class) c.args.line.now n d) (class_of c.args.class).name c.loop-place.ids.items
+    c.args.interfaces.now c.loop-place.place-index c.loop-place-test.false
     ∙ c.loop-place.invariant

@@ -7,5 +7,7 @@ use Rattle.cjc_world.proofs.class_index.ClassIndex.get_methods.Given as goal
 
 abbrev pub invariant-loop-position : goal.invariant-loop-position
 invariant-loop-position l =
-    got (λ n d. is_had (all_classes l.self) l.rows (class_of l.class) l.line n d) (class_of l.class).name l.ids.items (asked_from (class_of l.interface) l.position (l.position-end - l.position))
-    ≡ got (λ n d. is_had (all_classes l.self) l.rows (class_of l.class) l.line n d) (class_of l.class).name l.initial.ids.items (own_methods (class_of l.interface))
+    got (λ n d. is_had (all_classes l.self) l.rows (class_of l.class) l.line n d) (class_of l.class).name l.ids.items
+    (asked_from (class_of l.interface) l.position (l.position-end - l.position))
+    ≡ got (λ n d. is_had (all_classes l.self) l.rows (class_of l.class) l.line n d) (class_of l.class).name
+    l.initial.ids.items (own_methods (class_of l.interface))

@@ -5,4 +5,5 @@ use Rattle.cjc_world.specs.Rules.{is_type_missing}
 use Rattle.cjc_world.proofs.class_index.ClassIndex.is_any_missing.Given as goal
 
 abbrev pub invariant-loop-i : goal.invariant-loop-i
-invariant-loop-i l = list_any (λ p. is_type_missing (all_classes l.self) p.class) (drop l.i l.desc.params) ≡ list_any (λ p. is_type_missing (all_classes l.self) p.class) l.desc.params
+invariant-loop-i l = list_any (λ p. is_type_missing (all_classes l.self) p.class) (drop l.i l.desc.params)
+    ≡ list_any (λ p. is_type_missing (all_classes l.self) p.class) l.desc.params

@@ -14,4 +14,5 @@ returns-in_ok-known-in-Some c = λ x e.
     let k = class_of c.in-Some.class in
     c.is_listed_below.ensures
     ∙ ap (λ v. any_stands w k.name v k.supers || any_stands w k.name v k.interfaces) c.deref.ensures.value
-    ∙ own-stands w c.in_ok-known-in-Some.known.items x c.args.place k e (sym c.in-Some.ensures.at) (subst (λ n. IsDone w false n c.in_ok-known-in-Some.known.items) c.name.ensures c.in_ok-known-in-Some.ensures)
+    ∙ own-stands w c.in_ok-known-in-Some.known.items x c.args.place k e (sym c.in-Some.ensures.at)
+    (subst (λ n. IsDone w false n c.in_ok-known-in-Some.known.items) c.name.ensures c.in_ok-known-in-Some.ensures)

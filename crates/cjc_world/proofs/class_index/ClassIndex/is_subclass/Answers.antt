@@ -13,4 +13,5 @@ returns-in-Some c =
     ∙ fields-stand w c.args.rows.now c.requires c.args.sub.now c.in-Some.place (sym c.in-Some.ensures) c.args.sup.now
 
 pub returns-in-None : goal.returns-in-None
-returns-in-None c = c.eq.ensures ∙ none-stands (all_classes c.args.self.now) c.args.rows.now c.requires c.args.sub.now c.args.sup.now (sym c.in-None.ensures)
+returns-in-None c = c.eq.ensures ∙ none-stands (all_classes c.args.self.now) c.args.rows.now c.requires c.args.sub.now
+    c.args.sup.now (sym c.in-None.ensures)

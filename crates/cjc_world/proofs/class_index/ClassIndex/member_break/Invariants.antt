@@ -6,5 +6,7 @@ use Rattle.cjc_world.proofs.class_index.ClassIndex.member_break.Given as goal
 
 abbrev pub invariant-loop-place : goal.invariant-loop-place
 invariant-loop-place l =
-    head (members_from l.file l.file_name l.class (all_classes l.self) (class_of l.known) l.field l.place (drop l.place (members l.field (class_of l.known))))
-    ≡ head (members_from l.file l.file_name l.class (all_classes l.self) (class_of l.known) l.field 0 (members l.field (class_of l.known)))
+    head (members_from l.file l.file_name l.class (all_classes l.self) (class_of l.known) l.field l.place
+    (drop l.place (members l.field (class_of l.known))))
+    ≡ head (members_from l.file l.file_name l.class (all_classes l.self) (class_of l.known) l.field 0
+    (members l.field (class_of l.known)))

@@ -11,7 +11,8 @@ invariant_of-result c =
     let indexed : IsIndexed c.args.lines c.args.classes c.args.exports c.in_ok-spots.spots =
     subst (λ v. IsIndexed v c.args.classes c.args.exports c.in_ok-spots.spots) c.items.ensures
     (subst (λ v. IsIndexed c.items.result.now v c.args.exports c.in_ok-spots.spots) c.items-2.ensures
-    (subst (λ v. IsIndexed c.items.result.now c.items-2.result.now v c.in_ok-spots.spots) c.items-3.ensures c.in_ok-spots.ensures)) in
+    (subst (λ v. IsIndexed c.items.result.now c.items-2.result.now v c.in_ok-spots.spots) c.items-3.ensures
+    c.in_ok-spots.ensures)) in
     record {
       indexed = indexed;
       named = λ x.

@@ -5,4 +5,5 @@ use Rattle.cjc_world.proofs.class_index.ClassIndex.place_named.Goals as goal
 
 pub returns : goal.returns
 unfolding all_classes
-returns c = c.get.ensures ∙ c.self.invariant.named c.args.name.now ∙ ap (λ f. place_named (all_classes f) c.args.name.now) c.self.view_is
+returns c = c.get.ensures ∙ c.self.invariant.named c.args.name.now
+    ∙ ap (λ f. place_named (all_classes f) c.args.name.now) c.self.view_is

@@ -18,7 +18,8 @@ returns-in-Some c =
     let methods = members_from c.args.file c.args.file_name.now c.args.class w k false 0 k.methods in
     let broken = head_of_map f rules ∙ ap (option_map f) (sym c.in-Some.ensures) in
     ap (λ n. Some (at_class c.args.file c.args.file_name.now c.args.class n c.in-Some.rule)) c.name.ensures
-    ∙ sym (head_some (map f rules ++ fields) methods (f c.in-Some.rule) (head_some (map f rules) fields (f c.in-Some.rule) broken))
+    ∙ sym (head_some (map f rules ++ fields) methods (f c.in-Some.rule) (head_some (map f rules) fields
+    (f c.in-Some.rule) broken))
 
 pub returns-in-Some-member_break : goal.returns-in-Some-member_break
 unfolding class_breaks
@@ -31,7 +32,8 @@ returns-in-Some-member_break c =
     let methods = members_from c.args.file c.args.file_name.now c.args.class w k false 0 k.methods in
     let whole = head_of_map f rules ∙ ap (option_map f) (sym c.in_default.ensures) in
     let b = break_of c.in-Some-member_break.broken in
-    sym (head_some (map f rules ++ fields) methods b (head_none (map f rules) fields whole ∙ sym c.in-Some-member_break.ensures))
+    sym (head_some (map f rules ++ fields) methods b (head_none (map f rules) fields whole
+    ∙ sym c.in-Some-member_break.ensures))
 
 pub returns : goal.returns
 unfolding class_breaks
@@ -44,4 +46,5 @@ returns c =
     let methods = members_from c.args.file c.args.file_name.now c.args.class w k false 0 k.methods in
     let whole = head_of_map f rules ∙ ap (option_map f) (sym c.in_default.ensures) in
     c.member_break-2.ensures
-    ∙ sym (head_none (map f rules ++ fields) methods (head_none (map f rules) fields whole ∙ sym c.in_default-member_break.ensures))
+    ∙ sym (head_none (map f rules ++ fields) methods (head_none (map f rules) fields whole
+    ∙ sym c.in_default-member_break.ensures))

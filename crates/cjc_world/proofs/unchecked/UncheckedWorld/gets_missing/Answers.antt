@@ -18,10 +18,12 @@ returns-then-are_ready c =
     let t = c.self.inside.tables in
     let n = c.in-Declared.number in
     let tree = c.in-Declared.field-1.now in
-    let kept : IsKept files t c.self.inside.cycles = subst (λ f. IsKept f t c.self.inside.cycles) c.self.view_is c.self.invariant in
+    let kept : IsKept files t c.self.inside.cycles = subst (λ f. IsKept f t c.self.inside.cycles) c.self.view_is
+    c.self.invariant in
     let held : slice_get files.classes n ≡ Some tree = subst (λ k. IsHeld files k) c.in-Declared.is c.requires in
     let row = c.index-added-number.result in
-    let within : n < length t.added = subst (λ m. n < m) (sym kept.count) (slice_get_within files.classes n tree held) in
+    let within : n < length t.added = subst (λ m. n < m) (sym kept.count) (slice_get_within files.classes n tree held)
+    in
     let ready : are_ready (all_classes files) t.above (declared n tree) ≡ true =
     ap (λ f. are_ready (all_classes f) t.above (declared n tree)) (sym c.self.view_is)
     ∙ ap (λ k. are_ready (all_classes class_index) t.above (class_of k)) (sym c.in-Declared.is)
@@ -30,7 +32,8 @@ returns-then-are_ready c =
     c.any_desc_missing.ensures
     ∙ ap (λ f. list_any (λ i. is_desc_missing (all_classes f) i.desc) c.items-then-are_ready.result.now) c.self.view_is
     ∙ ap (list_any (λ i. is_desc_missing (all_classes files) i.desc)) c.items-then-are_ready.ensures
-    ∙ gets-ready files t c.self.inside.cycles kept n tree held row within (c.index-added-number.is ∙ ap (λ rs. get_or rs n row) c.items-added.ensures) ready
+    ∙ gets-ready files t c.self.inside.cycles kept n tree held row within (c.index-added-number.is
+    ∙ ap (λ rs. get_or rs n row) c.items-added.ensures) ready
     ∙ ap (λ k. gets_missing (all_classes files) (class_of k)) (sym c.in-Declared.is)
 
 pub returns-else-are_ready : goal.returns-else-are_ready
@@ -40,7 +43,8 @@ returns-else-are_ready c =
     let t = c.self.inside.tables in
     let n = c.in-Declared.number in
     let tree = c.in-Declared.field-1.now in
-    let kept : IsKept files t c.self.inside.cycles = subst (λ f. IsKept f t c.self.inside.cycles) c.self.view_is c.self.invariant in
+    let kept : IsKept files t c.self.inside.cycles = subst (λ f. IsKept f t c.self.inside.cycles) c.self.view_is
+    c.self.invariant in
     let held : slice_get files.classes n ≡ Some tree = subst (λ k. IsHeld files k) c.in-Declared.is c.requires in
     let unready : are_ready (all_classes files) t.above (declared n tree) ≡ false =
     ap (λ f. are_ready (all_classes f) t.above (declared n tree)) (sym c.self.view_is)

@@ -9,4 +9,5 @@ pub returns-clause-tables : goal.returns-clause-tables
 returns-clause-tables c = λ acyclic.
     let d = c.self.inside in
     subst (λ f. AreTables f d.tables) c.self.view_is
-    (kept-tables d.class_index d.tables d.cycles c.self.invariant (subst (λ f. IsAcyclic (all_classes f)) (sym c.self.view_is) acyclic))
+    (kept-tables d.class_index d.tables d.cycles c.self.invariant (subst (λ f. IsAcyclic (all_classes f))
+    (sym c.self.view_is) acyclic))

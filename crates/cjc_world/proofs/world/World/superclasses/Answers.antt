@@ -12,5 +12,6 @@ returns c =
     let w = all_classes c.args.self.now in
     let rows = c.rows.result.now in
     let k = class_of c.args.class in
-    ap (at_places w) (c.in_ok-places.ensures ∙ ap (λ f. joined [] (pieces (all_classes f) orders.Line false rows k.supers)) c.self.view_is)
+    ap (at_places w) (c.in_ok-places.ensures
+    ∙ ap (λ f. joined [] (pieces (all_classes f) orders.Line false rows k.supers)) c.self.view_is)
     ∙ superclasses-at w rows c.rows.ensures k

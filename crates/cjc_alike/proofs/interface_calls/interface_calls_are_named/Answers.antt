@@ -1,9 +1,0 @@
-use Rattle.cjc_alike.proofs.InterfaceCalls.Interfaces.{interface_named}
-use Rattle.cjc_alike.proofs.interface_calls.interface_calls_are_named.Goals as goal
-use Rattle.cjc_written_calls.specs.Calls.{interface_words}
-
-pub returns-clause-named : goal.returns-clause-named
-returns-clause-named c = λ list files judged p is class id of words. interface_named list files judged p is class id of words
-
-pub returns-clause-words : goal.returns-clause-words
-returns-clause-words c = λ list files judged p is class id of words. interface_words

@@ -1,5 +1,0 @@
-use Rattle.cjc_alike.proofs.InterfaceCalls.Privates.{private_named}
-use Rattle.cjc_alike.proofs.interface_calls.private_calls_are_named.Goals as goal
-
-pub returns : goal.returns
-returns c = λ list files judged p is class id of hit found private. private_named list files judged p is class id of hit found private

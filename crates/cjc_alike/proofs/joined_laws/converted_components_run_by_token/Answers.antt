@@ -1,5 +1,0 @@
-use Rattle.cjc_alike.proofs.joined_laws.converted_components_run_by_token.Goals as goal
-use Rattle.cjc_written_sends.specs.Named.{is_called}
-
-pub returns : goal.returns
-returns c = λ list files judged p is left. c.converted_packages_run_by_token.ensures list files judged p is (is_called p) (c.converted_packages_are_joined.ensures list files judged p is left)

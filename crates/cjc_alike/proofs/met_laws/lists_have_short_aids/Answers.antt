@@ -1,5 +1,0 @@
-use Rattle.cjc_alike.proofs.MetLaws.Aids.{aids_short}
-use Rattle.cjc_alike.proofs.met_laws.lists_have_short_aids.Goals as goal
-
-pub returns : goal.returns
-returns c = λ list read. aids_short list read

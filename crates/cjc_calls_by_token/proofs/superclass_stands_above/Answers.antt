@@ -1,5 +1,0 @@
-use Rattle.cjc_calls_by_token.proofs.Towers.{superclass_above}
-use Rattle.cjc_calls_by_token.proofs.superclass_stands_above.Goals as goal
-
-pub returns : goal.returns
-returns c = λ w n offset height x super z class says more le. superclass_above w n offset x super z class says more le

@@ -1,9 +1,0 @@
-use Rattle.std.proofs.Common.{◌≡◌, false, take}
-use Rattle.std.specs.List.{list_any}
-use Rattle.cjc_world.specs.Classes.{all_classes}
-use Rattle.cjc_components.specs.Components.{has_int}
-use Rattle.cjc_cap_tree.proofs.IntMembers.{own}
-use Rattle.cjc_cap_tree.proofs.ints.uses_int.Given as goal
-
-abbrev pub invariant-loop-number : goal.invariant-loop-number
-invariant-loop-number l = list_any (has_int (all_classes l.world)) (take l.number (own l.world)) ≡ false

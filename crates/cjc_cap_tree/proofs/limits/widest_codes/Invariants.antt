@@ -1,5 +1,0 @@
-use Rattle.std.proofs.Common.{◌≡◌, sum_by, take}
-use Rattle.cjc_cap_tree.proofs.limits.widest_codes.Given as goal
-
-abbrev pub invariant-loop-code : goal.invariant-loop-code
-invariant-loop-code l = l.bytes ≡ sum_by (λ c. c.widest) (take l.code-index l.codes)

@@ -1,3 +1,0 @@
-mod Told
-mod Exported
-mod Trees

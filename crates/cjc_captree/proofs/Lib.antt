@@ -1,0 +1,3 @@
+pub mod ExtentsLaws
+pub mod LimitsLaws
+pub mod TreesLaws

@@ -1,0 +1,3 @@
+pub mod Told
+pub mod Exported
+pub mod Trees

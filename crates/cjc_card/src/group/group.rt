@@ -1,0 +1,70 @@
+//! `Group`, a package ready to be run: its tables, what stands above its classes and above imported ones, made
+//! once before the first instruction.
+
+ghost use Rattle.std.specs.Prelude.{◌≡◌, ◌<◌, ◌^◌, true, IfOk, OnOk};
+ghost use Rattle.cjc_check_rules.specs.Complete.{class_info_size};
+ghost use Rattle.cjc_card_calls.specs.Lines.Handlers.{are_near};
+ghost use Rattle.cjc_card_link.specs.Group.{alone};
+
+use cjc_bytes::NoMemory;
+use cjc_capread::Method;
+use cjc_card_calls::files::Files;
+use cjc_card_calls::lines::{Lines, are_near};
+use cjc_card_link::{Part, Tables};
+use cjc_export::ExportTree;
+use std::alloc::Global;
+use std::marker::Model;
+
+/// A package with names and the export files that it imports, ready to be run.
+#[derive(Drop)]
+pub struct Group<'a> {
+    pub(crate) tables: Tables<'a>,
+    pub(crate) lines: Lines,
+    pub(crate) files: Files<'a>,
+}
+
+impl<'a> Model for Group<'a> {
+    ghost use Rattle.cjc_card_semantics.specs.Machine.Loaded.{Loaded};
+    ghost use Rattle.cjc_card_link.specs.Tables.{loaded_of};
+    ghost use Rattle.cjc_card.specs.Ready.{AreReady};
+
+    ghost Value = { Loaded };
+
+    ghost view = { λ g. loaded_of g.tables };
+
+    ghost invariant = { λ g. AreReady g.tables g.lines g.files };
+}
+
+// No memory is there for handlers at offsets of 2^32 or more.
+fn check_handlers(method: &Method) -> Result<(), NoMemory>
+    ensures { OnOk result (are_near method.now.handlers ≡ true) }
+{
+    if are_near(method.handlers.items()) {
+        Ok(())
+    } else {
+        Err(NoMemory)
+    }
+}
+
+impl<'a> Group<'a> {
+    /// The group of one package and of the export files that it imports, in the order of Import. No memory is there
+    /// for handlers at offsets of 2^32 or more.
+    pub fn new(
+        alloc: Global,
+        part: Part<'a>,
+        trees: &'a [ExportTree],
+    ) -> Result<Group<'a>, NoMemory>
+        requires { class_info_size part.class.now < 2 ^ 32 }
+        ensures { IfOk result (λ g. g ≡ alone part.entry trees.now) }
+    {
+        check_handlers(part.method)?;
+        let tables = Tables::new(alloc, part, trees)?;
+        let lines = Lines::new(alloc, &tables)?;
+        let files = Files::new(alloc, &tables)?;
+        Ok(Group {
+            tables,
+            lines,
+            files,
+        })
+    }
+}

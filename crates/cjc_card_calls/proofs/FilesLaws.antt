@@ -1,0 +1,4 @@
+pub mod Counting
+pub mod ByName
+pub mod Climbing
+pub mod Lines

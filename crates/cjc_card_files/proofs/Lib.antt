@@ -1,4 +1,0 @@
-mod Counting
-mod ByName
-mod Climbing
-mod Lines

@@ -1,0 +1,10 @@
+use Rattle.std.proofs.Common.{◌≡◌, ◌++◌, length}
+use Rattle.cjc_script.specs.Sorts.{Bytes}
+use Rattle.cjc_card_semantics.specs.Machine.Statics.{elements}
+use Rattle.cjc_card_frame.proofs.image.first.byte_elements.Given as goal
+
+abbrev pub invariant-elements : goal.invariant-elements
+invariant-elements l = elements Bytes l.bytes ≡ l.items.items ++ elements Bytes l.rest
+
+abbrev pub decreases-elements : goal.decreases-elements
+decreases-elements l = length l.rest

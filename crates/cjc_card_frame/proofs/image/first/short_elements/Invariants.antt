@@ -1,0 +1,10 @@
+use Rattle.std.proofs.Common.{◌≡◌, ◌++◌, length}
+use Rattle.cjc_script.specs.Sorts.{Shorts}
+use Rattle.cjc_card_semantics.specs.Machine.Statics.{elements}
+use Rattle.cjc_card_frame.proofs.image.first.short_elements.Given as goal
+
+abbrev pub invariant-elements : goal.invariant-elements
+invariant-elements l = elements Shorts l.bytes ≡ l.items.items ++ elements Shorts l.rest
+
+abbrev pub decreases-elements : goal.decreases-elements
+decreases-elements l = length l.rest

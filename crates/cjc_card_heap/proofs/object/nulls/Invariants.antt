@@ -1,6 +1,0 @@
-use Rattle.std.proofs.Common.{◌≡◌, replicate}
-use Rattle.cjc_script.specs.declared.value.Value.TheVariants.{Null}
-use Rattle.cjc_card_heap.proofs.object.nulls.Given as goal
-
-abbrev pub invariant-loop-i : goal.invariant-loop-i
-invariant-loop-i l = l.items.items ≡ replicate l.i Null

@@ -1,5 +1,0 @@
-mod Putting
-mod Everywhere
-mod Kept
-mod Upward
-mod Near

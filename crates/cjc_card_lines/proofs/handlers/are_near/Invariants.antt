@@ -1,6 +1,0 @@
-use Rattle.std.proofs.Common.{◌≡◌, drop}
-use Rattle.cjc_card_lines.specs.Handlers.{are_near}
-use Rattle.cjc_card_lines.proofs.handlers.are_near.Given as goal
-
-abbrev pub invariant-loop-handler : goal.invariant-loop-handler
-invariant-loop-handler l = are_near (drop l.handler-index l.handlers) ≡ are_near l.handlers

@@ -1,0 +1,117 @@
+//! Entries of the constant pool by their indices (Java Card Virtual Machine Specification 2.2.2, section 6.7).
+
+ghost use Rattle.std.specs.Prelude.{◌≡◌, option_map, option_and_then};
+ghost use Rattle.cjc_card_semantics.specs.Machine.Classes.{class_of as class_by_ref};
+ghost use Rattle.cjc_card_semantics.specs.Machine.Operations.{class_at, entry, static_cell};
+ghost use Rattle.cjc_card_frame.specs.Objects.{class_of, field_of};
+ghost use Rattle.cjc_card_frame.specs.Kinds.{cell_by, cell_of, field_by, pool_of};
+ghost use Rattle.cjc_card_link.specs.Tables.{AreKept, loaded_of};
+
+use crate::tables::Tables;
+use cjc_capread::{ClassRef, PoolEntry, StaticRef};
+use cjc_card_frame::heap::{Class, Field};
+use cjc_card_frame::parts::StaticCell;
+
+// The entry of an index.
+fn entry(pool: &[PoolEntry], index: i32) -> Option<PoolEntry>
+    ensures { result ≡ entry pool.now index }
+{
+    if index < 0 {
+        None
+    } else {
+        pool.get(index as usize).copied()
+    }
+}
+
+impl<'a> Tables<'a> {
+    /// The entry of an index in a package.
+    pub(crate) fn pool_entry(&self, part: u32, index: i32) -> Option<PoolEntry>
+        ensures { result ≡ entry (pool_of (loaded_of self.now) part) index }
+    {
+        if part == 0 {
+            entry(self.part.pool, index)
+        } else {
+            entry(&[], index)
+        }
+    }
+
+    /// The class of a class_ref of a package, where there is one.
+    pub fn class_in(&self, part: u32, class: ClassRef) -> Option<Class>
+        requires { AreKept self.now }
+        ensures { option_map class_of result ≡ class_by_ref (loaded_of self.now) part class }
+    {
+        if part == 0 { self.class(class) } else { None }
+    }
+
+    /// The class that an entry names.
+    pub fn class_entry(&self, part: u32, index: i32) -> Option<Class>
+        requires { AreKept self.now }
+        ensures { option_map class_of result ≡ class_at (loaded_of self.now) part
+            (entry (pool_of (loaded_of self.now) part) index) }
+    {
+        match self.pool_entry(part, index) {
+            Some(PoolEntry::Classref(class)) => self.class_in(part, class),
+            Some(PoolEntry::InstanceFieldref { .. }) => None,
+            Some(PoolEntry::VirtualMethodref { .. }) => None,
+            Some(PoolEntry::SuperMethodref { .. }) => None,
+            Some(PoolEntry::StaticFieldref(_)) => None,
+            Some(PoolEntry::StaticMethodref(_)) => None,
+            None => None,
+        }
+    }
+
+    // The instance field of a class_ref and a token.
+    fn field(&self, part: u32, class: ClassRef, token: u8) -> Option<Field>
+        requires { AreKept self.now }
+        ensures { option_map field_of result ≡ option_map (λ c. record { class = c; token = token })
+            (class_by_ref (loaded_of self.now) part class) }
+    {
+        match self.class_in(part, class) {
+            Some(class) => Some(Field { class, token }),
+            None => None,
+        }
+    }
+
+    /// The instance field that an entry names.
+    pub fn field_entry(&self, part: u32, index: i32) -> Option<Field>
+        requires { AreKept self.now }
+        ensures { option_map field_of result ≡ option_and_then (field_by (loaded_of self.now) part)
+            (entry (pool_of (loaded_of self.now) part) index) }
+    {
+        match self.pool_entry(part, index) {
+            Some(PoolEntry::InstanceFieldref { class, token }) => self.field(part, class, token),
+            Some(PoolEntry::Classref(_)) => None,
+            Some(PoolEntry::VirtualMethodref { .. }) => None,
+            Some(PoolEntry::SuperMethodref { .. }) => None,
+            Some(PoolEntry::StaticFieldref(_)) => None,
+            Some(PoolEntry::StaticMethodref(_)) => None,
+            None => None,
+        }
+    }
+
+    // The cell of a static reference; a field of another package has none.
+    fn static_cell(&self, part: u32, field: StaticRef) -> Option<StaticCell>
+        ensures { option_map cell_of result ≡ static_cell (loaded_of self.now) part field }
+    {
+        match field {
+            StaticRef::Inside(offset) => Some(StaticCell { part, offset }),
+            StaticRef::Outside { .. } => None,
+        }
+    }
+
+    /// The static cell that an entry names.
+    pub fn cell_entry(&self, part: u32, index: i32) -> Option<StaticCell>
+        ensures { option_map cell_of result ≡ option_and_then (cell_by (loaded_of self.now) part)
+            (entry (pool_of (loaded_of self.now) part) index) }
+    {
+        match self.pool_entry(part, index) {
+            Some(PoolEntry::StaticFieldref(field)) => self.static_cell(part, field),
+            Some(PoolEntry::Classref(_)) => None,
+            Some(PoolEntry::InstanceFieldref { .. }) => None,
+            Some(PoolEntry::VirtualMethodref { .. }) => None,
+            Some(PoolEntry::SuperMethodref { .. }) => None,
+            Some(PoolEntry::StaticMethodref(_)) => None,
+            None => None,
+        }
+    }
+}

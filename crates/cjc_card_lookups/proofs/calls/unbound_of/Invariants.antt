@@ -1,6 +1,0 @@
-use Rattle.std.proofs.Common.{◌≡◌, drop}
-use Rattle.cjc_card.specs.Operations.{unbound_of}
-use Rattle.cjc_card_lookups.proofs.calls.unbound_of.Given as goal
-
-abbrev pub invariant-loop-method : goal.invariant-loop-method
-invariant-loop-method l = unbound_of (drop l.method-index l.methods) l.token ≡ unbound_of l.methods l.token

@@ -1,5 +1,0 @@
-use Rattle.cjc_card_lookups.proofs.InfoPlaces.{where_some}
-use Rattle.cjc_card_lookups.proofs.infos.Infos.at.Goals as goal
-
-pub returns-in-Some-clause-small : goal.returns-in-Some-clause-small
-returns-in-Some-clause-small c = where_some c.info.result c.in-Some.ensures.small

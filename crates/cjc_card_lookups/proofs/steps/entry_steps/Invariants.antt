@@ -1,6 +1,0 @@
-use Rattle.std.proofs.Common.{◌≡◌, ◌+◌, drop, map}
-use Rattle.cjc_card.specs.Classes.{IsClass, info_steps}
-use Rattle.cjc_card_lookups.proofs.steps.entry_steps.Given as goal
-
-abbrev pub invariant-loop-entry : goal.invariant-loop-entry
-invariant-loop-entry l = l.steps + info_steps (map IsClass (drop l.entry-index l.entries)) ≡ info_steps (map IsClass l.entries)

@@ -1,4 +1,0 @@
-use Rattle.cjc_card_lookups.proofs.tables.Tables.+walk_open.Given as goal
-
-abbrev pub decreases-walk_open : goal.decreases-walk_open
-decreases-walk_open l = l.depth

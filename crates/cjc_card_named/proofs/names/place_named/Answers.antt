@@ -1,7 +1,0 @@
-use Rattle.std.proofs.Common.{◌∙◌}
-use Rattle.cjc_card_lookups.specs.Names.{method_name_of}
-use Rattle.cjc_card_named.proofs.Places.{place_first}
-use Rattle.cjc_card_named.proofs.names.place_named.Goals as goal
-
-pub returns : goal.returns
-returns c = c.first_named.ensures ∙ place_first method_name_of c.args.names.now c.args.id.now

@@ -1,9 +1,0 @@
-use Rattle.std.proofs.Common.{◌≡◌, ◌++◌, drop, map}
-use Rattle.std.specs.List.{flat_map}
-use Rattle.cjc_tokens.specs.Working.{signs}
-use Rattle.cjc_card_lookups.specs.Names.{method_name_of}
-use Rattle.cjc_card_names.specs.Working.Classes.{name_in}
-use Rattle.cjc_card_names.proofs.methods.slot_names.Given as goal
-
-abbrev pub invariant-loop-slot : goal.invariant-loop-slot
-invariant-loop-slot l = map method_name_of l.names ++ flat_map name_in (signs (drop l.slot-index l.slots)) ≡ flat_map name_in (signs l.slots)

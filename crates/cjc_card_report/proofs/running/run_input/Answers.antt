@@ -1,8 +1,0 @@
-use Rattle.std.proofs.lemmas.Result.{err_from_is_err_and}
-use Rattle.cjc_card_report.proofs.Free.{first_fault}
-use Rattle.cjc_card_report.proofs.running.run_input.Goals as goal
-
-pub returns-in_err-ready-clause-refused : goal.returns-in_err-ready-clause-refused
-returns-in_err-ready-clause-refused c =
-    let e = err_from_is_err_and c.from_residual.result c.from_residual.ensures.1 in
-    rw (e.1, e.2) (first_fault c.args.input.now c.args.script.now _ c.in_err-ready.ensures.refused)

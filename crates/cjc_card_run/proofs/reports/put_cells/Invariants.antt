@@ -1,7 +1,0 @@
-use Rattle.std.proofs.Common.{◌≡◌, ◌++◌, map, take}
-use Rattle.cjc_card.specs.ByToken.{shown_cell}
-use Rattle.cjc_card_parts.specs.Kinds.{cell_name_of}
-use Rattle.cjc_card_run.proofs.reports.put_cells.Given as goal
-
-abbrev pub invariant-loop-cell : goal.invariant-loop-cell
-invariant-loop-cell l = l.fields ≡ l.fn.fields ++ map (shown_cell l.part l.statics) (map cell_name_of (take l.cell-index l.cells))

@@ -1,0 +1,2 @@
+pub mod BytecodeLaws
+pub mod MachineLaws

@@ -1,0 +1,2 @@
+pub mod Bytecode
+pub mod Machine

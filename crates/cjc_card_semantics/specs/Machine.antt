@@ -1,0 +1,9 @@
+pub mod Loaded
+pub mod Classes
+pub mod Statics
+pub mod Dispatch
+pub mod Operations
+pub mod Methods
+pub mod Calls
+pub mod ByToken
+pub mod Worked

@@ -1,0 +1,2 @@
+pub mod EffectsLaws
+pub mod StepsLaws

@@ -1,0 +1,5 @@
+//! One instruction of the card by token.
+#![tactic(auto)]
+
+pub mod effects;
+pub mod steps;

@@ -1,0 +1,6 @@
+use Rattle.std.proofs.Common.{◌≡◌, ◌++◌, drop}
+use Rattle.cjc_check_rules.specs.Locations.{distances}
+use Rattle.cjc_check.proofs.jumps.locations.distances.Given as goal
+
+abbrev pub invariant-loop-at : goal.invariant-loop-at
+invariant-loop-at l = l.bytes ++ distances l.before (drop l.at-index l.places) ≡ distances 0 l.places

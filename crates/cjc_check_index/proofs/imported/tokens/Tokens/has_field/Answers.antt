@@ -1,0 +1,16 @@
+use Rattle.std.proofs.Common.{◌∙◌, arith}
+use Rattle.cjc_export.specs.Supers.{classes_of}
+use Rattle.cjc_check_rules.specs.Classes.{imported}
+use Rattle.cjc_check_index.specs.Imported.Tokens.{has_field}
+use Rattle.cjc_check_index.proofs.ImportedLaws.Answers.{fields_told, answer_by_token_is}
+use Rattle.cjc_check_index.proofs.imported.tokens.Tokens.has_field.Goals as goal
+
+pub returns : goal.returns
+returns c =
+    let exports = c.args.names.now.exports.now in
+    let o = imported exports c.args.import c.args.class in
+    let fits = c.ranges.token.fits in
+    c.answer_by_token.ensures ∙ answer_by_token_is (has_field (classes_of exports)) (classes_of exports)
+    c.items.result.now c.args.token c.place.result o (omega (arith, fits)) (c.items.ensures
+    ∙ c.requires.kept.fields) c.place.ensures
+    ∙ fields_told exports o c.args.token

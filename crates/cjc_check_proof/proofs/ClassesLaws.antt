@@ -1,0 +1,15 @@
+pub mod Lists
+pub mod Types
+pub mod Nibbles
+pub mod Refs
+pub mod Offsets
+pub mod There
+pub mod Earlier
+pub mod Supers
+pub mod Installs
+pub mod Tabled
+pub mod Leaving
+pub mod Listing
+pub mod Exporting
+pub mod Counting
+pub mod Wholes

@@ -1,0 +1,191 @@
+-- References to classes and to static members.
+use Rattle.std.proofs.Common.{◌≡◌, ℕ, ◌+◌, ◌*◌, ◌^◌, ◌<◌, ◌≤◌, refl, sym, ap, subst, ◌∙◌, Bool, true, false, List, []}
+use Rattle.std.proofs.Common.{◌∷◌, ◌++◌, map, length, length-append, arith, Option, Some, None}
+use Rattle.std.specs.Prelude.{slice_get, sum_by, flat_map, position, option_and_then, option_map, unwrap_or}
+use Rattle.std.specs.Prelude.{if◌then◌else◌}
+use Rattle.std.specs.List.{AllByRecursion}
+use Rattle.std.specs.Str.{bytes_eq}
+use Rattle.std.proofs.lemmas.List.{length-map}
+use Rattle.std.proofs.lemmas.List.Sums.{sum_by-cons}
+use Rattle.cjc_bytes.specs.declared.fault.MemberId.{MemberId}
+use Rattle.cjc_capread.specs.declared.tree.ClassRef.{ClassRef}
+use Rattle.cjc_capread.specs.declared.tree.ClassRef.TheVariants.{Inside}
+use Rattle.cjc_capread.specs.declared.tree.ClassEntry.{ClassEntry}
+use Rattle.cjc_capwrite.specs.Class.{interface_bytes, implemented_bytes, class_entry_bytes, class_info_bytes}
+use Rattle.cjc_capwrite.specs.Fits.{ClassFits, StaticFits}
+use Rattle.cjc_capwrite.proofs.Lengths.{interface_length, implemented_length, class_entry_length, class_info_length}
+use Rattle.cjc_card_semantics.specs.Machine.Classes.{Class as CardClass, Own, External, external_from, or_else}
+use Rattle.cjc_card_semantics.specs.Machine.Classes.{token_named}
+use Rattle.cjc_export.specs.declared.tree.ExportClass.{ExportClass}
+use Rattle.cjc_export.specs.declared.tree.ExportTree.{ExportTree}
+use Rattle.cjc_export.specs.Writable.{EachAfter, IsWritable}
+use Rattle.cjc_export.specs.Writable as Writable
+use Rattle.cjc_check_rules.specs.Spots.{placed, starts}
+use Rattle.cjc_check_rules.specs.Complete.{interface_size, class_size, map_size, class_info_size}
+use Rattle.cjc_check_rules.specs.Classes.{first_interface, first_class}
+use Rattle.cjc_world.specs.declared.found.Found.{Found}
+use Rattle.cjc_world.specs.Classes.{Class}
+use Rattle.cjc_world.specs.Lookup.{find_method}
+use Rattle.cjc_world.specs.Order.{class_order, in_order}
+use Rattle.cjc_vtable.specs.Tables.{table_of}
+use Rattle.cjc_components.specs.Package.{Package, world}
+use Rattle.cjc_components.specs.Class.{class_info, class_entry, interface_entry, interfaces_of, implemented}
+use Rattle.cjc_components.specs.Names.{class_at, class_offset, class_ref, field_ref, info_starts, member_ref}
+use Rattle.cjc_components.specs.Names.{method_ref, offset_where, ref_to}
+use Rattle.cjc_check_proof.specs.Limits.Premises.{IsLimited}
+use Rattle.cjc_check_proof.proofs.LimitsLaws.Lists.{all_of, at_place}
+use Rattle.cjc_check_proof.proofs.LimitsLaws.Limits.{components_short, sizes_kept}
+use Rattle.cjc_check_proof.proofs.LimitsLaws.Offsets.{cell_low, offset_low}
+
+-- ---- the bytes of Class, whatever class_refs it holds
+
+pub each_size : {X Y : Type 0} (f : X → List Y) (size : X → ℕ) → ((x : X) → length (f x) ≡ size x) → (xs : List X)
+    → length (flat_map f xs) ≡ sum_by size xs
+each_size f size h [] = refl
+each_size f size h (x ∷ xs) =
+    let e : length (f x) ≡ size x = h x in
+    let r : length (flat_map f xs) ≡ sum_by size xs = each_size f size h xs in
+    let s : sum_by size (x ∷ xs) ≡ size x + sum_by size xs = sum_by-cons size x xs in
+    length-append (f x) (flat_map f xs) ∙ omega (arith, e, r, s)
+
+class_is : (x : ClassEntry) → length (class_entry_bytes x) ≡ class_size x
+class_is x =
+    class_entry_length x ∙ ap (λ n. 10 + 2 * length x.public_methods + 2 * length x.package_methods + n)
+    (each_size implemented_bytes map_size implemented_length x.interfaces)
+
+sums_same : {X A : Type 0} (size : A → ℕ) (f g : X → A) → ((x : X) → size (f x) ≡ size (g x)) → (xs : List X)
+    → sum_by size (map f xs) ≡ sum_by size (map g xs)
+sums_same size f g h [] = refl
+sums_same size f g h (x ∷ xs) =
+    let e : size (f x) ≡ size (g x) = h x in
+    let r : sum_by size (map f xs) ≡ sum_by size (map g xs) = sums_same size f g h xs in
+    sum_by-cons size (f x) (map f xs) ∙ ap (λ n. n + sum_by size (map f xs)) e ∙ ap (λ n. size (g x) + n) r
+    ∙ sym (sum_by-cons size (g x) (map g xs))
+
+module _ (ref other : List ℕ → ClassRef) (p : Package) where
+  interface_same : (i : Class) → interface_size (interface_entry ref (world p) i)
+      ≡ interface_size (interface_entry other (world p) i)
+  interface_same i =
+      let is = interfaces_of (world p) i in
+      ap (λ n. 1 + 2 * n) (length-map is (λ s. ref s.name) ∙ sym (length-map is (λ s. other s.name)))
+
+  class_same : (c : Class) → class_size (class_entry ref p c) ≡ class_size (class_entry other p c)
+  class_same c =
+      let table = table_of (world p) c in
+      ap (λ n. 10 + 2 * length (let e = class_entry ref p c in e.public_methods) + 2 * length (let e = class_entry ref p
+      c in e.package_methods) + n) (sums_same map_size (implemented ref) (implemented other) (λ m. refl) table.maps)
+
+  info_same : class_info_size (class_info ref p) ≡ class_info_size (class_info other p)
+  info_same =
+      ap (λ n. 2 + n + sum_by class_size (map (class_entry ref p) (in_order (world p) false))) (sums_same interface_size
+      (interface_entry ref (world p)) (interface_entry other (world p)) interface_same (in_order (world p) true))
+      ∙ ap (λ n. 2 + sum_by interface_size (map (interface_entry other (world p)) (in_order (world p) true)) + n)
+      (sums_same class_size (class_entry ref p) (class_entry other p) class_same (in_order (world p) false))
+
+-- ---- starts
+
+pub starts_below : {A : Type 0} (size : A → ℕ) (at limit : ℕ) (xs : List A) → at + sum_by size xs ≤ limit
+    → AllByRecursion (λ s. s ≤ limit) (starts size at xs)
+unfolding placed
+starts_below size at limit [] le = tt
+starts_below size at limit (x ∷ xs) le =
+    let l = sum_by-cons size x xs in
+    (omega (arith, le, l), starts_below size (at + size x) limit xs (omega (arith, le, l)))
+
+pub all_both : {A : Type 0} (P : A → Type 0) (xs ys : List A) → AllByRecursion P xs → AllByRecursion P ys
+    → AllByRecursion P (xs ++ ys)
+all_both P [] ys a b = b
+all_both P (x ∷ xs) ys a b = (a.0, all_both P xs ys a.1 b)
+
+-- ---- export files
+
+token_low : (before cs : List ExportClass) (name : List ℕ) (token : ℕ) → EachAfter Writable.ClassFits before cs
+    → token_named cs name ≡ Some token → token < 2 ^ 8
+token_low before [] name token all e = cc
+token_low before (c ∷ cs) name token all e = by (bytes_eq c.name name) e (λ f. token_low (before ++ c ∷ []) cs name
+    token all.1 f)
+  where
+    by : (b : Bool) → (if b then Some c.token else token_named cs name) ≡ Some token → (token_named cs name ≡ Some token
+        → token < 2 ^ 8) → token < 2 ^ 8
+    by true e rest = let fits = all.0 in let low = fits.token in let same : c.token ≡ token = cc
+        in omega (arith, low, same)
+    by false e rest = rest e
+
+external_fits : (tree : ℕ) (trees : List ExportTree) (name : List ℕ) (c : CardClass) → tree + length trees ≤ 128
+    → AllByRecursion IsWritable trees → external_from tree trees name ≡ Some c → ClassFits (ref_to c)
+external_fits tree [] name c few all e = cc
+external_fits tree (t ∷ trees) name c few all e = by (token_named t.classes name) refl e (λ f. external_fits (tree + 1)
+    trees name c (omega (arith, few)) all.1 f)
+  where
+    by : (o : Option ℕ) → token_named t.classes name ≡ o
+        → or_else (option_map (External tree) o) (external_from (tree + 1) trees name) ≡ Some c
+        → (external_from (tree + 1) trees name ≡ Some c → ClassFits (ref_to c)) → ClassFits (ref_to c)
+    by None f e rest = rest e
+    by (Some token) f e rest =
+        let w = all.0 in
+        let same : External tree token ≡ c = cc in
+        subst (λ (d : CardClass). ClassFits (ref_to d)) same (
+          omega (arith, few),
+          token_low [] t.classes name token
+              w.classes f,
+        )
+
+-- ---- references
+
+static_by : (c : CardClass) (offset token : ℕ) → ClassFits (ref_to c) → offset < 2 ^ 16
+    → StaticFits (member_ref c offset token)
+static_by (Own part at) offset token fits low = low
+static_by (External file class) offset token fits low = fits.0
+
+module _ (p : Package) (h : IsLimited p) where
+  pub class_short : length (class_info_bytes (class_info (class_ref p) p)) ≤ 32767
+  class_short = let s = components_short p (sizes_kept p h.limits) in s.class
+
+  info_short : class_info_size (class_info (λ name. Inside 0) p) ≤ 32767
+  info_short =
+      let info = class_info (class_ref p) p in
+      let i = each_size interface_bytes interface_size interface_length info.interfaces in
+      let c = each_size class_entry_bytes class_size class_is info.classes in
+      let long = class_info_length info in
+      let short = class_short in
+      let same = info_same (class_ref p) (λ name. Inside 0) p in
+      omega (arith, i, c, long, short, same)
+
+  starts_low : AllByRecursion (λ s. s ≤ 32767) (info_starts p)
+  starts_low =
+      let info = class_info (λ name. Inside 0) p in
+      let short = info_short in
+      all_both (λ s. s ≤ 32767) (starts interface_size first_interface info.interfaces)
+      (starts class_size (first_class info) info.classes)
+      (starts_below interface_size first_interface 32767 info.interfaces (omega (arith, short)))
+      (starts_below class_size (first_class info) 32767 info.classes (omega (arith, short)))
+
+  pub class_low : (name : List ℕ) (s : ℕ) → class_offset p name ≡ Some s → s ≤ 32767
+  class_low name s e = by (position (λ (c : Class). bytes_eq c.name name) (class_order (world p))) e
+    where
+      by : (o : Option ℕ) → option_and_then (slice_get (info_starts p)) o ≡ Some s → s ≤ 32767
+      by None e = cc
+      by (Some k) e = at_place (λ s. s ≤ 32767) (info_starts p) k s starts_low e
+
+  pub class_fits : (name : List ℕ) → ClassFits (class_ref p name)
+  class_fits name = let files = p.files in
+      by (class_offset p name) (class_low name) (external_from 0 files.exports name) (λ c e. external_fits 0
+      files.exports name c (let few = h.few_imports in omega (arith, few)) (all_of IsWritable files.exports
+      h.exports) e)
+    where
+      by : (o : Option ℕ) → ((s : ℕ) → o ≡ Some s → s ≤ 32767) → (f : Option CardClass) → ((c : CardClass) → f ≡ Some c
+          → ClassFits (ref_to c)) → ClassFits (ref_to (unwrap_or (or_else (option_map (Own 0) o) f) (Own 0 0)))
+      by None low None fits = omega arith
+      by None low (Some c) fits = fits c refl
+      by (Some s) low f fits = let le = low s refl in omega (arith, le)
+
+  pub field_fits : (f : MemberId) → StaticFits (field_ref p f)
+  field_fits f = static_by (class_at p f.class) _ _ (class_fits f.class) (cell_low p h f)
+
+  pub where_low : (o : Option Found) → offset_where p o < 2 ^ 16
+  where_low None = omega arith
+  where_low (Some f) = offset_low p h f
+
+  pub method_fits : (m : MemberId) → StaticFits (method_ref p m)
+  method_fits m = static_by (class_at p m.class) (offset_where p (find_method (world p) m.class m.name m.desc)) _
+      (class_fits m.class) (where_low (find_method (world p) m.class m.name m.desc))

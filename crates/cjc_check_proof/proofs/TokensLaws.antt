@@ -1,0 +1,4 @@
+pub mod Listed
+pub mod Reached
+pub mod Maps
+pub mod Called

@@ -1,0 +1,7 @@
+pub mod Classes
+pub mod Code
+pub mod Keys
+pub mod Exports
+pub mod Consistent
+pub mod Made
+pub mod Limits

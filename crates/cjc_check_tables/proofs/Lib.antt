@@ -1,0 +1,4 @@
+pub mod CountsLaws
+pub mod LinksLaws
+pub mod ExportedLaws
+pub mod MembersLaws

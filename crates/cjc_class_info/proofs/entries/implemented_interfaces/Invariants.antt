@@ -1,7 +1,0 @@
-use Rattle.std.proofs.Common.{◌≡◌, take, map}
-use Rattle.cjc_components.specs.Class.{implemented}
-use Rattle.cjc_class_info.specs.Refs.{ref_of}
-use Rattle.cjc_class_info.proofs.entries.implemented_interfaces.Given as goal
-
-abbrev pub invariant-loop-map : goal.invariant-loop-map
-invariant-loop-map l = l.row ≡ map (implemented (ref_of l.refs)) (take l.map-index l.maps)

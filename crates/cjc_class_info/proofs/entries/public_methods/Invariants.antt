@@ -1,6 +1,0 @@
-use Rattle.std.proofs.Common.{◌≡◌, take, map}
-use Rattle.cjc_class_info.specs.Entries.{entry_offset}
-use Rattle.cjc_class_info.proofs.entries.public_methods.Given as goal
-
-abbrev pub invariant-loop-method : goal.invariant-loop-method
-invariant-loop-method l = l.row ≡ map (entry_offset l.offsets) (take l.method-index l.methods)

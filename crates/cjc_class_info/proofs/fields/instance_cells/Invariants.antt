@@ -1,6 +1,0 @@
-use Rattle.std.proofs.Common.{◌≡◌, take}
-use Rattle.cjc_tokens.specs.Fields.{instance_cells}
-use Rattle.cjc_class_info.proofs.fields.instance_cells.Given as goal
-
-abbrev pub invariant-loop-field : goal.invariant-loop-field
-invariant-loop-field l = l.sum ≡ instance_cells (take l.field-index l.fields)

@@ -1,7 +1,0 @@
-use Rattle.std.proofs.Common.{◌≡◌, take}
-use Rattle.std.specs.Prelude.{sum_by}
-use Rattle.cjc_class_info.specs.Infos.{map_bytes}
-use Rattle.cjc_class_info.proofs.sizes.map_bytes.Given as goal
-
-abbrev pub invariant-loop-map : goal.invariant-loop-map
-invariant-loop-map l = l.bytes ≡ sum_by map_bytes (take l.map-index l.maps)

@@ -1,5 +1,0 @@
-use Rattle.cjc_class_order.proofs.Queues.{AreReady}
-use Rattle.cjc_class_order.proofs.queue.ready_of.Given as goal
-
-abbrev pub invariant-loop-number : goal.invariant-loop-number
-invariant-loop-number l = AreReady l.interfaces l.classes l.counts l.number l.ready

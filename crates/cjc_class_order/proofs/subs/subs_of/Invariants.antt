@@ -1,5 +1,0 @@
-use Rattle.cjc_class_order.proofs.Edges.{ArePut}
-use Rattle.cjc_class_order.proofs.subs.subs_of.Given as goal
-
-abbrev pub invariant-loop-i : goal.invariant-loop-i
-invariant-loop-i l = ArePut l.i l.listed l.subs.items

@@ -1,0 +1,5 @@
+pub mod Kept
+pub mod Lines
+pub mod Walked
+pub mod Here
+pub mod Next

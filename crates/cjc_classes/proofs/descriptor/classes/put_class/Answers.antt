@@ -1,0 +1,17 @@
+use Rattle.std.proofs.Common.{◌≡◌, ◌≤◌, List, length, slice_get, sym, ap, ◌∙◌, arith, None}
+use Rattle.std.proofs.lemmas.Bool.Decides.{nat_tests}
+use Rattle.std.proofs.lemmas.Option.{slice_get_past}
+use Rattle.cjc_classfile.specs.declared.tree.ClassTree.{ClassTree}
+use Rattle.cjc_classes.specs.Descriptor.Working.Described.{inputs_of}
+use Rattle.cjc_classes.proofs.DescriptorLaws.Rows.{none_there}
+use Rattle.cjc_classes.proofs.descriptor.classes.put_class.Goals as goal
+
+pub returns-in-None : goal.returns-in-None
+returns-in-None c =
+    let classes = c.items.result.now in
+    let look = c.in-None.ensures.lookup.0 in
+    let past : length classes ≤ c.args.number = grind (arith, nat_tests, look) in
+    let none : slice_get c.args.parts.now.world.now.classes c.args.number ≡ None =
+    ap (λ (ts : List ClassTree). slice_get ts c.args.number) (sym (c.items.ensures ∙ c.classes.ensures))
+    ∙ slice_get_past classes c.args.number past in
+    none_there (inputs_of c.args.parts.now) c.args.number c.args.row.now none

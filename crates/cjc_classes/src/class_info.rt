@@ -1,0 +1,17 @@
+//! Class of a package, and class_refs: what names a class in its components (Java Card Virtual Machine
+//! Specification 2.2.2, sections 6.1 and 6.8). The converter calls it, and whoever writes a class_ref by the
+//! name of a class. It knows no instruction and no rule.
+mod entries;
+mod fields;
+mod flags;
+mod infos;
+mod outside;
+mod refs;
+mod sizes;
+mod starts;
+mod tree;
+
+pub use entries::offset_in;
+pub use infos::{class_refs, refs_of_classes};
+pub use refs::ClassRefs;
+pub use tree::class_info;

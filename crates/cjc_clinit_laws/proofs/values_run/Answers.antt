@@ -1,5 +1,0 @@
-use Rattle.cjc_clinit_laws.proofs.Values.{values-held}
-use Rattle.cjc_clinit_laws.proofs.values_run.Goals as goal
-
-pub returns : goal.returns
-returns c = λ files image codes arrays fields types room once apart is. (let r = values-held files image apart codes arrays fields types room once is in (r.0, r.1, r.2, r.3))

@@ -1,0 +1,23 @@
+use Rattle.std.proofs.Common.{◌≡◌, ◌∙◌, IfOk, ap, map, subst}
+use Rattle.cjc_card_semantics.specs.Machine.ByToken.{run as run_by_token}
+use Rattle.cjc_card_link.specs.Names.{class_names_of}
+use Rattle.cjc_card_frame.specs.Kinds.{cell_name_of}
+use Rattle.cjc_judge.specs.Rules.{has_applets}
+use Rattle.cjc_check_index.specs.Lookup.Parts.{complete_of}
+use Rattle.cjc_components.specs.Paired.Naming.{class_names}
+use Rattle.cjc_world.specs.Classes.{all_classes}
+use Rattle.cjc_world.specs.Order.{class_order}
+use Rattle.cjc_cmd_card.proofs.ReportLaws.Whole.{loaded_so}
+use Rattle.cjc_cmd_card.proofs.report.reporting.report_from.Goals as goal
+
+pub returns : goal.returns
+returns c =
+    let world = c.args.ready.now.judged.world in
+    let named = ap (map class_names_of) c.items.ensures ∙ c.in_ok-classes.ensures
+    ∙ ap (λ t. map (class_names world t) (class_order (all_classes world))) c.in_ok-tokens.ensures in
+    let celled = ap (map cell_name_of) c.items-2.ensures ∙ c.in_ok-cells.ensures in
+    let exported = c.items-3.ensures ∙ c.exports.ensures in
+    let loaded = loaded_so (has_applets c.args.list.now) world c.args.image.now (complete_of c.args.parts.now) _ _ _
+    named celled exported in
+    subst (λ l. IfOk c.run_with.result (λ report. report ≡ run_by_token l c.args.ready.now.script c.args.n)) loaded
+    c.run_with.ensures

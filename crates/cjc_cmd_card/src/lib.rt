@@ -1,0 +1,5 @@
+//! The command card.
+#![tactic(auto)]
+
+pub mod report;
+pub mod running;

@@ -1,0 +1,134 @@
+//! The report of a run by token. Called by running.rt, and by the command that sums up two runs. It reads no file.
+
+ghost use Rattle.std.specs.Prelude.{◌≡◌, ◌<◌, ◌^◌, List as Items, ℕ, Some, IfErr, IfOk};
+ghost use Rattle.cjc_card_semantics.specs.Machine.ByToken.{run as run_by_token};
+ghost use Rattle.cjc_cmd_card.specs.Report.Runs.{IsReport};
+ghost use Rattle.cjc_cmd_card.specs.Report.Working.{IsPairFault, alone_with};
+ghost use Rattle.cjc_cmd_card.specs.Running.Ready.{IsReady};
+ghost use Rattle.cjc_cmd_card.specs.declared.running.input.Input.{Input as Given};
+ghost use Rattle.cjc_clinit.specs.Image.{IsImage};
+ghost use Rattle.cjc_judge.specs.Rules.{has_applets};
+ghost use Rattle.cjc_components.specs.Paired.Naming.{loaded_of};
+ghost use Rattle.cjc_check_index.specs.Lookup.Parts.{complete_of};
+ghost use Rattle.cjc_check_rules.specs.Complete.{AreSmall, class_info_size, complete};
+ghost use Rattle.cjc_tokens.specs.Tokens.{assigned};
+
+use crate::report::parts::part_of;
+use crate::running::{Input, Ready};
+use cjc_bytes::{Fault, NoMemory};
+use cjc_card::group::Group;
+use cjc_card::runs::run;
+use cjc_card_frame::parts::CellName;
+use cjc_card_link::ClassNames;
+use cjc_check_index::lookup::{Parts, parts_of};
+use cjc_clinit::image;
+use cjc_export::ExportTree;
+use cjc_judge::settings;
+use cjc_list::List;
+use cjc_pairing::card_names::{cell_names, class_names};
+use cjc_pairing::test_pair;
+use cjc_script::{Report, Script};
+use cjc_tokens::{Tokens, assign};
+use cjc_world::StaticImage;
+use std::alloc::Global;
+
+/// What the initialisers of a package leave, which breaks nothing of rule 308.
+fn image_of(alloc: Global, ready: &Ready<'_>) -> Result<StaticImage, NoMemory>
+    requires { (input : Given) × (name : Items ℕ) × IsReady input name ready.now }
+    ensures { IfOk result (IsImage ready.now.judged.world ready.now.judged.codes) }
+{
+    match image(alloc, &ready.judged.world, &ready.judged.codes) {
+        Ok(image) => Ok(image),
+        Err(Fault::NoMemory) => Err(NoMemory),
+        Err(Fault::Refused(_)) => unreachable!(),
+    }
+}
+
+/// The tokens of a package, which breaks nothing of rule 413.
+fn tokens_of(alloc: Global, list: &List, ready: &Ready<'_>) -> Result<Tokens, NoMemory>
+    requires { (input : Given) × (name : Items ℕ) × (input.list ≡ list.now) × IsReady input name ready.now }
+    ensures { IfOk result (λ t. t ≡ assigned (has_applets list.now) ready.now.judged.world) }
+{
+    let settings = settings(alloc, list)?;
+    match assign(alloc, &ready.judged.world, &settings) {
+        Ok(tokens) => Ok(tokens),
+        Err(Fault::NoMemory) => Err(NoMemory),
+        Err(Fault::Refused(_)) => unreachable!(),
+    }
+}
+
+/// The report of components with these names and export files.
+fn run_with(
+    alloc: Global,
+    parts: &Parts<'_>,
+    classes: &[ClassNames],
+    cells: &[CellName],
+    exports: &[ExportTree],
+    script: &Script,
+    n: u32,
+) -> Result<Report, NoMemory>
+    requires small { class_info_size (complete_of parts.now).class < 2 ^ 32 }
+    ensures { IfOk result (λ report. report ≡ run_by_token (alone_with (complete_of parts.now) classes.now cells.now
+        exports.now) script.now n) }
+{
+    let part = part_of(parts, classes, cells);
+    let group = Group::new(alloc, part, exports)?;
+    run(alloc, &group, script, n)
+}
+
+/// The report of the components of a package with what its initialisers leave.
+fn report_from(
+    alloc: Global,
+    list: &List,
+    ready: &Ready<'_>,
+    parts: &Parts<'_>,
+    image: &StaticImage,
+    n: u32,
+) -> Result<Report, NoMemory>
+    requires ready { (input : Given) × (name : Items ℕ) × (input.list ≡ list.now) × IsReady input name ready.now }
+    requires small { class_info_size (complete_of parts.now).class < 2 ^ 32 }
+    ensures { IfOk result (λ report. report ≡ run_by_token (loaded_of (has_applets list.now) ready.now.judged.world
+        image.now (complete_of parts.now)) ready.now.script n) }
+{
+    let judged = &ready.judged;
+    let tokens = tokens_of(alloc, list, ready)?;
+    let classes = class_names(alloc, &judged.world, &tokens)?;
+    let cells = cell_names(alloc, &judged.world, image)?;
+    run_with(
+        alloc,
+        parts,
+        classes.items(),
+        cells.items(),
+        judged.world.exports().items(),
+        &ready.script,
+        n,
+    )
+}
+
+/// The components, of which none but Applet and Export is absent.
+fn parts_in<'a>(ready: &'a Ready<'_>) -> Parts<'a>
+    requires { (input : Given) × (name : Items ℕ) × IsReady input name ready.now }
+    ensures whole { complete ready.now.cap ≡ Some (complete_of result) }
+    ensures small { AreSmall (complete_of result) }
+{
+    match parts_of(&ready.cap) {
+        Some(parts) => parts,
+        None => unreachable!(),
+    }
+}
+
+/// Whether the components are of the package, and the report of the run of n instructions of them and a script.
+///
+/// # Errors
+///
+/// Components that are not of the package, as 719; want of memory.
+pub fn report_of(alloc: Global, input: &Input, ready: &Ready<'_>, n: u32) -> Result<Report, Fault>
+    requires { (name : Items ℕ) × IsReady input.now name ready.now }
+    ensures report { IfOk result (IsReport input.now ready.now n) }
+    ensures refused { IfErr result (IsPairFault ready.now) }
+{
+    let image = image_of(alloc, ready)?;
+    let parts = parts_in(ready);
+    test_pair(alloc, &parts, &ready.judged.world, &image)?;
+    Ok(report_from(alloc, &input.list, ready, &parts, &image, n)?)
+}

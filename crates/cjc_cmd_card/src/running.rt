@@ -1,0 +1,9 @@
+//! What runs of components start from: the package of a list with its files, the components of a folder, and a
+//! script, as they are read and tested. The command that runs components calls it; it knows no machine.
+mod input;
+mod reads;
+mod ready;
+
+pub use input::Input;
+pub use reads::gather_input;
+pub use ready::{Ready, make_ready};

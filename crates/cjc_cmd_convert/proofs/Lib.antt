@@ -1,0 +1,2 @@
+pub mod ConversionLaws
+pub mod PublicationLaws

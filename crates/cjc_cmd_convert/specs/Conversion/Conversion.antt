@@ -1,0 +1,33 @@
+-- What a conversion makes, what it refuses, and what its promise rests on, by one name each for whoever calls a
+-- conversion.
+use Rattle.std.specs.Prelude.{ℕ, List}
+use Rattle.cjc_theorem.specs.Alike.Alike as alike
+use Rattle.cjc_bytes.specs.declared.fault.Refusal.{Refusal}
+use Rattle.cjc_capread.specs.declared.tree.CapTree.{CapTree}
+use Rattle.cjc_convert.specs.Conversion as assembled
+use Rattle.cjc_convert.specs.declared.conversion.Converted.{Converted}
+use Rattle.cjc_export.specs.declared.tree.ExportTree.{ExportTree}
+use Rattle.cjc_theorem.specs.FairExports.Fair as fair
+use Rattle.cjc_list.specs.Listed.{ListTree}
+use Rattle.cjc_shape.specs.Whole.Conversion as whole
+use Rattle.cjc_world.specs.Files.{Files}
+
+-- the component files and the export file
+abbrev pub Conversion : Type 0
+Conversion = Converted
+
+-- These are what is written for the package of a list with these files.
+abbrev pub IsConverted : ListTree → List (List ℕ) → Conversion → Type 0
+IsConverted list files made = assembled.IsConverted list files made
+
+-- The package of a list with these files breaks a rule, and this is the first.
+abbrev pub IsRefused : ListTree → List (List ℕ) → Refusal → Type 0
+IsRefused list files r = whole.IsRefused list files r
+
+-- The export files are such as a platform has.
+abbrev pub ExportsAreFair : List ExportTree → Type 0
+ExportsAreFair exports = fair.ExportsAreFair exports
+
+-- The class files of a list over its export files, run by name, and these components, run by token, behave alike.
+abbrev pub BehaveAlike : ListTree → Files → CapTree → Type 0
+BehaveAlike list files cap = alike.BehaveAlike list files cap

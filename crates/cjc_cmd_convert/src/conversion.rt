@@ -1,0 +1,9 @@
+//! The conversion of a package: of its list and the files that it names into the bytes of its component files
+//! and of its export file, with what these promise, or the first broken rule. Called by the command `convert`;
+//! it knows no rule and no format, and how files are written is of the crates below.
+mod conversion;
+mod laws;
+
+pub use cjc_convert::Converted;
+pub use conversion::convert;
+pub use laws::one_answer;

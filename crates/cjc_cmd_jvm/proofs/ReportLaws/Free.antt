@@ -1,0 +1,120 @@
+-- What judging promises of initialisers and of codes.
+use Rattle.std.proofs.Common.{◌≡◌, ◌⊎◌, inl, inr, ◌<◌, ◌+◌, ◌^◌, ℕ, List, [], ◌∷◌, length, map, refl, sym, ap, subst}
+use Rattle.std.proofs.Common.{◌∙◌, arith, Err}
+use Rattle.std.proofs.lemmas.List.{length-map}
+use Rattle.std.specs.List.{sum_by}
+use Rattle.cjc_bytes.specs.Breaks.{Break, foremost}
+use Rattle.cjc_bytes.specs.declared.settings.FileLine.{FileLine}
+use Rattle.cjc_bytes.specs.declared.fault.Fault.{Fault}
+use Rattle.cjc_bytes.specs.declared.fault.Fault.TheVariants as faults
+use Rattle.cjc_bytes.specs.declared.fault.Refusal.{Refusal}
+use Rattle.cjc_jvm_semantics.specs.ByName.{linked}
+use Rattle.cjc_jvm_semantics.specs.Machine.{start}
+use Rattle.cjc_jvm_semantics.specs.OnePackage.{static_array}
+use Rattle.cjc_clinit.specs.Rules.{BreaksImage, IsFirstRefused}
+use Rattle.cjc_code.specs.declared.method_code.MethodCode.{MethodCode}
+use Rattle.cjc_shelf.specs.Command.Gather.{Judged as IsGiven, status_of_fault}
+use Rattle.cjc_shelf.specs.declared.command.status.Todo.{Todo}
+use Rattle.cjc_code.specs.PackageCodes.{all_codes}
+use Rattle.cjc_judge.specs.Judged.{IsJudged}
+use Rattle.cjc_judge.specs.Rules.{IsFirstFault}
+use Rattle.cjc_judge.specs.Rules.{Breach, of_world, of_group, files_spelt, world_files}
+use Rattle.cjc_judge.specs.Spelt.{FileTree, of_class, of_export, SpellsTree, SpellTrees, classes_of, exports_of}
+use Rattle.cjc_judge.specs.Trees.{FileIs, AllSpelt}
+use Rattle.cjc_judge.specs.declared.groups.Group.TheVariants as groups
+use Rattle.cjc_judge.specs.declared.judged.Judged.{Judged}
+use Rattle.cjc_list.specs.Listed.{ListTree}
+use Rattle.cjc_cmd_jvm.specs.Running.Ready.{tested, Breaks}
+use Rattle.cjc_cmd_jvm.specs.declared.running.input.Input.{Input}
+use Rattle.cjc_script.specs.declared.script.Script.{Script}
+use Rattle.cjc_jvm.specs.States.{objects_at_most}
+use Rattle.cjc_world.specs.declared.image.StaticImage.{StaticImage}
+use Rattle.cjc_cmd_jvm.specs.Runs.{Runs}
+use Rattle.cjc_world.specs.Files.{Files}
+use Rattle.cjc_world.specs.Rules.{breaks}
+
+spells : (line : FileLine) (bytes : List ℕ) (t : FileTree) → FileIs line bytes t → SpellsTree line bytes t
+spells line bytes (of_class t) p = (p.0, p.1)
+spells line bytes (of_export t) p = (p.0, p.1)
+
+all_spell : (lines : List FileLine) (files : List (List ℕ)) (ts : List FileTree) → AllSpelt lines files ts
+    → SpellTrees lines files ts
+all_spell [] files ts p = p
+all_spell (l ∷ ls) [] ts p = absurd p
+all_spell (l ∷ ls) (b ∷ bs) [] p = absurd p
+all_spell (l ∷ ls) (b ∷ bs) (t ∷ ts) p = (spells l b t p.0, all_spell ls bs ts p.1)
+
+none_of : (bs : List Break) → ((b : Break) → Rattle.cjc_bytes.specs.Breaks.Among b bs → ⊥) → bs ≡ []
+none_of [] h = refl
+none_of (b ∷ bs) h = absurd (h b foremost)
+
+module _ (list : ListTree) (files : List (List ℕ)) (judged : Judged) (is : IsJudged list files tested judged) where
+  abbrev trees : List FileTree
+  trees = let r = is.read in r.trees
+
+  spelt : SpellTrees list.lines files trees
+  spelt = let r = is.read in all_spell list.lines files r.trees r.spelt
+
+  world_is : files_spelt list trees ≡ judged.world
+  world_is =
+      let r = is.read in
+      let world = judged.world in
+      ap (λ cs. world_files list cs (exports_of trees)) (sym r.classes)
+      ∙ ap (λ es. world_files list world.classes es) (sym r.exports)
+      ∙ sym is.world
+
+  pub codes_are : judged.codes ≡ all_codes (let w = judged.world in w.classes)
+  codes_are = let r = is.read in r.codes_are
+
+  pub no_initialiser_breaks : (b : Break) → BreaksImage judged.world judged.codes b → ⊥
+  no_initialiser_breaks b breaks_it = is.unbroken b (of_group (
+    2,
+    groups.Initialisers,
+    refl,
+    (
+      trees,
+      (spelt, unbroken),
+      here,
+    ),
+  ))
+    where
+      unbroken : breaks list.name (files_spelt list trees) ≡ []
+      unbroken = none_of (breaks list.name (files_spelt list trees)) (λ a among. is.unbroken a (of_world (
+        trees,
+        spelt,
+        among,
+      )))
+
+      classes_are : (let w = judged.world in w.classes) ≡ classes_of trees
+      classes_are = let r = is.read in r.classes
+
+      here : BreaksImage (files_spelt list trees) (all_codes (classes_of trees)) b
+      here = subst (λ (w : Files). BreaksImage w (all_codes (classes_of trees)) b) (sym world_is)
+          (subst (λ cs. BreaksImage judged.world cs b) (codes_are ∙ ap all_codes classes_are) breaks_it)
+
+-- a refusal is of something that is broken
+pub refused_breaks : (files : Files) (codes : List MethodCode) (e : Fault) (r : Refusal) → e ≡ faults.Refused r
+    → IsFirstRefused files codes e → ((b : Break) → BreaksImage files codes b → ⊥) → ⊥
+refused_breaks files codes e r is (inl none) unbroken = let clash : faults.Refused r ≡ faults.NoMemory = sym is ∙ none
+    in cc
+refused_breaks files codes e r is (inr (b, breaks_it, first, same)) unbroken = unbroken b breaks_it
+
+-- at the start there are the arrays of the image, and what the acts of the script may make
+pub starts_small : (files : Files) (image : StaticImage) (script : Script) (n : ℕ)
+    → n + (length image.arrays + sum_by (λ e. length e.acts) script.entries + sum_by (λ a. length a.acts)
+    script.answers) < 2 ^ 32
+    → n + objects_at_most (start (linked files image) script) < 4294967296
+unfolding linked
+starts_small files image script n h =
+    subst (λ k. n + (k + sum_by (λ e. length e.acts) script.entries + sum_by (λ a. length a.acts) script.answers) <
+    4294967296) (sym (length-map image.arrays static_array)) (omega (arith, h))
+
+-- the answer where a rule is broken, or memory ran out
+pub given_fault : (n : ℕ) (script : List ℕ) (input : Input) (e : Fault)
+    → IsFirstFault (Breaks input.list input.files script input.script) e
+    → IsGiven {T = Todo} (Runs n script input) (Err (status_of_fault e))
+given_fault n script input (faults.Refused r) (inl none) = absurd cc
+given_fault n script input (faults.Refused r) (inr (s, first, is)) = let same : s ≡ r = cc
+    in subst (λ x. Rattle.cjc_judge.specs.Rules.IsFirstRefused (Breaks input.list input.files script input.script) x)
+    same first
+given_fault n script input faults.NoMemory h = tt

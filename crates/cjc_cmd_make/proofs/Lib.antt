@@ -1,0 +1,2 @@
+pub mod PackageLaws
+pub mod ReportLaws

@@ -1,0 +1,7 @@
+use Rattle.std.proofs.Common.{◌≡◌, ◌++◌, take}
+use Rattle.std.specs.List.{flat_map}
+use Rattle.cjc_cmd_make.specs.Package.Kept.{entry_bytes}
+use Rattle.cjc_cmd_make.proofs.package.class_file.put_entries.Given as goal
+
+abbrev pub invariant-loop-entry : goal.invariant-loop-entry
+invariant-loop-entry l = l.out ≡ l.fn.out ++ flat_map entry_bytes (take l.entry-index l.entries)

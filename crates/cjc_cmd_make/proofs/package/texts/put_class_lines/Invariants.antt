@@ -1,0 +1,8 @@
+use Rattle.std.proofs.Common.{◌≡◌, ◌++◌}
+use Rattle.std.specs.List.{flat_map}
+use Rattle.cjc_cmd_make.specs.Package.Numbers.{below}
+use Rattle.cjc_cmd_make.specs.Package.Texts.{class_line}
+use Rattle.cjc_cmd_make.proofs.package.texts.put_class_lines.Given as goal
+
+abbrev pub invariant-loop-i : goal.invariant-loop-i
+invariant-loop-i l = l.out ≡ l.fn.out ++ flat_map class_line (below l.i)

@@ -1,0 +1,6 @@
+use Rattle.cjc_shelf.proofs.CommandLaws.Judging.{gathers_judged}
+use Rattle.cjc_cmd_make.specs.Report.Runs.{Makes}
+use Rattle.cjc_cmd_make.proofs.report.making.gather_make.Goals as goal
+
+pub returns : goal.returns
+returns g c = gathers_judged (c.args.number, c.args.size) Makes _ _ c.judge.ensures

@@ -1,0 +1,3 @@
+pub mod Package
+pub mod Laws
+pub mod Report

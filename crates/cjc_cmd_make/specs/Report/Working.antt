@@ -1,0 +1,36 @@
+-- How what is made comes to its end.
+use Rattle.std.specs.Prelude.{◌≡◌, ◌⊎◌, ℕ}
+use Rattle.cjc_bytes.specs.declared.fault.Fault.{Fault}
+use Rattle.cjc_bytes.specs.declared.fault.Fault.TheVariants as faults
+use Rattle.cjc_bytes.specs.declared.fault.Refusal.{Refusal}
+use Rattle.cjc_shelf.specs.Command.Plan.{refused}
+use Rattle.cjc_shelf.specs.declared.command.status.Status.{Status}
+use Rattle.cjc_shelf.specs.declared.command.status.Status.TheVariants as status
+use Rattle.cjc_cmd_jvm.specs.declared.running.input.Input.{Input}
+use Rattle.cjc_shelf.specs.Shelf.{Files}
+use Rattle.cjc_cmd_convert.specs.Conversion.Conversion.{IsRefused}
+use Rattle.cjc_cmd_make.specs.Report.Runs.{Refuses, reads_end}
+
+-- the fault for an end of reads in memory
+abbrev pub fault_of : Status → Fault
+fault_of (status.Refused r) = faults.Refused r
+fault_of status.Done = faults.NoMemory
+fault_of status.Usage = faults.NoMemory
+fault_of (status.Absent name) = faults.NoMemory
+fault_of (status.TooLong name) = faults.NoMemory
+fault_of (status.ShelfFault name) = faults.NoMemory
+fault_of status.SinkFault = faults.NoMemory
+fault_of status.NoMemory = faults.NoMemory
+
+-- The list of these files is refused; or memory ran out.
+abbrev pub IsListFault : Files → Fault → Type 0
+IsListFault files e = (e ≡ faults.NoMemory) ⊎ ((r : Refusal) × (reads_end files ≡ refused r) × (e ≡ faults.Refused r))
+
+-- What was read breaks a rule of a conversion; or memory ran out.
+abbrev pub IsConversionFault : Input → Fault → Type 0
+IsConversionFault input e = (e ≡ faults.NoMemory) ⊎ ((r : Refusal) × IsRefused input.list input.files r
+    × (e ≡ faults.Refused r))
+
+-- A rule is broken; or memory ran out.
+abbrev pub IsMakeFault : (number size : ℕ) → Fault → Type 0
+IsMakeFault number size e = (e ≡ faults.NoMemory) ⊎ ((r : Refusal) × Refuses number size r × (e ≡ faults.Refused r))

@@ -1,5 +1,0 @@
-use Rattle.cjc_code_consistency.proofs.Members.{all_named}
-use Rattle.cjc_code_consistency.proofs.pool_entries_name_members.Goals as goal
-
-pub returns : goal.returns
-returns c p apart order all = all_named p apart order all

@@ -1,7 +1,0 @@
-use Rattle.cjc_components.specs.Methods.{first_method}
-use Rattle.cjc_components.specs.Names.{names}
-use Rattle.cjc_code_consistency.proofs.Handlers.{stops_are}
-use Rattle.cjc_code_consistency.proofs.stop_bits_end_searches.Goals as goal
-
-pub returns : goal.returns
-returns c p can lie = stops_are (names p) (first_method p.methods) 1 p.methods can lie

@@ -1,5 +1,0 @@
-use Rattle.cjc_code_promises.proofs.Ending.{selected_ends}
-use Rattle.cjc_code_promises.proofs.selected_code_ends.Goals as goal
-
-pub returns : goal.returns
-returns c files code class method tree is rows least some near = selected_ends files code class method tree is rows least some near

@@ -1,7 +1,0 @@
-use Rattle.cjc_command.proofs.Published.{publishes_stop}
-use Rattle.cjc_command.proofs.publishing.publish.Goals as goal
-
-pub returns-in-Err : goal.returns-in-Err
-returns-in-Err g c =
-    let writes = rw c.items.ensures at c.in-Err.ensures in
-    rw c.stopped.ensures (publishes_stop _ _ _ _ _ writes)

@@ -1,0 +1,4 @@
+pub mod Shapes
+pub mod Stops
+pub mod Handlers
+pub mod Results

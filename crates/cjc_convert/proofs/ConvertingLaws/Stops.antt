@@ -1,0 +1,113 @@
+-- Which rule is answered for a list and its files.
+use Rattle.std.proofs.Common.{◌≡◌, ◌∙◌, ℕ, List, [], ◌∷◌, refl, sym, ap, subst, inl, inr}
+use Rattle.cjc_bytes.specs.Breaks.{Among, Break, IsFirst, IsFirstRefusal}
+use Rattle.cjc_bytes.specs.Order.{NotAfter}
+use Rattle.cjc_bytes.specs.declared.fault.Fault.{Fault}
+use Rattle.cjc_bytes.specs.declared.fault.Refusal.{Refusal}
+use Rattle.cjc_components.specs.Limits.{else_of, form_breaks, limit_breaks, of_methods, size_breaks, word_breaks}
+use Rattle.cjc_components.specs.Package.{Package}
+use Rattle.cjc_judge.specs.Judged.{IsStopped}
+use Rattle.cjc_judge.specs.Rules.{Breach, IsFirstBroken, IsFirstOf, OnLevels, on_first, on_second}
+use Rattle.cjc_judge.specs.declared.judged.Judged.{Judged}
+use Rattle.cjc_list.specs.Listed.{ListTree}
+use Rattle.cjc_shape.specs.Prepared.{IsSound, tested}
+use Rattle.cjc_shape.specs.Whole.Conversion.{BreaksWritten, IsDraft, IsPackageOf, IsRefused, of_form, of_size}
+use Rattle.cjc_shape.specs.Whole.Working.Shaped.{Stopped}
+use Rattle.cjc_shape.proofs.WholeLaws.Drafts.{narrow_codes}
+use Rattle.cjc_shape.proofs.WholeLaws.One.{one_package}
+use Rattle.cjc_shape.proofs.WholeLaws.Second.{forms_are, fs, is_base, package_is_draft, words_are}
+
+no_among : (b : Break) → Among b [] → ⊥
+no_among b among = elim among [ ]
+
+module _ (list : ListTree) (files : List (List ℕ)) where
+  -- ---- a rule that the files break
+
+  by_files : (r : Refusal) → IsFirstBroken list files tested r → IsRefused list files r
+  by_files r f = record {
+    broken = f.broken;
+    first = record {
+      breaks = on_first (let first = f.first in first.breaks);
+      least = least;
+    };
+    is = f.is;
+  }
+    where
+      least : (a : Break) → OnLevels (Breach list files tested) (BreaksWritten list files) a
+          → (let b = f.broken in NotAfter b.rank a.rank)
+      least a (on_first breach) = let first = f.first in first.least a breach
+      least a (on_second none written) = let first = f.first in absurd (none f.broken first.breaks)
+
+  pub stopped_by_files : (e : Fault) → IsStopped list files tested e → Stopped list files e
+  stopped_by_files e (inl memory) = inl memory
+  stopped_by_files e (inr (r, first, is)) = inr (r, by_files r first, is)
+
+  -- ---- 411 and 416
+
+  module _ (judged : Judged) (is : IsSound list files judged) (p : Package) (whole : IsPackageOf list files p)
+      (d : IsDraft list files p) (none : of_methods p (word_breaks p) ≡ []) (fine : form_breaks p ≡ []) where
+    no_words : (q : Package) → IsDraft list files q → of_methods q (word_breaks q) ≡ []
+    no_words q e =
+        words_are list judged.world (fs list files judged is) (narrow_codes list files judged is) q
+        (is_base list files judged is q e)
+        ∙ sym (words_are list judged.world (fs list files judged is) (narrow_codes list files judged is) p
+        (is_base list files judged is p d))
+        ∙ none
+
+    no_forms : (q : Package) → IsDraft list files q → form_breaks q ≡ []
+    no_forms q e =
+        forms_are list judged.world (fs list files judged is) (narrow_codes list files judged is) q
+        (is_base list files judged is q e)
+        ∙ sym (forms_are list judged.world (fs list files judged is) (narrow_codes list files judged is) p
+        (is_base list files judged is p d))
+        ∙ fine
+
+    of_sizes : (a : Break) → BreaksWritten list files a → Among a (size_breaks p)
+    of_sizes a (of_form q e among) =
+        absurd (no_among a (subst (λ bs. Among a bs) (ap (λ bs. else_of bs (form_breaks q)) (no_words q e)
+        ∙ no_forms q e) among))
+    of_sizes a (of_size q of_package n f among) = subst (λ r. Among a (size_breaks r)) (one_package list files judged is
+        q p of_package whole) among
+
+    first_of : (b : Break) → IsFirst b (size_breaks p)
+        → IsFirstOf (OnLevels (Breach list files tested) (BreaksWritten list files)) b
+    first_of b first = record {
+      breaks = on_second (let j = is.judged_by in j.unbroken) (of_size p whole none fine
+          first.among);
+      least = least;
+    }
+      where
+        least : (a : Break) → OnLevels (Breach list files tested) (BreaksWritten list files) a → NotAfter b.rank a.rank
+        least a (on_first breach) = absurd (let j = is.judged_by in j.unbroken a breach)
+        least a (on_second n written) = first.least a (of_sizes a written)
+
+    pub stopped_by_sizes : (e : Fault) → IsFirstRefusal (size_breaks p) e → Stopped list files e
+    stopped_by_sizes e (inl memory) = inl memory
+    stopped_by_sizes e (inr (b, first, refused)) = inr (
+      b.refusal,
+      record {
+        broken = b;
+        first = first_of b first;
+        is = refl;
+      },
+      refused,
+    )
+
+    pub keeps_limits : size_breaks p ≡ [] → limit_breaks p ≡ []
+    keeps_limits small = ap (λ bs. else_of bs (else_of (form_breaks p) (size_breaks p))) none
+        ∙ ap (λ bs. else_of bs (size_breaks p)) fine ∙ small
+
+-- ---- nothing of what is written
+
+both_none : (xs ys : List Break) → else_of xs ys ≡ [] → (xs ≡ []) × (ys ≡ [])
+both_none [] ys e = (refl, e)
+both_none (x ∷ xs) ys e = cc
+
+-- a package that breaks no limit breaks nothing of the second level
+pub none_written : (list : ListTree) (files : List (List ℕ)) (judged : Judged) → IsSound list files judged
+    → (p : Package) → IsPackageOf list files p → limit_breaks p ≡ [] → (a : Break) → BreaksWritten list files a → ⊥
+none_written list files judged is p whole none a broken =
+    let one = both_none (of_methods p (word_breaks p)) (else_of (form_breaks p) (size_breaks p)) none in
+    let two = both_none (form_breaks p) (size_breaks p) one.1 in
+    no_among a (subst (λ bs. Among a bs) two.1 (of_sizes list files judged is p whole (package_is_draft list files p
+    whole) one.0 two.0 a broken))

@@ -1,4 +1,0 @@
-pub mod Shapes
-pub mod Stops
-mod Handlers
-mod Results

@@ -1,6 +1,0 @@
-use Rattle.std.proofs.Common.{◌≡◌, ◌+◌, drop}
-use Rattle.cjc_sentences.specs.Listed.{array_bytes}
-use Rattle.cjc_counts.proofs.directory.array_bytes.Given as goal
-
-abbrev pub invariant-loop-array : goal.invariant-loop-array
-invariant-loop-array l = l.size + array_bytes (drop l.array-index l.arrays) ≡ array_bytes l.arrays

@@ -1,5 +1,0 @@
-use Rattle.std.proofs.Common.{length}
-use Rattle.cjc_counts.proofs.handlers.+stops.Given as goal
-
-abbrev pub decreases-stops : goal.decreases-stops
-decreases-stops l = length l.handlers.now

@@ -1,5 +1,0 @@
-use Rattle.cjc_decode.proofs.Tables.{numbers_none}
-use Rattle.cjc_decode.proofs.table.no_entries.Goals as goal
-
-pub returns-clause-none : goal.returns-clause-none
-returns-clause-none c = numbers_none c.args.matches

@@ -1,7 +1,0 @@
-use Rattle.std.proofs.Common.{◌≡◌, map, take}
-use Rattle.cjc_clinit.specs.Image.{field_id}
-use Rattle.cjc_descriptor.specs.Working.Cells.{offset_of}
-use Rattle.cjc_descriptor.proofs.cells.cell_offsets.Given as goal
-
-abbrev pub invariant-loop-class : goal.invariant-loop-class
-invariant-loop-class l = l.rows ≡ map (λ c. map (λ f. offset_of l.cells (field_id c.name f)) c.fields) (take l.class-index l.classes)

@@ -1,7 +1,0 @@
-use Rattle.std.proofs.Common.{◌≡◌, map, take}
-use Rattle.cjc_clinit.specs.Image.{field_id}
-use Rattle.cjc_descriptor.specs.Working.Cells.{offset_of}
-use Rattle.cjc_descriptor.proofs.cells.offsets_in.Given as goal
-
-abbrev pub invariant-loop-field : goal.invariant-loop-field
-invariant-loop-field l = l.row ≡ map (λ f. offset_of l.cells (field_id l.class.name f)) (take l.field-index l.class.fields)

@@ -1,6 +1,0 @@
-use Rattle.std.proofs.Common.{◌≡◌, ◌+◌, ◌++◌, drop}
-use Rattle.cjc_descriptor.specs.Working.Described.{inputs_of, own_methods_at}
-use Rattle.cjc_descriptor.proofs.methods.put_own.Given as goal
-
-abbrev pub invariant-loop-place : goal.invariant-loop-place
-invariant-loop-place l = l.row ++ own_methods_at (inputs_of l.parts) l.number (l.first + l.place) (drop l.place l.methods) ≡ l.fn.row ++ own_methods_at (inputs_of l.parts) l.number l.first l.methods

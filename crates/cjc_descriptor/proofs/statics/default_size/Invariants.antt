@@ -1,6 +1,0 @@
-use Rattle.std.proofs.Common.{◌≡◌, sum_by, take}
-use Rattle.cjc_components.specs.Statics.{size_of_field}
-use Rattle.cjc_descriptor.proofs.statics.default_size.Given as goal
-
-abbrev pub invariant-loop-field : goal.invariant-loop-field
-invariant-loop-field l = l.size ≡ sum_by size_of_field (take l.field-index l.zeros)

@@ -1,0 +1,2 @@
+pub mod NarrowLaws
+pub mod ComponentsLaws

@@ -1,0 +1,5 @@
+//! Worked packages as theorems, outside the product.
+#![tactic(auto)]
+
+pub mod components;
+pub mod narrow;

@@ -1,5 +1,0 @@
-pub mod Alone
-mod Roots
-mod Sent
-mod Test
-pub mod Implementing

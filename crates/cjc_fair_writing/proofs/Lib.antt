@@ -1,7 +1,0 @@
-pub mod Upwards
-pub mod Worlds
-pub mod Beside
-pub mod Once
-pub mod Entries
-pub mod Fields
-mod Test

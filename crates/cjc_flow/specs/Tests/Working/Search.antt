@@ -1,0 +1,115 @@
+-- The lowest rule that an instruction breaks, and the first of a method.
+use Rattle.std.specs.Prelude.{ℕ, zero, suc, ◌+◌, ◌==◌, ◌&&◌, nat_le, Bool, if◌then◌else◌, List, [], ◌∷◌, length, Option}
+use Rattle.std.specs.Prelude.{Some, None, int_le}
+use Rattle.cjc_bytes.specs.Descriptor.{Part}
+use Rattle.cjc_bytes.specs.declared.fault.MemberId.{MemberId}
+use Rattle.cjc_bytes.specs.declared.descriptor.Kind.{Kind}
+use Rattle.cjc_bytes.specs.declared.descriptor.Kind.TheVariants as kinds
+use Rattle.cjc_range.specs.Span.{Span, byte_range, short_range}
+use Rattle.cjc_code.specs.declared.insn.JInsn.{JInsn}
+use Rattle.cjc_code.specs.declared.insn.JOp.{JOp}
+use Rattle.cjc_code.specs.declared.insn.JOp.TheVariants as jop
+use Rattle.cjc_code.specs.Jvm as jvm
+use Rattle.cjc_types.specs.declared.cell.Cell.{Cell}
+use Rattle.cjc_types.specs.declared.state.State.{State}
+use Rattle.cjc_types.specs.Flow.{Body}
+use Rattle.cjc_types.specs.Rules.{tests_references}
+use Rattle.cjc_types.specs.Search.{cells_of}
+use Rattle.cjc_types.specs.Steps as typed
+use Rattle.cjc_types.specs.Steps.{compares}
+use Rattle.cjc_types.specs.Types.{parts}
+use Rattle.cjc_intervals.specs.Frames.{RangeState, spans_of}
+use Rattle.cjc_intervals.specs.Steps.{operand}
+use Rattle.cjc_intervals.specs.Values.{boolean_range}
+use Rattle.cjc_intervals.specs.Bounds.{index_range, divides, shifts_right, may_hold_booleans, parameter}
+use Rattle.cjc_flow.specs.declared.tests.passing.Found.{Found}
+
+-- whether the interval lies within its bound
+abbrev pub lies_in : Span → (bound : Span) → Bool
+lies_in s bound = int_le bound.low s.low && int_le s.high bound.high
+
+-- the rule, where the interval does not lie in its bound
+abbrev pub tested : (rule : ℕ) → (bound : Span) → Span → Option ℕ
+tested rule bound s = if lies_in s bound then None else Some rule
+
+-- the lower of two rules
+abbrev pub lower : Option ℕ → Option ℕ → Option ℕ
+lower None other = other
+lower (Some r) None = Some r
+lower (Some r) (Some q) = if nat_le r q then Some r else Some q
+
+-- of a number that is put, passed or returned as a value of a type
+abbrev pub kind_rule : Kind → Span → Option ℕ
+kind_rule kinds.Bool s = tested 609 boolean_range s
+kind_rule kinds.Byte s = tested 608 byte_range s
+kind_rule kinds.Short s = tested 607 short_range s
+kind_rule kinds.Int s = None
+kind_rule kinds.Other s = None
+kind_rule kinds.Ref s = None
+kind_rule kinds.Void s = None
+
+-- of a number that is put, passed or returned as a field, a parameter or a result
+abbrev pub part_rule : Part → Span → Option ℕ
+part_rule p s = kind_rule p.kind s
+
+-- of the first n operands of a call from the top
+abbrev pub arguments_rule : MemberId → (n : ℕ) → List Span → Option ℕ
+arguments_rule id zero s = None
+arguments_rule id (suc k) s = lower (arguments_rule id k s) (part_rule (parameter id k) (operand s k))
+
+-- of the numbers that a comparison by this opcode takes; one of references takes none
+abbrev pub comparison_rule : (opcode : ℕ) → List Span → Option ℕ
+comparison_rule opcode s = if tests_references opcode then None else lower (tested 601 short_range (operand s 0))
+    (if compares opcode then tested 601 short_range (operand s 1) else None)
+
+-- of both operands of a division or remainder, and of the number that is shifted to the right
+abbrev pub arithmetic_rule : (opcode : ℕ) → List Span → Option ℕ
+arithmetic_rule opcode s =
+    lower (if divides opcode then lower (tested 602 short_range (operand s 0)) (tested 602 short_range (operand s 1))
+    else None)
+    (if shifts_right opcode then tested 603 short_range (operand s 1) else None)
+
+-- of a value that bastore puts into what may be an array of booleans
+abbrev pub element_rule : (opcode : ℕ) → Cell → Span → Option ℕ
+element_rule opcode array s = if (opcode == jvm.bastore) && may_hold_booleans array then tested 609 boolean_range s
+    else None
+
+-- of a value that is put into a field; where it is got there is none
+abbrev pub put_rule : (put : Bool) → MemberId → List Span → Option ℕ
+put_rule put field s = if put then part_rule (parts field.desc).result (operand s 0) else None
+
+-- the lowest rule that an instruction breaks, on a stack of these types with these intervals
+abbrev pub lowest_rule : Body → JOp → List Cell → List Span → Option ℕ
+lowest_rule b (jop.If opcode target) types s = comparison_rule opcode s
+lowest_rule b (jop.Arith opcode) types s = arithmetic_rule opcode s
+lowest_rule b (jop.TableSwitch other low targets) types s = tested 604 short_range (operand s 0)
+lowest_rule b (jop.LookupSwitch other cases) types s = tested 604 short_range (operand s 0)
+lowest_rule b (jop.NewArray number) types s = tested 605 short_range (operand s 0)
+lowest_rule b (jop.ANewArray class) types s = tested 605 short_range (operand s 0)
+lowest_rule b (jop.ArrayLoad opcode) types s = tested 606 index_range (operand s 0)
+lowest_rule b (jop.ArrayStore opcode) types s = lower (tested 606 index_range (operand s 1))
+    (element_rule opcode (typed.operand types 2) (operand s 0))
+lowest_rule b (jop.Static put field) types s = put_rule put field s
+lowest_rule b (jop.Field put field) types s = put_rule put field s
+lowest_rule b (jop.Call opcode id) types s = arguments_rule id (length (parts id.desc).params) s
+lowest_rule b (jop.Return opcode) types s = part_rule (parts b.desc).result (operand s 0)
+lowest_rule b _ types s = None
+
+-- of an instruction that both tables reach
+abbrev pub row_rule : Body → JInsn → Option State → Option RangeState → Option ℕ
+row_rule b insn None ranged = None
+row_rule b insn (Some t) None = None
+row_rule b insn (Some t) (Some x) = lowest_rule b insn.op (cells_of t.stack) (spans_of x.stack)
+
+-- this place with the rule that is broken there, or else what is found later
+abbrev pub or_later : Option ℕ → (place : ℕ) → Option Found → Option Found
+or_later (Some rule) place later = Some (record { place = place; rule = rule })
+or_later None place later = later
+
+-- of these instructions and their rows, the first of which has this place
+abbrev pub first_from : Body → (place : ℕ) → List JInsn → List (Option State) → List (Option RangeState) → Option Found
+first_from b place [] types ranges = None
+first_from b place (insn ∷ insns) [] ranges = None
+first_from b place (insn ∷ insns) (t ∷ types) [] = None
+first_from b place (insn ∷ insns) (t ∷ types) (x ∷ ranges) = or_later (row_rule b insn t x) place
+    (first_from b (place + 1) insns types ranges)

@@ -1,5 +1,0 @@
-use Rattle.cjc_folder.proofs.Gathers.{text_then}
-use Rattle.cjc_folder.proofs.reads.gather_text.Goals as goal
-
-pub returns-in-Ok-clause-gathers : goal.returns-in-Ok-clause-gathers
-returns-in-Ok-clause-gathers g c = text_then _ _ _ _ _ _ _ c.in-Ok.ensures.exact c.gather_listed.ensures.gathers

@@ -1,6 +1,0 @@
-use Rattle.std.proofs.Common.{sym, ◌∙◌}
-use Rattle.cjc_folder.proofs.Files.{says_directory}
-use Rattle.cjc_folder.proofs.trees.directory_in.Goals as goal
-
-pub unreachable-requires : goal.unreachable-requires
-unreachable-requires c = says_directory c.args.bytes.now _ c.in_ok-component_in.ensures.found (sym c.into_directory.ensures ∙ c.in-None.is)

@@ -1,6 +1,0 @@
-use Rattle.std.proofs.Common.{sym, ◌∙◌}
-use Rattle.cjc_folder.proofs.Files.{says_header}
-use Rattle.cjc_folder.proofs.trees.header_in.Goals as goal
-
-pub unreachable-requires : goal.unreachable-requires
-unreachable-requires c = says_header c.args.bytes.now _ c.in_ok-component_in.ensures.found (sym c.into_header.ensures ∙ c.in-None.is)

@@ -1,5 +1,0 @@
-use Rattle.std.proofs.Common.{refl}
-use Rattle.cjc_frame.proofs.activation.Activation.branch_on_references.Goals as goal
-
-pub returns-in-None : goal.returns-in-None
-returns-in-None c = λ l store. record { effect = c.in-None.ensures _; keeps = (refl, refl) }

@@ -1,5 +1,0 @@
-use Rattle.std.proofs.Common.{◌≡◌, take, map}
-use Rattle.cjc_heap.proofs.object.first_values.Given as goal
-
-abbrev pub invariant-loop-field : goal.invariant-loop-field
-invariant-loop-field l = l.values.items ≡ map (λ f. f.value) (take l.field-index l.fresh)

@@ -1,9 +1,0 @@
-use Rattle.std.proofs.Common.{◌≡◌, ◌++◌, drop, length}
-use Rattle.cjc_export.specs.Supers.{classes_of}
-use Rattle.cjc_imported.specs.Tokens.{file_starts}
-use Rattle.cjc_imported.proofs.classes.all_classes.Given as goal
-
-abbrev pub invariant-loop-tree : goal.invariant-loop-tree
-invariant-loop-tree l =
-    (l.all ++ classes_of (drop l.tree-index l.exports) ≡ classes_of l.exports)
-    × (l.starts ++ file_starts (length l.all) (drop l.tree-index l.exports) ≡ file_starts 0 l.exports)

@@ -1,7 +1,0 @@
-use Rattle.std.proofs.Common.{◌≡◌, map, take}
-use Rattle.cjc_export.specs.declared.tree.ExportClass.{ExportClass}
-use Rattle.cjc_imported.specs.Working.Graph.{places}
-use Rattle.cjc_imported.proofs.graph.above_of.Given as goal
-
-abbrev pub invariant-loop-listed : goal.invariant-loop-listed
-invariant-loop-listed l = l.above ≡ map (λ (c : ExportClass). places l.classes c.supers) (take l.listed-index l.classes)

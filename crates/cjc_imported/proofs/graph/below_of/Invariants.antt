@@ -1,5 +1,0 @@
-use Rattle.cjc_imported.proofs.Edges.{ArePut}
-use Rattle.cjc_imported.proofs.graph.below_of.Given as goal
-
-abbrev pub invariant-loop-i : goal.invariant-loop-i
-invariant-loop-i l = ArePut l.i l.above l.below.items

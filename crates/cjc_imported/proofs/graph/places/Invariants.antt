@@ -1,8 +1,0 @@
-use Rattle.std.proofs.Common.{◌≡◌, List, ◌++◌, drop}
-use Rattle.cjc_export.specs.declared.tree.ExportClass.{ExportClass}
-use Rattle.cjc_imported.specs.Working.Graph.{places}
-use Rattle.cjc_imported.specs.Working.Names.{IsIndex}
-use Rattle.cjc_imported.proofs.graph.places.Given as goal
-
-abbrev pub invariant-loop-name : goal.invariant-loop-name
-invariant-loop-name l = (classes : List ExportClass) → IsIndex l.index classes → l.row ++ places classes (drop l.name-index l.names) ≡ places classes l.names

@@ -1,5 +1,0 @@
-use Rattle.cjc_imported.proofs.Marks.{marked_all}
-use Rattle.cjc_imported.proofs.reach.marked_places.Goals as goal
-
-pub returns : goal.returns
-returns c = marked_all c.loop-i.i c.args.marks.now c.loop-i.places.items _ c.loop-i-test.false c.loop-i.invariant

@@ -1,6 +1,0 @@
-use Rattle.std.proofs.Common.{◌≡◌, take, map}
-use Rattle.cjc_imported.specs.Working.Rows.{is_any_marked}
-use Rattle.cjc_imported.proofs.rows.inherited_row.Given as goal
-
-abbrev pub invariant-loop-places : goal.invariant-loop-places
-invariant-loop-places l = l.row ≡ map (is_any_marked l.marks) (take l.places-index l.above)

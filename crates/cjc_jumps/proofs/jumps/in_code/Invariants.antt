@@ -1,8 +1,0 @@
-use Rattle.std.proofs.Common.{◌≡◌, drop, map}
-use Rattle.cjc_codes.specs.Bodies.{code_of, placed_of}
-use Rattle.cjc_sentences.specs.Instructions.{in_code}
-use Rattle.cjc_sentences.specs.Spots.{earlier, first}
-use Rattle.cjc_jumps.proofs.jumps.in_code.Given as goal
-
-abbrev pub invariant-loop-i : goal.invariant-loop-i
-invariant-loop-i l = earlier l.least (first (in_code (code_of l.body) (map placed_of (drop l.i l.insns)))) ≡ first (in_code (code_of l.body) (map placed_of l.insns))

@@ -1,9 +1,0 @@
-use Rattle.std.proofs.Common.{◌≡◌, ◌+◌, ◌*◌, ◌++◌, drop}
-use Rattle.cjc_sentences.specs.Locations.{catch_places}
-use Rattle.cjc_jumps.proofs.locations.put_catches.Given as goal
-
-abbrev pub invariant-loop-handler : goal.invariant-loop-handler
-invariant-loop-handler l = record {
-  place : l.at ≡ l.from + 8 * l.handler-index;
-  put : l.places ++ catch_places l.at (drop l.handler-index l.handlers) ≡ l.initial.places ++ catch_places l.from l.handlers;
-}

@@ -1,9 +1,0 @@
-use Rattle.std.proofs.Common.{◌≡◌, ◌++◌}
-use Rattle.cjc_sentences.specs.Locations.{distance}
-use Rattle.cjc_jumps.proofs.locations.put_distance.Given as goal
-
-abbrev pub invariant-loop-left : goal.invariant-loop-left
-invariant-loop-left l = l.bytes ++ distance l.left ≡ l.initial.bytes ++ distance l.by
-
-abbrev pub decreases-loop-left : goal.decreases-loop-left
-decreases-loop-left l = l.left

@@ -1,4 +1,0 @@
-use Rattle.cjc_jvm.proofs.objects.new_object.Goals as goal
-
-pub returns-clause-row : goal.returns-clause-row
-returns-clause-row c = rw c.in_ok-object.ensures at c.put_new.ensures.row

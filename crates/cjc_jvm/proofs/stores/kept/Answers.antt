@@ -1,7 +1,0 @@
-use Rattle.cjc_jvm.proofs.stores.kept.Goals as goal
-
-pub returns-in-Ok : goal.returns-in-Ok
-returns-in-Ok g c = rw (c.in-Obj.is, c.in-References.is) c.in-Ok.ensures
-
-pub returns-in-Err : goal.returns-in-Err
-returns-in-Err g c = rw (c.in-Obj.is, c.in-References.is) c.in-Err.ensures

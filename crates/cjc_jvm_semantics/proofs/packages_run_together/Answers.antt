@@ -1,0 +1,46 @@
+use Rattle.std.proofs.Common.{refl}
+use Rattle.std.specs.Int.{int_wrap}
+use Rattle.cjc_bytes.specs.Format.{repeated, raw}
+use Rattle.cjc_bytes.specs.Reading.{front, digits}
+use Rattle.cjc_bytes.specs.Found.{each}
+use Rattle.cjc_bytes.specs.Spots.{desc_of, parts_of, bad_at, after, types_from}
+use Rattle.cjc_code.specs.Table.{row}
+use Rattle.cjc_code.specs.Instruction.{operand, operands, opcode_at, wide_opcode_at, behind_opcode, behind_first}
+use Rattle.cjc_code.specs.Instruction.{instruction}
+use Rattle.cjc_code.specs.Cut.{cut_rest, cut}
+use Rattle.cjc_code.specs.Unfit.{marks, starts, unfit_code}
+use Rattle.cjc_code.specs.Named.{named, all_named}
+use Rattle.cjc_code.specs.Decoded.{least, decoding, decoded}
+use Rattle.cjc_world.specs.Classes.{classes_from, all_classes, class_named, class_at}
+use Rattle.cjc_world.specs.Supertypes.{supertypes_within, supertypes, line}
+use Rattle.cjc_world.specs.Interfaces.{gathered, known}
+use Rattle.cjc_world.specs.Lookup.{first, own_field, find_field, own_method, find_method, selected}
+use Rattle.cjc_world.specs.Subtype.{is_subclass, is_element, is_subtype}
+use Rattle.cjc_jvm_semantics.specs.Effects.{effect}
+use Rattle.cjc_jvm_semantics.specs.ByName.{linked}
+use Rattle.cjc_jvm_semantics.specs.Group.{group}
+use Rattle.cjc_jvm_semantics.proofs.packages_run_together.Goals as goal
+
+pub returns-clause-across : goal.returns-clause-across
+unfolding int_wrap repeated raw front digits each desc_of parts_of bad_at after types_from row operand operands
+    opcode_at wide_opcode_at behind_opcode behind_first instruction cut_rest cut marks starts unfit_code named all_named
+    least decoding decoded classes_from all_classes class_named class_at supertypes_within supertypes line gathered
+    known first own_field find_field own_method find_method selected is_subclass is_element is_subtype effect linked
+    group
+returns-clause-across c = refl
+
+pub returns-clause-not_overridden : goal.returns-clause-not_overridden
+unfolding int_wrap repeated raw front digits each desc_of parts_of bad_at after types_from row operand operands
+    opcode_at wide_opcode_at behind_opcode behind_first instruction cut_rest cut marks starts unfit_code named all_named
+    least decoding decoded classes_from all_classes class_named class_at supertypes_within supertypes line gathered
+    known first own_field find_field own_method find_method selected is_subclass is_element is_subtype effect linked
+    group
+returns-clause-not_overridden c = refl
+
+pub returns-clause-alone : goal.returns-clause-alone
+unfolding int_wrap repeated raw front digits each desc_of parts_of bad_at after types_from row operand operands
+    opcode_at wide_opcode_at behind_opcode behind_first instruction cut_rest cut marks starts unfit_code named all_named
+    least decoding decoded classes_from all_classes class_named class_at supertypes_within supertypes line gathered
+    known first own_field find_field own_method find_method selected is_subclass is_element is_subtype effect linked
+    group
+returns-clause-alone c = refl

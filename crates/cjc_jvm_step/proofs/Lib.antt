@@ -1,0 +1,3 @@
+pub mod FrameLaws
+pub mod HeapLaws
+pub mod StepLaws

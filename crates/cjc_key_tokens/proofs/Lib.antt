@@ -1,5 +1,0 @@
-mod Kept
-mod Lines
-mod Walked
-mod Here
-mod Next

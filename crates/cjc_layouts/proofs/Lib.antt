@@ -1,4 +1,0 @@
-pub mod Kept
-mod Refusing
-mod Tested
-pub mod Standing

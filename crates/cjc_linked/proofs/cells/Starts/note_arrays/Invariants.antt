@@ -1,6 +1,0 @@
-use Rattle.std.proofs.Common.{[], take}
-use Rattle.cjc_linked.specs.Starts.{AreStarts}
-use Rattle.cjc_linked.proofs.cells.Starts.note_arrays.Given as goal
-
-abbrev pub invariant-loop-place : goal.invariant-loop-place
-invariant-loop-place l = AreStarts (take l.place l.arrays) [] l.self

@@ -1,6 +1,0 @@
-use Rattle.std.proofs.Common.{take}
-use Rattle.cjc_linked.specs.Starts.{AreStarts}
-use Rattle.cjc_linked.proofs.cells.Starts.note_numbers.Given as goal
-
-abbrev pub invariant-loop-number : goal.invariant-loop-number
-invariant-loop-number l = AreStarts l.arrays (take l.number-index l.others) l.self

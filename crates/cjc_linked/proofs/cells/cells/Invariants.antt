@@ -1,6 +1,0 @@
-use Rattle.std.proofs.Common.{◌≡◌, take}
-use Rattle.cjc_by_name.specs.OnePackage.{cells}
-use Rattle.cjc_linked.proofs.cells.cells.Given as goal
-
-abbrev pub invariant-loop-class : goal.invariant-loop-class
-invariant-loop-class l = l.row ≡ cells l.image (take l.class-index l.classes)

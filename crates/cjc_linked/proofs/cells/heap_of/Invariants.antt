@@ -1,6 +1,0 @@
-use Rattle.std.proofs.Common.{◌≡◌, map, take}
-use Rattle.cjc_by_name.specs.OnePackage.{static_array}
-use Rattle.cjc_linked.proofs.cells.heap_of.Given as goal
-
-abbrev pub invariant-loop-array : goal.invariant-loop-array
-invariant-loop-array l = l.heap ≡ map static_array (take l.array-index l.image.arrays)

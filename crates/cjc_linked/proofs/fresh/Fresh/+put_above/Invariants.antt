@@ -1,5 +1,0 @@
-use Rattle.std.proofs.Common.{length}
-use Rattle.cjc_linked.proofs.fresh.Fresh.+put_above.Given as goal
-
-abbrev pub decreases-put_above : goal.decreases-put_above
-decreases-put_above l = length l.names.now

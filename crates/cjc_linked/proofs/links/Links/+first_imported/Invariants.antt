@@ -1,8 +1,0 @@
-use Rattle.std.proofs.Common.{[], ◌∷◌}
-use Rattle.cjc_world.specs.Classes.{all_classes}
-use Rattle.cjc_world.specs.Supertypes.{supertypes}
-use Rattle.cjc_linked.proofs.Heights.{supertypes_size}
-use Rattle.cjc_linked.proofs.links.Links.+first_imported.Given as goal
-
-abbrev pub decreases-first_imported : goal.decreases-first_imported
-decreases-first_imported l = supertypes_size (supertypes (all_classes l.self.now.files) (l.name.now ∷ []))

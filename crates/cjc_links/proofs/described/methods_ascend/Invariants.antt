@@ -1,9 +1,0 @@
-use Rattle.std.proofs.Common.{◌≡◌, ◌+◌, ◌*◌, drop}
-use Rattle.cjc_sentences.specs.Described.{methods_ascend}
-use Rattle.cjc_sentences.specs.Spots.{earlier, first}
-use Rattle.cjc_links.proofs.described.methods_ascend.Given as goal
-
-abbrev pub invariant-loop-method : goal.invariant-loop-method
-invariant-loop-method l =
-    (l.at ≡ l.from + 12 * l.method-index)
-    × (earlier l.least (first (methods_ascend l.last l.at (drop l.method-index l.methods))) ≡ first (methods_ascend l.fn.before l.from l.methods))

@@ -1,8 +1,0 @@
-use Rattle.std.proofs.Common.{◌∙◌}
-use Rattle.cjc_sentences.proofs.Firsts.{joined}
-use Rattle.cjc_links.proofs.supers.super_spot.Goals as goal
-
-pub returns : goal.returns
-returns c =
-    let two = c.earlier.ensures ∙ joined _ _ _ _ c.interface_supers-interfaces.ensures c.class_supers-classes.ensures in
-    c.earlier-2.ensures ∙ joined _ _ _ _ two c.described_supers-described.ensures

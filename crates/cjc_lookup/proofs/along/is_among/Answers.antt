@@ -1,6 +1,0 @@
-use Rattle.std.proofs.Common.{◌∙◌}
-use Rattle.cjc_sentences.proofs.Starts.{found_among}
-use Rattle.cjc_lookup.proofs.along.is_among.Goals as goal
-
-pub returns : goal.returns
-returns c = c.is_ok.ensures.value ∙ found_among c.args.numbers.now c.args.number _ c.binary_search.ensures.position c.requires

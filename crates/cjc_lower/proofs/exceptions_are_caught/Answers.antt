@@ -1,5 +1,0 @@
-use Rattle.cjc_lower.proofs.Catching.{handler_found}
-use Rattle.cjc_lower.proofs.exceptions_are_caught.Goals as goal
-
-pub returns : goal.returns
-returns c = λ n l p part kind whole stands table agree root lie. handler_found n l p part kind whole stands table agree root lie

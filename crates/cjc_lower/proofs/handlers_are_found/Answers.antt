@@ -1,5 +1,0 @@
-use Rattle.cjc_lower.proofs.Search.{handler_same}
-use Rattle.cjc_lower.proofs.handlers_are_found.Goals as goal
-
-pub returns : goal.returns
-returns c = λ n l to count k kind inside ascends agree root catches lie. handler_same n l to count k kind inside ascends agree root catches lie

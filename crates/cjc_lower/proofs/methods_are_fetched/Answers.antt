@@ -1,5 +1,0 @@
-use Rattle.cjc_lower.proofs.Fetching.{method_fetched}
-use Rattle.cjc_lower.proofs.methods_are_fetched.Goals as goal
-
-pub returns : goal.returns
-returns c = λ n p part whole stands. method_fetched n p whole part stands

@@ -1,7 +1,0 @@
-use Rattle.cjc_card_running.specs.Reads.{plan_of_card}
-use Rattle.cjc_make_report.proofs.Ends.{gathered}
-use Rattle.cjc_make_report.specs.Package.{folder, list_name, script_name}
-use Rattle.cjc_make_report.proofs.by_token.read_components.Goals as goal
-
-pub returns-in-Ok-clause-read : goal.returns-in-Ok-clause-read
-returns-in-Ok-clause-read c = gathered (plan_of_card list_name folder script_name) c.args.shelf.now _ _ c.in-Ok.ensures.gathers

@@ -1,5 +1,0 @@
-use Rattle.std.proofs.Common.{◌≤◌, ◌^◌, All, length, take}
-use Rattle.cjc_make_report.proofs.making.are_short.Given as goal
-
-abbrev pub invariant-loop-bytes : goal.invariant-loop-bytes
-invariant-loop-bytes l = All (λ bytes. length bytes ≤ 2 ^ 29) (take l.bytes-index l.files)

@@ -1,7 +1,0 @@
-use Rattle.std.proofs.Common.{◌≡◌, drop}
-use Rattle.cjc_command.specs.Publish.{written_files}
-use Rattle.cjc_shelf.specs.Memory.{clean_shelved, files_of}
-use Rattle.cjc_make_report.proofs.shelf.add_files.Given as goal
-
-abbrev pub invariant-loop-file : goal.invariant-loop-file
-invariant-loop-file l = written_files (drop l.file-index l.files) (files_of (clean_shelved l.shelf)) ≡ written_files l.files (files_of (clean_shelved l.fn.shelf))

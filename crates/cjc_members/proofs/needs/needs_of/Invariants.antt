@@ -1,6 +1,0 @@
-use Rattle.std.proofs.Common.{◌≡◌, ℕ, drop}
-use Rattle.cjc_members.specs.Working.Needs.{greater, need_in, need_of}
-use Rattle.cjc_members.proofs.needs.needs_of.Given as goal
-
-abbrev pub invariant-loop-class : goal.invariant-loop-class
-invariant-loop-class l = (offset : ℕ) → greater (need_in l.needs offset) (need_of (drop l.class-index l.classes) offset) ≡ need_of l.classes offset

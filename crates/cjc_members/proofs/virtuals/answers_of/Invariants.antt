@@ -1,7 +1,0 @@
-use Rattle.std.proofs.Common.{◌≡◌, length, map}
-use Rattle.std.specs.List.{range_with_len}
-use Rattle.cjc_members.specs.Working.Above.{has_among}
-use Rattle.cjc_members.proofs.virtuals.answers_of.Given as goal
-
-abbrev pub invariant-loop-token : goal.invariant-loop-token
-invariant-loop-token l = l.row ≡ map (has_among l.names.parts.now.class.now l.names.exports.now (length l.above) l.class) (range_with_len 0 l.token)

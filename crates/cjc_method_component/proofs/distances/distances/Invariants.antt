@@ -1,6 +1,0 @@
-use Rattle.std.proofs.Common.{◌≡◌, ◌++◌, drop}
-use Rattle.cjc_sentences.specs.Locations.{distances}
-use Rattle.cjc_method_component.proofs.distances.distances.Given as goal
-
-abbrev pub invariant-loop-at : goal.invariant-loop-at
-invariant-loop-at l = l.bytes ++ distances l.before (drop l.at-index l.places) ≡ distances 0 l.places

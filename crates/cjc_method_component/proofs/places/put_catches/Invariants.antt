@@ -1,6 +1,0 @@
-use Rattle.std.proofs.Common.{◌≡◌, ◌++◌, drop}
-use Rattle.cjc_sentences.specs.Locations.{catch_places}
-use Rattle.cjc_method_component.proofs.places.put_catches.Given as goal
-
-abbrev pub invariant-loop-handler : goal.invariant-loop-handler
-invariant-loop-handler l = l.out ++ catch_places l.at (drop l.handler-index l.handlers) ≡ l.initial.out ++ catch_places l.from l.handlers

@@ -1,0 +1,36 @@
+-- The narrow code of a method of a package, and of all its methods, by which instructions their least tables reach.
+use Rattle.std.specs.Prelude.{List, [], ◌∷◌, ◌++◌, take, Option}
+use Rattle.cjc_bytes.specs.declared.fault.MemberId.{MemberId}
+use Rattle.cjc_classfile.specs.Code.{CodeTree}
+use Rattle.cjc_classfile.specs.declared.tree.ClassTree.{ClassTree}
+use Rattle.cjc_classfile.specs.declared.tree.MethodTree.{MethodTree}
+use Rattle.cjc_code.specs.declared.insn.JInsn.{JInsn}
+use Rattle.cjc_world.specs.Files.{Files}
+use Rattle.cjc_ncode.specs.declared.narrow.NMethod.{NMethod}
+use Rattle.cjc_ncode.specs.declared.narrow.PoolKey.{PoolKey}
+use Rattle.cjc_ncode.specs.declared.narrow.PoolKey.TheVariants as keys
+use Rattle.cjc_ncode.specs.Written.{narrow_method}
+use Rattle.cjc_narrow.specs.Rows.Resolved.{resolution, argument_words}
+
+-- The narrow method of a method of a class: its names stand for what the files say, and its instructions are those that
+-- have a row.
+abbrev pub selected_code : {A : Type 0} → Files → (near : List MemberId) → ClassTree → MethodTree → CodeTree
+    → List JInsn → List (Option A) → NMethod
+selected_code files near class method tree insns rows =
+    narrow_method (resolution files near class.name) tree (argument_words method.flags method.desc) insns rows
+
+-- ---- fields with an index of one byte
+
+-- an instance field that a key names
+abbrev pub field_of_key : PoolKey → List MemberId
+field_of_key (keys.Field f) = f ∷ []
+field_of_key key = []
+
+-- those of some keys
+abbrev pub fields_of_keys : List PoolKey → List MemberId
+fields_of_keys [] = []
+fields_of_keys (key ∷ rest) = field_of_key key ++ fields_of_keys rest
+
+-- The instance fields whose keys stand at an index of at most 255 in the order of a pool.
+abbrev pub near_fields : List PoolKey → List MemberId
+near_fields pool = fields_of_keys (take 256 pool)

@@ -1,8 +1,0 @@
--- A member that a look-up found, as the code keeps it, and as definitions have it.
-use Rattle.cjc_world.specs.Working.Known.{class_of}
-use Rattle.cjc_by_name.specs.OnePackage.{ResolvedMember}
-use Rattle.cjc_narrow.specs.declared.hits.ResolvedMember.{ResolvedMember as Met}
-
--- a method that was found: the class that has it, and its flags
-abbrev pub hit_of : Met → ResolvedMember
-hit_of h = record { owner = class_of h.owner; flags = h.flags }

@@ -1,0 +1,22 @@
+//! The narrow code of a method (Java Card Virtual Machine Specification 2.2.2, chapter 7): what is written for each
+//! instruction that is reached, with labels and names in place of offsets, indices and tokens. Called for each method
+//! of a package, first to know the constant pool and again by its indices. It knows no token, and of types which
+//! instructions are reached.
+ghost use Rattle.std.specs.Prelude.{◌≡◌, List};
+ghost use Rattle.cjc_bytes.specs.declared.fault.MemberId.{MemberId as Member};
+ghost use Rattle.cjc_world.specs.Files.{Files};
+ghost use Rattle.cjc_ncode.specs.PoolOrder.{pool_order};
+ghost use Rattle.cjc_narrow.specs.Select.Forms.{Selection, all_selected};
+
+mod code;
+mod method;
+mod names;
+
+pub use method::{argument_words, select};
+
+/// The methods of a package need the same pool whichever instance fields their code reads with an index of one byte. So
+/// code can be selected once to know the pool, and again by the indices that it has.
+pub fn selecting_again_leaves_the_pool()
+    ensures { (files : Files) (before after : List Member) (methods : List Selection)
+        → pool_order (all_selected files before methods) ≡ pool_order (all_selected files after methods) }
+{}

@@ -1,0 +1,103 @@
+//! The narrow code of a method: its instructions, where they come from, its handlers and its numbers.
+
+ghost use Rattle.std.specs.Prelude.{◌≡◌, ◌<◌, ◌^◌, ℕ, length, slice_get, Some, true, IfOk};
+ghost use Rattle.cjc_code.specs.declared.insn.JInsn.{JInsn as Insn};
+ghost use Rattle.cjc_narrow.specs.Rows.Resolved.{argument_words};
+ghost use Rattle.cjc_narrow.specs.Rows.Selected.{near_fields, selected_code};
+ghost use Rattle.cjc_narrow.specs.Written.Labels.{place_of};
+ghost use Rattle.cjc_narrow.specs.Written.Operands.{CanBeSaid, IsByte};
+ghost use Rattle.cjc_narrow.specs.Written.Rows.{rows_by};
+ghost use Rattle.cjc_narrow.specs.Select.Select.{IsSelectable};
+ghost use Rattle.cjc_narrow.specs.Select.Working.Names.{resolution_of};
+ghost use Rattle.cjc_narrow.specs.Select.Working.Whole.{AreParts};
+
+use crate::keys::Numbers;
+use crate::select::code::put_all;
+use crate::select::names::Names;
+use crate::written::{Places, catches_at, widest_sum, words_by};
+use cjc_bytes::{NoMemory, Row, is_static};
+use cjc_classfile::{ClassTree, Code, MethodTree};
+use cjc_code::JInsn;
+use cjc_ncode::NMethod;
+use cjc_world::World;
+use std::alloc::Global;
+
+/// How many words a method with these flags and this descriptor takes, its receiver counted.
+#[tactic(auto, using(crate::proofs::RowsLaws::Fields::counted))]
+pub fn argument_words(flags: u16, desc: &[u8]) -> Result<u64, NoMemory>
+    ensures { IfOk result (λ words. words ≡ argument_words flags desc.now) }
+{
+    let words = words_by(desc)?;
+    if is_static(flags) {
+        Ok(words.saturating_sub(1))
+    } else {
+        Ok(words)
+    }
+}
+
+/// A method of its parts, whose labels are these places.
+fn method_at(
+    alloc: Global,
+    names: &Names<'_, '_>,
+    places: &Places<'_>,
+    code: &Code<'_>,
+    insns: &[JInsn],
+    reaches: &[bool],
+    nargs: u8,
+) -> Result<NMethod, NoMemory>
+    requires stack { IsByte code.now.max_stack }
+    requires locals { IsByte code.now.max_locals }
+    requires few { length insns.now < 2 ^ 32 }
+    requires each { length reaches.now ≡ length insns.now }
+    requires said { (k : ℕ) (i : Insn) → slice_get insns.now k ≡ Some i → slice_get reaches.now k ≡ Some true
+        → CanBeSaid i.op }
+    ensures { IfOk result (AreParts (resolution_of names.now) code.now nargs insns.now reaches.now
+        (place_of places.now)) }
+{
+    let widest = widest_sum(insns, reaches)?;
+    let catches = catches_at(alloc, places, code.catches.items())?;
+    let mut out = Row::new(alloc);
+    let mut from = Row::new(alloc);
+    put_all(&mut out, &mut from, alloc, names, places, insns, reaches)?;
+    Ok(NMethod {
+        insns: out,
+        from,
+        catches,
+        max_stack: code.max_stack as u8,
+        nargs,
+        max_locals: (code.max_locals as u8).saturating_sub(nargs),
+        widest,
+    })
+}
+
+/// The narrow code of a method of a class, by which of its instructions are reached (Java Card Virtual Machine
+/// Specification 2.2.2, chapter 7). A field instruction has an index of one byte where its field has one in the pool;
+/// before the pool is known it is empty, and each has two.
+pub fn select(
+    alloc: Global,
+    world: &World<'_>,
+    class: &ClassTree<'_>,
+    method: &MethodTree<'_>,
+    code: &Code<'_>,
+    insns: &[JInsn],
+    reaches: &[bool],
+    pool: &Numbers,
+) -> Result<NMethod, NoMemory>
+    requires { IsSelectable method.now code.now insns.now reaches.now }
+    ensures { IfOk result (λ narrow. narrow ≡ selected_code world.now (near_fields pool.now) class.now method.now
+        code.now insns.now (rows_by reaches.now)) }
+{
+    if insns.len() > 0xFFFF_FFFF {
+        return Err(NoMemory);
+    }
+    let nargs = argument_words(method.flags, method.desc.items())? as u8;
+    let holder = class.name.items();
+    let names = Names {
+        world,
+        holder,
+        pool,
+    };
+    let places = Places::new(alloc, insns, reaches)?;
+    let narrow = method_at(alloc, &names, &places, code, insns, reaches, nargs)?;
+    Ok(narrow)
+}

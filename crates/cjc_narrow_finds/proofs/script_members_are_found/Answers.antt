@@ -1,5 +1,0 @@
-use Rattle.cjc_narrow_finds.proofs.Whole.{scripts_find}
-use Rattle.cjc_narrow_finds.proofs.script_members_are_found.Goals as goal
-
-pub returns : goal.returns
-returns c = λ list files codes settings tables whole image near id. scripts_find list files codes settings tables whole image near id

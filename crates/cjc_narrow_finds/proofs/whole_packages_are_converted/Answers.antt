@@ -1,5 +1,0 @@
-use Rattle.cjc_narrow_finds.proofs.Whole.{converted_is}
-use Rattle.cjc_narrow_finds.proofs.whole_packages_are_converted.Goals as goal
-
-pub returns : goal.returns
-returns c = λ list files codes settings tables whole image near named first. converted_is list files codes settings tables whole image near named first

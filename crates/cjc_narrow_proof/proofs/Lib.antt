@@ -1,0 +1,6 @@
+pub mod SelectionLaws
+pub mod TablesLaws
+pub mod RunsLaws
+pub mod SelectedLaws
+pub mod LawsLaws
+pub mod NamesLaws

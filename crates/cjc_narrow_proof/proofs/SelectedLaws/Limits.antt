@@ -1,0 +1,128 @@
+-- What the rules of a package say of one of its methods where none is broken.
+use Rattle.std.proofs.Common.{◌≡◌, ℕ, zero, suc, ◌+◌, ◌≤◌, refl, sym, ap, ◌∙◌, arith, Bool, true, false, not, ◌&&◌}
+use Rattle.std.proofs.Common.{List, [], ◌∷◌, ◌++◌, slice_get, Some}
+use Rattle.std.specs.List.{Contains}
+use Rattle.std.proofs.lemmas.Bool.{ltb-false}
+use Rattle.std.proofs.lemmas.Option.{slice_get-get_or}
+use Rattle.cjc_bytes.specs.Breaks.{Break, RulePlace, at, each_from}
+use Rattle.cjc_bytes.specs.Order.{FilePlace, file_of}
+use Rattle.cjc_bytes.specs.declared.settings.Settings.{Settings}
+use Rattle.cjc_classfile.specs.Code.{CodeTree}
+use Rattle.cjc_classfile.specs.declared.tree.ClassTree.{ClassTree}
+use Rattle.cjc_classfile.specs.declared.tree.MethodTree.{MethodTree}
+use Rattle.cjc_code.specs.declared.insn.JInsn.{JInsn}
+use Rattle.cjc_code.specs.declared.method_code.MethodCode.{MethodCode}
+use Rattle.cjc_subset.specs.Checks.{check_breaks, class_breaks, code_breaks, insn_breaks, list_breaks, method_breaks}
+use Rattle.cjc_subset.specs.Checks.{field_breaks, own_breaks}
+use Rattle.cjc_subset.specs.Limits.{has_deep_stack, has_many_locals}
+use Rattle.cjc_subset.specs.Places.{of_class, of_method}
+use Rattle.cjc_subset.specs.Types.{is_int_desc, names_int}
+use Rattle.cjc_types.specs.Tables.{IsMethodOf}
+use Rattle.cjc_world.specs.Files.{Files}
+
+-- ---- lists of breaks
+
+pub none_left : {A : Type 0} (xs ys : List A) → xs ++ ys ≡ [] → xs ≡ []
+none_left [] ys e = refl
+none_left (x ∷ xs) ys e = cc
+
+pub none_right : {A : Type 0} (xs ys : List A) → xs ++ ys ≡ [] → ys ≡ []
+none_right [] ys e = e
+none_right (x ∷ xs) ys e = cc
+
+pub not_broken : (b : Bool) (s : RulePlace) (rule : ℕ) → at b s rule ≡ [] → b ≡ false
+not_broken true s rule e = cc
+not_broken false s rule e = refl
+
+each_none : {A : Type 0} (breaks : ℕ → A → List Break) (n k : ℕ) (xs : List A) (x : A) → each_from breaks n xs ≡ []
+    → slice_get xs k ≡ Some x → breaks (n + k) x ≡ []
+unfolding each_from
+each_none breaks n k [] x e is = cc
+each_none breaks n zero (y ∷ xs) x e is =
+    let same : y ≡ x = cc in
+    let here : breaks n y ≡ [] = none_left (breaks n y) (each_from breaks (n + 1) xs) e in
+    let place : n + 0 ≡ n = omega arith in
+    ap (λ m. breaks m x) place ∙ ap (breaks n) (sym same) ∙ here
+each_none breaks n (suc k) (y ∷ xs) x e is =
+    let rest = each_none breaks (n + 1) k xs x (none_right (breaks n y) (each_from breaks (n + 1) xs) e) is in
+    let place : n + suc k ≡ n + 1 + k = omega arith in
+    ap (λ m. breaks m x) place ∙ rest
+
+pub each_at : {A : Type 0} (breaks : ℕ → A → List Break) (k : ℕ) (xs : List A) (x : A) → each_from breaks 0 xs ≡ []
+    → slice_get xs k ≡ Some x → breaks k x ≡ []
+each_at breaks k xs x e is = let place : k ≡ 0 + k = omega arith in ap (λ m. breaks m x) place
+    ∙ each_none breaks 0 k xs x e is
+
+-- ---- one method
+
+module _ (list : List ℕ) (files : Files) (codes : List MethodCode) (settings : Settings) (unbroken : check_breaks list
+    files codes settings ≡ [])
+    (code : MethodCode) (class : ClassTree) (method : MethodTree) (tree : CodeTree) (is : IsMethodOf files code class
+    method tree) where
+  abbrev by_classes : List Break
+  by_classes = each_from (λ n c. class_breaks files settings (file_of files.lines n) n c) 0 files.classes
+
+  abbrev by_codes : List Break
+  by_codes = each_from (λ _ c. code_breaks files settings c) 0 codes
+
+  abbrev insns_breaks : FilePlace → ClassTree → MethodTree → List Break
+  insns_breaks f c m = each_from (λ _ insn. insn_breaks files settings f c code.method m insn) 0 code.insns
+
+  -- the method's own breaks
+  own_unbroken : method_breaks settings (file_of files.lines code.class) class code.method method ≡ []
+  unfolding check_breaks class_breaks
+  own_unbroken =
+      let front : list_breaks list files settings ++ by_classes ≡ [] = none_left (list_breaks list files settings
+      ++ by_classes) by_codes unbroken in
+      let all : by_classes ≡ [] = none_right (list_breaks list files settings) by_classes front in
+      let f = file_of files.lines code.class in
+      let own = own_breaks files settings f code.class class in
+      let fields = each_from (λ i m. field_breaks settings f class i m) 0 class.fields in
+      let methods = each_from (λ i m. method_breaks settings f class i m) 0 class.methods in
+      let here : class_breaks files settings f code.class class ≡ [] =
+      each_at (λ n c. class_breaks files settings (file_of files.lines n) n c) code.class files.classes class all
+      is.is_class in
+      let three : own ++ fields ++ methods ≡ [] = none_left (own ++ fields ++ methods) _ here in
+      each_at (λ i m. method_breaks settings f class i m) code.method class.methods method (none_right (own
+      ++ fields) methods three) is.is_method
+
+  module _ (no_int : settings.ints ≡ false) where
+    -- int is not named
+    unnamed : (b : Bool) → (not settings.ints && b) ≡ false → b ≡ false
+    unnamed b e = go settings.ints no_int e
+      where
+        go : (ints : Bool) → ints ≡ false → (not ints && b) ≡ false → b ≡ false
+        go false f e = e
+        go true f e = absurd cc
+
+    pub own_desc : is_int_desc method.desc ≡ false
+    unfolding method_breaks
+    own_desc = unnamed (is_int_desc method.desc)
+        (not_broken _ _ 302 (none_right _ _ (none_left _ _ (none_left _ _ (none_left _ _ own_unbroken)))))
+
+    pub insn_fine : Contains codes code → (k : ℕ) (i : JInsn) → slice_get code.insns k ≡ Some i → names_int i.op ≡ false
+    unfolding check_breaks code_breaks insn_breaks
+    insn_fine (n, lt, same) k i e =
+        let all : by_codes ≡ [] = none_right (list_breaks list files settings ++ by_classes) by_codes unbroken in
+        let there : slice_get codes n ≡ Some code = slice_get-get_or codes n code lt ∙ ap Some same in
+        let here : code_breaks files settings code ≡ [] = each_at (λ _ c. code_breaks files settings c) n codes code all
+        there in
+        let f = file_of files.lines code.class in
+        let mine : each_from (λ _ insn. insn_breaks files settings f class code.method method insn) 0 code.insns ≡ [] =
+        sym (ap (of_method insns_breaks f class) is.is_method)
+        ∙ sym (ap (of_class insns_breaks f code.method) is.is_class) ∙ here in
+        let own = each_at (λ _ insn. insn_breaks files settings f class code.method method insn) k code.insns i mine e
+        in
+        unnamed (names_int i.op) (not_broken _ _ 302 (none_right _ _ (none_left _ _ own)))
+
+  pub few_locals : tree.max_locals ≤ 255
+  unfolding method_breaks
+  few_locals =
+      let e : has_many_locals method.code ≡ false = not_broken _ _ 404 (none_right _ _ (none_left _ _ own_unbroken)) in
+      ltb-false 255 tree.max_locals (sym (ap has_many_locals is.is_code) ∙ e)
+
+  pub low_stack : tree.max_stack ≤ 255
+  unfolding method_breaks
+  low_stack =
+      let e : has_deep_stack method.code ≡ false = not_broken _ _ 405 (none_right _ _ own_unbroken) in
+      ltb-false 255 tree.max_stack (sym (ap has_deep_stack is.is_code) ∙ e)

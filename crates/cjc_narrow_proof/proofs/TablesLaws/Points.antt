@@ -1,0 +1,183 @@
+-- At a point of the table both tables have a row.
+use Rattle.std.proofs.Common.{◌≡◌, ℕ, refl, sym, subst, List, slice_get, Option, Some, None}
+use Rattle.cjc_code.specs.declared.insn.JInsn.{JInsn}
+use Rattle.cjc_code.specs.declared.insn.JOp.{JOp}
+use Rattle.cjc_code.specs.declared.insn.JOp.TheVariants as jop
+use Rattle.cjc_fixpoint.specs.Tables.{HasRow}
+use Rattle.cjc_world.specs.Classes.{Class}
+use Rattle.cjc_types.specs.declared.state.Stack.TheVariants as stacks
+use Rattle.cjc_types.specs.declared.cell.Cell.{Cell}
+use Rattle.cjc_types.specs.declared.state.State.{State}
+use Rattle.cjc_types.specs.Search.{cells_of}
+use Rattle.cjc_ncode.specs.ByLabel.{Named}
+use Rattle.cjc_jvm_semantics.specs.Linked.{Method, Linked}
+use Rattle.cjc_intervals.specs.Frames.{RangeState}
+use Rattle.cjc_narrow_proof.specs.Selection.Tables.{Point}
+use Rattle.cjc_narrow_proof.specs.Selection.Runs.{Rule}
+use Rattle.cjc_narrow_proof.specs.Tables.Kinds.{point_of, point_where}
+use Rattle.cjc_narrow_proof.specs.Tables.Analysis.{Analysis, IsDecoded, IsSound, IsRead, CatchesAreTold, TypesAreTold}
+use Rattle.cjc_narrow_proof.specs.Tables.Analysis.{IsGiven, ThrowablesMay, table_of}
+use Rattle.cjc_narrow_proof.specs.Tables.Supported.{IsPlain, IsReturn, ireturn, areturn, returns}
+use Rattle.cjc_narrow_proof.specs.Tables.Names.{IsResolved}
+use Rattle.cjc_narrow_proof.specs.Tables.Arrays.{ClassesAreNamed, IsOnArray}
+use Rattle.cjc_narrow_proof.specs.Tables.Calls.{IsCalled}
+use Rattle.cjc_narrow_proof.specs.Tables.Package.{IsSupported, AreSupported}
+use Rattle.cjc_narrow_proof.specs.Tables.Package as supported_by
+use Rattle.cjc_narrow_proof.proofs.TablesLaws.Elements.{on_array}
+use Rattle.cjc_narrow_proof.proofs.TablesLaws.Called.{called_rule}
+use Rattle.cjc_narrow_proof.specs.Selection.Tables.{MayRaise}
+use Rattle.cjc_narrow_proof.specs.Selection.Reached.{IsAnswered}
+use Rattle.cjc_narrow_proof.proofs.TablesLaws.Arrivals.{is_cells}
+use Rattle.cjc_narrow_proof.proofs.TablesLaws.Plain.{keeps}
+use Rattle.cjc_narrow_proof.proofs.TablesLaws.Returns.{number_return, reference_return, plain_return}
+use Rattle.cjc_narrow_proof.proofs.TablesLaws.Resolved.{resolved}
+use Rattle.cjc_narrow_proof.proofs.TablesLaws.Begins.{throws_on}
+
+-- both rows of a point, the stack of types being no clash
+pub record IsPointOf (l : Named) (types : Option (Option State)) (ranges : Option (Option RangeState)) (p : Point) :
+    Type 0 where
+  pub typed : State
+  pub has_types : types ≡ Some (Some typed)
+  pub ranged : RangeState
+  pub has_ranges : ranges ≡ Some (Some ranged)
+  pub is : p ≡ point_of l typed ranged
+
+pub point_from : (l : Named) (types : Option (Option State)) (ranges : Option (Option RangeState)) (p : Point)
+    → point_where l types ranges ≡ Some p → IsPointOf l types ranges p
+point_from l None ranges p e = cc
+point_from l (Some None) ranges p e = cc
+point_from l (Some (Some t)) None p e = cc
+point_from l (Some (Some t)) (Some None) p e = cc
+point_from l (Some (Some t)) (Some (Some x)) p e = record {
+  typed = t;
+  has_types = refl;
+  ranged = x;
+  has_ranges = refl;
+  is = (let same : point_of l t x ≡ p = cc in sym same);
+}
+
+module _ (by : Linked) (l : Named) (w : List Class) (a : Analysis) (m : Method) (read : IsRead a m)
+    (decoded : IsDecoded (let f = a.found m in f.body)) (sound : IsSound w (let r = a.resolution m
+    in r.constant) (a.found m)) (told : CatchesAreTold by l a m) where
+  -- what holds at each pair of rows holds at a point
+  at_point : (at : ℕ) (i : JInsn) (p : Point) → (let tb = table_of l a in tb.point m at ≡ Some p)
+      → ((cells local_cells : List Cell) (x : RangeState) → (ranged : HasRow (let f = a.found m in f.ranges) at x)
+      → HasRow (let f = a.found m in f.types) at (record { stack = stacks.Cells cells; locals = local_cells })
+      → Rule by l (table_of l a) m at (point_of l (record { stack = stacks.Cells cells; locals = local_cells }) x)
+      i) → Rule by l (table_of l a) m at p i
+  at_point at i p known go =
+      let h = point_from l (slice_get (let f = a.found m in f.types) at) (slice_get (let f = a.found m in f.ranges) at)
+      p known in
+      let t = h.typed in
+      let cells = is_cells l w (let r = a.resolution m in r.constant) (a.found m) sound at t h.has_types in
+      let whole : HasRow (let f = a.found m in f.types) at (record {
+        stack = stacks.Cells (cells_of t.stack);
+        locals = t.locals;
+      }) = subst (λ s. HasRow (let f = a.found m in f.types) at (record {
+        stack = s;
+        locals = t.locals;
+      })) cells h.has_types in
+      subst (λ q. Rule by l (table_of l a) m at q i) (sym h.is) (go (cells_of t.stack) t.locals h.ranged h.has_ranges
+      whole)
+
+  pub plain_rule : (at : ℕ) (i : JInsn) (p : Point) → slice_get (let f = a.found m in let b = f.body in b.insns) at
+      ≡ Some i → (let tb = table_of l a in tb.point m at ≡ Some p) → IsPlain i.op → Rule by l (table_of l a) m at p i
+  plain_rule at i p there known is =
+      at_point at i p known (λ cells local_cells x ranged row. keeps by l w a m read decoded sound told at i.at cells
+      local_cells x ranged row i.op is there)
+
+  pub resolved_rule : TypesAreTold w l → (at : ℕ) (i : JInsn) (p : Point) → slice_get (let f = a.found m
+      in let b = f.body in b.insns) at ≡ Some i → (let tb = table_of l a in tb.point m at ≡ Some p)
+      → ((t : State) → HasRow (let f = a.found m in f.types) at t
+      → IsResolved by l (a.resolution m) m (cells_of t.stack) i.op) → Rule by l (table_of l a) m at p i
+  resolved_rule types at i p there known is =
+      at_point at i p known (λ cells local_cells x ranged row. resolved by l w a m read decoded sound told types at i.at
+      cells local_cells x ranged row i.op (is (record { stack = stacks.Cells cells; locals = local_cells }) row)
+      there)
+
+  -- the opcode is one of the three returns
+  pub return_rule : TypesAreTold w l → IsGiven l a m → (at offset opcode : ℕ) (p : Point) → slice_get (let f = a.found m
+      in let b = f.body in b.insns) at ≡ Some (record { at = offset; op = jop.Return opcode })
+      → (let tb = table_of l a in tb.point m at ≡ Some p) → IsReturn opcode
+      → Rule by l (table_of l a) m at p (record { at = offset; op = jop.Return opcode })
+  return_rule types given at offset _ p there known ireturn =
+      at_point at _ p known (λ cells local_cells x ranged row. number_return by l w a m read decoded sound told types
+      given at offset cells local_cells x ranged row there)
+  return_rule types given at offset _ p there known areturn =
+      at_point at _ p known (λ cells local_cells x ranged row. reference_return by l w a m read decoded sound told types
+      given at offset cells local_cells x ranged row there)
+  return_rule types given at offset _ p there known returns =
+      at_point at _ p known (λ cells local_cells x ranged row. plain_return by l w a m read decoded sound told types
+      given at offset cells local_cells x ranged row there)
+
+  pub throw_rule : TypesAreTold w l → ThrowablesMay l a → (at offset : ℕ) (p : Point) → slice_get (let f = a.found m
+      in let b = f.body in b.insns) at ≡ Some (record { at = offset; op = jop.Throw })
+      → (let tb = table_of l a in tb.point m at ≡ Some p) → Rule by l (table_of l a) m at p (record {
+        at = offset;
+        op = jop.Throw;
+      })
+  throw_rule types may at offset p there known =
+      at_point at _ p known (λ cells local_cells x ranged row. throws_on by l w a m read decoded sound told types may at
+      offset cells local_cells x ranged row there)
+
+  pub array_rule : TypesAreTold w l → ClassesAreNamed w l → (at : ℕ) (i : JInsn) (p : Point)
+      → slice_get (let f = a.found m in let b = f.body in b.insns) at ≡ Some i
+      → (let tb = table_of l a in tb.point m at ≡ Some p) → IsOnArray i.op → Rule by l (table_of l a) m at p i
+  array_rule types named at i p there known is =
+      at_point at i p known (λ cells local_cells x ranged row. on_array by l w a m read decoded sound told types named
+      at i.at cells local_cells x ranged row i.op is there)
+
+  pub call_rule : TypesAreTold w l → MayRaise l (table_of l a) → IsAnswered by l (table_of l a)
+      → (at : ℕ) (i : JInsn) (p : Point) → slice_get (let f = a.found m in let b = f.body in b.insns) at ≡ Some i
+      → (let tb = table_of l a in tb.point m at ≡ Some p) → ((t : State) → HasRow (let f = a.found m in f.types) at t
+      → IsCalled by l w a m (cells_of t.stack) i.op) → Rule by l (table_of l a) m at p i
+  call_rule types may_raise answered at i p there known is =
+      at_point at i p known (λ cells local_cells x ranged row. called_rule by l w a m read decoded sound told types
+      may_raise answered at i.at cells local_cells x ranged row i.op (is (record {
+        stack = stacks.Cells cells;
+        locals = local_cells;
+      }) row) there)
+
+  -- each instruction that is supported
+  supported_here : TypesAreTold w l → ClassesAreNamed w l → IsGiven l a m → ThrowablesMay l a
+      → MayRaise l (table_of l a) → IsAnswered by l (table_of l a) → (at offset : ℕ) (cells local_cells : List Cell)
+      (x : RangeState) (ranged : HasRow (let f = a.found m in f.ranges) at x)
+      → HasRow (let f = a.found m in f.types) at (record { stack = stacks.Cells cells; locals = local_cells })
+      → (op : JOp) → IsSupported by l w a m cells op → slice_get (let f = a.found m in let b = f.body in b.insns) at
+      ≡ Some (record { at = offset; op = op })
+      → Rule by l (table_of l a) m at (point_of l (record { stack = stacks.Cells cells; locals = local_cells }) x)
+      (record { at = offset; op = op })
+  supported_here types named given may may_raise answered at offset cells local_cells x ranged row op
+      (supported_by.names_nothing is) there = keeps by l w a m read decoded sound told at offset cells local_cells x
+      ranged row op is there
+  supported_here types named given may may_raise answered at offset cells local_cells x ranged row op
+      (supported_by.is_resolved is) there = resolved by l w a m read decoded sound told types at offset cells
+      local_cells x ranged row op is there
+  supported_here types named given may may_raise answered at offset cells local_cells x ranged row op
+      (supported_by.is_on_array is) there = on_array by l w a m read decoded sound told types named at offset cells
+      local_cells x ranged row op is there
+  supported_here types named given may may_raise answered at offset cells local_cells x ranged row _
+      (supported_by.returns ireturn) there = number_return by l w a m read decoded sound told types given at offset
+      cells local_cells x ranged row there
+  supported_here types named given may may_raise answered at offset cells local_cells x ranged row _
+      (supported_by.returns areturn) there = reference_return by l w a m read decoded sound told types given at offset
+      cells local_cells x ranged row there
+  supported_here types named given may may_raise answered at offset cells local_cells x ranged row _
+      (supported_by.returns returns) there = plain_return by l w a m read decoded sound told types given at offset cells
+      local_cells x ranged row there
+  supported_here types named given may may_raise answered at offset cells local_cells x ranged row _ supported_by.throws
+      there = throws_on by l w a m read decoded sound told types may at offset cells local_cells x ranged row there
+  supported_here types named given may may_raise answered at offset cells local_cells x ranged row op
+      (supported_by.calls is) there = called_rule by l w a m read decoded sound told types may_raise answered at offset
+      cells local_cells x ranged row op is there
+
+  pub supported_rule : TypesAreTold w l → ClassesAreNamed w l → IsGiven l a m → ThrowablesMay l a
+      → MayRaise l (table_of l a) → IsAnswered by l (table_of l a) → AreSupported by l w a m
+      → (at : ℕ) (i : JInsn) (p : Point) → slice_get (let f = a.found m in let b = f.body in b.insns) at ≡ Some i
+      → (let tb = table_of l a in tb.point m at ≡ Some p) → Rule by l (table_of l a) m at p i
+  supported_rule types named given may may_raise answered supported at i p there known =
+      at_point at i p known (λ cells local_cells x ranged row. supported_here types named given may may_raise answered
+      at i.at cells local_cells x ranged row i.op (supported at i (record {
+        stack = stacks.Cells cells;
+        locals = local_cells;
+      }) there row) there)

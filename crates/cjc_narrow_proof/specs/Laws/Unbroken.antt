@@ -1,0 +1,48 @@
+-- Packages that were tested and break no rule.
+use Rattle.std.specs.Prelude.{◌≡◌, ◌≤◌, ℕ, List, [], length, slice_get, Some, false}
+use Rattle.std.specs.List.{Contains}
+use Rattle.cjc_bytes.specs.Descriptor.{IsClassName}
+use Rattle.cjc_bytes.specs.declared.settings.Settings.{Settings}
+use Rattle.cjc_classfile.specs.Code.{CodeTree}
+use Rattle.cjc_classfile.specs.declared.tree.ClassTree.{ClassTree}
+use Rattle.cjc_classfile.specs.declared.tree.MethodTree.{MethodTree}
+use Rattle.cjc_order.specs.Classes.Numbers.{class_count}
+use Rattle.cjc_code.specs.declared.insn.JInsn.{JInsn}
+use Rattle.cjc_code.specs.declared.insn.JOp.{JOp}
+use Rattle.cjc_code.specs.declared.method_code.MethodCode.{MethodCode}
+use Rattle.cjc_export.specs.declared.tree.ExportClass.{ExportClass}
+use Rattle.cjc_subset.specs.Checks.{check_breaks}
+use Rattle.cjc_subset.specs.Members.{imports}
+use Rattle.cjc_subset.specs.Names.{name_breaks}
+use Rattle.cjc_types.specs.Tables.{IsMethodOf}
+use Rattle.cjc_world.specs.Files.{Files}
+use Rattle.cjc_world.specs.Rules.{breaks}
+
+-- The list names each class file, and the package breaks none of 201 to 208, 301 to 307, 309, 310 and 401 to 409, and
+-- may not name int.
+pub record IsUnbroken (list : List ℕ) (files : Files) (codes : List MethodCode) (settings : Settings) : Type 0 where
+  pub listed : length files.classes ≤ class_count files.lines
+  -- 201 to 204, 207 and 208
+  pub world : breaks list files ≡ []
+  -- 203, 205 and 206 of instructions and handlers
+  pub names : name_breaks files codes ≡ []
+  -- the others
+  pub checks : check_breaks list files codes settings ≡ []
+  pub no_int : settings.ints ≡ false
+
+-- The name of the package and those of the classes in export files are spelt as a class's name is.
+pub record AreSpelt (files : Files) : Type 0 where
+  pub package_name : IsClassName files.package_name
+  pub exports : (n : ℕ) (c : ExportClass) → slice_get (imports files.exports) n ≡ Some c → IsClassName c.name
+
+-- An instruction of a method of this class, whose code is among these.
+pub record IsInsnOf (files : Files) (codes : List MethodCode) (class : ClassTree) (op : JOp) : Type 0 where
+  pub code : MethodCode
+  pub method : MethodTree
+  pub tree : CodeTree
+  pub of_package : IsMethodOf files code class method tree
+  pub listed : Contains codes code
+  pub place : ℕ
+  pub insn : JInsn
+  pub is_insn : slice_get code.insns place ≡ Some insn
+  pub is_op : insn.op ≡ op

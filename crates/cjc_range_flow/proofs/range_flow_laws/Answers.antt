@@ -1,5 +1,0 @@
-use Rattle.cjc_range_flow.proofs.Flow.{range_laws}
-use Rattle.cjc_range_flow.proofs.range_flow_laws.Goals as goal
-
-pub returns : goal.returns
-returns c = range_laws

@@ -1,5 +1,0 @@
-use Rattle.std.proofs.Common.{◌≡◌, ◌++◌, replicate}
-use Rattle.cjc_select.proofs.code.put_source.Given as goal
-
-abbrev pub invariant-loop : goal.invariant-loop
-invariant-loop l = l.from ≡ l.fn.from ++ replicate l.counter l.place

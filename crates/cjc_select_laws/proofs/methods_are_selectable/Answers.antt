@@ -1,5 +1,0 @@
-use Rattle.cjc_select_laws.proofs.Selectable.{selectable}
-use Rattle.cjc_select_laws.proofs.methods_are_selectable.Goals as goal
-
-pub returns : goal.returns
-returns c = λ files code class method tree is bytes spelt list codes settings rows least keeps. selectable files code class method tree is bytes spelt list codes settings rows least keeps

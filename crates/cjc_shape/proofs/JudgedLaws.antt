@@ -1,0 +1,5 @@
+pub mod Selected
+pub mod Owners
+pub mod Tokens
+pub mod Called
+pub mod Emittable

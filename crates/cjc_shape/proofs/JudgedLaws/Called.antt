@@ -1,0 +1,192 @@
+-- The methods of interfaces that a package's code calls are found, and have tokens.
+use Rattle.std.proofs.Common.{◌≡◌, ℕ, zero, suc, refl, sym, ap, subst, ◌∙◌, arith, Bool, true, false, not, ◌&&◌, ◌||◌}
+use Rattle.std.proofs.Common.{List, [], ◌∷◌, ◌++◌, length}
+use Rattle.std.specs.Prelude.{◌-◌, ◌+◌, ◌<◌, ◌==◌, Option, Some, None, IsSome, option_and_then, option_map, slice_get}
+use Rattle.std.specs.Prelude.{if◌then◌else◌}
+use Rattle.std.specs.List.{list_any}
+use Rattle.cjc_bytes.specs.AccessFlags.{is_interface}
+use Rattle.cjc_bytes.specs.Breaks.{Break, each_from}
+use Rattle.cjc_bytes.specs.Order.{FilePlace, file_of}
+use Rattle.cjc_bytes.specs.declared.fault.MemberId.{MemberId}
+use Rattle.cjc_classfile.specs.Code.{CodeTree}
+use Rattle.cjc_classfile.specs.declared.tree.ClassTree.{ClassTree}
+use Rattle.cjc_classfile.specs.declared.tree.MethodTree.{MethodTree}
+use Rattle.cjc_code.specs.declared.insn.JInsn.{JInsn}
+use Rattle.cjc_code.specs.declared.insn.JOp.TheVariants as jop
+use Rattle.cjc_code.specs.declared.method_code.MethodCode.{MethodCode}
+use Rattle.cjc_export.specs.Writable.{IsWritable}
+use Rattle.cjc_export.specs.declared.tree.ExportTree.{ExportTree}
+use Rattle.cjc_jvm_semantics.specs.OnePackage.{method_hit}
+use Rattle.cjc_narrow.specs.Rows.Resolved.{by_owner, resolved_method}
+use Rattle.cjc_pool.specs.Pool.{token_of}
+use Rattle.cjc_narrow_proof.proofs.SelectedLaws.Limits.{each_at, none_left, none_right, not_broken}
+use Rattle.cjc_subset.specs.Members.{ResolvedMember, hit, hit_of, is_array, is_constructor, is_initialiser}
+use Rattle.cjc_subset.proofs.Callees.{method_unfound}
+use Rattle.cjc_subset.specs.Names.{code_breaks, insn_breaks, is_hidden, is_member_missing, is_name_missing}
+use Rattle.cjc_subset.specs.Names.{is_not_found, is_unfit_call, is_unfit_class, is_unfit_interface, is_unfit_method}
+use Rattle.cjc_subset.specs.Names.{method_breaks, name_breaks, names_missing, names_unfit, names_unfound, is_other_kind}
+use Rattle.cjc_subset.specs.Places.{of_class, of_method}
+use Rattle.cjc_tokens.specs.Rules.{token_breaks}
+use Rattle.cjc_tokens.specs.Tokens.{assigned, token_of_member}
+use Rattle.cjc_types.specs.Tables.{IsMethodOf}
+use Rattle.cjc_vtable.proofs.Filed.{at-number}
+use Rattle.cjc_world.specs.Classes.{Class, all_classes, class_at, class_named}
+use Rattle.cjc_world.specs.Files.{Files}
+use Rattle.cjc_world.specs.Supertypes.{IsAcyclic}
+use Rattle.cjc_world.specs.Lookup.{find_method}
+use Rattle.cjc_world.specs.Rules.{is_desc_missing}
+use Rattle.cjc_world.specs.declared.found.Found.{Found}
+use Rattle.cjc_shape.proofs.JudgedLaws.Owners.{IsOwn, found_again, found_own, own_at, owner_hit}
+use Rattle.cjc_shape.proofs.JudgedLaws.Tokens.{interface_tokens}
+
+or_left : (a b : Bool) → (a || b) ≡ false → a ≡ false
+or_left true b e = cc
+or_left false b e = refl
+
+or_right : (a b : Bool) → (a || b) ≡ false → b ≡ false
+or_right true b e = cc
+or_right false b e = e
+
+not_false : (a : Bool) → not a ≡ false → a ≡ true
+not_false true e = refl
+not_false false e = cc
+
+-- a name that is there, of no array, is found
+found_by : (missing array : Bool) (o : Option Found) → missing ≡ false → (not missing && (array || is_not_found o))
+    ≡ false → (f : Found) × (o ≡ Some f)
+found_by true array o m e = cc
+found_by false array None m e = absurd (let h = or_right array true e in cc)
+found_by false array (Some f) m e = (f, refl)
+
+-- ---- what an invokeinterface names
+
+-- A method that an interface declares itself, by the name of that interface; it is found there, and is no initialiser.
+pub record IsDeclared (files : Files) (id : MemberId) : Type 0 where
+  pub at : Found
+  pub owner : Class
+  pub own : IsOwn owner id.name id.desc at
+  pub named : class_named (all_classes files) owner.name ≡ Some owner
+  pub by_owner : id.class ≡ owner.name
+  pub found : find_method (all_classes files) id.class id.name id.desc ≡ Some at
+  pub interface : is_interface owner.flags ≡ true
+  pub plain : is_initialiser id.name ≡ false
+
+module _ (files : Files) (acyclic : IsAcyclic (all_classes files)) (holder : ClassTree) (id : MemberId) where
+  abbrev w : List Class
+  w = all_classes files
+
+  module _ (there : names_missing w (jop.Call 0xB9 id) ≡ false) (found : names_unfound w (jop.Call 0xB9 id) ≡ false)
+      (fit : names_unfit files holder (jop.Call 0xB9 id) ≡ false) where
+    -- it is in an interface, and no initialiser
+    pub record IsOfInterface : Type 0 where
+      pub at : Found
+      pub owner : Class
+      pub own : IsOwn owner id.name id.desc at
+      pub named : class_named w owner.name ≡ Some owner
+      pub resolved : resolved_method w id ≡ record { class = owner.name; name = id.name; desc = id.desc }
+      pub again : find_method w owner.name id.name id.desc ≡ Some at
+      pub interface : is_interface owner.flags ≡ true
+      pub plain : is_initialiser id.name ≡ false
+
+    pub of_interface : IsOfInterface
+    unfolding names_missing names_unfit hit
+    of_interface =
+        let f = found_by (is_name_missing w id.class) (is_array id.class) (find_method w id.class id.name id.desc)
+        (or_left (is_name_missing w id.class) (is_desc_missing w id.desc) there) (method_unfound w id 0xB9 found) in
+        let o = found_own id.name id.desc f.0 w acyclic id.class f.1 in
+        let d = o.0 in
+        let own = own_at d id.name id.desc f.0 o.2 in
+        let place : length d.fields + own.place - length d.fields ≡ own.place = omega arith in
+        let told : hit w false (find_method w id.class id.name id.desc) ≡ Some (record {
+          owner = d;
+          flags = own.member.flags;
+        }) =
+        ap (hit w false) (f.1 ∙ ap Some own.is_place)
+        ∙ ap (hit_of false (record {
+          imported = d.is_imported;
+          class = d.number;
+          member = length d.fields + own.place;
+        })) (at-number files d.name d o.1)
+        ∙ ap (λ k. option_map (λ m. record { owner = d; flags = m.flags }) (slice_get d.methods k)) place
+        ∙ ap (option_map (λ m. record { owner = d; flags = m.flags })) own.is_member in
+        let h : ResolvedMember = record { owner = d; flags = own.member.flags } in
+        let fine : is_unfit_method w holder 0xB9 id (Some h) ≡ false = sym (ap (is_unfit_method w holder 0xB9 id) told)
+        ∙ fit in
+        let class : is_unfit_class w holder 0xB9 id h ≡ false = or_right (is_hidden w holder id h
+        || is_unfit_call 0xB9 id.name h.flags) (is_unfit_class w holder 0xB9 id h) fine in
+        let call : is_unfit_call 0xB9 id.name h.flags ≡ false = or_right (is_hidden w holder id h)
+        (is_unfit_call 0xB9 id.name h.flags) (or_left (is_hidden w holder id h
+        || is_unfit_call 0xB9 id.name h.flags) (is_unfit_class w holder 0xB9 id h) fine) in
+        record {
+          at = f.0;
+          owner = d;
+          own = own;
+          named = o.1;
+          resolved = ap (λ x. by_owner id (option_and_then (method_hit w) x)) f.1
+              ∙ ap (by_owner id) (owner_hit files d id.name id.desc f.0 o.1 own);
+          again = found_again id.name id.desc f.0 w acyclic d o.1 o.2;
+          interface = not_false (is_interface d.flags) class;
+          plain = or_right _ (is_initialiser id.name) (or_left _ _ call);
+        }
+
+    -- so what it resolves to is declared
+    pub resolved_declared : IsDeclared files (resolved_method w id)
+    resolved_declared =
+        let of = of_interface in
+        subst (IsDeclared files) (sym of.resolved)
+        (record {
+          at = of.at;
+          owner = of.owner;
+          own = of.own;
+          named = of.named;
+          by_owner = refl;
+          found = of.again;
+          interface = of.interface;
+          plain = of.plain;
+        })
+
+    module _ (applets : Bool) (unbroken : token_breaks applets files ≡ []) (writable : (e : ℕ) (t : ExportTree)
+        → slice_get files.exports e ≡ Some t → IsWritable t) where
+      -- and has a token of one byte
+      pub resolved_token : (t : ℕ) × (token_of files (assigned applets files) (resolved_method w id) ≡ Some t)
+          × (t < 256)
+      resolved_token =
+          let of = of_interface in
+          let t = interface_tokens files applets unbroken writable of.owner of.named id.name id.desc of.at of.own
+          of.interface of.plain in (
+            t.0,
+            ap (token_of files (assigned applets files)) of.resolved
+                ∙ ap (option_and_then (token_of_member (assigned applets files))) of.again ∙ t.1,
+            t.2,
+          )
+
+-- ---- the rules of names at an instruction
+
+module _ (files : Files) (codes : List MethodCode) (unbroken : name_breaks files codes ≡ []) (place : ℕ)
+    (code : MethodCode) (is_code : slice_get codes place ≡ Some code)
+    (class : ClassTree) (method : MethodTree) (tree : CodeTree) (is : IsMethodOf files code class method tree) where
+  module _ (k : ℕ) (i : JInsn) (e : slice_get code.insns k ≡ Some i) where
+    insn_unbroken : insn_breaks files (file_of files.lines code.class) class code.method method i ≡ []
+    unfolding name_breaks code_breaks method_breaks
+    insn_unbroken =
+        let f = file_of files.lines code.class in
+        let here : code_breaks files code ≡ [] = each_at (λ _ c. code_breaks files c) place codes code unbroken is_code
+        in
+        let mine : method_breaks files f class code.method method code.insns ≡ [] =
+        sym (ap (of_method (λ g c m. method_breaks files g c code.method m code.insns) f class) is.is_method)
+        ∙ sym (ap (of_class (λ g c m. method_breaks files g c code.method m code.insns) f code.method) is.is_class)
+        ∙ here in
+        each_at (λ _ x. insn_breaks files f class code.method method x) k code.insns i
+        (none_left (each_from (λ _ x. insn_breaks files f class code.method method x) 0 code.insns) _ mine) e
+
+    pub is_there : names_missing (all_classes files) i.op ≡ false
+    unfolding insn_breaks
+    is_there = not_broken _ _ 203 (none_left _ _ (none_left _ _ (none_left _ _ insn_unbroken)))
+
+    pub is_found : names_unfound (all_classes files) i.op ≡ false
+    unfolding insn_breaks
+    is_found = not_broken _ _ 205 (none_right _ _ (none_left _ _ (none_left _ _ insn_unbroken)))
+
+    pub is_fit : names_unfit files class i.op ≡ false
+    unfolding insn_breaks
+    is_fit = not_broken _ _ 206 (none_right _ _ insn_unbroken)

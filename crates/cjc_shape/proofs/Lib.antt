@@ -1,0 +1,3 @@
+pub mod JudgedLaws
+pub mod PreparedLaws
+pub mod WholeLaws

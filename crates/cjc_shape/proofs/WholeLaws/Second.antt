@@ -1,0 +1,201 @@
+-- What the methods of a package break of rules on what is written is settled by its list, its files and its narrow
+-- code.
+use Rattle.std.proofs.Common.{◌≡◌, ◌⊎◌, ℕ, zero, suc, refl, sym, ap, subst, ◌∙◌, inl, inr, false, ◌||◌, List, [], ◌∷◌}
+use Rattle.std.proofs.Common.{◌++◌, length, nat_lt}
+use Rattle.std.specs.Prelude.{Option, Some, None, map}
+use Rattle.std.specs.List.{flat_map}
+use Rattle.std.proofs.lemmas.List.Concat.{flat_map-cons}
+use Rattle.cjc_bytes.specs.Breaks.{Among, Break, IsFirst, IsFirstRefusal, at}
+use Rattle.cjc_bytes.specs.Order.{NotAfter}
+use Rattle.cjc_bytes.specs.declared.fault.Fault.{Fault}
+use Rattle.cjc_bytes.specs.declared.fault.Fault.TheVariants as faults
+use Rattle.cjc_bytes.specs.declared.fault.Refusal.{Refusal}
+use Rattle.cjc_components.specs.ExportFile.{export_of}
+use Rattle.cjc_components.specs.Limits.{else_of, form_breaks, in_class, layout_breaks, of_methods, size_breaks}
+use Rattle.cjc_components.specs.Limits.{spot_of_list, word_breaks}
+use Rattle.cjc_components.specs.Package.{LaidMethod, Package, codes, pool, world}
+use Rattle.cjc_export.specs.Written.{constants}
+use Rattle.cjc_export.specs.declared.tree.ExportTree.{ExportTree}
+use Rattle.cjc_judge.specs.declared.judged.Judged.{Judged}
+use Rattle.cjc_judge.specs.Rules.{Breach, IsFirstOf, IsFirstRefused, OnLevels, on_first, on_second}
+use Rattle.cjc_list.specs.Listed.{ListTree}
+use Rattle.cjc_ncode.specs.PoolOrder.{pool_order}
+use Rattle.cjc_ncode.specs.declared.narrow.NMethod.{NMethod}
+use Rattle.cjc_shape.specs.declared.prepared.preparing.Prepared.{Prepared}
+use Rattle.cjc_shape.specs.Prepared.{IsPrepared, IsSound, tested}
+use Rattle.cjc_world.specs.declared.found.Found.{Found}
+use Rattle.cjc_world.specs.declared.image.StaticImage.{StaticImage}
+use Rattle.cjc_world.specs.Classes.{Class, all_classes, class_at}
+use Rattle.cjc_world.specs.Files.{Files}
+use Rattle.cjc_world.specs.Order.{method_order}
+use Rattle.cjc_shape.specs.Whole.Conversion.{BreaksWritten, IsDraft, IsPackageOf, IsRefused, of_form, of_size}
+use Rattle.cjc_shape.specs.Whole.Working.Shaped.{Stopped}
+use Rattle.cjc_shape.proofs.WholeLaws.Drafts.{draft, is_draft, narrow_codes, same_members, same_narrow, same_spelt}
+
+-- ---- what rules on methods go by
+
+no_image : StaticImage
+no_image = record { arrays = []; nulls = []; zeros = []; others = [] }
+
+-- a package by its list and its files alone
+pub base : ListTree → Files → Package
+base list files = record { list = list; files = files; image = no_image; methods = [] }
+
+-- a method by its place and its code alone
+pub laid : Found → NMethod → LaidMethod
+laid f c = record { member = f; is_abstract = false; code = c; wide = [] }
+
+pub zipped : (Class → LaidMethod → List Break) → List Class → List Found → List NMethod → List Break
+zipped B w [] cs = []
+zipped B w (f ∷ fs) [] = []
+zipped B w (f ∷ fs) (c ∷ cs) = in_class B (laid f c) (class_at w f.imported f.class) ++ zipped B w fs cs
+
+all_zipped : (p : Package) (B C : Class → LaidMethod → List Break) → ((m : LaidMethod) (o : Option Class)
+    → in_class B m o ≡ in_class C (laid m.member m.code) o) → (ms : List LaidMethod)
+    → flat_map (λ m. let f = m.member in in_class B m (class_at (world p) f.imported f.class)) ms
+    ≡ zipped C (world p) (map (λ m. m.member) ms) (map (λ m. m.code) ms)
+unfolding zipped
+all_zipped p B C same [] = refl
+all_zipped p B C same (m ∷ ms) =
+    let f = m.member in
+    flat_map-cons (λ (x : LaidMethod). let g = x.member in in_class B x (class_at (world p) g.imported g.class)) m ms
+    ∙ ap (λ bs. bs ++ flat_map (λ (x : LaidMethod). let g = x.member
+    in in_class B x (class_at (world p) g.imported g.class)) ms) (same m (class_at (world p) f.imported f.class))
+    ∙ ap (λ bs. in_class C (laid m.member m.code) (class_at (world p) f.imported f.class)
+    ++ bs) (all_zipped p B C same ms)
+
+words_by : (p : Package) (m : LaidMethod) (o : Option Class) → in_class (word_breaks p) m o
+    ≡ in_class (word_breaks (base p.list p.files)) (laid m.member m.code) o
+unfolding base laid
+words_by p m None = refl
+words_by p m (Some c) = refl
+
+layouts_by : (p : Package) (m : LaidMethod) (o : Option Class) → in_class (layout_breaks p) m o
+    ≡ in_class (layout_breaks (base p.list p.files)) (laid m.member m.code) o
+unfolding base laid
+layouts_by p m None = refl
+layouts_by p m (Some c) = refl
+
+export_by : (p : Package) → export_of p ≡ export_of (base p.list p.files)
+unfolding base
+export_by p = refl
+
+module _ (list : ListTree) (files : Files) (members : List Found) (narrow : List NMethod) where
+  pub words : List Break
+  words = zipped (word_breaks (base list files)) (all_classes files) members narrow
+
+  pub layouts : List Break
+  layouts = zipped (layout_breaks (base list files)) (all_classes files) members narrow
+
+  pub forms : List Break
+  forms = layouts ++ at (nat_lt 16383 (length (pool_order narrow))
+      || nat_lt 16383 (length (constants (export_of (base list files))))) (spot_of_list (base list files)) 414
+
+  -- a package has these
+  pub record Is (p : Package) : Type 0 where
+    pub by_list : p.list ≡ list
+    pub by_files : p.files ≡ files
+    pub by_members : map (λ m. m.member) p.methods ≡ members
+    pub by_codes : codes p ≡ narrow
+
+  based : (p : Package) → Is p → base p.list p.files ≡ base list files
+  based p is = ap (λ l. base l p.files) is.by_list ∙ ap (base list) is.by_files
+
+  all_by : (p : Package) → Is p → (B : Package → Class → LaidMethod → List Break) → ((m : LaidMethod) (o : Option Class)
+      → in_class (B p) m o ≡ in_class (B (base p.list p.files)) (laid m.member m.code) o)
+      → of_methods p (B p) ≡ zipped (B (base list files)) (all_classes files) members narrow
+  all_by p is B same =
+      all_zipped p (B p) (B (base p.list p.files)) same p.methods
+      ∙ ap (λ b. zipped (B b) (world p) (map (λ m. m.member) p.methods) (codes p)) (based p is)
+      ∙ ap (λ fs. zipped (B (base list files)) (all_classes fs) (map (λ m. m.member) p.methods) (codes p)) is.by_files
+      ∙ ap (λ ms. zipped (B (base list files)) (all_classes files) ms (codes p)) is.by_members
+      ∙ ap (zipped (B (base list files)) (all_classes files) members) is.by_codes
+
+  pub words_are : (p : Package) → Is p → of_methods p (word_breaks p) ≡ words
+  unfolding words
+  words_are p is = all_by p is word_breaks (words_by p)
+
+  pub forms_are : (p : Package) → Is p → form_breaks p ≡ forms
+  unfolding forms layouts base
+  forms_are p is =
+      ap (λ bs. bs ++ at (nat_lt 16383 (length (pool p)) || nat_lt 16383 (length (constants (export_of p))))
+      (spot_of_list p) 414) (all_by p is layout_breaks (layouts_by p))
+      ∙ ap (λ cs. layouts ++ at (nat_lt 16383 (length (pool_order cs))
+      || nat_lt 16383 (length (constants (export_of p)))) (spot_of_list p) 414) is.by_codes
+      ∙ ap (λ t. layouts ++ at (nat_lt 16383 (length (pool_order narrow)) || nat_lt 16383 (length (constants t)))
+      (spot_of_list p) 414) (export_by p)
+      ∙ ap (λ b. layouts ++ at (nat_lt 16383 (length (pool_order narrow))
+      || nat_lt 16383 (length (constants (export_of b)))) (spot_of_list b) 414) (based p is)
+
+-- ---- what is broken at the second level
+
+no_among : (b : Break) → Among b [] → ⊥
+no_among b among = elim among [ ]
+
+else_same : (xs bs cs ds : List Break) → xs ≡ bs → cs ≡ ds → else_of xs cs ≡ else_of bs ds
+else_same xs bs cs ds e f = ap (λ ys. else_of ys cs) e ∙ ap (else_of bs) f
+
+pub package_is_draft : (list : ListTree) (files : List (List ℕ)) (p : Package) → IsPackageOf list files p
+    → IsDraft list files p
+package_is_draft list files p is = record {
+  rows = is.rows;
+  spelt = is.spelt;
+  by_list = is.is_package.by_list;
+  members = is.is_package.members;
+  methods = λ k m e. let w = is.is_package.methods k m e in record { is_abstract = w.is_abstract; code = w.code };
+}
+
+module _ (list : ListTree) (files : List (List ℕ)) (judged : Judged) (is : IsSound list files judged) where
+  abbrev pub fs : List Found
+  fs = method_order (all_classes judged.world)
+
+  abbrev pub W : List Break
+  W = words list judged.world fs (narrow_codes list files judged is)
+
+  abbrev pub F : List Break
+  F = forms list judged.world fs (narrow_codes list files judged is)
+
+  pub is_base : (p : Package) → IsDraft list files p → Is list judged.world fs (narrow_codes list files judged is) p
+  is_base p d = record {
+    by_list = d.by_list;
+    by_files = same_spelt list files judged is p.files d.rows d.spelt;
+    by_members = same_members list files judged is p d;
+    by_codes = same_narrow list files judged is p d;
+  }
+
+  both : (p : Package) → IsDraft list files p → else_of (of_methods p (word_breaks p)) (form_breaks p) ≡ else_of W F
+  both p d = else_same _ _ _ _ (words_are list judged.world fs (narrow_codes list files judged is) p (is_base p d))
+      (forms_are list judged.world fs (narrow_codes list files judged is) p (is_base p d))
+
+  only : (b a : Break) → Among b (else_of W F) → BreaksWritten list files a → Among a (else_of W F)
+  only b a some (of_form p d among) = subst (λ bs. Among a bs) (both p d) among
+  only b a some (of_size p of none fine among) =
+      let d = package_is_draft list files p of in
+      let empty : else_of W F ≡ [] = sym (both p d) ∙ else_same _ _ _ _ none fine in
+      absurd (no_among b (subst (λ bs. Among b bs) empty some))
+
+  first_of : (b : Break) → IsFirst b (else_of W F)
+      → IsFirstOf (OnLevels (Breach list files tested) (BreaksWritten list files)) b
+  first_of b first = record {
+    breaks = on_second is.judged_by.unbroken (of_form (draft list files judged is) (is_draft list files judged is)
+        (subst (λ bs. Among b bs) (sym (both (draft list files judged is) (is_draft list files judged is)))
+        first.among));
+    least = by;
+  }
+    where
+      by : (a : Break) → OnLevels (Breach list files tested) (BreaksWritten list files) a → NotAfter b.rank a.rank
+      by a (on_first breach) = absurd (is.judged_by.unbroken a breach)
+      by a (on_second none written) = first.least a (only b a first.among written)
+
+  -- the first of rules 417, 311, 414 and 415
+  pub form_refused : (e : Fault) → IsFirstRefusal (else_of W F) e → Stopped list files e
+  form_refused e (inl memory) = inl memory
+  form_refused e (inr (b, first, is_refused)) = inr (
+    b.refusal,
+    record {
+      broken = b;
+      first = first_of b first;
+      is = refl;
+    },
+    is_refused,
+  )

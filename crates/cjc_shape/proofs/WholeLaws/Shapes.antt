@@ -1,0 +1,128 @@
+-- A package that breaks no rule of its files, with its methods laid out.
+use Rattle.std.proofs.Common.{◌≡◌, ◌⊎◌, ℕ, refl, sym, ap, subst, ◌∙◌, inl, inr, List, [], ◌∷◌, ◌++◌, length}
+use Rattle.std.specs.Prelude.{All, Option, Some, None, map}
+use Rattle.cjc_bytes.specs.Breaks.{Among, Break, IsFirst, IsFirstRefusal}
+use Rattle.cjc_bytes.specs.declared.fault.Fault.{Fault}
+use Rattle.cjc_clinit.specs.Image.{IsImage}
+use Rattle.cjc_code.specs.PackageCodes.{all_codes}
+use Rattle.cjc_components.specs.ExportFile.{export_of}
+use Rattle.cjc_components.specs.Limits.{else_of, form_breaks, of_methods, word_breaks}
+use Rattle.cjc_components.specs.Package.{LaidMethod, Package, codes}
+use Rattle.cjc_components.specs.Written.{code_at}
+use Rattle.cjc_export.specs.Written.{constants}
+use Rattle.cjc_export.specs.declared.tree.ExportTree.{ExportTree}
+use Rattle.cjc_judge.specs.declared.judged.Judged.{Judged}
+use Rattle.cjc_methods.specs.Layouts.Laid.{AreOf, laid_methods}
+use Rattle.cjc_methods.specs.Layouts.Limits.{IsTold}
+use Rattle.cjc_methods.proofs.LayoutsLaws.Kept.{codes_of, is_package, members_of}
+use Rattle.cjc_list.specs.Listed.{ListTree}
+use Rattle.cjc_narrow.specs.Rows.Selected.{near_fields}
+use Rattle.cjc_ncode.specs.PoolOrder.{pool_order}
+use Rattle.cjc_ncode.specs.declared.narrow.NMethod.{NMethod}
+use Rattle.cjc_shape.specs.declared.prepared.preparing.Prepared.{Prepared}
+use Rattle.cjc_shape.specs.Prepared.{IsPrepared, IsSound}
+use Rattle.cjc_world.specs.declared.found.Found.{Found}
+use Rattle.cjc_shape.specs.Whole.Conversion.{IsDraft, IsPackageOf}
+use Rattle.cjc_shape.specs.Whole.Working.Shaped.{IsShaped, Stopped}
+use Rattle.cjc_shape.specs.declared.whole.shaping.Shaped.{Shaped}
+use Rattle.cjc_shape.proofs.WholeLaws.Drafts.{draft, is_draft, made_narrow, narrow_codes, narrow_is, rows, spelt_by}
+use Rattle.cjc_shape.proofs.WholeLaws.Second.{F, W, form_refused, fs, forms_are, is_base, package_is_draft, words_are}
+
+no_among : (b : Break) → Among b [] → ⊥
+no_among b among = elim among [ ]
+
+-- the first of some is the first of these, else of others
+else_first : (xs ys : List Break) (e : Fault) → IsFirstRefusal xs e → IsFirstRefusal (else_of xs ys) e
+else_first xs ys e (inl memory) = inl memory
+else_first [] ys e (inr (b, first, is)) = absurd (no_among b first.among)
+else_first (x ∷ xs) ys e (inr refused) = inr refused
+
+module _ (list : ListTree) (files : List (List ℕ)) (judged : Judged) (is : IsSound list files judged) where
+  abbrev d : Package
+  d = draft list files judged is
+
+  abbrev of_draft : IsDraft list files d
+  of_draft = is_draft list files judged is
+
+  -- ---- refusals
+
+  pub words_refused : (e : Fault) → IsFirstRefusal (of_methods d (word_breaks d)) e → Stopped list files e
+  words_refused e refused =
+      form_refused list files judged is e
+      (else_first (W list files judged is) (F list files judged is) e
+      (subst (λ bs. IsFirstRefusal bs e) (words_are list judged.world (fs list files judged is) (narrow_codes list files
+      judged is) d (is_base list files judged is d of_draft)) refused))
+
+  pub forms_refused : (e : Fault) → of_methods d (word_breaks d) ≡ [] → IsFirstRefusal (form_breaks d) e
+      → Stopped list files e
+  forms_refused e none refused =
+      let base = is_base list files judged is d of_draft in
+      let empty : W list files judged is ≡ [] = sym (words_are list judged.world (fs list files judged is)
+      (narrow_codes list files judged is) d base) ∙ none in
+      let here = subst (λ bs. IsFirstRefusal bs e) (forms_are list judged.world (fs list files judged is)
+      (narrow_codes list files judged is) d base) refused in
+      form_refused list files judged is e (subst (λ bs. IsFirstRefusal (else_of bs (F list files judged is)) e)
+      (sym empty) here)
+
+  -- ---- what is told of the draft
+
+  module _ (made : Prepared) (ready : IsPrepared list judged made) where
+    pub told : (name : List ℕ) (members : List Found) (narrow : List NMethod) (exported : ℕ) → list.name ≡ name
+        → made.methods ≡ members → made.codes ≡ narrow → exported ≡ length (constants (export_of d))
+        → IsTold name judged.world members narrow exported d
+    told name members narrow exported e f g h =
+        let base = is_base list files judged is d of_draft in
+        record {
+          by_list = ap (λ (l : ListTree). l.name) base.by_list ∙ e;
+          by_files = base.by_files;
+          by_members = base.by_members ∙ sym ready.methods ∙ f;
+          by_codes = base.by_codes ∙ sym (made_narrow list files judged is made ready) ∙ g;
+          by_export = h;
+        }
+
+    -- ---- the package
+
+    pub narrow_made : made.codes ≡ map (code_at judged.world (near_fields (pool_order made.codes))
+        (rows list files judged is)) made.methods
+    narrow_made =
+        let n = made_narrow list files judged is made ready in
+        n ∙ narrow_is list files judged is
+        ∙ ap (λ ms. map (code_at judged.world (near_fields (pool_order (narrow_codes list files judged is)))
+        (rows list files judged is)) ms) (sym ready.methods)
+        ∙ ap (λ cs. map (code_at judged.world (near_fields (pool_order cs)) (rows list files judged is)) made.methods)
+        (sym n)
+
+    pub shaped : (s : Shaped) → s.tokens ≡ made.tokens → s.image ≡ made.image
+        → AreOf judged.world made.methods made.codes s.methods
+        → ((p : Package) → p.list ≡ list → p.files ≡ judged.world → s.export ≡ export_of p)
+        → of_methods d (word_breaks d) ≡ [] → form_breaks d ≡ [] → (p : Package) × IsShaped list files s p
+    shaped s tokens image are export none fine =
+        let p : Package = record {
+          list = list;
+          files = judged.world;
+          image = made.image;
+          methods = laid_methods s.methods;
+        } in
+        let whole : IsPackageOf list files p = record {
+          rows = rows list files judged is;
+          spelt = spelt_by list files judged is;
+          is_package = is_package list judged.world (all_codes (let w = judged.world in w.classes)) made.image
+              (subst (λ cs. IsImage judged.world cs made.image) is.judged_by.read.codes_are ready.image)
+              (rows list files judged is) made.methods ready.methods made.codes narrow_made s.methods are;
+        } in
+        let base = is_base list files judged is p (package_is_draft list files p whole) in
+        let own = is_base list files judged is d of_draft in
+        let w = fs list files judged is in
+        let n = narrow_codes list files judged is in (
+          p,
+          record {
+            is_package = whole;
+            by_tokens = tokens ∙ ready.tokens;
+            by_image = image;
+            by_methods = refl;
+            laid = are.laid;
+            by_export = export p refl refl;
+            words = words_are list judged.world w n p base ∙ sym (words_are list judged.world w n d own) ∙ none;
+            forms = forms_are list judged.world w n p base ∙ sym (forms_are list judged.world w n d own) ∙ fine;
+          },
+        )

@@ -1,0 +1,27 @@
+-- A package whose methods are laid out and break no rule, as the code holds it.
+use Rattle.std.specs.Prelude.{◌≡◌, ◌⊎◌, ℕ, List, []}
+use Rattle.cjc_bytes.specs.declared.fault.Fault.{Fault}
+use Rattle.cjc_bytes.specs.declared.fault.Fault.TheVariants as faults
+use Rattle.cjc_bytes.specs.declared.fault.Refusal.{Refusal}
+use Rattle.cjc_components.specs.ExportFile.{export_of}
+use Rattle.cjc_components.specs.Limits.{form_breaks, of_methods, word_breaks}
+use Rattle.cjc_components.specs.Package.{Package, tokens}
+use Rattle.cjc_methods.specs.Layouts.Laid.{AreLaid, laid_methods}
+use Rattle.cjc_list.specs.Listed.{ListTree}
+use Rattle.cjc_shape.specs.Whole.Conversion.{IsPackageOf, IsRefused}
+use Rattle.cjc_shape.specs.declared.whole.shaping.Shaped.{Shaped}
+
+-- It is the package of the list and its files, and breaks none of 417, 311, 414 and 415.
+pub record IsShaped (list : ListTree) (files : List (List ℕ)) (s : Shaped) (p : Package) : Type 0 where
+  pub is_package : IsPackageOf list files p
+  pub by_tokens : s.tokens ≡ tokens p
+  pub by_image : s.image ≡ p.image
+  pub by_methods : p.methods ≡ laid_methods s.methods
+  pub laid : AreLaid s.methods
+  pub by_export : s.export ≡ export_of p
+  pub words : of_methods p (word_breaks p) ≡ []
+  pub forms : form_breaks p ≡ []
+
+-- The error is want of memory, or that of the first broken rule.
+abbrev pub Stopped : ListTree → List (List ℕ) → Fault → Type 0
+Stopped list files e = (e ≡ faults.NoMemory) ⊎ ((r : Refusal) × IsRefused list files r × (e ≡ faults.Refused r))

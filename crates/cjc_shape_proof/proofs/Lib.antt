@@ -1,0 +1,3 @@
+pub mod FindsLaws
+pub mod WrittenLaws
+pub mod WritingLaws

@@ -1,0 +1,194 @@
+-- The files of a converted package are read ones that break no rule of classes and names.
+use Rattle.std.proofs.Common.{◌≡◌, ℕ, zero, suc, ◌+◌, ◌<◌, ◌≤◌, refl, sym, ap, subst, ◌∙◌, arith, Bool, true, false}
+use Rattle.std.proofs.Common.{not, List, [], ◌∷◌, length}
+use Rattle.std.specs.Prelude.{Some, cond, slice_get}
+use Rattle.std.specs.List.{AllByRecursion}
+use Rattle.std.proofs.lemmas.List.Sums.{sum_by-cons}
+use Rattle.cjc_bytes.proofs.Inverse.{all_at}
+use Rattle.cjc_bytes.specs.Descriptor.{IsClassName}
+use Rattle.cjc_bytes.specs.Format.{FileSpells}
+use Rattle.cjc_bytes.specs.declared.settings.FileLine.{FileLine}
+use Rattle.cjc_classfile.proofs.Fitting.{spelt_fits}
+use Rattle.cjc_classfile.specs.ClassFile.{class_file}
+use Rattle.cjc_classfile.specs.Fits as fits
+use Rattle.cjc_classfile.specs.declared.tree.ClassTree.{ClassTree}
+use Rattle.cjc_clinit.specs.Image.{IsImage}
+use Rattle.cjc_world_proof.specs.Initialisers.Values.{StandOnce}
+use Rattle.cjc_code.specs.PackageCodes.{all_codes}
+use Rattle.cjc_components.specs.Package.{Package, world}
+use Rattle.cjc_judge.specs.Rules.{settings_of}
+use Rattle.cjc_judge.specs.Spelt.{FileTree, classes_of, exports_of}
+use Rattle.cjc_judge.specs.Spelt as spelt_files
+use Rattle.cjc_judge.specs.Trees.{AllSpelt}
+use Rattle.cjc_judge.specs.declared.judged.Judged.{Judged}
+use Rattle.cjc_shape.proofs.JudgedLaws.Selected.{judged_writable}
+use Rattle.cjc_shape.specs.Judged.Tested.{AreFiles, IsTested}
+use Rattle.cjc_list.specs.Listed.{ListTree}
+use Rattle.cjc_narrow_proof.specs.Laws.Unbroken.{AreSpelt, IsUnbroken}
+use Rattle.cjc_shape.proofs.PreparedLaws.Sound.{is_tested, is_unbroken}
+use Rattle.cjc_code.proofs.ReadLaws.Members.{read_class}
+use Rattle.cjc_code.specs.ReadLaws.Members.{IsReadClass}
+use Rattle.cjc_world_proof.specs.Files.{AreReadFiles}
+use Rattle.cjc_subset.specs.Checks.{check_breaks}
+use Rattle.cjc_narrow_proof.proofs.TablesLaws.Spelt.{class_read}
+use Rattle.cjc_token_proof.specs.Tables.Sound.{AreFieldDescs, IsSound, export_count}
+use Rattle.cjc_vtable.specs.Kept.{AreRead, BreaksNone, IsKept}
+use Rattle.cjc_shape.proofs.WholeLaws.Drafts.{same_spelt}
+use Rattle.cjc_shape.proofs.WholeLaws.Second.{package_is_draft}
+use Rattle.cjc_world.specs.Files.{Files}
+use Rattle.cjc_world.specs.Rules.{breaks}
+use Rattle.cjc_token_proof.specs.WrittenCalls.Standing.{AreMethods}
+use Rattle.cjc_shape_proof.specs.Written.Converted.{IsConverted}
+use Rattle.cjc_shape_proof.proofs.WrittenLaws.PackageNames.{package_named}
+use Rattle.cjc_shape_proof.proofs.WrittenLaws.FittingLaws.Initialisers.{stand_once}
+
+-- ---- the lines
+
+none_of : (b : Bool) → b ≡ false → ◌≡◌ {A = ℕ} (cond (not b) 1 0) 1
+none_of false e = refl
+none_of true e = cc
+
+export_count-cons : (line : FileLine) (lines : List FileLine) → export_count (line ∷ lines) ≡ cond (not line.class_file)
+    1 0 + export_count lines
+export_count-cons line lines = sum_by-cons (λ (l : FileLine). cond (not l.class_file) 1 0) line lines
+
+exports_few : (lines : List FileLine) (files : List (List ℕ)) (trees : List FileTree) → AllSpelt lines files trees
+    → length (exports_of trees) ≤ export_count lines
+exports_few [] files trees h = let none : trees ≡ [] = h.1 in subst (λ ts. length (exports_of ts) ≤ 0) (sym none)
+    (omega arith)
+exports_few (line ∷ lines) [] trees h = absurd h
+exports_few (line ∷ lines) (bytes ∷ files) [] h = absurd h
+exports_few (line ∷ lines) (bytes ∷ files) (spelt_files.of_class tree ∷ trees) h =
+    let rest = exports_few lines files trees h.1 in
+    let all = export_count-cons line lines in
+    omega (arith, rest, all)
+exports_few (line ∷ lines) (bytes ∷ files) (spelt_files.of_export tree ∷ trees) h =
+    let rest = exports_few lines files trees h.1 in
+    let one = none_of line.class_file h.0.0 in
+    let all = export_count-cons line lines in
+    omega (arith, rest, one, all)
+
+-- ---- the files
+
+-- bytes that spell a class
+ClassBytes : ClassTree → Type 0
+ClassBytes c = (bytes : List ℕ) × AllByRecursion (λ b. b < 256) bytes × FileSpells class_file c bytes
+
+spelt_at : (lines : List FileLine) (files : List (List ℕ)) (trees : List FileTree) → AllSpelt lines files trees
+    → AreFiles files → (n : ℕ) (c : ClassTree) → slice_get (classes_of trees) n ≡ Some c → ClassBytes c
+unfolding ClassBytes
+spelt_at [] files trees h bytes n c e = let none : trees ≡ [] = h.1
+    in absurd (no_class n c (sym (ap (λ ts. slice_get (classes_of ts) n) none) ∙ e))
+  where
+    no_class : (n : ℕ) (c : ClassTree) → slice_get (classes_of []) n ≡ Some c → ⊥
+    no_class n c e = cc
+spelt_at (line ∷ lines) [] trees h bytes n c e = absurd h
+spelt_at (line ∷ lines) (b ∷ files) [] h bytes n c e = absurd h
+spelt_at (line ∷ lines) (b ∷ files) (spelt_files.of_class tree ∷ trees) h bytes zero c e =
+    let same : tree ≡ c = cc in (b, (bytes 0 b refl).0, subst (λ t. FileSpells class_file t b) same h.0.1)
+spelt_at (line ∷ lines) (b ∷ files) (spelt_files.of_class tree ∷ trees) h bytes (suc n) c e =
+    spelt_at lines files trees h.1 (λ k x f. bytes (suc k) x f) n c e
+spelt_at (line ∷ lines) (b ∷ files) (spelt_files.of_export tree ∷ trees) h bytes n c e =
+    spelt_at lines files trees h.1 (λ k x f. bytes (suc k) x f) n c e
+
+-- ---- the package
+
+module _ (list : ListTree) (files : List (List ℕ)) (judged : Judged) (p : Package) (is : IsConverted list files judged
+    p) where
+  abbrev tested : IsTested list files judged
+  tested = is_tested list files judged is.sound
+
+  pub same_files : p.files ≡ judged.world
+  same_files = same_spelt list files judged is.sound p.files is.is_package.rows is.is_package.spelt
+
+  pub same_list : p.list ≡ list
+  same_list = let d = package_is_draft list files p is.is_package in d.by_list
+
+  -- by its own files
+  pub own_unbroken : IsUnbroken list.name p.files judged.codes (settings_of list)
+  own_unbroken = subst (λ (w : Files). IsUnbroken list.name w judged.codes (settings_of list)) (sym same_files)
+      (is_unbroken list files judged is.sound)
+
+  abbrev trees : List FileTree
+  trees = is.sound.judged_by.read.trees
+
+  same_exports : (let w = p.files in w.exports) ≡ exports_of trees
+  same_exports = ap (λ (w : Files). w.exports) same_files ∙ is.sound.judged_by.read.exports
+
+  same_classes : (let w = p.files in w.classes) ≡ classes_of trees
+  same_classes = ap (λ (w : Files). w.classes) same_files ∙ is.sound.judged_by.read.classes
+
+  same_lines : (let w = p.files in w.lines) ≡ list.lines
+  same_lines = ap (λ (w : Files). w.lines) (same_files ∙ is.sound.judged_by.world)
+
+  pub package_spelt : IsClassName (let w = p.files in w.package_name)
+  package_spelt = subst IsClassName (sym (ap (λ (w : Files). w.package_name) (same_files ∙ is.sound.judged_by.world)))
+      (package_named list is.read)
+
+  -- the files are read ones
+  pub read_files : AreReadFiles p.files
+  unfolding ClassBytes
+  read_files = record {
+    classes = λ n c e. spelt_at list.lines files trees is.sound.judged_by.read.spelt is.sound.are_files n c
+        (sym (ap (λ cs. slice_get cs n) same_classes) ∙ e);
+    exports = λ n t e. judged_writable list files judged tested n t (sym (ap (λ (w : Files). slice_get w.exports n)
+        same_files) ∙ e);
+  }
+
+  pub are_read : AreRead p.files
+  are_read = record {
+    package_name = (let h = class_read (let w = p.files in w.package_name) package_spelt in h.no_array);
+    classes = λ n c e. let r = read_files.classes n c e in (r.0, r.2);
+    exports = read_files.exports;
+  }
+
+  pub are_spelt : AreSpelt p.files
+  are_spelt = record { package_name = package_spelt; exports = is.exports.names }
+
+  pub files_sound : IsSound list.name p.files
+  files_sound = record {
+    classes = own_unbroken.listed;
+    exports =
+        let few = exports_few list.lines files trees is.sound.judged_by.read.spelt in
+        let lines = same_lines in
+        subst (λ ls. length (let w = p.files in w.exports) ≤ export_count ls) (sym lines)
+        (subst (λ ts. length ts ≤ export_count list.lines) (sym same_exports) few);
+    read = are_read;
+    names = λ k c e. let h = class_read c.name (is.exports.names k c e) in h.no_array;
+    unbroken = own_unbroken.world;
+  }
+
+  -- ---- fields
+
+  pub field_descs : AreFieldDescs p.files
+  field_descs n k c f e g =
+      let r = read_files.classes n c e in
+      let one : IsReadClass c = read_class c r.0 r.1 r.2 in
+      let desc = one.fields k f g in
+      let few = spelt_fits c r.0 r.1 r.2 in
+      let short = (all_at fits.FieldFits c.fields k f few.fields g).desc in
+      record { parts = desc.0; is_desc = desc.1; is_field = desc.2; short = omega (arith, short) }
+
+  -- ---- the image
+
+  pub own_image : IsImage p.files (all_codes (let w = p.files in w.classes)) p.image
+  own_image = is.is_package.is_package.image
+
+  pub own_once : StandOnce p.files (all_codes (let w = p.files in w.classes))
+  own_once = stand_once p.files list.name own_unbroken.listed own_unbroken.world
+
+  pub own_methods : AreMethods p
+  own_methods = record {
+    members = is.is_package.is_package.members;
+    is_abstract = λ k m e. let w = is.is_package.is_package.methods k m e in w.is_abstract;
+  }
+
+  -- ---- what dispatch rests on
+
+  pub is_kept : ((l : List ℕ) (fs : Files) → breaks l fs ≡ [] → check_breaks l fs judged.codes (settings_of list) ≡ []
+      → BreaksNone l fs judged.codes (settings_of list)) → IsKept list.name p.files judged.codes (settings_of list)
+  is_kept unbroken = record {
+    unbroken = unbroken list.name p.files own_unbroken.world own_unbroken.checks;
+    read = are_read;
+    agree = is.agree;
+  }

@@ -1,0 +1,30 @@
+-- The classes of a converted package in the order in which Class has them, and its methods in the order of Method.
+use Rattle.std.proofs.Common.{◌≡◌, ℕ, sym, ap, subst, ◌∙◌, false, List, map}
+use Rattle.std.specs.Prelude.{All, Some}
+use Rattle.cjc_order.specs.Classes.Numbers.{IsOfKind, declared_at}
+use Rattle.cjc_components.specs.Package.{Package, world}
+use Rattle.cjc_judge.specs.declared.judged.Judged.{Judged}
+use Rattle.cjc_list.specs.Listed.{ListTree}
+use Rattle.cjc_methods.specs.Ready.{AreOrdered}
+use Rattle.cjc_shape.proofs.PreparedLaws.Parts.{ordered}
+use Rattle.cjc_shape.specs.Prepared.{IsSound}
+use Rattle.cjc_shape.proofs.WholeLaws.Drafts.{same_spelt}
+use Rattle.cjc_shape.proofs.WholeLaws.Second.{package_is_draft}
+use Rattle.cjc_shape.specs.Whole.Conversion.{IsPackageOf}
+use Rattle.cjc_world.specs.Classes.{all_classes}
+use Rattle.cjc_world.specs.Files.{Files}
+use Rattle.cjc_world.specs.Order.{in_order, method_order}
+
+module _ (list : ListTree) (files : List (List ℕ)) (judged : Judged) (is : IsSound list files judged) (p : Package)
+    (whole : IsPackageOf list files p) where
+  pub same_files : p.files ≡ judged.world
+  same_files = same_spelt list files judged is p.files whole.rows whole.spelt
+
+  pub are_ordered : (order : List ℕ) → map Some (in_order (all_classes judged.world) false)
+      ≡ map (declared_at (let w = judged.world in w.classes)) order → All (IsOfKind judged.world false) order
+      → AreOrdered p.files order
+  are_ordered order e all = subst (λ (fs : Files). AreOrdered fs order) (sym same_files) (e
+      ∙ ordered judged.world order all)
+
+  pub members_are : map (λ m. m.member) p.methods ≡ method_order (world p)
+  members_are = let d = package_is_draft list files p whole in d.members

@@ -1,0 +1,217 @@
+-- The methods of a converted package can be emitted by the pool that they need.
+use Rattle.std.proofs.Common.{◌≡◌, ℕ, zero, suc, ◌≤◌, refl, sym, ap, subst, ◌∙◌, arith, Bool, true, false, List, []}
+use Rattle.std.proofs.Common.{◌∷◌, ◌++◌, length, map}
+use Rattle.std.specs.Prelude.{All, ◌||◌, Option, Some, None, option_map, position, unwrap_or, slice_get, nat_lt}
+use Rattle.std.specs.Prelude.{if◌then◌else◌}
+use Rattle.std.proofs.lemmas.Bool.{ltb-false}
+use Rattle.std.proofs.lemmas.List.Elements.{All-head, All-tail}
+use Rattle.std.proofs.lemmas.Option.{slice_get-map}
+use Rattle.cjc_bytes.specs.Breaks.{Break, at}
+use Rattle.cjc_bytes.specs.declared.fault.MemberId.{MemberId}
+use Rattle.cjc_jvm_semantics.specs.Linked.{Method}
+use Rattle.cjc_components.specs.Limits.{form_breaks, has_many_entries, layout_breaks, of_methods, spot_of_list}
+use Rattle.cjc_components.specs.Names.{names, token_in_interface}
+use Rattle.cjc_components.specs.Package.{LaidMethod, Package, codes, has_applets, tokens}
+use Rattle.cjc_components.specs.Package as packages
+use Rattle.cjc_components.specs.Written.{code_at}
+use Rattle.cjc_emit.specs.Emitted.{IsEmittable, IsNamedBy}
+use Rattle.cjc_judge.specs.Rules as judge_rules
+use Rattle.cjc_judge.specs.declared.judged.Judged.{Judged}
+use Rattle.cjc_shape.proofs.JudgedLaws.Emittable.{calls_are_declared}
+use Rattle.cjc_shape.proofs.JudgedLaws.Selected.{judged_writable}
+use Rattle.cjc_shape.specs.Judged.Pooled.{ArePooled, IsSelected}
+use Rattle.cjc_shape.specs.Judged.Tested.{IsTested}
+use Rattle.cjc_layout.specs.Layouts.{IsLayout}
+use Rattle.cjc_layout.specs.declared.layout.Layout.{Layout}
+use Rattle.cjc_methods.specs.Layouts.Laid.{AreLaid, laid_method, with_layouts}
+use Rattle.cjc_methods.specs.declared.layouts.laid.Laid.{Laid}
+use Rattle.cjc_list.specs.Listed.{ListTree}
+use Rattle.cjc_ncode.specs.Lowering.Naming.{Naming}
+use Rattle.cjc_methods.proofs.Alike.{one_selected}
+use Rattle.cjc_methods.specs.Ready.{IsOwn}
+use Rattle.cjc_narrow.specs.Rows.Selected.{near_fields}
+use Rattle.cjc_ncode.specs.PoolOrder.{pool_order, same_key}
+use Rattle.cjc_ncode.specs.declared.narrow.NInsn.{NInsn}
+use Rattle.cjc_ncode.specs.declared.narrow.NMethod.{NMethod}
+use Rattle.cjc_ncode.specs.declared.narrow.PoolKey.{PoolKey}
+use Rattle.cjc_pool.specs.Pool.{IsPool, PoolView, is_called, token_in, token_of}
+use Rattle.cjc_shape.proofs.PreparedLaws.Sound.{are_ready, has_tokens, is_tested, is_unbroken}
+use Rattle.cjc_shape.specs.Prepared.{IsSound}
+use Rattle.cjc_tokens.specs.Methods.{interface_methods}
+use Rattle.cjc_tokens.specs.Rules.{token_breaks}
+use Rattle.cjc_tokens.specs.Tokens.{assigned}
+use Rattle.cjc_types.specs.declared.state.State.{State}
+use Rattle.cjc_vtable.specs.Tables.{or_zero}
+use Rattle.cjc_shape.proofs.WholeLaws.Drafts.{narrow_codes, narrow_is, rows, rows_are, same_narrow, same_spelt}
+use Rattle.cjc_shape.proofs.WholeLaws.Ordered.{all_own}
+use Rattle.cjc_shape.proofs.WholeLaws.Second.{package_is_draft}
+use Rattle.cjc_shape.specs.Whole.Working.Shaped.{IsShaped}
+use Rattle.cjc_shape.specs.declared.whole.shaping.Shaped.{Shaped}
+use Rattle.cjc_world.specs.Classes.{Class, all_classes, class_named}
+use Rattle.cjc_world.specs.Files.{Files}
+use Rattle.cjc_world.specs.Order.{method_order}
+use Rattle.cjc_world.specs.declared.found.Found.{Found}
+use Rattle.cjc_shape_proof.proofs.WrittenLaws.WholeLaws.Declared.{declared_place}
+
+-- ---- lists
+
+none_right : {A : Type 0} (xs ys : List A) → xs ++ ys ≡ [] → ys ≡ []
+none_right [] ys e = e
+none_right (x ∷ xs) ys e = cc
+
+none_at : (b : Bool) (place : _) (rule : ℕ) → at b place rule ≡ [] → b ≡ false
+none_at false place rule e = refl
+none_at true place rule e = cc
+
+or_left : (a b : Bool) → (a || b) ≡ false → a ≡ false
+or_left true b e = cc
+or_left false b e = refl
+
+all_at : {A : Type 0} (P : A → Type 0) (xs : List A) (k : ℕ) (x : A) → All P xs → slice_get xs k ≡ Some x → P x
+all_at P [] k x all e = cc
+all_at P (y ∷ xs) zero x all e = let is : y ≡ x = cc in subst P is (All-head P y xs all)
+all_at P (y ∷ xs) (suc k) x all e = all_at P xs k x (All-tail P y xs all) e
+
+-- an item of a mapped list
+mapped_at : {A B : Type 0} (f : A → B) (xs : List A) (k : ℕ) (y : B) → slice_get (map f xs) k ≡ Some y → (x : A)
+    × (slice_get xs k ≡ Some x) × (f x ≡ y)
+mapped_at f [] k y e = cc
+mapped_at f (x ∷ xs) zero y e = (x, refl, cc)
+mapped_at f (x ∷ xs) (suc k) y e = mapped_at f xs k y e
+
+-- a method with its layout
+pub record IsPut (cs : List NMethod) (laid : List Laid) (k : ℕ) (m : LaidMethod) : Type 0 where
+  pub one : Laid
+  pub is_laid : slice_get laid k ≡ Some one
+  pub is_code : slice_get cs k ≡ Some m.code
+  pub is_wide : (let l = one.layout in m.wide ≡ l.wide)
+
+put_at : (cs : List NMethod) (laid : List Laid) (k : ℕ) (m : LaidMethod) → slice_get (with_layouts cs laid) k ≡ Some m
+    → IsPut cs laid k m
+put_at [] laid k m e = cc
+put_at (c ∷ cs) [] k m e = cc
+put_at (c ∷ cs) (l ∷ laid) zero m e =
+    let is : laid_method c l ≡ m = cc in
+    record {
+      one = l;
+      is_laid = refl;
+      is_code = ap (λ (x : LaidMethod). Some x.code) is;
+      is_wide = ap (λ (x : LaidMethod). x.wide) (sym is);
+    }
+put_at (c ∷ cs) (l ∷ laid) (suc k) m e =
+    let r = put_at cs laid k m e in
+    record { one = r.one; is_laid = r.is_laid; is_code = r.is_code; is_wide = r.is_wide }
+
+-- ---- the package
+
+module _ (list : ListTree) (files : List (List ℕ)) (judged : Judged) (is : IsSound list files judged) (s : Shaped)
+    (p : Package) (shaped : IsShaped list files s p)
+    (pool : PoolView) (made : IsPool judged.world (tokens p) (codes p) pool) where
+  abbrev tested : IsTested list files judged
+  tested = is_tested list files judged is
+
+  abbrev world : Files
+  world = judged.world
+
+  same_files : p.files ≡ world
+  same_files = let of = shaped.is_package in same_spelt list files judged is p.files of.rows of.spelt
+
+  same_list : p.list ≡ list
+  same_list = let d = package_is_draft list files p shaped.is_package in d.by_list
+
+  same_codes : codes p ≡ narrow_codes list files judged is
+  same_codes = same_narrow list files judged is p (package_is_draft list files p shaped.is_package)
+
+  abbrev applets : Bool
+  applets = has_applets p
+
+  all_tokens : token_breaks applets world ≡ []
+  all_tokens = ap (λ (l : ListTree). token_breaks (nat_lt 0 (length l.applets)) world) same_list
+      ∙ has_tokens list files judged is
+
+  few : length pool.keys ≤ 16383
+  few =
+      let none : at (has_many_entries p) (spot_of_list p) 414 ≡ [] = none_right (of_methods p (layout_breaks p))
+      (at (has_many_entries p) (spot_of_list p) 414) shaped.forms in
+      let small = or_left _ _ (none_at (has_many_entries p) (spot_of_list p) 414 none) in
+      subst (λ (ks : List PoolKey). length ks ≤ 16383) (sym made.keys) (ltb-false 16383 (length (packages.pool p))
+      small)
+
+  is_pool : IsPool world (assigned applets world) (codes p) pool
+  is_pool = subst (λ (fs : Files). IsPool world (assigned applets fs) (codes p) pool) same_files made
+
+  abbrev near : List MemberId
+  near = near_fields (pool_order (narrow_codes list files judged is))
+
+  same_near : near_fields pool.keys ≡ near
+  same_near = ap near_fields (made.keys ∙ ap pool_order same_codes)
+
+  each_selected : (k : ℕ) (narrow : NMethod) → slice_get (codes p) k ≡ Some narrow → (place : ℕ) (insn : NInsn)
+      → slice_get narrow.insns place ≡ Some insn → IsSelected judged (near_fields pool.keys) narrow
+  each_selected k narrow e place insn f =
+      let listed : slice_get (map (code_at world near (rows list files judged is)) (method_order (all_classes world))) k
+      ≡ Some narrow =
+      ap (λ (ns : List NMethod). slice_get ns k) (sym (same_codes ∙ narrow_is list files judged is)) ∙ e in
+      let m = mapped_at (code_at world near (rows list files judged is)) (method_order (all_classes world)) k narrow
+      listed in
+      let own = all_at (IsOwn world) (method_order (all_classes world)) k m.0
+      (all_own world (is_unbroken list files judged is).listed) m.1 in
+      let from = one_selected world judged.codes judged.types (are_ready list files judged is) (rows list files judged
+      is) (rows list files judged is) (rows_are list files judged is) (rows_are list files judged is) near m.0 own
+      place insn
+      (ap (λ (n : NMethod). slice_get n.insns place) m.2 ∙ f) in
+      subst (λ ids. IsSelected judged ids narrow) (sym same_near)
+      (record {
+        code = from.code;
+        class = from.class;
+        method = from.method;
+        tree = from.tree;
+        table = from.table;
+        one = record { place = from.place; is_code = from.is_code; is_table = from.is_table; is_method = from.is_own };
+        is = sym m.2 ∙ from.is;
+      })
+
+  pub pooled : ArePooled judged applets (codes p) pool
+  pooled = record { tokens = all_tokens; few = few; is_pool = is_pool; each = each_selected }
+
+  -- ---- the names that components have
+
+  same_index : (key : PoolKey) (i : ℕ) → position (same_key key) pool.keys ≡ Some i → (names p).index key ≡ i
+  same_index key i e = ap (λ o. unwrap_or o 0) (ap (position (same_key key)) (sym made.keys) ∙ e)
+
+  same_token : (id : MemberId) (t : ℕ) → token_in pool id ≡ Some t → (names p).interface_token id ≡ t
+  same_token id t e = by (is_called (codes p) id) refl (sym (is_pool.token id) ∙ e)
+    where
+      by : (b : Bool) → is_called (codes p) id ≡ b → (if b then token_of world (assigned applets world) id else None)
+          ≡ Some t → (names p).interface_token id ≡ t
+      by false called f = cc
+      by true called f =
+          let declared = calls_are_declared list files judged tested applets (codes p) pool pooled id called in
+          let u = is_unbroken list files judged is in
+          let place = declared_place list.name world u.world (judged_writable list files judged tested) applets id
+          declared t f in
+          ap (λ (fs : Files). token_in_interface (all_classes fs) (record { name = id.name; desc = id.desc })
+          (class_named (all_classes fs) id.class)) same_files
+          ∙ ap (token_in_interface (all_classes world) (record { name = id.name; desc = id.desc })) place.1
+          ∙ ap or_zero place.2
+
+  named : IsNamedBy pool.keys (token_in pool) (names p)
+  named = record { index = same_index; token = same_token }
+
+  -- ---- its methods
+
+  pub each_emittable : ((n : Naming) → IsNamedBy pool.keys (token_in pool) n → (k : ℕ) (narrow : NMethod)
+      → slice_get (codes p) k ≡ Some narrow → (layout : Layout) → IsLayout narrow layout → narrow.widest ≤ 32767
+      → IsEmittable pool.keys (token_in pool) n narrow layout.wide) → (k : ℕ) (m : LaidMethod) → slice_get p.methods k
+      ≡ Some m → IsEmittable pool.keys (token_in pool) (names p) m.code m.wide
+  each_emittable law k m e =
+      let ms = s.methods in
+      let laid = shaped.laid in
+      let put = put_at ms.codes ms.laid k m (ap (λ (xs : List LaidMethod). slice_get xs k) (sym shaped.by_methods) ∙ e)
+      in
+      let one = put.one in
+      let here : slice_get (codes p) k ≡ Some m.code = slice_get-map (λ (x : LaidMethod). x.code) p.methods k
+      ∙ ap (option_map (λ (x : LaidMethod). x.code)) e in
+      subst (λ w. IsEmittable pool.keys (token_in pool) (names p) m.code w) (sym put.is_wide)
+      (law (names p) named k m.code here one.layout (laid.each k m.code one put.is_code put.is_laid)
+      (laid.short k m.code put.is_code))

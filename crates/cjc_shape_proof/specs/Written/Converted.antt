@@ -1,0 +1,42 @@
+-- Packages that are converted, and what is asked of the export files beside them.
+use Rattle.std.specs.Prelude.{◌≡◌, ℕ, List, [], Some, true, false, slice_get}
+use Rattle.cjc_jvm_semantics.specs.OnePackage.{is_initialiser}
+use Rattle.cjc_bytes.specs.AccessFlags.{is_interface, is_private, is_static}
+use Rattle.cjc_components.specs.Limits.{form_breaks, of_methods, size_breaks, word_breaks}
+use Rattle.cjc_components.specs.Package.{Package, world}
+use Rattle.cjc_export.specs.declared.tree.ExportClass.{ExportClass}
+use Rattle.cjc_export.specs.declared.tree.ExportMethod.{ExportMethod}
+use Rattle.cjc_judge.specs.declared.judged.Judged.{Judged}
+use Rattle.cjc_judge.specs.Spelt.{IsRead}
+use Rattle.cjc_list.specs.Listed.{ListTree}
+use Rattle.cjc_shape.specs.Prepared.{IsSound}
+use Rattle.cjc_world_proof.specs.Files.{ExportsAreSound}
+use Rattle.cjc_subset.specs.Members.{imports}
+use Rattle.cjc_vtable.specs.Kept.{ExportsAgree}
+use Rattle.cjc_shape.specs.Whole.Conversion.{IsPackageOf}
+use Rattle.cjc_world.specs.Files.{Files}
+
+-- The premise on methods in export files, method by method: none is private, one of an interface is not static, and an
+-- initialiser is static (Java Virtual Machine Specification, sections 2.9 and 4.6; Java Card 2.2.2, section 5.9).
+pub record ExportsArePlain (files : Files) : Type 0 where
+  pub visible : (n : ℕ) (c : ExportClass) → slice_get (imports files.exports) n ≡ Some c → (k : ℕ) (m : ExportMethod)
+      → slice_get c.methods k ≡ Some m → is_private m.flags ≡ false
+  pub interfaces : (n : ℕ) (c : ExportClass) → slice_get (imports files.exports) n ≡ Some c → is_interface c.flags
+      ≡ true → (k : ℕ) (m : ExportMethod) → slice_get c.methods k ≡ Some m → is_static m.flags ≡ false
+  pub initialisers : (n : ℕ) (c : ExportClass) → slice_get (imports files.exports) n ≡ Some c
+      → (k : ℕ) (m : ExportMethod) → slice_get c.methods k ≡ Some m → is_initialiser m.name ≡ true
+      → is_static m.flags ≡ true
+
+-- The package of a list that was read and of its files. It breaks no rule: none of its files, neither 417, 311, 414
+-- and 415, nor 411 and 416. Its export files say of their classes what a platform has, and don't contradict one
+-- another.
+pub record IsConverted (list : ListTree) (files : List (List ℕ)) (judged : Judged) (p : Package) : Type 0 where
+  pub read : IsRead list
+  pub sound : IsSound list files judged
+  pub is_package : IsPackageOf list files p
+  pub words : of_methods p (word_breaks p) ≡ []
+  pub forms : form_breaks p ≡ []
+  pub sizes : size_breaks p ≡ []
+  pub exports : ExportsAreSound p.files
+  pub plain : ExportsArePlain p.files
+  pub agree : ExportsAgree (world p)

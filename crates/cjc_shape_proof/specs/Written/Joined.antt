@@ -1,0 +1,66 @@
+-- What joins a package's narrow code to its components: the code of its methods where they stand, and what is asked
+-- of calls, operations and objects.
+use Rattle.std.specs.Prelude.{◌≡◌, ℕ, List, Bool, true, Some, slice_get}
+use Rattle.cjc_bytes.specs.declared.fault.MemberId.{MemberId}
+use Rattle.cjc_card_semantics.specs.Bytecode.Alike.{KnownThing, start_as}
+use Rattle.cjc_card_semantics.specs.Bytecode.Renaming.{KnownOperation, option_as, shape_as}
+use Rattle.cjc_jvm_semantics.specs.Linked.{Method}
+use Rattle.cjc_token_proof.specs.ByToken.Cells.{are_cells}
+use Rattle.cjc_token_proof.specs.ByToken.Classes.{memories, tests}
+use Rattle.cjc_token_proof.specs.Calls.Reaching as reaching
+use Rattle.cjc_card_semantics.specs.Machine.Calls
+use Rattle.cjc_components.specs.Methods.{placed_methods}
+use Rattle.cjc_components.specs.Package.{LaidMethod, Package, world}
+use Rattle.cjc_ncode.specs.Lowering.Agreement.{IsAmong, IsKnownCall, known_by, names}
+use Rattle.cjc_ncode.specs.Lowering.Handlers.{Catches}
+use Rattle.cjc_ncode.specs.Lowering.Naming.{callee}
+use Rattle.cjc_ncode.specs.Lowering.Placed.{Placed, code_of, offset_of}
+use Rattle.cjc_narrow.specs.Rows.Package.{first_memory, words}
+use Rattle.cjc_ncode.specs.ByLabel.{Callee, operation}
+use Rattle.cjc_ncode.specs.declared.narrow.NCatch.{NCatch}
+use Rattle.cjc_ncode.specs.declared.narrow.NInsn.{NInsn}
+use Rattle.cjc_ncode.specs.declared.narrow.NMethod.{NMethod}
+use Rattle.cjc_script.specs.Sorts.{Shape}
+use Rattle.cjc_narrow_proof.specs.Selected.Names.{NamesFit}
+use Rattle.cjc_token_proof.specs.Tables.Known.{known_names, statics_of}
+use Rattle.cjc_token_proof.specs.Tables.Loading.{naming}
+use Rattle.cjc_token_proof.specs.WrittenCalls.Calls.{ExportsKeep, IsNamed, Receives}
+use Rattle.cjc_token_proof.specs.WrittenCalls.Standing.{place}
+
+-- What the instructions and the handlers of its methods name stands in its pool, and means what they use.
+pub record NamesAreThere (p : Package) : Type 0 where
+  pub names : (k : ℕ) (m : LaidMethod) → slice_get p.methods k ≡ Some m → (j : ℕ) (insn : NInsn)
+      → (let code = m.code in slice_get code.insns j ≡ Some insn) → NamesFit (naming p) insn
+  pub catches : (k : ℕ) (m : LaidMethod) → slice_get p.methods k ≡ Some m → (j : ℕ) (c : NCatch)
+      → (let code = m.code in slice_get code.catches j ≡ Some c) → Catches (naming p) c.class
+
+-- the narrow code of a method where it stands in Method, its handlers in the order of the table
+abbrev pub placed_code : Package → Method → NMethod
+placed_code p m = let at = place p m in at.method
+
+module _ (p : Package) (call : Callee → Bool) where
+  -- a type of which there is an array or an object with names of the package
+  abbrev pub IsThing : Shape (List ℕ) → Type 0
+  IsThing = KnownThing (names (naming p) (memories (naming p) (known_names call p)))
+      (known_by (tests (known_names call p))) (IsAmong (placed_methods p)) (IsKnownCall (tests (known_names call p)))
+
+  -- What is asked of a package of which these calls are known: its static fields hold at first what is of their
+  -- types; what its code names stands in its pool and is known; calls name what calls can name, and take as many
+  -- words by token as by name; objects are of classes that have objects, and are sent the same methods.
+  pub record IsJoined : Type 0 where
+    pub there : NamesAreThere p
+    pub exports : ExportsKeep p
+    pub cells : are_cells (statics_of (let files = p.files in files.classes)) (let memory = first_memory p.files p.image
+        in memory.statics) ≡ true
+    pub operations : (m : Placed) (k : ℕ) (insn : NInsn) → IsAmong (placed_methods p) m
+        → (let code = m.method in slice_get code.insns k ≡ Some insn)
+        → KnownOperation (known_by (tests (known_names call p))) (IsKnownCall (tests (known_names call p)))
+        (operation insn)
+    pub calls : (m : Callee) → call m ≡ true → IsNamed (world p) m
+    pub takes : (m : Callee) (k : ℕ) → call m ≡ true → words p.files (world p) m ≡ Some k
+        → (let n = naming p in Calls.words n.loaded (callee n m) ≡ Some k)
+    pub receives : (kind : Shape (List ℕ)) → IsThing kind → Receives (world p) (Some kind)
+    pub sent : (kind : Shape (List ℕ)) (id : MemberId) → IsThing kind
+        → (let n = naming p in let methods = reaching.placed_methods p.files (place p)
+        in Calls.sent n.loaded (shape_as n.class kind) id ≡ option_as (start_as (code_of n) (offset_of n))
+        (methods.sent kind id))

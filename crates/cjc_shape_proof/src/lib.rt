@@ -1,0 +1,6 @@
+//! A shaped package keeps what the writers of its components ask.
+#![tactic(auto)]
+
+pub mod finds;
+pub mod writing;
+pub mod written;

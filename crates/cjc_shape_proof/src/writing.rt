@@ -1,0 +1,54 @@
+//! What is written for a package that breaks no rule can be written, with nothing left to ask: its component
+//! files where it breaks no limit of sizes, and its export file. For whoever converts a package. It has laws
+//! alone; nothing here runs.
+ghost use Rattle.std.specs.Prelude.{◌≡◌, ◌≤◌, [], length, List, None, ℕ};
+ghost use Rattle.cjc_capwrite.specs.Files.{limit_of, part};
+ghost use Rattle.cjc_capwrite.specs.Method.{method_bytes};
+ghost use Rattle.cjc_capwrite.specs.Writable.{IsWritable};
+ghost use Rattle.cjc_components.specs.Components.{components_of};
+ghost use Rattle.cjc_components.specs.ExportFile.{export_of};
+ghost use Rattle.cjc_components.specs.Limits.{size_breaks};
+ghost use Rattle.cjc_components.specs.Package.{Package};
+ghost use Rattle.cjc_export.specs.Writable.{IsWritable as CanBeExported};
+ghost use Rattle.cjc_shape_proof.specs.Written.LaidOut.{AidsAreShort, ExportedInterfacesStand, IsLaidOut};
+ghost use Rattle.cjc_judge.specs.Spelt.{IsRead};
+ghost use Rattle.cjc_judge.specs.declared.judged.Judged.{Judged};
+ghost use Rattle.cjc_list.specs.Listed.{ListTree};
+
+use crate::written::{export_files_fit, exported_classes_stand, laid_out_packages_fit};
+
+/// A list that was read has applets with AIDs of at most 16 bytes.
+pub fn aids_are_short()
+    ensures { (list : ListTree) → IsRead list → AidsAreShort list }
+{}
+
+/// A package of such a list that breaks no rule, is laid out and breaks neither 411 nor 416 can be written:
+/// each component fits its fields, the component tree keeps the limits, and Method has at most 65,535 bytes.
+pub fn components_can_be_written()
+    ensures limits { (p : Package) → size_breaks p ≡ [] → limit_of (components_of p) ≡ None }
+    ensures writable { (list : ListTree) (files : List (List ℕ)) (judged : Judged) (p : Package)
+        → IsLaidOut list files judged p → size_breaks p ≡ [] → IsWritable (components_of p) }
+    ensures method { (list : ListTree) (files : List (List ℕ)) (judged : Judged) (p : Package)
+        → IsLaidOut list files judged p → size_breaks p ≡ []
+        → (let t = components_of p in length (part method_bytes t.method) ≤ 65535) }
+{
+    laid_out_packages_fit();
+}
+
+/// The methods of each interface that the export file of such a package lists can stand there: each has a token
+/// of its own below their number, which is at most 128, and none is named as a constructor or an initialiser
+/// is.
+pub fn exported_interfaces_stand()
+    ensures { (list : ListTree) (files : List (List ℕ)) (judged : Judged) (p : Package) → IsLaidOut list files judged p
+        → ExportedInterfacesStand p }
+{}
+
+/// The export file of such a package fits the format.
+pub fn export_files_can_be_written()
+    ensures { (list : ListTree) (files : List (List ℕ)) (judged : Judged) (p : Package) → IsLaidOut list files judged p
+        → CanBeExported (export_of p) }
+{
+    exported_interfaces_stand();
+    exported_classes_stand();
+    export_files_fit();
+}

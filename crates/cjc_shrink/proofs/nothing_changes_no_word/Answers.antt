@@ -1,8 +1,0 @@
-use Rattle.cjc_shrink.proofs.Drops.{nop, i2s}
-use Rattle.cjc_shrink.proofs.nothing_changes_no_word.Goals as goal
-
-pub returns-clause-nop : goal.returns-clause-nop
-returns-clause-nop c = nop
-
-pub returns-clause-i2s : goal.returns-clause-i2s
-returns-clause-i2s c = i2s

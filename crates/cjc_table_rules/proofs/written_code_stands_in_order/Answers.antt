@@ -1,8 +1,0 @@
-use Rattle.cjc_table_rules.proofs.Placed.{stands_at, next_at}
-use Rattle.cjc_table_rules.proofs.written_code_stands_in_order.Goals as goal
-
-pub returns-clause-stands : goal.returns-clause-stands
-returns-clause-stands c = stands_at
-
-pub returns-clause-behind : goal.returns-clause-behind
-returns-clause-behind c = next_at

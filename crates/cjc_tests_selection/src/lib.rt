@@ -1,0 +1,5 @@
+//! Tests of narrow code: its selection, its layout and its bytes.
+#![tactic(auto)]
+
+pub mod code;
+pub mod selection;

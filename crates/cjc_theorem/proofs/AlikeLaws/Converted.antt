@@ -1,0 +1,56 @@
+-- A package that breaks no rule, nor does what is written for it, with fair export files, is one that is converted.
+use Rattle.std.proofs.Common.{◌≡◌, ℕ, refl, sym, subst, List, [], ◌∷◌}
+use Rattle.cjc_bytes.specs.Breaks.{Break}
+use Rattle.cjc_components.specs.Limits.{else_of, form_breaks, limit_breaks, of_methods, size_breaks, word_breaks}
+use Rattle.cjc_components.specs.Package.{Package, world}
+use Rattle.cjc_theorem.specs.FairExports.Fair.{ExportsAreFair}
+use Rattle.cjc_judge.specs.Spelt.{IsRead}
+use Rattle.cjc_judge.specs.declared.judged.Judged.{Judged}
+use Rattle.cjc_list.specs.Listed.{ListTree}
+use Rattle.cjc_shape.specs.Prepared.{IsSound}
+use Rattle.cjc_world_proof.specs.Files.{ExportsAreSound}
+use Rattle.cjc_theorem.proofs.SoundRuns.Placed.{sound_package}
+use Rattle.cjc_token_proof.specs.Tables.Sound.{IsSound as IsSoundPackage}
+use Rattle.cjc_vtable.specs.Kept.{ExportsAgree}
+use Rattle.cjc_shape.proofs.WholeLaws.Drafts.{same_spelt}
+use Rattle.cjc_shape.specs.Whole.Conversion.{IsPackageOf}
+use Rattle.cjc_world.specs.Files.{Files}
+use Rattle.cjc_shape_proof.specs.Written.Converted.{ExportsArePlain, IsConverted}
+
+front_nil : (a b : List Break) → else_of a b ≡ [] → a ≡ []
+front_nil [] b e = refl
+front_nil (x ∷ a) b e = cc
+
+back_nil : (a b : List Break) → else_of a b ≡ [] → b ≡ []
+back_nil [] b e = e
+back_nil (x ∷ a) b e = cc
+
+module _ (list : ListTree) (files : List (List ℕ)) (judged : Judged) (of : IsRead list) (is : IsSound list files judged)
+    (p : Package) (laid : IsPackageOf list files p) (fair : (let world = p.files in ExportsAreFair world.exports)) where
+  pub same_files : p.files ≡ judged.world
+  same_files = same_spelt list files judged is p.files laid.rows laid.spelt
+
+  pub fair_world : ExportsAreFair judged.world.exports
+  fair_world = subst (λ (w : Files). ExportsAreFair w.exports) same_files fair
+
+  pub judged_package : IsSoundPackage list.name judged.world
+  judged_package = sound_package list files judged is of fair_world.names
+
+  pub own_package : IsSoundPackage list.name p.files
+  own_package = subst (IsSoundPackage list.name) (sym same_files) judged_package
+
+  pub is_converted : limit_breaks p ≡ [] → ExportsAreSound p.files → ExportsArePlain p.files → ExportsAgree (world p)
+      → IsConverted list files judged p
+  is_converted limits exports plain agree =
+      let rest = back_nil (of_methods p (word_breaks p)) (else_of (form_breaks p) (size_breaks p)) limits in
+      record {
+        read = of;
+        sound = is;
+        is_package = laid;
+        words = front_nil (of_methods p (word_breaks p)) (else_of (form_breaks p) (size_breaks p)) limits;
+        forms = front_nil (form_breaks p) (size_breaks p) rest;
+        sizes = back_nil (form_breaks p) (size_breaks p) rest;
+        exports = exports;
+        plain = plain;
+        agree = agree;
+      }

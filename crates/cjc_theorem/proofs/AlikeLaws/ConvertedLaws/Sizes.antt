@@ -1,0 +1,41 @@
+-- The sizes of a converted package.
+use Rattle.std.proofs.Common.{◌≡◌, ℕ, ap, ◌∙◌, subst, arith, List, [], length}
+use Rattle.std.specs.Prelude.{◌≤◌}
+use Rattle.cjc_components.specs.Limits.{has_far_types, has_large_component, size_breaks, spot_of_list}
+use Rattle.cjc_components.specs.Package.{Package}
+use Rattle.cjc_bytes.specs.Breaks.{at}
+use Rattle.cjc_judge.specs.declared.judged.Judged.{Judged}
+use Rattle.cjc_list.specs.Listed.{ListTree}
+use Rattle.cjc_narrow_proof.proofs.SelectedLaws.Limits.{none_left, none_right, not_broken}
+use Rattle.cjc_world.specs.Files.{Files}
+use Rattle.cjc_bytes.specs.declared.settings.FileLine.{FileLine}
+use Rattle.cjc_token_proof.specs.Tables.Sound.{export_count}
+use Rattle.cjc_shape_proof.specs.Written.Converted.{IsConverted}
+use Rattle.cjc_shape_proof.proofs.WrittenLaws.Files.{files_sound, same_files}
+use Rattle.cjc_check_proof.specs.Classes.Premises.{HasShortMethods}
+use Rattle.cjc_check_proof.specs.Consistent.Premises.{HasSoundSizes}
+
+module _ (list : ListTree) (files : List (List ℕ)) (judged : Judged) (p : Package) (is : IsConverted list files judged
+    p) where
+  few_imports : (let w = p.files in length w.exports ≤ 128)
+  few_imports =
+      let read = is.read in
+      let spelt = read.2.0 in
+      let lines : (let w = p.files in w.lines) ≡ list.lines = ap (λ (w : Files). w.lines) (same_files list files judged
+      p is ∙ is.sound.judged_by.world) in
+      let sound = files_sound list files judged p is in
+      let few = subst (λ (ls : List FileLine). (let w = p.files in length w.exports) ≤ export_count ls) lines
+      sound.exports in
+      let all = spelt.3.within.exports in
+      omega (arith, few, all)
+
+  pub sizes_kept : HasShortMethods p → HasSoundSizes p
+  sizes_kept short =
+      let far = at (has_far_types p) (spot_of_list p) 411 in
+      let large = at (has_large_component p) (spot_of_list p) 416 in
+      record {
+        types = not_broken (has_far_types p) (spot_of_list p) 411 (none_left far large is.sizes);
+        components = not_broken (has_large_component p) (spot_of_list p) 416 (none_right far large is.sizes);
+        methods = short;
+        imports = few_imports;
+      }

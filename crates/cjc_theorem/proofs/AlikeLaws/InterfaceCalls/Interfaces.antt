@@ -1,0 +1,43 @@
+-- What an invokeinterface calls stands among the methods of the interface in which it is found.
+use Rattle.std.proofs.Common.{◌≡◌, ℕ, sym, ap, ◌∙◌, List, []}
+use Rattle.std.specs.Prelude.{Some}
+use Rattle.cjc_bytes.specs.AccessFlags.{is_interface}
+use Rattle.cjc_bytes.specs.declared.fault.MemberId.{MemberId}
+use Rattle.cjc_classfile.specs.declared.tree.ClassTree.{ClassTree}
+use Rattle.cjc_code.specs.declared.insn.JOp.TheVariants as jop
+use Rattle.cjc_components.specs.Package.{Package, world}
+use Rattle.cjc_judge.specs.Rules.{has_applets, settings_of}
+use Rattle.cjc_judge.specs.declared.judged.Judged.{Judged}
+use Rattle.cjc_shape.proofs.JudgedLaws.Called.{resolved_declared, resolved_token}
+use Rattle.cjc_list.specs.Listed.{ListTree}
+use Rattle.cjc_narrow.specs.Rows.Resolved.{resolved_method}
+use Rattle.cjc_narrow_proof.proofs.LawsLaws.Instructions.{op_there}
+use Rattle.cjc_narrow_proof.specs.Laws.Unbroken.{IsInsnOf}
+use Rattle.cjc_ncode.specs.ByLabel.{OnInterface}
+use Rattle.cjc_shape.proofs.PreparedLaws.Sound.{has_tokens}
+use Rattle.cjc_tokens.specs.Rules.{token_breaks}
+use Rattle.cjc_shape_proof.proofs.WrittenLaws.WholeLaws.Declared.{declared_place}
+use Rattle.cjc_world.proofs.Unbroken.{unbroken_is_acyclic}
+use Rattle.cjc_world.specs.Classes.{Class, class_named}
+use Rattle.cjc_token_proof.specs.WrittenCalls.Calls.{IsNamed, on_interface}
+use Rattle.cjc_shape_proof.proofs.WrittenLaws.Files.{own_unbroken, read_files, same_files}
+use Rattle.cjc_shape_proof.specs.Written.Converted.{IsConverted}
+
+module _ (list : ListTree) (files : List (List ℕ)) (judged : Judged) (p : Package) (is : IsConverted list files judged
+    p) (class : ClassTree) (id : MemberId) (of : IsInsnOf p.files judged.codes class (jop.Call 0xB9 id)) where
+  pub interface_named : (words : ℕ) → IsNamed (world p) (OnInterface words (resolved_method (world p) id))
+  interface_named words =
+      let u = own_unbroken list files judged p is in
+      let writable = (let r = read_files list files judged p is in r.exports) in
+      let acyclic = unbroken_is_acyclic list.name p.files u.world in
+      let ok = op_there list.name p.files judged.codes (settings_of list) u class (jop.Call 0xB9 id) of in
+      let d = resolved_declared p.files acyclic class id ok.0 ok.1 ok.2 in
+      let none : token_breaks (has_applets list) p.files ≡ [] = ap (token_breaks (has_applets list))
+      (same_files list files judged p is) ∙ has_tokens list files judged is.sound in
+      let t = resolved_token p.files acyclic class id ok.0 ok.1 ok.2 (has_applets list) none writable in
+      let m = resolved_method (world p) id in
+      let place = declared_place list.name p.files u.world writable (has_applets list) m d t.0 t.1 in
+      let owner : Class = d.owner in
+      let both : Some place.0 ≡ Some owner = sym place.1 ∙ ap (class_named (world p)) d.by_owner ∙ d.named in
+      let same : place.0 ≡ owner = cc in
+      on_interface place.0 t.0 place.1 (ap (λ (c : Class). is_interface c.flags) same ∙ d.interface) d.plain place.2

@@ -1,0 +1,193 @@
+-- What a class of a package that breaks no rule of classes and names keeps of 203: descriptors of its members name
+-- classes that some file has.
+use Rattle.std.proofs.Common.{◌≡◌, ℕ, zero, suc, ◌+◌, ◌<◌, ◌≤◌, refl, sym, ap, subst, ◌∙◌, arith, Bool, true, false}
+use Rattle.std.proofs.Common.{not, List, [], ◌∷◌, ◌++◌, length}
+use Rattle.std.specs.Prelude.{map, ◌&&◌, ◌||◌, ◌==◌, Some, cond, option_map, slice_get, if◌then◌else◌}
+use Rattle.std.specs.List.{list_any}
+use Rattle.std.proofs.lemmas.Bool.{eqb-false, eqb-true}
+use Rattle.std.proofs.lemmas.Option.{slice_get-map}
+use Rattle.cjc_bytes.specs.Breaks.{broken_at, list_spot}
+use Rattle.cjc_bytes.specs.declared.order.FileKey.{FileKey}
+use Rattle.cjc_bytes.specs.declared.order.FileKey.TheVariants as keys
+use Rattle.cjc_bytes.specs.declared.settings.FileLine.{FileLine}
+use Rattle.cjc_order.specs.Classes.Numbers.{class_count}
+use Rattle.cjc_classfile.specs.declared.tree.ClassTree.{ClassTree}
+use Rattle.cjc_classfile.specs.declared.tree.FieldTree.{FieldTree}
+use Rattle.cjc_classfile.specs.declared.tree.MethodTree.{MethodTree}
+use Rattle.cjc_vtable.proofs.Filed.{Has, at_front, behind}
+use Rattle.cjc_vtable.proofs.Numbers.{class_count-cons}
+use Rattle.cjc_world.specs.Added.{added}
+use Rattle.cjc_world.specs.Classes.{Class, Member, all_classes, declared, field_of_class, method_of_class, size}
+use Rattle.cjc_world.specs.Files.{Files}
+use Rattle.cjc_world.specs.Supertypes.{IsAcyclic, supertypes, stands}
+use Rattle.cjc_world.specs.Rules.{at_class, at_member, breaks, breaks_from, class_breaks, class_file_breaks}
+use Rattle.cjc_world.specs.Rules.{class_rules, export_file_breaks, gets_missing, has_language, is_desc_missing}
+use Rattle.cjc_world.specs.Rules.{is_of_package, is_own_super, is_second, is_twice, is_under_cycle, lists_missing}
+use Rattle.cjc_world.specs.Rules.{lists_wrong, member_rules, members, members_before, members_from, told, when}
+use Rattle.cjc_world.proofs.Cycles.{stands_where_above}
+use Rattle.cjc_world.proofs.Unbroken.{nil_back, nil_front, nil_of_map, not_when, unbroken_is_acyclic}
+
+-- ---- tests of lists
+
+none_of : {A : Type 0} (test : A → Bool) (xs : List A) (x : A) → list_any test xs ≡ false → Has x xs → test x ≡ false
+none_of test [] x e h = elim h [ ]
+none_of test (y ∷ xs) _ e at_front = by (test y) e
+  where
+    by : (b : Bool) → (b || list_any test xs) ≡ false → b ≡ false
+    by true f = cc
+    by false f = refl
+none_of test (y ∷ xs) x e (behind h) = none_of test xs x (by (test y) e) h
+  where
+    by : (b : Bool) → (b || list_any test xs) ≡ false → list_any test xs ≡ false
+    by true f = cc
+    by false f = f
+
+none_pass : {A : Type 0} (test : A → Bool) (xs : List A) → ((x : A) → test x ≡ false) → list_any test xs ≡ false
+none_pass test [] none = refl
+none_pass test (x ∷ xs) none = ap (λ b. b || list_any test xs) (none x) ∙ none_pass test xs none
+
+-- ---- what is broken at a class file
+
+-- nothing at the class of this number and at its members
+IsClean : Files → List Class → ℕ → ClassTree → Type 0
+IsClean files w n c = (file : FileKey) × (name : List ℕ) × (class_breaks files.package_name file name 1 w (declared n c)
+    ≡ [])
+
+clean_from : (files : Files) (w : List Class) (k c e i : ℕ) (lines : List FileLine) (n : ℕ) (t : ClassTree)
+    → slice_get files.classes n ≡ Some t → breaks_from files w k c e i lines ≡ [] → c ≤ n → n < c + class_count lines
+    → IsClean files w n t
+unfolding IsClean breaks_from
+clean_from files w k c e i [] n t is p le lt = absurd (omega arith)
+clean_from files w k c e i (line ∷ lines) n t is p le lt =
+    by line.class_file p (subst (λ q. n < c + q) (class_count-cons line lines) lt)
+    (clean_from files w (k + 1) (c + 1) e i lines n t is)
+    (λ q more. clean_from files w (k + 1) c (e + 1) (i + size (slice_get files.exports e)) lines n t is q le more)
+  where
+    by : (b : Bool)
+        → (if b
+        then class_file_breaks files (keys.Line k) line.name w c (slice_get files.classes c)
+        ++ breaks_from files w (k + 1) (c + 1) e i lines
+        else export_file_breaks files (keys.Line k) line.name w e i (slice_get files.exports e)
+        ++ breaks_from files w (k + 1) c (e + 1) (i + size (slice_get files.exports e)) lines) ≡ []
+        → n < c + (cond b 1 0 + class_count lines)
+        → (breaks_from files w (k + 1) (c + 1) e i lines ≡ [] → c + 1 ≤ n → n < c + 1 + class_count lines
+        → IsClean files w n t)
+        → (breaks_from files w (k + 1) c (e + 1) (i + size (slice_get files.exports e)) lines ≡ []
+        → n < c + class_count lines → IsClean files w n t)
+        → IsClean files w n t
+    by true q h r s = go (c == n) refl
+      where
+        go : (b : Bool) → (c == n) ≡ b → IsClean files w n t
+        go true f =
+            let here = class_file_breaks files (keys.Line k) line.name w c (slice_get files.classes c) in
+            let own = subst (λ m. class_file_breaks files (keys.Line k) line.name w m (slice_get files.classes m) ≡ [])
+            (eqb-true c n f) (nil_front here (breaks_from files w (k + 1) (c + 1) e i lines) q) in
+            (keys.Line k, line.name, sym (ap (class_file_breaks files (keys.Line k) line.name w n) is) ∙ own)
+        go false f =
+            let here = class_file_breaks files (keys.Line k) line.name w c (slice_get files.classes c) in
+            r (nil_back here (breaks_from files w (k + 1) (c + 1) e i lines) q) (let ne = eqb-false c n f
+            in omega (arith, ne)) (omega arith)
+    by false q h r s =
+        let here = export_file_breaks files (keys.Line k) line.name w e i (slice_get files.exports e) in
+        s (nil_back here (breaks_from files w (k + 1) c (e + 1) (i + size (slice_get files.exports e)) lines) q)
+        (omega arith)
+
+-- ---- what a class keeps
+
+module _ (file : FileKey) (file_name : List ℕ) (w : List Class) (c : Class) (field : Bool) where
+  abbrev of_member : ℕ → Member → List ℕ
+  of_member i m = member_rules w c (members field c) i m.name m.desc
+
+  clean_members : (i : ℕ) (ms : List Member) (k : ℕ) (m : Member) → members_from file file_name 1 w c field i ms ≡ []
+      → slice_get ms k ≡ Some m → of_member (i + k) m ≡ []
+  unfolding members_from
+  clean_members i [] k m e is = cc
+  clean_members i (x ∷ ms) zero m e is =
+      let same : x ≡ m = cc in
+      let at = λ (rule : ℕ). at_member file file_name 1 c.name (members_before field c + i + 1)
+      (told field x.name x.desc) rule in
+      let here : of_member i x ≡ [] = nil_of_map at (of_member i x) (nil_front (map at (of_member i x))
+      (members_from file file_name 1 w c field (i + 1) ms) e) in
+      let place : i + 0 ≡ i = omega arith in
+      ap (λ j. of_member j m) place ∙ ap (of_member i) (sym same) ∙ here
+  clean_members i (x ∷ ms) (suc k) m e is =
+      let at = λ (rule : ℕ). at_member file file_name 1 c.name (members_before field c + i + 1)
+      (told field x.name x.desc) rule in
+      let rest = clean_members (i + 1) ms k m (nil_back (map at (of_member i x)) (members_from file file_name 1 w c
+      field (i + 1) ms) e) is in
+      let place : i + suc k ≡ i + 1 + k = omega arith in
+      ap (λ j. of_member j m) place ∙ rest
+
+  there_members : c.is_imported ≡ false → (k : ℕ) (m : Member)
+      → members_from file file_name 1 w c field 0 (members field c) ≡ [] → slice_get (members field c) k ≡ Some m
+      → is_desc_missing w m.desc ≡ false
+  unfolding member_rules
+  there_members own k m e is =
+      let z : 0 + k ≡ k = omega arith in
+      let twice = when (is_twice (members field c) k m.name m.desc) 202 in
+      let here = subst (λ j. of_member j m ≡ []) z (clean_members 0 (members field c) k m e is) in
+      let missing = not_when (not c.is_imported && is_desc_missing w m.desc) 203
+      (nil_back twice (when (not c.is_imported && is_desc_missing w m.desc) 203) here) in
+      sym (ap (λ b. not b && is_desc_missing w m.desc) own) ∙ missing
+
+-- The descriptors of a class of the package name classes that some file has.
+pub record HasKnownTypes (w : List Class) (n : ℕ) (t : ClassTree) : Type 0 where
+  pub fields : (k : ℕ) (f : FieldTree) → slice_get t.fields k ≡ Some f → is_desc_missing w f.desc ≡ false
+  pub methods : (k : ℕ) (m : MethodTree) → slice_get t.methods k ≡ Some m → is_desc_missing w m.desc ≡ false
+  pub got : (m : Member) → Has m (added w (declared n t)) → is_desc_missing w m.desc ≡ false
+
+-- no class is under a cycle
+no_cycle : (w : List Class) → IsAcyclic w → (c : Class) → is_under_cycle w c ≡ false
+unfolding is_under_cycle
+no_cycle w acyclic c = none_pass (λ d. stands d.name (supertypes w (c.supers ++ c.interfaces)) && is_own_super w d) w
+    (λ d. one d (is_own_super w d) refl (stands d.name (supertypes w (c.supers ++ c.interfaces))))
+  where
+    one : (d : Class) (b : Bool) → is_own_super w d ≡ b → (a : Bool) → (a && is_own_super w d) ≡ false
+    one d true e a = absurd (acyclic d.name ((stands_where_above w d.name d.name).0 e))
+    one d false e true = e
+    one d false e false = refl
+
+keeps_types : (files : Files) (w : List Class) → IsAcyclic w → (n : ℕ) (t : ClassTree) → IsClean files w n t
+    → HasKnownTypes w n t
+unfolding IsClean class_breaks class_rules gets_missing
+keeps_types files w acyclic n t (file, file_name, e) =
+    let p = files.package_name in
+    let d = declared n t in
+    let A = when (not false && not (is_of_package p t.name)) 201 in
+    let B = when (is_second w d) 202 in
+    let D = when (not false && (lists_missing w d || gets_missing w d)) 203 in
+    let E = when (is_own_super w d) 204 in
+    let G = when (lists_wrong w d) 208 in
+    let at = λ (rule : ℕ). at_class file file_name 1 t.name rule in
+    let R = map at (A ++ B ++ D ++ E ++ G) in
+    let F = members_from file file_name 1 w d true 0 d.fields in
+    let M = members_from file file_name 1 w d false 0 d.methods in
+    let own = nil_of_map at (A ++ B ++ D ++ E ++ G) (nil_front R F (nil_front (R ++ F) M e)) in
+    let three = nil_front (A ++ B ++ D) E (nil_front (A ++ B ++ D ++ E) G own) in
+    let missing = or_right (lists_missing w d) (gets_missing w d) (not_when (lists_missing w d || gets_missing w d) 203
+    (nil_back (A ++ B) D three)) in
+    let none = sym (ap (λ b. not b && list_any (λ m. is_desc_missing w m.desc) (added w d)) (no_cycle w acyclic d))
+    ∙ missing in
+    record {
+      fields = λ k f is. there_members file file_name w d true refl k (field_of_class f)
+          (nil_back R F (nil_front (R ++ F) M e)) (slice_get-map field_of_class t.fields k
+          ∙ ap (option_map field_of_class) is);
+      methods = λ k m is. there_members file file_name w d false refl k (method_of_class m) (nil_back (R ++ F) M e)
+          (slice_get-map method_of_class t.methods k ∙ ap (option_map method_of_class) is);
+      got = λ m h. none_of (λ (x : Member). is_desc_missing w x.desc) (added w d) m none h;
+    }
+  where
+    or_right : (a b : Bool) → (a || b) ≡ false → b ≡ false
+    or_right true b e = cc
+    or_right false b e = e
+
+pub own_types_known : (list : List ℕ) (files : Files) → length files.classes ≤ class_count files.lines
+    → breaks list files ≡ [] → (n : ℕ) (t : ClassTree) → slice_get files.classes n ≡ Some t → n < length files.classes
+    → HasKnownTypes (all_classes files) n t
+unfolding breaks
+own_types_known list files listed unbroken n t is lt =
+    let w = all_classes files in
+    keeps_types files w (unbroken_is_acyclic list files unbroken) n t
+    (clean_from files w 0 0 0 0 files.lines n t is (nil_back (map (λ rule. broken_at (list_spot list) rule)
+    (when (not (has_language w files.exports)) 207)) (breaks_from files w 0 0 0 0 files.lines) unbroken)
+    (omega arith) (omega (arith, lt, listed)))

@@ -1,0 +1,164 @@
+-- Below a method of the package that is neither private nor static, methods of the package with its name and descriptor
+-- are neither (rule 306).
+use Rattle.std.proofs.Common.{◌≡◌, ℕ, suc, refl, sym, ap, subst, ◌∙◌, Bool, true, false, List, [], ◌∷◌, ◌++◌, ⊎_elim}
+use Rattle.std.specs.Prelude.{not, ◌&&◌, ◌||◌, Some, map, slice_get, if◌then◌else◌}
+use Rattle.std.specs.List.{list_any}
+use Rattle.std.specs.Str.{bytes_eq}
+use Rattle.cjc_bytes.specs.AccessFlags.{is_private, is_static}
+use Rattle.cjc_bytes.specs.Breaks.{at, each_from}
+use Rattle.cjc_bytes.specs.Order.{file_of}
+use Rattle.cjc_bytes.specs.declared.settings.Settings.{Settings}
+use Rattle.cjc_world_proof.proofs.CallsLaws.Own.{mapped_at}
+use Rattle.cjc_classfile.specs.declared.tree.ClassTree.{ClassTree}
+use Rattle.cjc_classfile.specs.declared.tree.MethodTree.{MethodTree}
+use Rattle.cjc_code.specs.declared.method_code.MethodCode.{MethodCode}
+use Rattle.cjc_narrow_proof.proofs.SelectedLaws.Limits.{each_at, none_left, none_right, not_broken}
+use Rattle.cjc_subset.specs.Checks.{check_breaks, class_breaks, code_breaks, field_breaks, list_breaks, method_breaks}
+use Rattle.cjc_subset.specs.Checks.{own_breaks}
+use Rattle.cjc_subset.specs.Overriding.{changes_kind, class_against, hides_one, is_inherited, is_of_other_kind}
+use Rattle.cjc_subset.specs.Overriding.{is_special, supertype_breaks, lacks_code, method_against, overriding_breaks}
+use Rattle.cjc_subset.specs.Places.{at_class, at_method}
+use Rattle.cjc_tokens.specs.Members.{In, Signature, first_of, later, signature_of}
+use Rattle.cjc_tokens.proofs.Facts.{same-refl}
+use Rattle.cjc_world.specs.Upwards.{OnLine, up}
+use Rattle.cjc_world.proofs.UpwardLaws.Lines.{line_below, line_is_below, line_named}
+use Rattle.cjc_vtable.specs.Calls.{selects}
+use Rattle.cjc_vtable.proofs.Filed.{IsFiled, filed, in_class_file, in_export_file}
+use Rattle.cjc_world.specs.Classes.{Class, Member, all_classes, class_named, declared, imported, method_of_class}
+use Rattle.cjc_world.specs.Files.{Files}
+use Rattle.cjc_world.specs.Interfaces.{has_interface}
+use Rattle.cjc_world.specs.Supertypes.{Above, IsAcyclic, Lists, directly, is_below, onwards}
+use Rattle.cjc_world.specs.Lookup.{is_called}
+use Rattle.cjc_world.proofs.Cycles.{class_named-name}
+use Rattle.cjc_world.proofs.Settled.{bytes-true, lists-front}
+use Rattle.cjc_theorem.proofs.AlikeLaws.VirtualCalls.Lines.{KeepsKinds}
+
+pub in_get : (m : Member) (ms : List Member) → In m ms → (k : ℕ) × (slice_get ms k ≡ Some m)
+in_get m [] i = elim i [ ]
+in_get m (n ∷ ms) first_of = (0, refl)
+in_get m (n ∷ ms) (later i) = let r = in_get m ms i in (suc r.0, r.1)
+
+any_false : (p : Member → Bool) (ms : List Member) (m : Member) → list_any p ms ≡ false → In m ms → p m ≡ false
+any_false p [] m e i = elim i [ ]
+any_false p (n ∷ ms) m e first_of = by (p m) e
+  where
+    by : (b : Bool) → (b || list_any p ms) ≡ false → b ≡ false
+    by true e = cc
+    by false e = refl
+any_false p (n ∷ ms) m e (later i) = any_false p ms m (by (p n) e) i
+  where
+    by : (b : Bool) → (b || list_any p ms) ≡ false → list_any p ms ≡ false
+    by true e = cc
+    by false e = e
+
+module _ (list : List ℕ) (files : Files) (codes : List MethodCode) (settings : Settings) (unbroken : check_breaks list
+    files codes settings ≡ []) where
+  abbrev w : List Class
+  w = all_classes files
+
+  -- 306 of a method of a class, against another class of the package
+  kind_kept : (n l i : ℕ) (t u : ClassTree) (m : MethodTree) → slice_get files.classes n ≡ Some t
+      → slice_get files.classes l ≡ Some u → slice_get t.methods i ≡ Some m → is_inherited w t (declared 0 u) ≡ true
+      → (not (is_special m.name) && changes_kind (declared 0 u) m.flags m.name m.desc) ≡ false
+  unfolding check_breaks class_breaks overriding_breaks supertype_breaks class_against method_against
+  kind_kept n l i t u m e f g above =
+      let f_n = file_of files.lines n in
+      let by_classes = each_from (λ n c. class_breaks files settings (file_of files.lines n) n c) 0 files.classes in
+      let all = none_right (list_breaks list files settings) by_classes (none_left (list_breaks list files settings
+      ++ by_classes) (each_from (λ _ code. code_breaks files settings code) 0 codes) unbroken) in
+      let here : class_breaks files settings f_n n t ≡ [] =
+      each_at (λ n c. class_breaks files settings (file_of files.lines n) n c) n files.classes t all e in
+      let own = own_breaks files settings f_n n t in
+      let fields = each_from (λ i m. field_breaks settings f_n t i m) 0 t.fields in
+      let methods = each_from (λ i m. method_breaks settings f_n t i m) 0 t.methods in
+      let over : overriding_breaks files f_n t ≡ [] = none_right (own ++ fields ++ methods) (overriding_breaks files f_n
+      t) here in
+      let A = at (lacks_code w t (declared 0 t)) (at_class f_n t) 307 in
+      let B = each_from (λ _ d. supertype_breaks w f_n t (declared 0 d)) 0 files.classes in
+      let C = each_from (λ _ s. each_from (λ _ d. supertype_breaks w f_n t (imported 0 d)) 0 s.classes) 0 files.exports
+      in
+      let supertypes : supertype_breaks w f_n t (declared 0 u) ≡ [] =
+      each_at (λ _ d. supertype_breaks w f_n t (declared 0 d)) l files.classes u (none_right A B (none_left (A
+      ++ B) C over)) f in
+      let against : class_against w f_n t (declared 0 u) ≡ [] =
+      sym (ap (λ b. if b then class_against w f_n t (declared 0 u) else []) above) ∙ supertypes in
+      let D = at (lacks_code w t (declared 0 u)) (at_class f_n t) 307 in
+      let one = each_at (λ i m. method_against f_n t (declared 0 u) i m) i t.methods m
+      (none_right D (each_from (λ i m. method_against f_n t (declared 0 u) i m) 0 t.methods) against) g in
+      let spot = at_method f_n t i m 0 in
+      not_broken (not (is_special m.name) && changes_kind (declared 0 u) m.flags m.name m.desc) spot 306
+      (none_right (at (not (is_special m.name) && hides_one (declared 0 u) m.flags m.name m.desc) spot 305)
+      (at (not (is_special m.name) && changes_kind (declared 0 u) m.flags m.name m.desc) spot 306) one)
+
+  module _ (acyclic : IsAcyclic w) where
+    -- a superclass is another class, and inherited from
+    inherits : (x y : List ℕ) (k l : ℕ) (t u : ClassTree) → class_named w x ≡ Some (declared k t)
+        → Lists y (t.superclass ∷ []) → OnLine w y (declared l u) → is_inherited w t (declared 0 u) ≡ true
+    inherits x y k l t u e listed on = both (is_below w t.name u.name) (has_interface w t.name u.name)
+        (bytes_eq t.name u.name) under (apart (bytes_eq t.name u.name) refl)
+      where
+        itself : class_named w t.name ≡ Some (declared k t)
+        itself = ap (class_named w) (class_named-name w x (declared k t) e) ∙ e
+
+        under : is_below w t.name u.name ≡ true
+        under = line_is_below w acyclic t.name (declared l u) (up (declared k t) itself listed on)
+
+        above : Above w t.name u.name
+        above =
+            let front = lists-front y (t.superclass ∷ []) t.interfaces listed in
+            ⊎_elim (λ same. directly (declared k t) itself (subst (λ n. Lists n ((t.superclass ∷ []) ++ t.interfaces))
+            same front)) (λ far. onwards (declared k t) itself front far) (line_below w y (declared l u) on)
+
+        apart : (b : Bool) → bytes_eq t.name u.name ≡ b → bytes_eq t.name u.name ≡ false
+        apart false f = f
+        apart true f = absurd (acyclic t.name (subst (Above w t.name) (sym (bytes-true t.name u.name f)) above))
+
+        both : (a b q : Bool) → a ≡ true → q ≡ false → ((a || b) && not q) ≡ true
+        both true b false f g = refl
+        both true b true f g = absurd cc
+        both false b q f g = absurd cc
+
+    pub keeps_kinds : KeepsKinds w
+    keeps_kinds x y c d m n e own l on own_above i j one plain may =
+        by c d (filed files x c e) (filed files d.name d (line_named w y d on)) e own l on own_above i j
+      where
+        kept : (d : Class) → (not (is_special m.name) && changes_kind d m.flags m.name m.desc) ≡ false → In n d.methods
+            → selects m ≡ true
+        kept d off j =
+            let none = behind (is_special m.name) (changes_kind d m.flags m.name m.desc) plain off in
+            let here = any_false (λ k. is_called m.name m.desc k && is_of_other_kind m.flags k.flags) d.methods n none j
+            in
+            let called : is_called m.name m.desc n ≡ true = ap (λ (v : Signature). bytes_eq n.name v.name
+            && bytes_eq n.desc v.desc) one ∙ same-refl (signature_of n) in
+            neither (is_private m.flags) (is_static m.flags) (is_private n.flags) (is_static n.flags) may
+            (test (is_called m.name m.desc n) (is_of_other_kind m.flags n.flags) called here)
+          where
+            behind : (s h : Bool) → s ≡ false → (not s && h) ≡ false → h ≡ false
+            behind false h e f = f
+            behind true h e f = absurd cc
+
+            test : (a b : Bool) → a ≡ true → (a && b) ≡ false → b ≡ false
+            test true b e f = f
+            test false b e f = absurd cc
+
+            neither : (p t q u : Bool) → (not q && not u) ≡ true → (not q && (if p || t then not u else u)) ≡ false
+                → (not p && not t) ≡ true
+            neither false false q u f g = refl
+            neither true t false false f g = absurd cc
+            neither true t false true f g = absurd cc
+            neither true t true u f g = absurd cc
+            neither false true false false f g = absurd cc
+            neither false true false true f g = absurd cc
+            neither false true true u f g = absurd cc
+
+        by : (c d : Class) → IsFiled files c → IsFiled files d → class_named w x ≡ Some c → c.is_imported ≡ false
+            → Lists y c.supers → OnLine w y d → d.is_imported ≡ false → In m c.methods → In n d.methods
+            → selects m ≡ true
+        by c d (in_export_file k t g) filed_above e own l on own_above i j = absurd cc
+        by c d (in_class_file k t g) (in_export_file q u h) e own l on own_above i j = absurd cc
+        by c d (in_class_file k t g) (in_class_file q u h) e own l on own_above i j =
+            let at = in_get m (map method_of_class t.methods) i in
+            let r = mapped_at method_of_class t.methods at.0 m at.1 in
+            let off = kind_kept k q at.0 t u r.0 g h r.1 (inherits x y k q t u e l on) in
+            kept (declared q u) (subst (λ (v : Member). (not (is_special v.name) && changes_kind (declared 0 u) v.flags
+            v.name v.desc) ≡ false) (sym r.2) off) j

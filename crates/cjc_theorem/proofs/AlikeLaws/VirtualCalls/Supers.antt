@@ -1,0 +1,359 @@
+-- What an invokespecial selects from the superclass of the class that holds the code is a virtual method that calls can
+-- name.
+use Rattle.std.proofs.Common.{◌≡◌, ℕ, refl, sym, ap, subst, ◌∙◌, Bool, true, false, List, inl, inr, ⊎_elim}
+use Rattle.std.specs.Prelude.{◌⊎◌, ◌&&◌, ◌||◌, not, Option, Some, None, option_and_then, position, slice_get}
+use Rattle.cjc_bytes.specs.AccessFlags.{is_interface, is_private, is_static}
+use Rattle.cjc_bytes.specs.declared.fault.MemberId.{MemberId}
+use Rattle.cjc_jvm_semantics.specs.OnePackage.{ResolvedMember, is_constructor, method_hit, of_class}
+use Rattle.cjc_world_proof.proofs.CallsLaws.Own.{hit_is, mapped_at}
+use Rattle.cjc_world_proof.proofs.CallsLaws.Selects.{receiver_plain}
+use Rattle.cjc_world_proof.specs.Calls.Solid.{IsSolid}
+use Rattle.cjc_token_proof.specs.Calls.Selecting.{signature}
+use Rattle.cjc_classfile.specs.declared.tree.ClassTree.{ClassTree}
+use Rattle.cjc_code.specs.declared.insn.JOp.TheVariants as jop
+use Rattle.cjc_components.specs.Package.{Package, world}
+use Rattle.cjc_judge.specs.Rules.{settings_of}
+use Rattle.cjc_judge.specs.declared.judged.Judged.{Judged}
+use Rattle.cjc_list.specs.Listed.{ListTree}
+use Rattle.cjc_theorem.proofs.AlikeLaws.NamedLaws.Names.{Calls_method, called}
+use Rattle.cjc_narrow.specs.Rows.Resolved.{method_found}
+use Rattle.cjc_narrow_proof.specs.Laws.Unbroken.{IsInsnOf, IsUnbroken}
+use Rattle.cjc_narrow_proof.proofs.LawsLaws.Own.{class_by_name, first_here, own_kept}
+use Rattle.cjc_ncode.specs.ByLabel.{OnSuper}
+use Rattle.cjc_subset.specs.Members as subset
+use Rattle.cjc_subset.specs.Names.{is_bodiless, is_unfit_super}
+use Rattle.cjc_tokens.specs.Lines.{line_of}
+use Rattle.cjc_tokens.specs.Members.{Signature, all_methods, chosen, is_exposed, is_initialiser, is_virtual}
+use Rattle.cjc_tokens.specs.Members.{signature_of}
+use Rattle.cjc_tokens.proofs.Facts.{chosen-In, chosen-passes, same-refl}
+use Rattle.cjc_world.specs.Upwards.{Below, IsOrdered, OnLine}
+use Rattle.cjc_world.proofs.UpwardLaws.Lines.{below_line, below_on, line_below, line_begins, line_named, line_on}
+use Rattle.cjc_world.proofs.UpwardLaws.Lines.{of_line, on_line}
+use Rattle.cjc_vtable.specs.Calls.{any_method, finds_hidden, is_special, selects}
+use Rattle.cjc_vtable.specs.Kept.{Keeps}
+use Rattle.cjc_vtable.specs.Laws.{KeepsRules, Under, below, itself, selection}
+use Rattle.cjc_vtable.proofs.Filed.{IsFiled, filed, in_class_file, in_export_file}
+use Rattle.cjc_world.specs.declared.found.Found.{Found}
+use Rattle.cjc_world.specs.Classes.{Class, Member, class_named, declared, method_of_class}
+use Rattle.cjc_world.specs.Supertypes.{AreSupertypes, Supertypes, foremost, is_below, supertypes, line}
+use Rattle.cjc_world.specs.Lookup.{first, is_called, is_selectable, own_method, receiver, selected}
+use Rattle.cjc_world.specs.Rules.{is_earlier, is_twice}
+use Rattle.cjc_world.proofs.Cycles.{class_named-name}
+use Rattle.cjc_token_proof.specs.WrittenCalls.Calls.{IsNamed, on_super}
+use Rattle.cjc_shape_proof.proofs.WrittenLaws.Files.{own_unbroken}
+use Rattle.cjc_shape_proof.proofs.WrittenLaws.Worlds.{own_solid}
+use Rattle.cjc_shape_proof.specs.Written.Converted.{IsConverted}
+use Rattle.cjc_token_proof.specs.WrittenSends.Sends.{ExportsImplement}
+use Rattle.cjc_theorem.proofs.AlikeLaws.VirtualCalls.Chosen.{IsFirstOf, first_found, own_any, placed}
+use Rattle.cjc_theorem.proofs.AlikeLaws.VirtualCalls.Found.{none_on_line, stands_there}
+use Rattle.cjc_theorem.proofs.AlikeLaws.VirtualCalls.Found as found
+use Rattle.cjc_theorem.proofs.AlikeLaws.VirtualCalls.Lines.{HasHidden, HasShown, hidden_below, hidden_found}
+use Rattle.cjc_theorem.proofs.AlikeLaws.VirtualCalls.Lines.{shown_alone, shown_below}
+use Rattle.cjc_theorem.proofs.AlikeLaws.VirtualCalls.Places.{member_in}
+use Rattle.cjc_theorem.proofs.AlikeLaws.VirtualCalls.Objects.{of_above, own_kinds, sought_there}
+use Rattle.cjc_theorem.proofs.AlikeLaws.VirtualCalls.Ways.{far_above, line_class, line_finds, top}
+
+or_left : (a b : Bool) → (a || b) ≡ false → a ≡ false
+or_left true b e = absurd cc
+or_left false b e = refl
+
+or_right : (a b : Bool) → (a || b) ≡ false → b ≡ false
+or_right true b e = absurd cc
+or_right false b e = e
+
+-- what has a body is selected
+chosen_some : (w : List Class) (super : List ℕ) (id : MemberId) → receiver super ≡ super → (o : Option Found)
+    → selected w super id.name id.desc ≡ o → is_bodiless (subset.hit w false o) ≡ false → (f : Found)
+    × (selection w super (signature id) ≡ Some f)
+unfolding selected subset.hit
+chosen_some w super id same_name None g e = absurd cc
+chosen_some w super id same_name (Some f) g e = (
+  f,
+  ap (λ y. first (own_method true id.name id.desc) (line w y))
+      (sym same_name) ∙ g,
+)
+
+module _ (list : ListTree) (files : List (List ℕ)) (judged : Judged) (p : Package) (is : IsConverted list files judged
+    p)
+    (are_supertypes : (xs : List (List ℕ)) → AreSupertypes (world p) xs (supertypes (world p) xs)) (one_supertypes :
+    (xs : List (List ℕ)) (j k : Supertypes) → AreSupertypes (world p) xs j → AreSupertypes (world p) xs k
+    → j ≡ k) (keeps : Keeps (world p)) (implement : ExportsImplement (world p)) where
+  abbrev w : List Class
+  w = world p
+
+  abbrev rules : KeepsRules w
+  rules = keeps.rules
+
+  abbrev u : IsUnbroken list.name p.files judged.codes (settings_of list)
+  u = own_unbroken list files judged p is
+
+  abbrev solid : IsSolid p.files
+  solid = own_solid list files judged p is
+
+  abbrev ordered : IsOrdered w
+  ordered = (let s = own_solid list files judged p is in s.ordered)
+
+  -- a method of a class of the package is the first of its signature there (202)
+  first_own : (c : Class) → class_named w c.name ≡ Some c → c.is_imported ≡ false → (k : ℕ) (m : Member)
+      → slice_get c.methods k ≡ Some m → chosen any_method (signature_of m) c.methods ≡ Some m
+  unfolding is_twice
+  first_own c known own k m e = by c (filed p.files c.name c known) own e
+    where
+      by : (c : Class) → IsFiled p.files c → c.is_imported ≡ false → slice_get c.methods k ≡ Some m
+          → chosen any_method (signature_of m) c.methods ≡ Some m
+      by c (in_export_file n t at) own e = absurd cc
+      by c (in_class_file n t at) own e =
+          let q = u in
+          let x = mapped_at method_of_class t.methods k m e in
+          let kept = own_kept p.files list.name q.listed q.world n t at in
+          let once = (kept.methods k x.0 x.1).0 in
+          let apart = ap (λ (v : Member). is_earlier (position (λ y. is_called v.name v.desc y) (declared n t).methods)
+          k) x.2 ∙ once in
+          let at_place = first_here (λ y. is_called m.name m.desc y) (declared n t).methods k m e
+          (same-refl (signature_of m)) apart in
+          let r = placed any_method (signature_of m) (declared n t).methods k at_place in
+          let both : Some r.0 ≡ Some m = sym r.2 ∙ e in
+          let one : r.0 ≡ m = cc in
+          r.1 ∙ ap Some one
+
+  module _ (class : ClassTree) (id : MemberId) (of : IsInsnOf p.files judged.codes class (jop.Call 0xB7 id))
+      (class_here : is_interface class.flags ≡ false) (no_constructor : is_constructor id.name ≡ false)
+      (hit : ResolvedMember) (is_hit : method_found w id ≡ Some hit) (visible : is_private hit.flags ≡ false) where
+    abbrev s : Signature
+    s = signature id
+
+    abbrev n : Calls_method list files judged p is class 0xB7 id
+    n = called list files judged p is class 0xB7 id of
+
+    abbrev flags : ℕ
+    flags = (let c = n in let a = c.at in let m = a.member in m.flags)
+
+    open_one : is_private flags ≡ false
+    open_one =
+        let c = n in
+        let here : ResolvedMember = record { owner = c.owner; flags = flags } in
+        let both : Some here ≡ Some hit = sym (ap (option_and_then (method_hit w)) c.found ∙ c.hit) ∙ is_hit in
+        let same : here ≡ hit = cc in
+        ap (λ (h : ResolvedMember). is_private h.flags) same ∙ visible
+
+    selectable : is_selectable flags ≡ true
+    selectable = let c = n in let f = c.fits in both (is_private flags) (is_static flags) open_one (f.on_object refl)
+      where
+        both : (a b : Bool) → a ≡ false → b ≡ false → (not a && not b) ≡ true
+        both false false e f = refl
+        both true b e f = absurd cc
+        both false true e f = absurd cc
+
+    plain_name : is_special s ≡ false
+    plain_name = let c = n in let f = c.fits in either (is_constructor id.name) (is_initialiser id.name) no_constructor
+        f.no_initialiser
+      where
+        either : (a b : Bool) → a ≡ false → b ≡ false → (a || b) ≡ false
+        either false false e f = refl
+        either true b e f = absurd cc
+        either false true e f = absurd cc
+
+    -- ---- the superclass
+
+    abbrev super : List ℕ
+    super = class.superclass
+
+    fit : is_unfit_super w class id ≡ false
+    fit = let c = n in last (is_constructor id.name) (is_private flags) (is_unfit_super w class id) no_constructor
+        open_one c.fits_class
+      where
+        last : (a b v : Bool) → a ≡ false → b ≡ false → (true && not a && not b && v) ≡ false → v ≡ false
+        last false false v e f g = g
+        last true b v e f g = absurd cc
+        last false true v e f g = absurd cc
+
+    named_on : OnLine w super (let c = n in c.named_class)
+    named_on =
+        let c = n in
+        let below_it = not_false (is_below w super id.class) (or_left (not (is_below w super id.class))
+        (is_bodiless (subset.hit w false (selected w super id.name id.desc))) fit) in
+        below_line w (let o = ordered in o.acyclic) super id.class c.named_class below_it c.names_class
+      where
+        not_false : (a : Bool) → not a ≡ false → a ≡ true
+        not_false true e = refl
+        not_false false e = absurd cc
+
+    super_there : (d : Class) × (class_named w super ≡ Some d)
+    super_there = line_begins w super (let c = n in c.named_class) named_on
+
+    abbrev number : ℕ
+    number = (let o = of in let code = o.code in code.class)
+
+    holder : class_named w class.name ≡ Some (declared number class)
+    holder = let q = u in class_by_name p.files list.name q.listed q.world number class (let o = of in let m =
+        o.of_package in m.is_class)
+
+    super_class : is_interface (let d = super_there.0 in d.flags) ≡ false
+    super_class = let o = ordered in o.supers class.name super (declared number class) super_there.0 holder foremost
+        super_there.1
+
+    named_class_plain : is_interface (let c = n in let d = c.named_class in d.flags) ≡ false
+    named_class_plain = line_class w ordered super super_there.0 (let c = n in c.named_class) named_on super_there.1
+        super_class
+
+    -- what is selected from there
+    selected_some : (f : Found) × (selection w super s ≡ Some f)
+    selected_some =
+        let q = solid in
+        chosen_some w super id (receiver_plain super (q.plain super super_there.0 super_there.1))
+        (selected w super id.name id.desc) refl
+        (or_right (not (is_below w super id.class))
+        (is_bodiless (subset.hit w false (selected w super id.name id.desc))) fit)
+
+    -- ---- where the method is found in an interface alone
+
+    module _ (interface : is_interface (let c = n in let d = c.owner in d.flags) ≡ true) where
+      abbrev f : Found
+      f = selected_some.0
+
+      abbrev r : IsFirstOf true s (line w super) f
+      r = first_found true s (line w super) f selected_some.1
+
+      abbrev d : Class
+      d = (let q = r in q.class)
+
+      abbrev m : Member
+      m = (let q = r in let a = q.at in a.method)
+
+      first_one : chosen selects s d.methods ≡ Some m
+      first_one = (let q = r in let a = q.at in a.is_first)
+
+      kept : (signature_of m ≡ s) × (selects m ≡ true)
+      kept = chosen-passes selects s d.methods m first_one
+
+      on : OnLine w super d
+      on = (let q = r in of_line w (let o = ordered in o.acyclic) super q.class q.among)
+
+      known : class_named w d.name ≡ Some d
+      known = line_named w super d on
+
+      virtual : is_virtual m ≡ true
+      virtual = both (is_selectable m.flags) (is_special (signature_of m)) kept.1 (ap is_special kept.0 ∙ plain_name)
+        where
+          both : (a b : Bool) → a ≡ true → b ≡ false → (a && not b) ≡ true
+          both true false e f = refl
+          both true true e f = absurd cc
+          both false b e f = absurd cc
+
+      -- one of an imported class implements the interface's
+      exposed_abroad : d.is_imported ≡ true → is_exposed m.flags ≡ true
+      exposed_abroad import = by (let c = n in let k = c.named_class in k.is_imported) refl
+        where
+          by : (b : Bool) → (let c = n in let k = c.named_class in k.is_imported) ≡ b → is_exposed m.flags ≡ true
+          by false own =
+              let c = n in
+              let way = far_above w ordered rules super c.named_class d named_on (line_named w super c.named_class
+              named_on) own on import in
+              let g = own_any s d f (let q = r in q.own) in
+              let x = line_finds w ordered (own_method false id.name id.desc) (let k = c.named_class in k.name) d g.0
+              way g.1 in
+              let none = none_on_line list files judged p is class 0xB7 id n named_class_plain interface in
+              let clash : Some x.0 ≡ None = sym x.1 ∙ ap (λ y. first (own_method false id.name id.desc) (line w y))
+              (class_named-name w id.class c.named_class c.names_class) ∙ none in
+              absurd cc
+          by true far =
+              let c = n in
+              let k = c.named_class in
+              let q = r in
+              let at = q.at in
+              let here_kind : f.imported ≡ true = ap (λ (v : Found). v.imported) at.is ∙ import in
+              let t = top w ordered rules s f super super_there.0 k named_on far super_there.1 super_class here_kind
+              selected_some.1 in
+              let way : Below w t.name (let o = c.owner in o.name) = below_on w t.name id.class (let o = c.owner
+              in o.name) (subst (λ y. Below w t.name y) (class_named-name w id.class k c.names_class)
+              (line_below w t.name k t.on)) c.below in
+              let z = first_found true s (line w t.name) f t.selected in
+              let zat = z.at in
+              let e = z.class in
+              let e_known = line_named w t.name e (of_line w (let o = ordered in o.acyclic) t.name e z.among) in
+              let told = implement t.name t.class c.owner (found.called list files judged p is class 0xB7 id n)
+              zat.method t.known t.import t.plain c.named interface
+              (of_above list files judged p is are_supertypes one_supertypes keeps t.name t.class c.owner t.known
+              c.named way)
+              (member_in (let o = c.owner in o.methods) (let a = c.at in a.place) (let a = c.at
+              in a.member) (let a = c.at in a.is_member))
+              (ap (λ v. chosen selects v (all_methods (line w t.name))) (found.called_signature list files judged p is
+              class 0xB7 id n) ∙ z.of_all) in
+              let h1 : ResolvedMember = record { owner = d; flags = m.flags } in
+              let h2 : ResolvedMember = record { owner = e; flags = (let x = zat.method in x.flags) } in
+              let one : method_hit w f ≡ Some h1 = ap (method_hit w) at.is ∙ hit_is w d at.place m (let v = solid
+              in v.numbered d.name d known) at.there in
+              let two : method_hit w f ≡ Some h2 = ap (method_hit w) zat.is
+              ∙ hit_is w e zat.place zat.method (let v = solid in v.numbered e.name e e_known) zat.there in
+              let both : Some h1 ≡ Some h2 = sym one ∙ two in
+              let same_one : h1 ≡ h2 = cc in
+              ap (λ (h : ResolvedMember). is_exposed h.flags) same_one ∙ told
+
+      pub interface_there : HasShown w super s ⊎ HasHidden w super s
+      interface_there = by (is_exposed m.flags) refl
+        where
+          by : (b : Bool) → is_exposed m.flags ≡ b → HasShown w super s ⊎ HasHidden w super s
+          by true e = inl (record {
+            class = d;
+            on = on;
+            method = m;
+            among = chosen-In selects s d.methods m first_one;
+            shown = ap (λ b. b && is_virtual m) e ∙ virtual;
+            one = kept.0;
+            is_first = λ o. first_one;
+          })
+          by false e =
+              let q = r in
+              let at = q.at in
+              let own = apart d.is_imported refl in
+              inr (record {
+                class = d;
+                on = on;
+                own = own;
+                method = m;
+                hidden_one = ap (λ b. not b && is_virtual m) e ∙ virtual;
+                is_first = ap (λ v. chosen any_method v d.methods) (sym kept.0)
+                    ∙ first_own d known own at.place m at.there;
+              })
+            where
+              apart : (b : Bool) → d.is_imported ≡ b → d.is_imported ≡ false
+              apart false g = g
+              apart true g = let clash : true ≡ false = sym (exposed_abroad g) ∙ e in absurd cc
+
+    -- ---- all
+
+    there : HasShown w super s ⊎ HasHidden w super s
+    there = by (is_interface (let c = n in let d = c.owner in d.flags)) refl
+      where
+        by : (b : Bool) → is_interface (let c = n in let d = c.owner in d.flags) ≡ b → HasShown w super s
+            ⊎ HasHidden w super s
+        by true e = interface_there e
+        by false e =
+            let c = n in
+            let k = c.named_class in
+            let way : OnLine w id.class c.owner = on_line w ordered id.class (let d = c.owner in d.name) k c.owner
+            c.below c.names_class named_class_plain c.named e in
+            let far = line_on w super k c.owner named_on (subst (λ y. OnLine w y c.owner)
+            (sym (class_named-name w id.class k c.names_class)) way) in
+            stands_there list files judged p is class 0xB7 id n selectable no_constructor super far
+
+    under : Under w class.name super
+    under = below (declared number class) holder foremost itself
+
+    alike : HasShown w super s ⊎ HasHidden w super s → finds_hidden (line_of w class.name) s
+        ≡ finds_hidden (line_of w super) s
+    alike h = ⊎_elim
+        (λ a. shown_alone w are_supertypes one_supertypes rules class.name s (shown_below w class.name super s under a)
+        ∙ sym (shown_alone w are_supertypes one_supertypes rules super s a))
+        (λ a. (let kinds = own_kinds list files judged p is are_supertypes one_supertypes keeps
+        in hidden_found w are_supertypes one_supertypes rules kinds class.name s (hidden_below w class.name super s
+        under a) ∙ sym (hidden_found w are_supertypes one_supertypes rules kinds super s a)))
+        h
+
+    pub super_named : IsNamed w (OnSuper (of_class class.name id))
+    super_named =
+        let c = n in
+        let f = c.fits in
+        on_super (declared number class) super_there.0 super holder refl class_here refl super_there.1 f.no_initialiser
+        (sought_there list files judged p is are_supertypes one_supertypes keeps (of_class super id) super_there.0
+        super_there.1 super_class there) (alike there)

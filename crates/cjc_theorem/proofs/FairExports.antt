@@ -1,0 +1,5 @@
+pub mod Alone
+pub mod Roots
+pub mod Sent
+pub mod Test
+pub mod Implementing

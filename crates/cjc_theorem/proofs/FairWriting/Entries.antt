@@ -1,0 +1,552 @@
+-- What holds of each method that the export file of a package lists of its classes.
+use Rattle.std.proofs.Common.{◌≡◌, ℕ, zero, suc, ◌+◌, ◌-◌, refl, sym, ap, subst, ◌∙◌, arith, Bool, true, false, List}
+use Rattle.std.proofs.Common.{[], ◌∷◌, ◌++◌, length, map, ⊎_elim, Option, Some, None}
+use Rattle.std.specs.Prelude.{not, ◌&&◌, ◌||◌, option_map, position, slice_get, unwrap_or, if◌then◌else◌, is_some}
+use Rattle.std.proofs.lemmas.Option.{slice_get-map}
+use Rattle.cjc_bytes.specs.AccessFlags.{acc_native, acc_strict, acc_synchronized, has, is_abstract, is_interface}
+use Rattle.cjc_bytes.specs.AccessFlags.{is_private, is_protected, is_public, is_static}
+use Rattle.cjc_bytes.specs.declared.settings.Settings.{Settings}
+use Rattle.cjc_classfile.specs.declared.tree.ClassTree.{ClassTree}
+use Rattle.cjc_code.specs.declared.method_code.MethodCode.{MethodCode}
+use Rattle.cjc_components.specs.Descriptor.{as_added, method_in, methods_with_added, no_member}
+use Rattle.cjc_components.specs.ExportFile.{added_from, export_class, inherited_from, is_listed, method_entry}
+use Rattle.cjc_components.specs.ExportFile.{method_meant, methods_from, supers_from}
+use Rattle.cjc_components.specs.Names.{member_token}
+use Rattle.cjc_components.specs.Package.{Package, has_applets, world}
+use Rattle.cjc_export.specs.declared.tree.ExportClass.{ExportClass}
+use Rattle.cjc_export.specs.declared.tree.ExportMethod.{ExportMethod}
+use Rattle.cjc_shape_proof.proofs.WrittenLaws.FittingLaws.Exported.{is_bare, or_first, or_second}
+use Rattle.cjc_shape_proof.proofs.WrittenLaws.FittingLaws.Lists.{mapped_at}
+use Rattle.cjc_shape_proof.proofs.WrittenLaws.FittingLaws.Order.{has_cons, has_either, has_none}
+use Rattle.cjc_shape_proof.proofs.WrittenLaws.FittingLaws.OwnTokens.{Offers, added_token, offers_given, offers_shown}
+use Rattle.cjc_shape_proof.proofs.WrittenLaws.FittingLaws.OwnTokens.{shown_token, slot_there}
+use Rattle.cjc_shape_proof.proofs.WrittenLaws.FittingLaws.Rules as Rules
+use Rattle.cjc_shape_proof.proofs.WrittenLaws.FittingLaws.Standing.{IsInheritedAt, added_in, inherited_in, listed_in}
+use Rattle.cjc_token_proof.proofs.TablesLaws.Clean.{own_name}
+use Rattle.cjc_token_proof.proofs.TablesLaws.Filed.{own_in}
+use Rattle.cjc_subset.specs.Checks.{check_breaks}
+use Rattle.cjc_subset.specs.Flags.{has_two_accesses, is_unfit_method}
+use Rattle.cjc_subset.specs.Members.{imports}
+use Rattle.cjc_token_proof.specs.Tables.Sound.{IsSound}
+use Rattle.cjc_tokens.proofs.Facts.{same-true}
+use Rattle.cjc_tokens.specs.Lines.{Declared, Imported, line_at, line_in, line_of}
+use Rattle.cjc_tokens.specs.Members.{Signature, is_constructor, is_exposed, is_initialiser, is_shown, is_virtual}
+use Rattle.cjc_tokens.specs.Members.{signature_of}
+use Rattle.cjc_tokens.specs.Methods.{interface_methods, interface_row}
+use Rattle.cjc_tokens.specs.Slots.{got, implementing, meant_by, own, row, slots, token}
+use Rattle.cjc_world.proofs.UpwardLaws.Lines.{first_has, gathered_above, has-cons, line_named, listed_line}
+use Rattle.cjc_world.specs.Upwards.{IsOrdered}
+use Rattle.cjc_vtable.proofs.Filed.{Has, IsFiled, at-number, at_front, behind, filed, get-has, has-get, in_class_file}
+use Rattle.cjc_vtable.proofs.Filed.{in_export_file}
+use Rattle.cjc_vtable.proofs.SlotNames.{get-behind, position-at}
+use Rattle.cjc_vtable.proofs.Worlds.{told-class}
+use Rattle.cjc_vtable.specs.Laws.{KeepsRules}
+use Rattle.cjc_world.proofs.Cycles.{class_named-name}
+use Rattle.cjc_world.proofs.Settled.{AreSupertypes-one, supertypes-AreSupertypes, supertypes-known}
+use Rattle.cjc_world.specs.Added.{added, asked_by, declares_open, has_open, is_one_of, lacking, own_methods}
+use Rattle.cjc_world.specs.Added.{takes_added}
+use Rattle.cjc_world.specs.Classes.{Class, Member, class_named, declared, field_of_class, method_of_class}
+use Rattle.cjc_world.specs.Classes.{method_of_export}
+use Rattle.cjc_world.specs.Interfaces.{gathered, known}
+use Rattle.cjc_world.specs.Supertypes.{End, AreSupertypes, Supertypes, Known, Unknown, ends, supertypes, known_here}
+use Rattle.cjc_world.specs.Supertypes.{unknown_here, upwards}
+use Rattle.cjc_world.specs.Lookup.{first, is_called, is_wanted, member_at, method_of_interface, or_else, own_method}
+use Rattle.cjc_world.specs.Lookup.{own_of}
+use Rattle.cjc_world.specs.declared.found.Found.{Found}
+use Rattle.cjc_shape_proof.proofs.WritingLaws.Entries.{supers_in}
+use Rattle.cjc_shape_proof.proofs.WritingLaws.Signatures.{asked_plain, mapped_has, new_has}
+use Rattle.cjc_theorem.proofs.FairWriting.Once.{place_token}
+
+-- ---- tests and lists
+
+front_at : {A : Type 0} (xs ys : List A) (k : ℕ) (x : A) → slice_get xs k ≡ Some x → slice_get (xs ++ ys) k ≡ Some x
+front_at [] ys k x e = cc
+front_at (y ∷ xs) ys zero x e = e
+front_at (y ∷ xs) ys (suc k) x e = front_at xs ys k x e
+
+front_has : {A : Type 0} (x : A) (xs ys : List A) → Has x xs → Has x (xs ++ ys)
+front_has x [] ys h = has_none x h
+front_has x (y ∷ xs) ys h = ⊎_elim (λ same. subst (λ z. Has z (y ∷ xs ++ ys)) (sym same) at_front)
+    (λ g. behind (front_has x xs ys g)) (has_cons x y xs h)
+
+both_first : (a b : Bool) → (a && b) ≡ true → a ≡ true
+both_first true b e = refl
+both_first false b e = cc
+
+both_second : (a b : Bool) → (a && b) ≡ true → b ≡ true
+both_second true b e = e
+both_second false b e = cc
+
+-- a virtual method is neither private nor an initialiser
+virtual_plain : (m : Member) → is_virtual m ≡ true → (is_private m.flags ≡ false) × (is_initialiser m.name ≡ false)
+virtual_plain m e = by (is_private m.flags) (is_static m.flags) (is_constructor m.name) (is_initialiser m.name) e
+  where
+    by : (q s c i : Bool) → ((not q && not s) && not (c || i)) ≡ true → (q ≡ false) × (i ≡ false)
+    by true s c i e = cc
+    by false true c i e = cc
+    by false false true i e = cc
+    by false false false true e = cc
+    by false false false false e = (refl, refl)
+
+-- a method that breaks no 304 has one access at most
+one_access : (interface : Bool) (flags : ℕ) (name : List ℕ) (coded : Bool) → is_unfit_method interface flags name coded
+    ≡ false → has_two_accesses flags ≡ false
+one_access interface flags name coded fit =
+    let A = has flags acc_native || has flags acc_synchronized || has flags acc_strict || has_two_accesses flags in
+    let kind = A || (is_abstract flags && (is_static flags || is_private flags)) in
+    let special = is_abstract flags && (is_constructor name || is_initialiser name) in
+    let bare = is_initialiser name && not (is_static flags) in
+    let three = or_first (kind || special || bare) (interface && coded && not (is_initialiser name)) fit in
+    let first = or_first kind special (or_first (kind || special) bare three) in
+    or_second (has flags acc_native || has flags acc_synchronized || has flags acc_strict) (has_two_accesses flags)
+    (or_first A (is_abstract flags && (is_static flags || is_private flags)) first)
+
+exposed_visible : (flags : ℕ) → has_two_accesses flags ≡ false → is_exposed flags ≡ true → is_private flags ≡ false
+exposed_visible flags one e = by (is_public flags) (is_protected flags) (is_private flags) one e
+  where
+    by : (a b p : Bool) → ((a && p) || (a && b) || (p && b)) ≡ false → (a || b) ≡ true → p ≡ false
+    by a b false e f = refl
+    by true b true e f = cc
+    by false true true e f = cc
+    by false false true e f = cc
+
+lacking_has : (there : Member → Bool) (given ms : List Member) (k : ℕ) (m : Member)
+    → slice_get (lacking there given ms) k ≡ Some m → Has m ms
+unfolding lacking
+lacking_has there given [] k m e = cc
+lacking_has there given (x ∷ ms) k m e = by (there x || is_one_of given x.name x.desc) k e (λ j f. lacking_has there
+    given ms j m f) (λ j f. lacking_has there (given ++ x ∷ []) ms j m f)
+  where
+    by : (b : Bool) (k : ℕ) → slice_get (if b then lacking there given ms else x ∷ lacking there (given ++ x ∷ []) ms) k
+        ≡ Some m
+        → ((j : ℕ) → slice_get (lacking there given ms) j ≡ Some m → Has m ms)
+        → ((j : ℕ) → slice_get (lacking there (given ++ x ∷ []) ms) j ≡ Some m → Has m ms) → Has m (x ∷ ms)
+    by true k e old fresh = behind (old k e)
+    by false zero e old fresh = let same : x ≡ m = cc in subst (λ (y : Member). Has y (x ∷ ms)) same at_front
+    by false (suc k) e old fresh = behind (fresh k e)
+
+-- a method that a class got is no initialiser
+added_plain : (w : List Class) (c : Class) (k : ℕ) (m : Member) → slice_get (added w c) k ≡ Some m
+    → is_initialiser m.name ≡ false
+unfolding added
+added_plain w c k m e = by (takes_added c) e
+  where
+    test : Member → Bool
+    test q = declares_open q.name q.desc c || has_open q.name q.desc (supertypes w c.supers)
+
+    by : (b : Bool)
+        → slice_get (if b then lacking test [] (asked_by (supertypes w c.supers) (supertypes w c.interfaces)) else []) k
+        ≡ Some m → is_initialiser m.name ≡ false
+    by true f = asked_plain (supertypes w c.supers) (supertypes w c.interfaces) c m
+        (front_has m (asked_by (supertypes w c.supers) (supertypes w c.interfaces)) (own_methods c)
+        (lacking_has test [] (asked_by (supertypes w c.supers) (supertypes w c.interfaces)) k m f))
+    by false f = cc
+
+same_member : {m n : Member} → Some m ≡ Some n → m ≡ n
+same_member e = cc
+
+no_both : {A : Type 0} → true ≡ false → A
+no_both e = absurd cc
+
+-- ---- a package
+
+module _ (list : List ℕ) (p : Package) (codes : List MethodCode) (settings : Settings) (sound : IsSound list p.files)
+    (checks : check_breaks list p.files codes settings ≡ []) (ordered : IsOrdered (world p))
+    (imports_visible : (n : ℕ) (c : ExportClass) → (let v = p.files in slice_get (imports v.exports) n ≡ Some c)
+    → (k : ℕ) (m : ExportMethod) → slice_get c.methods k ≡ Some m → is_private m.flags ≡ false)
+    (imports_bound : (n : ℕ) (c : ExportClass) → (let v = p.files in slice_get (imports v.exports) n ≡ Some c)
+    → is_interface c.flags ≡ true → (k : ℕ) (m : ExportMethod) → slice_get c.methods k ≡ Some m
+    → is_static m.flags ≡ false) where
+  abbrev w : List Class
+  w = world p
+
+  are_supertypes : (xs : List (List ℕ)) → AreSupertypes w xs (supertypes w xs)
+  are_supertypes xs = supertypes-AreSupertypes w ordered.acyclic xs
+
+  -- ---- methods of interfaces
+
+  -- one that is no initialiser is neither private nor static
+  interface_method : (x : List ℕ) (d : Class) → class_named w x ≡ Some d → is_interface d.flags ≡ true → (m : Member)
+      → Has m d.methods → is_initialiser m.name ≡ false → (is_private m.flags ≡ false) × (is_static m.flags ≡ false)
+  interface_method x d e interface m h plain = by (filed p.files x d e) interface h
+    where
+      by : {c : Class} → IsFiled p.files c → is_interface c.flags ≡ true → Has m c.methods
+          → (is_private m.flags ≡ false) × (is_static m.flags ≡ false)
+      by (in_class_file n t at) here g =
+          let place = has-get m (map method_of_class t.methods) g in
+          let k = mapped_at method_of_class t.methods place.0 m place.1 in
+          let r = (let v = sound.read in v.classes n t at) in
+          let b = is_bare t r.0 k.0 r.1 (get-has k.0 t.methods place.0 k.1) (Rules.fit_method list p.files codes
+          settings checks n t at place.0 k.0 k.1) here (ap (λ (y : Member). is_initialiser y.name) k.2 ∙ plain) in (
+            ap (λ (y : Member). is_private y.flags) (sym k.2) ∙ b.2,
+            ap (λ (y : Member). is_static y.flags) (sym k.2)
+                ∙ b.1,
+          )
+      by (in_export_file n c at) here g =
+          let place = has-get m (map method_of_export c.methods) g in
+          let k = mapped_at method_of_export c.methods place.0 m place.1 in (
+            ap (λ (y : Member). is_private y.flags) (sym k.2) ∙ imports_visible n c at place.0 k.0 k.1,
+            ap (λ (y : Member). is_static y.flags) (sym k.2) ∙ imports_bound n c at here place.0 k.0 k.1,
+          )
+
+  -- ---- what is found
+
+  place_meant : (d : Class) → class_named w d.name ≡ Some d → (i : ℕ) (m : Member)
+      → slice_get (methods_with_added w d) i ≡ Some m → method_meant w (member_at d (length d.fields + i)) ≡ Some m
+  place_meant d named i m at =
+      let sub : length d.fields + i - length d.fields ≡ i = omega arith in
+      ap (option_map (λ (c : Class). method_in w c (length d.fields + i))) (at-number p.files d.name d named)
+      ∙ ap (λ j. Some (unwrap_or (slice_get (methods_with_added w d) j) no_member)) sub
+      ∙ ap (λ o. Some (unwrap_or o no_member)) at
+
+  -- the method that is found has the signature, and is neither private nor an initialiser
+  record IsMeant (s : Signature) (f : Found) : Type 0 where
+    member : Member
+    meant : method_meant w f ≡ Some member
+    signature : signature_of member ≡ s
+    visible : is_private member.flags ≡ false
+    plain : is_initialiser member.name ≡ false
+
+  own_meant : (d : Class) → class_named w d.name ≡ Some d → (test : Member → Bool) → ((m : Member) → test m ≡ true
+      → (is_private m.flags ≡ false) × (is_initialiser m.name ≡ false)) → (s : Signature) (f : Found)
+      → own test s d ≡ Some f → IsMeant s f
+  unfolding own
+  own_meant d named test passes s f e = by (position (λ m. test m && is_called s.name s.desc m) d.methods) refl e
+    where
+      by : (o : Option ℕ) → position (λ m. test m && is_called s.name s.desc m) d.methods ≡ o
+          → option_map (λ i. member_at d (length d.fields + i)) o ≡ Some f → IsMeant s f
+      by None g h = cc
+      by (Some i) g h =
+          let same : member_at d (length d.fields + i) ≡ f = cc in
+          let r = position-at (λ m. test m && is_called s.name s.desc m) d.methods i g in
+          let kind = passes r.0 (both_first (test r.0) (is_called s.name s.desc r.0) r.2) in
+          record {
+            member = r.0;
+            meant = ap (method_meant w) (sym same)
+                ∙ place_meant d named i r.0 (front_at d.methods (map as_added (added w d)) i r.0 r.1);
+            signature = same-true (signature_of r.0) s (both_second (test r.0) (is_called s.name s.desc r.0) r.2);
+            visible = kind.0;
+            plain = kind.1;
+          }
+
+  got_meant : (d : Class) → class_named w d.name ≡ Some d → (s : Signature) (f : Found) → got (added w d) s d ≡ Some f
+      → IsMeant s f
+  unfolding got
+  got_meant d named s f e = by (position (λ m. is_called s.name s.desc m) (added w d)) refl e
+    where
+      by : (o : Option ℕ) → position (λ m. is_called s.name s.desc m) (added w d) ≡ o
+          → option_map (λ i. member_at d (length d.fields + length d.methods + i)) o ≡ Some f → IsMeant s f
+      by None g h = cc
+      by (Some i) g h =
+          let same : member_at d (length d.fields + length d.methods + i) ≡ f = cc in
+          let moved : length d.fields + (length d.methods + i) ≡ length d.fields + length d.methods + i = omega arith in
+          let r = position-at (λ m. is_called s.name s.desc m) (added w d) i g in
+          let there : slice_get (methods_with_added w d) (length d.methods + i) ≡ Some (as_added r.0) =
+          get-behind d.methods (map as_added (added w d)) i ∙ slice_get-map as_added (added w d) i
+          ∙ ap (option_map as_added) r.1 in
+          record {
+            member = as_added r.0;
+            meant = ap (method_meant w) (sym (ap (member_at d) moved ∙ same))
+                ∙ place_meant d named (length d.methods + i) (as_added r.0) there;
+            signature = same-true (signature_of r.0) s r.2;
+            visible = refl;
+            plain = added_plain w d i r.0 r.1;
+          }
+
+  line_meant : (xs : List (List ℕ)) (k : Supertypes) → AreSupertypes w xs k → (s : Signature) (f : Found)
+      → implementing (line_in w k) s ≡ Some f → IsMeant s f
+  line_meant xs End ends s f e = cc
+  line_meant xs (Unknown x next) (unknown_here g n) s f e = cc
+  line_meant xs (Known c supers interfaces next) (known_here {x = x} {xs = rest} g sk ik n) s f e =
+      by c.is_imported e (line_meant c.supers supers sk s f)
+    where
+      named : class_named w c.name ≡ Some c
+      named = ap (class_named w) (class_named-name w x c g) ∙ g
+
+      shown_plain : (m : Member) → is_shown m ≡ true → (is_private m.flags ≡ false) × (is_initialiser m.name ≡ false)
+      shown_plain m h = virtual_plain m (both_second (is_exposed m.flags) (is_virtual m) h)
+
+      by : (b : Bool) → implementing (if b then Imported (c ∷ upwards supers)
+          else Declared c (added w c) (line_in w supers)) s ≡ Some f → (implementing (line_in w supers) s ≡ Some f
+          → IsMeant s f) → IsMeant s f
+      by true h above =
+          let r = first_has (own is_virtual s) (c ∷ upwards supers) f h in
+          ⊎_elim
+          (λ same. own_meant r.0 (ap (λ (d : Class). class_named w d.name) same ∙ named
+          ∙ ap (λ (d : Class). Some d) (sym same)) is_virtual virtual_plain s f r.2)
+          (λ i. let l = listed_line w c.supers supers r.0 sk i in own_meant r.0 (line_named w l.0 r.0 l.2) is_virtual
+          virtual_plain s f r.2)
+          (has-cons r.0 c (upwards supers) r.1)
+      by false h above = own_first (own is_shown s c) refl h
+        where
+          got_first : (o : Option Found) → got (added w c) s c ≡ o → or_else o (implementing (line_in w supers) s)
+              ≡ Some f → IsMeant s f
+          got_first (Some d) i j = got_meant c named s f (i ∙ j)
+          got_first None i j = above j
+
+          own_first : (o : Option Found) → own is_shown s c ≡ o
+              → or_else o (or_else (got (added w c) s c) (implementing (line_in w supers) s)) ≡ Some f → IsMeant s f
+          own_first (Some d) i j = own_meant c named is_shown shown_plain s f (i ∙ j)
+          own_first None i j = got_first (got (added w c) s c) refl j
+
+  -- ---- a class of the package
+
+  module _ (n : ℕ) (t : ClassTree) (there : (let v = p.files in slice_get v.classes n ≡ Some t)) where
+    abbrev c : Class
+    c = declared n t
+
+    named : class_named w t.name ≡ Some c
+    named = own_name list p.files sound c (own_in p.files sound.classes sound.exports n t there)
+
+    abbrev tok : ℕ → ℕ
+    tok j = member_token p (Some (member_at c j))
+
+    abbrev fields : ℕ
+    fields = length (map field_of_class t.fields)
+
+    abbrev methods : List Member
+    methods = map method_of_class t.methods
+
+    abbrev given : List Member
+    given = added w c
+
+    abbrev A : List ExportMethod
+    A = methods_from p c fields methods
+
+    abbrev B : List ExportMethod
+    B = added_from p c (fields + length methods) given
+
+    abbrev C : List ExportMethod
+    C = inherited_from w c 0 (row (line_at w c))
+
+    abbrev D : List ExportMethod
+    D = supers_from w c 0 (interface_methods w c) (interface_row w c)
+
+    -- ---- that is no interface
+
+    -- what holds of a method that is listed of it
+    pub record IsEntry (e : ExportMethod) : Type 0 where
+      pub visible : is_private e.flags ≡ false
+      pub plain : is_initialiser e.name ≡ false
+      pub exposed : is_exposed e.flags ≡ true
+      pub its_token : is_virtual (method_of_export e) ≡ true
+          → token (slots (line_of w t.name)) (signature_of (method_of_export e)) ≡ Some e.token
+
+    module _ (plain : is_interface t.flags ≡ false) (rules : KeepsRules w) where
+      same_line : line_of w t.name ≡ line_at w c
+      same_line = ap (line_in w) (supertypes-known w ordered.acyclic t.name c named)
+
+      at_line : (s : Signature) (k : ℕ) → token (slots (line_at w c)) s ≡ Some k → token (slots (line_of w t.name)) s
+          ≡ Some k
+      at_line s k e = ap (λ l. token (slots l) s) same_line ∙ e
+
+      at_slot : (s : Signature) (j : ℕ) → Offers p.files (has_applets p) n t there plain s
+          → tok j ≡ unwrap_or (token (slots (line_at w c)) s) 0xFF → token (slots (line_of w t.name)) s ≡ Some (tok j)
+      at_slot s j offers e =
+          let r = slot_there p.files (has_applets p) n t there plain s offers in
+          let same : tok j ≡ r.0 = e ∙ ap (λ q. unwrap_or q 0xFF) r.1 in
+          at_line s (tok j) (r.1 ∙ ap Some (sym same))
+
+      listed_split : (i x a : Bool) → i ≡ false → ((i || x) && not a) ≡ true → (x ≡ true) × (a ≡ false)
+      listed_split false true false e f = (refl, refl)
+      listed_split false true true e f = cc
+      listed_split false false a e f = cc
+      listed_split true x a e f = cc
+
+      both_true : (a b : Bool) → a ≡ true → b ≡ true → (a && b) ≡ true
+      both_true true b e f = f
+      both_true false b e f = cc
+
+      own_made : (k : ℕ) (m : Member) → slice_get methods k ≡ Some m → is_listed c m ≡ true
+          → IsEntry (method_entry (tok (fields + k)) m)
+      own_made k m at listed =
+          let l = listed_split (is_interface t.flags) (is_exposed m.flags) (is_initialiser m.name) plain listed in
+          let r = mapped_at method_of_class t.methods k m at in
+          let one : has_two_accesses m.flags ≡ false = ap (λ (y : Member). has_two_accesses y.flags) (sym r.2)
+          ∙ one_access (is_interface t.flags) r.0.flags r.0.name (is_some r.0.code) (Rules.fit_method list p.files
+          codes settings checks n t there k r.0 r.1) in
+          record {
+            visible = exposed_visible m.flags one l.0;
+            plain = l.1;
+            exposed = l.0;
+            its_token = λ virtual.
+                let shown = both_true (is_exposed m.flags) (is_virtual m) l.0 virtual in
+                at_slot (signature_of m) (fields + k) (offers_shown p.files (has_applets p) n t there plain k m at
+                shown) (ap (λ q. unwrap_or q 0xFF) (shown_token p.files (has_applets p) n t there plain k m at
+                shown));
+          }
+
+      own_entry : (e : ExportMethod) → Has e A → IsEntry e
+      own_entry e h = let r = listed_in p c fields methods e h
+          in subst IsEntry r.is (own_made r.place r.member r.there r.listed)
+
+      given_made : (k : ℕ) (m : Member) → slice_get given k ≡ Some m
+          → IsEntry (method_entry (tok (fields + length methods + k)) (as_added m))
+      given_made k m at = record {
+        visible = refl;
+        plain = added_plain w c k m at;
+        exposed = refl;
+        its_token = λ virtual. at_slot (signature_of m) (fields + length methods + k)
+            (offers_given p.files (has_applets p) n t there plain k m at) (ap (λ q. unwrap_or q 0xFF)
+            (added_token p.files (has_applets p) n t there plain k m at));
+      }
+
+      given_entry : (e : ExportMethod) → Has e B → IsEntry e
+      given_entry e h = let r = added_in p c (fields + length methods) given e h
+          in subst IsEntry r.is (given_made r.place r.member r.there)
+
+      tree : AreSupertypes w (t.name ∷ []) (Known c (supertypes w c.supers) (supertypes w c.interfaces) End)
+      tree = known_here named (are_supertypes c.supers) (are_supertypes c.interfaces) ends
+
+      inherited_entry : (e : ExportMethod) → Has e C → IsEntry e
+      inherited_entry e h = by slot.0 slot.1 slot.2
+        where
+          r : IsInheritedAt w c 0 (row (line_at w c)) e
+          r = inherited_in w c 0 (row (line_at w c)) e h
+
+          slot : (q : Option Signature) × (slice_get (slots (line_at w c)) r.place ≡ Some q)
+              × (meant_by (implementing (line_at w c)) q ≡ Some r.found)
+          slot = mapped_at (meant_by (implementing (line_at w c))) (slots (line_at w c)) r.place (Some r.found) r.there
+
+          made : (s : Signature) → slice_get (slots (line_at w c)) r.place ≡ Some (Some s)
+              → implementing (line_at w c) s ≡ Some r.found → IsEntry (method_entry (0 + r.place) r.member)
+          made s at means =
+              let m = line_meant (t.name ∷ []) (Known c (supertypes w c.supers) (supertypes w c.interfaces) End) tree s
+              r.found means in
+              let same : m.member ≡ r.member = same_member (sym m.meant ∙ r.meant) in
+              let signature : signature_of r.member ≡ s = ap signature_of (sym same) ∙ m.signature in
+              let told = told-class w are_supertypes (AreSupertypes-one w) rules t.name c named (λ im. absurd (cc)) in
+              let zero_more : 0 + r.place ≡ r.place = omega arith in
+              record {
+                visible = ap (λ (y : Member). is_private y.flags) (sym same) ∙ m.visible;
+                plain = ap (λ (y : Member). is_initialiser y.name) (sym same) ∙ m.plain;
+                exposed = r.exposed;
+                its_token = λ virtual.
+                    ap (token (slots (line_of w t.name))) signature
+                    ∙ place_token (line_of w t.name) told r.place s (ap (λ l. slice_get (slots l) r.place) same_line
+                    ∙ at)
+                    ∙ ap Some (sym zero_more);
+              }
+
+          by : (q : Option Signature) → slice_get (slots (line_at w c)) r.place ≡ Some q
+              → meant_by (implementing (line_at w c)) q ≡ Some r.found → IsEntry e
+          by None f g = cc
+          by (Some s) f g = subst IsEntry r.is (made s f g)
+
+      class_methods : (let x = export_class p c in x.methods) ≡ A ++ (B ++ C)
+      class_methods = ap (λ b. A ++ (B ++ (if b then D else C))) plain
+
+      pub class_entry : (e : ExportMethod) → Has e (let x = export_class p c in x.methods) → IsEntry e
+      class_entry e h =
+          ⊎_elim (λ a. own_entry e a) (λ b. ⊎_elim (λ d. given_entry e d) (λ d. inherited_entry e d)
+          (has_either e B C b))
+          (has_either e A (B ++ C) (subst (Has e) class_methods h))
+
+    -- ---- that is an interface
+
+    -- what holds of a method that is listed of it
+    pub record IsBound (e : ExportMethod) : Type 0 where
+      pub visible : is_private e.flags ≡ false
+      pub plain : is_initialiser e.name ≡ false
+      pub bound : is_static e.flags ≡ false
+
+    module _ (interface : is_interface t.flags ≡ true) where
+      listed_plain : (x a : Bool) → (x && not a) ≡ true → a ≡ false
+      listed_plain true false e = refl
+      listed_plain true true e = cc
+      listed_plain false a e = cc
+
+      own_bound : (e : ExportMethod) → Has e A → IsBound e
+      own_bound e h =
+          let r = listed_in p c fields methods e h in
+          let m = r.member in
+          let no = listed_plain (is_interface t.flags || is_exposed m.flags) (is_initialiser m.name) r.listed in
+          let k = interface_method t.name c named interface m (get-has m methods r.place r.there) no in
+          subst IsBound r.is (record { visible = k.0; plain = no; bound = k.1 })
+
+      given_bound : (e : ExportMethod) → Has e B → IsBound e
+      given_bound e h =
+          let r = added_in p c (fields + length methods) given e h in
+          subst IsBound r.is (record { visible = refl; plain = added_plain w c r.place r.member r.there; bound = refl })
+
+      -- the interface that declares what is found
+      record IsDeclared (name desc : List ℕ) (f : Found) : Type 0 where
+        class : Class
+        named_so : class_named w class.name ≡ Some class
+        is : is_interface class.flags ≡ true
+        own_one : own_method false name desc class ≡ Some f
+
+      found_interface : (name desc : List ℕ) (f : Found) → method_of_interface w t.name name desc ≡ Some f
+          → IsDeclared name desc f
+      unfolding method_of_interface
+      found_interface name desc f e = by (own_of name desc (class_named w t.name)) refl e
+        where
+          no : false ≡ true → ⊥
+          no e = cc
+
+          others : List Class
+          others = known (gathered false (supertypes w (t.name ∷ [])))
+
+          by : (o : Option Found) → own_of name desc (class_named w t.name) ≡ o
+              → or_else o (first (own_method false name desc) others) ≡ Some f → IsDeclared name desc f
+          by (Some g) h k = record {
+            class = c;
+            named_so = named;
+            is = interface;
+            own_one = sym (ap (own_of name desc) named) ∙ h ∙ k;
+          }
+          by None h k =
+              let r = first_has (own_method false name desc) others f k in
+              let a = gathered_above w ordered false (t.name ∷ []) (supertypes w (t.name ∷ [])) r.0
+              (are_supertypes (t.name ∷ [])) (λ is. absurd (no is)) r.1 in
+              record { class = r.0; named_so = a.3; is = a.4; own_one = r.2 }
+
+      declared_member : (s : Signature) (f : Found) (m : Member) → IsDeclared s.name s.desc f
+          → method_meant w f ≡ Some m → is_initialiser s.name ≡ false → (is_private m.flags ≡ false)
+          × (is_static m.flags ≡ false) × (is_initialiser m.name ≡ false)
+      unfolding own_method
+      declared_member s f m d meant start = by (position (λ x. is_wanted false x.flags && is_called s.name s.desc x)
+          d.class.methods) refl d.own_one
+        where
+          by : (o : Option ℕ) → position (λ x. is_wanted false x.flags && is_called s.name s.desc x) d.class.methods ≡ o
+              → option_map (λ i. member_at d.class (length d.class.fields + i)) o ≡ Some f
+              → (is_private m.flags ≡ false) × (is_static m.flags ≡ false) × (is_initialiser m.name ≡ false)
+          by None g h = cc
+          by (Some i) g h =
+              let same : member_at d.class (length d.class.fields + i) ≡ f = cc in
+              let r = position-at (λ x. is_wanted false x.flags && is_called s.name s.desc x) d.class.methods i g in
+              let is : r.0 ≡ m = same_member (sym (ap (method_meant w) (sym same) ∙ place_meant d.class d.named_so i r.0
+              (front_at d.class.methods (map as_added (added w d.class)) i r.0 r.1)) ∙ meant) in
+              let signature = same-true (signature_of r.0) s r.2 in
+              let no : is_initialiser r.0.name ≡ false = ap (λ (u : Signature). is_initialiser u.name) signature ∙ start
+              in
+              let k = interface_method d.class.name d.class d.named_so d.is r.0 (get-has r.0 d.class.methods i r.1) no
+              in
+              subst (λ (y : Member). (is_private y.flags ≡ false) × (is_static y.flags ≡ false)
+              × (is_initialiser y.name ≡ false)) is (k.0, k.1, no)
+
+      wanted_plain : (k : ℕ) (s : Signature) → slice_get (interface_methods w c) k ≡ Some s → is_initialiser s.name
+          ≡ false
+      unfolding interface_methods
+      wanted_plain k s e =
+          let all = asked_by (supertypes w c.supers) (supertypes w c.interfaces) ++ own_methods c in
+          let r = mapped_has signature_of s all (new_has [] (map signature_of all) k s e) in
+          ap (λ (u : Signature). is_initialiser u.name) (sym r.2)
+          ∙ asked_plain (supertypes w c.supers) (supertypes w c.interfaces) c r.0 r.1
+
+      super_bound : (e : ExportMethod) → Has e D → IsBound e
+      super_bound e h =
+          let r = supers_in w c 0 (interface_methods w c) (interface_row w c) e h in
+          let f = mapped_at (λ (s : Signature). method_of_interface w t.name s.name s.desc) (interface_methods w c)
+          r.place (Some r.found) r.there in
+          let start = wanted_plain r.place f.0 f.1 in
+          let k = declared_member f.0 r.found r.member (found_interface f.0.name f.0.desc r.found f.2) r.meant start in
+          subst IsBound r.is (record { visible = k.0; plain = k.2; bound = k.1 })
+
+      interface_methods_are : (let x = export_class p c in x.methods) ≡ A ++ (B ++ D)
+      interface_methods_are = ap (λ b. A ++ (B ++ (if b then D else C))) interface
+
+      pub interface_entry : (e : ExportMethod) → Has e (let x = export_class p c in x.methods) → IsBound e
+      interface_entry e h =
+          ⊎_elim (λ a. own_bound e a) (λ b. ⊎_elim (λ d. given_bound e d) (λ d. super_bound e d) (has_either e B D b))
+          (has_either e A (B ++ D) (subst (Has e) interface_methods_are h))

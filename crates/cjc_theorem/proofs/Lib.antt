@@ -1,0 +1,5 @@
+pub mod WholeRuns
+pub mod SoundRuns
+pub mod FairExports
+pub mod FairWriting
+pub mod AlikeLaws

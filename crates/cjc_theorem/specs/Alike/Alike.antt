@@ -1,0 +1,36 @@
+-- When the class files of a package and its components behave alike: by name on numbers of 32 bits, and by token on
+-- words of
+-- 16 bits (Java Virtual Machine Specification, chapter 6; Java Card Virtual Machine Specification 2.2.2, chapters 3, 4,
+-- 6, 7).
+use Rattle.std.specs.Prelude.{◌≡◌, ℕ, Some}
+use Rattle.cjc_card_semantics.specs.Bytecode.Runs.{Agree}
+use Rattle.cjc_jvm_semantics.specs.ByName.{run as run_by_name}
+use Rattle.cjc_capread.specs.declared.tree.CapTree.{CapTree}
+use Rattle.cjc_card_semantics.specs.Machine.ByToken.{run as run_by_token}
+use Rattle.cjc_clinit.specs.Image.{IsImage}
+use Rattle.cjc_code.specs.PackageCodes.{all_codes}
+use Rattle.cjc_judge.specs.Rules.{has_applets}
+use Rattle.cjc_list.specs.Listed.{ListTree}
+use Rattle.cjc_components.specs.Paired.Naming.{loaded_of}
+use Rattle.cjc_script.specs.declared.report.Report.{Report}
+use Rattle.cjc_script.specs.declared.script.Script.{Script}
+use Rattle.cjc_check_rules.specs.Complete.{Complete, complete}
+use Rattle.cjc_world.specs.Files.{Files}
+use Rattle.cjc_world.specs.declared.image.StaticImage.{StaticImage}
+
+-- For every script: of the notes of any two runs one begins with the other; where the first run of n instructions is
+-- over, the
+-- second of at least 3n has the same notes, outcome, heap and static cells, and where the second of n is over, the
+-- first of at
+-- least 65,536 (n + 1) has; and neither is ever stuck.
+abbrev pub RunAlike : (one other : Script → ℕ → Report) → Type 0
+RunAlike one other = (script : Script) → Agree 3 (one script) (other script)
+
+-- So do the class files of a list over its export files, from what their initialisers leave in static fields, and these
+-- components, of which only Applet and Export may be absent, with the export files and with names from the class files.
+pub record BehaveAlike (list : ListTree) (files : Files) (cap : CapTree) : Type 0 where
+  pub image : StaticImage
+  pub is_image : IsImage files (all_codes files.classes) image
+  pub components : Complete
+  pub are_components : complete cap ≡ Some components
+  pub alike : RunAlike (run_by_name files image) (run_by_token (loaded_of (has_applets list) files image components))

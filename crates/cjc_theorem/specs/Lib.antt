@@ -1,0 +1,3 @@
+pub mod FairExports
+pub mod Open
+pub mod Alike

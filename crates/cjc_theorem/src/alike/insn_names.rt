@@ -1,0 +1,23 @@
+//! That what the instructions of a converted package's class files name is there. For whoever promises that its
+//! components do what its narrow code does. It has one law, and knows no calls; nothing here runs.
+
+ghost use Rattle.std.specs.Prelude.{ℕ, List};
+ghost use Rattle.cjc_components.specs.Package.{Package};
+ghost use Rattle.cjc_judge.specs.declared.judged.Judged.{Judged};
+ghost use Rattle.cjc_list.specs.Listed.{ListTree};
+ghost use Rattle.cjc_shape_proof.specs.Written.Converted.{IsConverted};
+ghost use Rattle.cjc_token_proof.specs.WrittenSends.Named.{InstructionsNameWhatIsThere};
+
+use cjc_shape_proof::written::converted_files_are_sound;
+use cjc_token_proof::tables::static_fields_are_told;
+
+/// What an instruction of a converted package's methods names is there: a static field that is no constant has a cell
+/// in the static image and is of a type that values have, an instance field is one of the class in which it is found,
+/// and the class of a new, an anewarray, a checkcast or an instanceof is in some file.
+pub fn instructions_name_what_is_there()
+    ensures { (list : ListTree) (files : List (List ℕ)) (judged : Judged) (p : Package)
+        → IsConverted list files judged p → InstructionsNameWhatIsThere p }
+{
+    converted_files_are_sound();
+    static_fields_are_told();
+}

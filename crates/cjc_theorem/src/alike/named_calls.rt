@@ -1,0 +1,31 @@
+//! That each call which the code of a converted package makes is one that calls can name, and takes the words
+//! of its descriptor, put together from laws on each kind of call. For whoever promises that components run as
+//! narrow code. It has a law alone; nothing here runs.
+
+ghost use Rattle.std.specs.Prelude.{ℕ, List};
+ghost use Rattle.cjc_components.specs.Package.{Package, world};
+ghost use Rattle.cjc_judge.specs.declared.judged.Judged.{Judged};
+ghost use Rattle.cjc_list.specs.Listed.{ListTree};
+ghost use Rattle.cjc_token_proof.specs.WrittenSends.Sends.{ExportsImplement};
+ghost use Rattle.cjc_shape_proof.specs.Written.Converted.{IsConverted};
+ghost use Rattle.cjc_token_proof.specs.WrittenSends.Named.{CallsAreNamed};
+
+use crate::alike::{
+    calls_have_opcodes, fixed_calls_are_named, fixed_calls_take_words, interface_calls_are_named,
+    private_calls_are_named, super_calls_are_named, virtual_calls_are_named,
+};
+
+/// Each call in the code of a converted package names what calls can name, and takes the words of its
+/// descriptor, where the classes of its export files implement interfaces by public or protected methods.
+pub fn calls_are_named()
+    ensures { (list : ListTree) (files : List (List ℕ)) (judged : Judged) (p : Package)
+        → IsConverted list files judged p → ExportsImplement (world p) → CallsAreNamed p }
+{
+    calls_have_opcodes();
+    fixed_calls_are_named();
+    fixed_calls_take_words();
+    interface_calls_are_named();
+    private_calls_are_named();
+    super_calls_are_named();
+    virtual_calls_are_named();
+}

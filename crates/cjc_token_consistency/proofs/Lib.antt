@@ -1,4 +1,0 @@
-mod Listed
-mod Reached
-mod Maps
-mod Called

@@ -1,0 +1,9 @@
+pub mod Operations
+pub mod Objects
+pub mod Order
+pub mod Tokens
+pub mod Found
+pub mod Sent
+pub mod Interfaces
+pub mod Sending
+pub mod OwnInterfaces

@@ -1,0 +1,536 @@
+-- The first of the export files above an imported class that lists a method is that of the first class above it that
+-- has the method: going upwards
+-- over names, each once, meets classes in the order of the tree of what stands above.
+use Rattle.std.proofs.Common.{◌≡◌, ℕ, zero, suc, ◌+◌, ◌≤◌, refl, sym, ap, subst, ◌∙◌, arith, Bool, true, false, List}
+use Rattle.std.proofs.Common.{[], ◌∷◌, ◌++◌, length, inl, inr}
+use Rattle.std.specs.Prelude.{◌⊎◌, Option, Some, None, option_map, ◌&&◌, ◌||◌, if◌then◌else◌}
+use Rattle.std.specs.Str.{bytes_eq}
+use Rattle.std.proofs.lemmas.List.{append-nil, length-append}
+use Rattle.cjc_bytes.specs.AccessFlags.{is_static}
+use Rattle.cjc_bytes.specs.declared.fault.MemberId.{MemberId}
+use Rattle.cjc_token_proof.proofs.ByToken.Members.{bytes_same, bytes_tell}
+use Rattle.cjc_token_proof.specs.Calls.Selecting.{signature}
+use Rattle.cjc_card_semantics.specs.Machine.Calls.{listed_token, token_in_files}
+use Rattle.cjc_card_semantics.specs.Machine.Classes.{or_else}
+use Rattle.cjc_components.specs.Package.{Package, world}
+use Rattle.cjc_export.specs.declared.tree.ExportClass.{ExportClass}
+use Rattle.cjc_export.specs.declared.tree.ExportMethod.{ExportMethod}
+use Rattle.cjc_export.specs.Supers.{is_one_of, super_count, upwards_from, with_class}
+use Rattle.cjc_export.specs.Supers as exports
+use Rattle.cjc_tokens.specs.Members.{chosen, is_initialiser, is_virtual}
+use Rattle.cjc_vtable.specs.Calls.{any_method}
+use Rattle.cjc_world.specs.Classes.{Class, Member, class_named, imported, method_of_export}
+use Rattle.cjc_world.specs.Supertypes.{Above, AreSupertypes, Supertypes, End, Known, Lists, Unknown, after, directly}
+use Rattle.cjc_world.specs.Supertypes.{ends, foremost, supertypes, known_here, onwards, stands_by_supers, unknown_here}
+use Rattle.cjc_world.specs.Supertypes as supertype_trees
+use Rattle.cjc_token_proof.proofs.WrittenCalls.Facts.{Facts, exported}
+use Rattle.cjc_token_proof.proofs.WrittenCalls.Files.{export_virtual}
+use Rattle.cjc_token_proof.proofs.WrittenCalls.SupertypeTrees.{name_is}
+
+-- ---- options and tests
+
+else_assoc : {A : Type 0} (a b c : Option A) → or_else (or_else a b) c ≡ or_else a (or_else b c)
+else_assoc None b c = refl
+else_assoc (Some x) b c = refl
+
+else_none : {A : Type 0} (a : Option A) → or_else a None ≡ a
+else_none None = refl
+else_none (Some x) = refl
+
+both_none : {A : Type 0} (a b : Option A) → or_else a b ≡ None → (a ≡ None) × (b ≡ None)
+both_none None b e = (refl, e)
+both_none (Some x) b e = absurd (cc)
+
+or_right : (a b : Bool) → b ≡ true → (a || b) ≡ true
+or_right true b e = refl
+or_right false b e = e
+
+or_left : (a b : Bool) → a ≡ true → (a || b) ≡ true
+or_left true b e = refl
+or_left false b e = absurd (cc)
+
+or_cases : (a b : Bool) → (a || b) ≡ true → (a ≡ true) ⊎ (b ≡ true)
+or_cases true b e = inl refl
+or_cases false b e = inr e
+
+-- the name in front, or one behind it
+one_cases : (x : List ℕ) (names : List (List ℕ)) (y : List ℕ) → is_one_of (x ∷ names) y ≡ true → (x ≡ y)
+    ⊎ (is_one_of names y ≡ true)
+one_cases x names y e = elim (or_cases (bytes_eq x y) (is_one_of names y) e) [
+  | inl h ↦ inl (bytes_tell x y h)
+  | inr h ↦ inr h
+]
+
+one_here : (x : List ℕ) (names : List (List ℕ)) → is_one_of (x ∷ names) x ≡ true
+one_here x names = or_left (bytes_eq x x) (is_one_of names x) (bytes_same x)
+
+one_more : (x : List ℕ) (names : List (List ℕ)) (y : List ℕ) → is_one_of names y ≡ true → is_one_of (x ∷ names) y ≡ true
+one_more x names y h = or_right (bytes_eq x y) (is_one_of names y) h
+
+-- ---- how many supers are left, of classes whose names were not passed
+
+abbrev load : Bool → ℕ → ℕ
+load true n = 0
+load false n = n
+
+abbrev weight : (passed : List (List ℕ)) → List ExportClass → ℕ
+weight passed [] = 0
+weight passed (c ∷ classes) = load (is_one_of passed c.name) (length c.supers) + weight passed classes
+
+weight_is : (classes : List ExportClass) → weight [] classes ≡ super_count classes
+weight_is [] = refl
+weight_is (c ∷ classes) = ap (λ n. length c.supers + n) (weight_is classes)
+
+load_less : (a b : Bool) (n : ℕ) → load (a || b) n ≤ load b n
+load_less true true n = omega arith
+load_less true false n = omega arith
+load_less false b n = omega arith
+
+weight_less : (x : List ℕ) (passed : List (List ℕ)) (classes : List ExportClass)
+    → weight (x ∷ passed) classes ≤ weight passed classes
+weight_less x passed [] = omega arith
+weight_less x passed (c ∷ classes) = omega (
+  arith,
+  load_less (bytes_eq x c.name) (is_one_of passed c.name)
+      (length c.supers),
+  weight_less x passed classes,
+)
+
+weight_drop : (x : List ℕ) (passed : List (List ℕ)) (classes : List ExportClass) (c : ExportClass)
+    → exports.class_named classes x ≡ Some c → is_one_of passed x ≡ false
+    → length c.supers + weight (x ∷ passed) classes ≤ weight passed classes
+weight_drop x passed [] c e f = absurd (cc)
+weight_drop x passed (d ∷ classes) c e f = go (bytes_eq d.name x) refl e (λ g. weight_drop x passed classes c g f)
+  where
+    here : d ≡ c → d.name ≡ x → length c.supers + weight (x ∷ passed) (d ∷ classes) ≤ weight passed (d ∷ classes)
+    here same is =
+        let first : load (is_one_of (x ∷ passed) d.name) (length d.supers) ≡ 0 = ap (λ b. load b (length d.supers))
+        (ap (λ z. is_one_of (x ∷ passed) z) is ∙ one_here x passed) in
+        let second : load (is_one_of passed d.name) (length d.supers) ≡ length d.supers =
+        ap (λ b. load b (length d.supers)) (ap (λ z. is_one_of passed z) is ∙ f) in
+        let size : length c.supers ≡ length d.supers = ap (λ (k : ExportClass). length k.supers) (sym same) in
+        omega (arith, first, second, size, weight_less x passed classes)
+
+    go : (b : Bool) → bytes_eq d.name x ≡ b → (if b then Some d else exports.class_named classes x) ≡ Some c
+        → (exports.class_named classes x ≡ Some c → length c.supers + weight (x ∷ passed) classes ≤ weight passed
+        classes)
+        → length c.supers + weight (x ∷ passed) (d ∷ classes) ≤ weight passed (d ∷ classes)
+    go true g h rest = let same : d ≡ c = cc in here same (bytes_tell d.name x g)
+    go false g h rest = omega (arith, rest h, load_less (bytes_eq x d.name) (is_one_of passed d.name) (length d.supers))
+
+-- ---- what classes say of a method
+
+-- the token of its first method of a name and descriptor, or that this one is no virtual method
+abbrev pub class_token : MemberId → Class → Option (Option ℕ)
+class_token id d = option_map (λ (m : Member). if is_virtual m then Some m.token
+    else None) (chosen any_method (signature id) d.methods)
+
+-- of the first class that has one
+abbrev pub classes_token : MemberId → List Class → Option (Option ℕ)
+classes_token id [] = None
+classes_token id (d ∷ ds) = or_else (class_token id d) (classes_token id ds)
+
+classes_both : (id : MemberId) (ds fs : List Class) → classes_token id (ds ++ fs) ≡ or_else (classes_token id ds)
+    (classes_token id fs)
+classes_both id [] fs = refl
+classes_both id (d ∷ ds) fs = ap (or_else (class_token id d)) (classes_both id ds fs)
+    ∙ sym (else_assoc (class_token id d) (classes_token id ds) (classes_token id fs))
+
+-- a class of an export file says what the file lists
+pub listed_is : (id : MemberId) (k : ℕ) (e : ExportClass) → ((j : ℕ) (m : ExportMethod)
+    → Rattle.std.specs.Prelude.slice_get e.methods j ≡ Some m → is_initialiser m.name ≡ true → is_static m.flags ≡ true)
+    → listed_token e.methods id ≡ class_token id (imported k e)
+listed_is id k e plain = by e.methods plain
+  where
+    by : (ms : List ExportMethod) → ((j : ℕ) (m : ExportMethod) → Rattle.std.specs.Prelude.slice_get ms j ≡ Some m
+        → is_initialiser m.name ≡ true → is_static m.flags ≡ true)
+        → listed_token ms id ≡ option_map (λ (m : Member). if is_virtual m then Some m.token
+        else None) (chosen any_method (signature id) (Rattle.std.specs.Prelude.map method_of_export ms))
+    by [] all = refl
+    by (m ∷ ms) all = split (bytes_eq m.name id.name && bytes_eq m.desc id.desc) (by ms (λ j o h. all (suc j) o h))
+      where
+        split : (t : Bool) → listed_token ms id ≡ option_map (λ (o : Member). if is_virtual o then Some o.token
+            else None) (chosen any_method (signature id) (Rattle.std.specs.Prelude.map method_of_export ms))
+            → (if t then Some (if exports.is_virtual m then Some m.token else None) else listed_token ms id)
+            ≡ option_map (λ (o : Member). if is_virtual o then Some o.token else None) (if t
+            then Some (method_of_export m) else chosen any_method (signature id) (Rattle.std.specs.Prelude.map
+            method_of_export ms))
+        split true rest = ap (λ b. Some (if b then Some m.token else None)) (export_virtual m (all 0 m refl))
+        split false rest = rest
+
+module _ (p : Package) (facts : Facts p) (id : MemberId) where
+  abbrev w : List Class
+  w = world p
+
+  abbrev es : List ExportClass
+  es = exported p
+
+  abbrev files_token : List ExportClass → Option (Option ℕ)
+  files_token us = token_in_files us id
+
+  -- what the classes of a tree say, over supers
+  abbrev tree_token : Supertypes → Option (Option ℕ)
+  tree_token k = classes_token id (supertype_trees.upwards k)
+
+  known_token : (c : Class) (supers interfaces next : Supertypes) → tree_token (Known c supers interfaces next)
+      ≡ or_else (class_token id c) (or_else (tree_token supers) (tree_token next))
+  known_token c supers interfaces next =
+      ap (or_else (class_token id c)) (classes_both id (supertype_trees.upwards supers) (supertype_trees.upwards next))
+
+  -- ---- trees of one name
+
+  unknown_alone : (x : List ℕ) → class_named w x ≡ None → tree_token (supertypes w (x ∷ [])) ≡ None
+  unknown_alone x none = ap tree_token (facts.one_supertypes (x ∷ []) (supertypes w (x ∷ [])) (Unknown x End)
+      (facts.are_supertypes (x ∷ [])) (unknown_here none ends))
+
+  known_alone : (x : List ℕ) (c : Class) (supers interfaces : Supertypes) → class_named w x ≡ Some c
+      → AreSupertypes w c.supers supers → AreSupertypes w c.interfaces interfaces → tree_token (supertypes w (x ∷ []))
+      ≡ or_else (class_token id c) (tree_token supers)
+  known_alone x c supers interfaces e ks ki =
+      ap tree_token (facts.one_supertypes (x ∷ []) (supertypes w (x ∷ [])) (Known c supers interfaces End)
+      (facts.are_supertypes (x ∷ [])) (known_here e ks ki ends))
+      ∙ known_token c supers interfaces End
+      ∙ ap (or_else (class_token id c)) (else_none (tree_token supers))
+
+  -- what stands in a tree without the method has none itself
+  subtree : (xs : List (List ℕ)) (k : Supertypes) → AreSupertypes w xs k → tree_token k ≡ None → (z : List ℕ)
+      → stands_by_supers z k ≡ true → tree_token (supertypes w (z ∷ [])) ≡ None
+  subtree xs k ends none z s = absurd (cc)
+  subtree xs k (unknown_here {x = x} {next = next} nowhere rest) none z s =
+      elim (or_cases (bytes_eq x z) (stands_by_supers z next) s) [
+        | inl same ↦ unknown_alone z (ap (class_named w) (sym (bytes_tell x z same)) ∙ nowhere)
+        | inr h ↦ subtree _ next rest none z h
+      ]
+  subtree xs k (known_here {x = x} {c = c} {supers = supers} {interfaces = interfaces} {next = next} e ks ki kn) none z
+      s =
+      let parts = both_none (class_token id c) (or_else (tree_token supers) (tree_token next))
+      (sym (known_token c supers interfaces next) ∙ none) in
+      let two = both_none (tree_token supers) (tree_token next) parts.1 in
+      elim (or_cases (bytes_eq c.name z || stands_by_supers z supers) (stands_by_supers z next) s) [
+        | inl h ↦ elim (or_cases (bytes_eq c.name z) (stands_by_supers z supers) h) [
+          | inl same ↦ (
+              let named_z : class_named w z ≡ Some c = ap (class_named w) (sym (bytes_tell c.name z same)
+              ∙ name_is w x c e) ∙ e in
+              known_alone z c supers interfaces named_z ks ki ∙ ap (λ o. or_else o (tree_token supers)) parts.0 ∙ two.0)
+          | inr g ↦ subtree c.supers supers ks two.0 z g
+        ]
+        | inr g ↦ subtree _ next kn two.1 z g
+      ]
+
+  -- ---- no class stands above itself
+
+  lists_front : (x : List ℕ) (xs ys : List (List ℕ)) → Lists x xs → Lists x (xs ++ ys)
+  lists_front x [] ys h = elim h [ ]
+  lists_front x (y ∷ xs) ys foremost = foremost
+  lists_front x (y ∷ xs) ys (after h) = after (lists_front x xs ys h)
+
+  stands_above : (xs : List (List ℕ)) (k : Supertypes) → AreSupertypes w xs k → (z : List ℕ) → stands_by_supers z k
+      ≡ true → Lists z xs ⊎ ((y : List ℕ) × Lists y xs × Above w y z)
+  stands_above xs k ends z s = absurd (cc)
+  stands_above xs k (unknown_here {x = x} {xs = xs'} {next = next} nowhere rest) z s =
+      elim (or_cases (bytes_eq x z) (stands_by_supers z next) s) [
+        | inl same ↦ inl (subst (λ v. Lists v (x ∷ xs')) (bytes_tell x z same) foremost)
+        | inr h ↦ elim (stands_above _ next rest z h) [ inl g ↦ inl (after g) | inr g ↦ inr (g.0, after g.1, g.2) ]
+      ]
+  stands_above xs k (known_here {x = x} {xs = xs'} {c = c} {supers = supers} {interfaces = interfaces} {next = next} e
+      ks ki kn) z s =
+      elim (or_cases (bytes_eq c.name z || stands_by_supers z supers) (stands_by_supers z next) s) [
+        | inl h ↦ elim (or_cases (bytes_eq c.name z) (stands_by_supers z supers) h) [
+          | inl same ↦ inl (subst (λ v. Lists v (x ∷ xs')) (sym (name_is w x c e) ∙ bytes_tell c.name z same) foremost)
+          | inr g ↦ elim (stands_above c.supers supers ks z g) [
+            | inl listed ↦ inr (x, foremost, directly c e (lists_front z c.supers c.interfaces listed))
+            | inr up ↦ inr (x, foremost, onwards c e (lists_front up.0 c.supers c.interfaces up.1) up.2)
+          ]
+        ]
+        | inr g ↦ elim (stands_above _ next kn z g) [
+          | inl listed ↦ inl (after listed)
+          | inr up ↦ inr (
+            up.0,
+            after up.1,
+            up.2,
+          )
+        ]
+      ]
+
+  not_itself : (x : List ℕ) (c : Class) (supers : Supertypes) → class_named w x ≡ Some c
+      → AreSupertypes w c.supers supers → stands_by_supers x supers ≡ true → ⊥
+  not_itself x c supers e ks s = elim (stands_above c.supers supers ks x s) [
+    | inl listed ↦ facts.rules.acyclic x (directly c e (lists_front x c.supers c.interfaces listed))
+    | inr up ↦ facts.rules.acyclic x (onwards c e (lists_front up.0 c.supers c.interfaces up.1) up.2)
+  ]
+
+  -- ---- the walk
+
+  -- a name that was passed and stands in the tree has no class above it with the method
+  abbrev Clean : (passed : List (List ℕ)) → Supertypes → Type 0
+  Clean passed k = (z : List ℕ) → is_one_of passed z ≡ true → stands_by_supers z k ≡ true
+      → tree_token (supertypes w (z ∷ [])) ≡ None
+
+  -- What is found upwards from the names of a tree and others: what the tree says, else what is found from the others.
+  record Walked (k : Supertypes) (passed names : List (List ℕ)) (o : Option (Option ℕ)) : Type 0 where
+    fuel : ℕ
+    gone : List (List ℕ)
+    room : length names + weight gone es ≤ fuel
+    is : o ≡ or_else (tree_token k) (files_token (upwards_from es fuel gone names))
+    from : (z : List ℕ) → is_one_of gone z ≡ true → (is_one_of passed z ≡ true) ⊎ (stands_by_supers z k ≡ true)
+
+  -- where the tree says something, the others do not matter
+  found_there : (k : Supertypes) (passed gone names : List (List ℕ)) (o : Option (Option ℕ)) (v : Option ℕ) → o ≡ Some v
+      → tree_token k ≡ Some v → ((z : List ℕ) → is_one_of gone z ≡ true → (is_one_of passed z ≡ true)
+      ⊎ (stands_by_supers z k ≡ true)) → Walked k passed names o
+  found_there k passed gone names o v here there from = record {
+    fuel = length names + weight gone es;
+    gone = gone;
+    room = omega arith;
+    is = here ∙ sym (ap (λ q. or_else q (files_token (upwards_from es (length names + weight gone es) gone names)))
+        there);
+    from = from;
+  }
+
+  abbrev AllImported : List (List ℕ) → Type 0
+  AllImported xs = (x : List ℕ) (d : Class) → Lists x xs → class_named w x ≡ Some d → d.is_imported ≡ true
+
+  no_file : (x : List ℕ) → class_named w x ≡ None → exports.class_named es x ≡ None
+  no_file x none = by (exports.class_named es x) refl
+    where
+      by : (o : Option ExportClass) → exports.class_named es x ≡ o → exports.class_named es x ≡ None
+      by None e = e
+      by (Some u) e = let f = facts.of_file x u e in let clash : None ≡ Some (imported f.0 u) = sym none ∙ f.1
+          in absurd (cc)
+
+  walk : (xs : List (List ℕ)) (k : Supertypes) → AreSupertypes w xs k → AllImported xs
+      → (n : ℕ) (passed names : List (List ℕ)) → length (xs ++ names) + weight passed es ≤ n → Clean passed k
+      → Walked k passed names (files_token (upwards_from es n passed (xs ++ names)))
+  unfolding upwards_from
+  walk xs k ends own n passed names room clean = record {
+    fuel = n;
+    gone = passed;
+    room = room;
+    is = refl;
+    from = λ z h. inl h;
+  }
+  walk xs k (unknown_here {x = x} nowhere rest) own zero passed names room clean = absurd (omega (arith, room))
+  walk xs k (unknown_here {x = x} {xs = xs'} {next = next} nowhere rest) own (suc n) passed names room clean =
+      by (λ gone fits clean_next. walk xs' next rest (λ y d h. own y d (after h)) n gone names fits clean_next)
+      (is_one_of passed x) refl
+    where
+      inside : (z : List ℕ) → stands_by_supers z next ≡ true → stands_by_supers z (Unknown x next) ≡ true
+      inside z h = or_right (bytes_eq x z) (stands_by_supers z next) h
+
+      fresh : Clean (x ∷ passed) next
+      fresh z h g = elim (one_cases x passed z h) [
+        | inl same ↦ unknown_alone z (ap (class_named w) (sym same) ∙ nowhere)
+        | inr there ↦ clean z there (inside z g)
+      ]
+
+      kept : (gone : List (List ℕ)) (z : List ℕ) → (is_one_of (x ∷ passed) z ≡ true) ⊎ (stands_by_supers z next ≡ true)
+          → (is_one_of passed z ≡ true) ⊎ (stands_by_supers z (Unknown x next) ≡ true)
+      kept gone z h = elim h [
+        | inl there ↦ elim (one_cases x passed z there) [
+          | inl same ↦ inr (ap (λ y. bytes_eq x y
+              || stands_by_supers y next) (sym same) ∙ or_left (bytes_eq x x) (stands_by_supers x next) (bytes_same x))
+          | inr g ↦ inl g
+        ]
+        | inr g ↦ inr (inside z g)
+      ]
+
+      by : ((gone : List (List ℕ)) → length (xs' ++ names) + weight gone es ≤ n → Clean gone next
+          → Walked next gone names (files_token (upwards_from es n gone (xs' ++ names))))
+          → (t : Bool) → is_one_of passed x ≡ t → Walked (Unknown x next) passed names (files_token (if t
+          then upwards_from es n passed (xs' ++ names) else with_class (exports.class_named es x) (xs'
+          ++ names) (λ more. upwards_from es n (x ∷ passed) more)))
+      by on true here =
+          let r = on passed (omega (arith, room)) (λ z h g. clean z h (inside z g)) in
+          record {
+            fuel = r.fuel;
+            gone = r.gone;
+            room = r.room;
+            is = r.is;
+            from = λ z h. elim (r.from z h) [ inl there ↦ inl there | inr g ↦ inr (inside z g) ];
+          }
+      by on false here =
+          let r = on (x ∷ passed) (omega (arith, room, weight_less x passed es)) fresh in
+          record {
+            fuel = r.fuel;
+            gone = r.gone;
+            room = r.room;
+            is = ap (λ o. files_token (with_class o (xs' ++ names) (λ more. upwards_from es n (x ∷ passed) more)))
+                (no_file x nowhere) ∙ r.is;
+            from = λ z h. kept r.gone z (r.from z h);
+          }
+  walk xs k (known_here {x = x} e ks ki kn) own zero passed names room clean = absurd (omega (arith, room))
+  walk xs k (known_here {x = x} {xs = xs'} {c = c} {supers = supers} {interfaces = interfaces} {next = next} e ks ki kn)
+      own (suc n) passed names room clean =
+      by (λ gone m fits clean_next. walk xs' next kn (λ y d h. own y d (after h)) m gone names fits clean_next)
+      (λ fits clean_above. walk c.supers supers ks super_imported n (x ∷ passed) (xs' ++ names) fits clean_above)
+      (is_one_of passed x) refl
+    where
+      import : c.is_imported ≡ true
+      import = own x c foremost e
+
+      in_supers : (z : List ℕ) → stands_by_supers z supers ≡ true → stands_by_supers z (Known c supers interfaces next)
+          ≡ true
+      in_supers z h = or_left (bytes_eq c.name z || stands_by_supers z supers) (stands_by_supers z next)
+          (or_right (bytes_eq c.name z) (stands_by_supers z supers) h)
+
+      in_next : (z : List ℕ) → stands_by_supers z next ≡ true → stands_by_supers z (Known c supers interfaces next)
+          ≡ true
+      in_next z h = or_right (bytes_eq c.name z || stands_by_supers z supers) (stands_by_supers z next) h
+
+      itself : stands_by_supers x (Known c supers interfaces next) ≡ true
+      itself = or_left (bytes_eq c.name x || stands_by_supers x supers) (stands_by_supers x next)
+          (or_left (bytes_eq c.name x) (stands_by_supers x supers) (ap (bytes_eq c.name) (sym (name_is w x c e))
+          ∙ bytes_same c.name))
+
+      itself_at : (z : List ℕ) → x ≡ z → stands_by_supers z (Known c supers interfaces next) ≡ true
+      itself_at z same = ap (λ y. stands_by_supers y (Known c supers interfaces next)) (sym same) ∙ itself
+
+      super_imported : AllImported c.supers
+      super_imported y d h f = facts.rules.apart x y c d e import h f
+
+      passed_more : (z : List ℕ) → is_one_of (x ∷ passed) z ≡ true → (is_one_of passed z ≡ true)
+          ⊎ (stands_by_supers z (Known c supers interfaces next) ≡ true)
+      passed_more z h = elim (one_cases x passed z h) [ inl same ↦ inr (itself_at z same) | inr g ↦ inl g ]
+
+      -- it was passed: nothing above it has the method
+      skipped : is_one_of passed x ≡ true
+          → Walked next passed names (files_token (upwards_from es n passed (xs' ++ names)))
+          → Walked (Known c supers interfaces next) passed names (files_token (upwards_from es n passed (xs' ++ names)))
+      skipped here r =
+          let alone = sym (known_alone x c supers interfaces e ks ki) ∙ clean x here itself in
+          let parts = both_none (class_token id c) (tree_token supers) alone in
+          let same : tree_token (Known c supers interfaces next) ≡ tree_token next =
+          known_token c supers interfaces next ∙ ap (λ o. or_else o (or_else (tree_token supers) (tree_token next)))
+          parts.0 ∙ ap (λ o. or_else o (tree_token next)) parts.1 in
+          record {
+            fuel = r.fuel;
+            gone = r.gone;
+            room = r.room;
+            is = r.is
+                ∙ ap (λ o. or_else o (files_token (upwards_from es r.fuel r.gone names))) (sym same);
+            from = λ z h. elim (r.from z h) [ inl there ↦ inl there | inr g ↦ inr (in_next z g) ];
+          }
+
+      -- it is met, and has no such method itself
+      visited : is_one_of passed x ≡ false → class_token id c ≡ None → Walked supers (x ∷ passed) (xs'
+          ++ names) (files_token (upwards_from es n (x ∷ passed) (c.supers ++ (xs' ++ names))))
+          → ((gone : List (List ℕ)) (m : ℕ) → length (xs' ++ names) + weight gone es ≤ m → Clean gone next
+          → Walked next gone names (files_token (upwards_from es m gone (xs' ++ names))))
+          → Walked (Known c supers interfaces next) passed names (files_token (upwards_from es n (x ∷ passed) (c.supers
+          ++ (xs' ++ names))))
+      visited out none r onwards_from = split (tree_token supers) refl
+        where
+          gone_from : (z : List ℕ) → is_one_of r.gone z ≡ true → (is_one_of passed z ≡ true)
+              ⊎ (stands_by_supers z (Known c supers interfaces next) ≡ true)
+          gone_from z h = elim (r.from z h) [ inl there ↦ passed_more z there | inr g ↦ inr (in_supers z g) ]
+
+          split : (o : Option (Option ℕ)) → tree_token supers ≡ o → Walked (Known c supers interfaces next) passed names
+              (files_token (upwards_from es n (x ∷ passed) (c.supers ++ (xs' ++ names))))
+          split (Some v) has =
+              found_there (Known c supers interfaces next) passed r.gone names
+              (files_token (upwards_from es n (x ∷ passed) (c.supers ++ (xs' ++ names)))) v
+              (r.is ∙ ap (λ o. or_else o (files_token (upwards_from es r.fuel r.gone (xs' ++ names)))) has)
+              (known_token c supers interfaces next
+              ∙ ap (λ o. or_else o (or_else (tree_token supers) (tree_token next))) none
+              ∙ ap (λ o. or_else o (tree_token next)) has)
+              gone_from
+          split None has =
+              let alone : tree_token (supertypes w (x ∷ [])) ≡ None = known_alone x c supers interfaces e ks ki
+              ∙ ap (λ o. or_else o (tree_token supers)) none ∙ has in
+              let clean_next : Clean r.gone next = λ z h g. elim (r.from z h) [
+                | inl there ↦ elim (one_cases x passed z there) [
+                  | inl same ↦ ap (λ y. tree_token (supertypes w (y ∷ []))) (sym same) ∙ alone
+                  | inr f ↦ clean z f (in_next z g)
+                ]
+                | inr f ↦ subtree c.supers supers ks has z f
+              ] in
+              let q = onwards_from r.gone r.fuel r.room clean_next in
+              record {
+                fuel = q.fuel;
+                gone = q.gone;
+                room = q.room;
+                is = r.is ∙ ap (λ o. or_else o (files_token (upwards_from es r.fuel r.gone (xs' ++ names)))) has ∙ q.is
+                    ∙ ap (λ o. or_else o (files_token (upwards_from es q.fuel q.gone names)))
+                    (sym (known_token c supers interfaces next
+                    ∙ ap (λ o. or_else o (or_else (tree_token supers) (tree_token next))) none
+                    ∙ ap (λ o. or_else o (tree_token next)) has));
+                from = λ z h. elim (q.from z h) [ inl there ↦ gone_from z there | inr g ↦ inr (in_next z g) ];
+              }
+
+      by : ((gone : List (List ℕ)) (m : ℕ) → length (xs' ++ names) + weight gone es ≤ m → Clean gone next
+          → Walked next gone names (files_token (upwards_from es m gone (xs' ++ names))))
+          → (length (c.supers ++ (xs' ++ names)) + weight (x ∷ passed) es ≤ n → Clean (x ∷ passed) supers
+          → Walked supers (x ∷ passed) (xs' ++ names) (files_token (upwards_from es n (x ∷ passed) (c.supers
+          ++ (xs' ++ names)))))
+          → (t : Bool) → is_one_of passed x ≡ t → Walked (Known c supers interfaces next) passed names
+          (files_token (if t then upwards_from es n passed (xs' ++ names) else with_class (exports.class_named es x)
+          (xs' ++ names) (λ more. upwards_from es n (x ∷ passed) more)))
+      by on up true here = skipped here (on passed n (omega (arith, room)) (λ z h g. clean z h (in_next z g)))
+      by on up false out = split (class_token id c) refl
+        where
+          file : (j : ℕ) × (u : ExportClass) × (exports.class_named es x ≡ Some u) × (c ≡ imported j u)
+          file = facts.in_file x c e import
+
+          supers_are : file.1.supers ≡ c.supers
+          supers_are = ap (λ (q : Class). q.supers) (sym file.3)
+
+          met : files_token (with_class (exports.class_named es x) (xs' ++ names) (λ more. upwards_from es n (x
+              ∷ passed) more)) ≡ or_else (class_token id c) (files_token (upwards_from es n (x ∷ passed) (c.supers
+              ++ (xs' ++ names))))
+          met =
+              ap (λ o. files_token (with_class o (xs' ++ names) (λ more. upwards_from es n (x ∷ passed) more))) file.2
+              ∙ ap (λ o. or_else o (files_token (upwards_from es n (x ∷ passed) (file.1.supers ++ (xs' ++ names)))))
+              (listed_is id file.0 file.1 (facts.plain x file.1 file.2) ∙ ap (class_token id) (sym file.3))
+              ∙ ap (λ ss. or_else (class_token id c) (files_token (upwards_from es n (x ∷ passed) (ss
+              ++ (xs' ++ names))))) supers_are
+
+          enough : length (c.supers ++ (xs' ++ names)) + weight (x ∷ passed) es ≤ n
+          enough =
+              let size = length-append c.supers (xs' ++ names) in
+              let drop = weight_drop x passed es file.1 file.2 out in
+              let same = ap length supers_are in
+              omega (arith, room, size, drop, same)
+
+          clean_supers : Clean (x ∷ passed) supers
+          clean_supers z h g = elim (one_cases x passed z h) [
+            | inl same ↦ absurd (not_itself x c supers e ks (ap (λ y. stands_by_supers y supers) same ∙ g))
+            | inr there ↦ clean z there (in_supers z g)
+          ]
+
+          split : (o : Option (Option ℕ)) → class_token id c ≡ o → Walked (Known c supers interfaces next) passed names
+              (files_token (with_class (exports.class_named es x) (xs' ++ names) (λ more. upwards_from es n (x ∷ passed)
+              more)))
+          split (Some v) has =
+              found_there (Known c supers interfaces next) passed (x ∷ passed) names _ v (met
+              ∙ ap (λ o. or_else o (files_token (upwards_from es n (x ∷ passed) (c.supers ++ (xs' ++ names))))) has)
+              (known_token c supers interfaces next
+              ∙ ap (λ o. or_else o (or_else (tree_token supers) (tree_token next))) has) passed_more
+          split None has =
+              let r = visited out has (up enough clean_supers) on in
+              record {
+                fuel = r.fuel;
+                gone = r.gone;
+                room = r.room;
+                is = met
+                    ∙ ap (λ o. or_else o (files_token (upwards_from es n (x ∷ passed) (c.supers ++ (xs' ++ names)))))
+                    has
+                    ∙ r.is;
+                from = r.from;
+              }
+
+  nothing_upwards : (n : ℕ) (passed : List (List ℕ)) → files_token (upwards_from es n passed []) ≡ None
+  unfolding upwards_from
+  nothing_upwards zero passed = refl
+  nothing_upwards (suc n) passed = refl
+
+  -- What is listed first upwards from some names is what the first class above them says.
+  pub upwards_token : (names : List (List ℕ)) → AllImported names → token_in_files (exports.upwards es names) id
+      ≡ classes_token id (supertype_trees.upwards (supertypes w names))
+  upwards_token names own =
+      let r = walk names (supertypes w names) (facts.are_supertypes names) own (length names + super_count es) [] []
+      (let same = append-nil names in let long = ap length same in let all = weight_is es
+      in omega (arith, long, all)) (λ z h g. absurd (cc)) in
+      ap (λ ns. files_token (upwards_from es (length names + super_count es) [] ns)) (sym (append-nil names))
+      ∙ r.is
+      ∙ ap (or_else (tree_token (supertypes w names))) (nothing_upwards r.fuel r.gone)
+      ∙ else_none (tree_token (supertypes w names))

@@ -1,0 +1,6 @@
+pub mod Components
+pub mod ByToken
+pub mod Calls
+pub mod Tables
+pub mod WrittenCalls
+pub mod WrittenSends

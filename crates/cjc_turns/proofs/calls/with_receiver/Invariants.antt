@@ -1,6 +1,0 @@
-use Rattle.std.proofs.Common.{◌≡◌, ◌∷◌, take}
-use Rattle.cjc_script.specs.declared.value.Value.TheVariants.{Obj}
-use Rattle.cjc_turns.proofs.calls.with_receiver.Given as goal
-
-abbrev pub invariant-loop-arg : goal.invariant-loop-arg
-invariant-loop-arg l = l.row ≡ Obj l.number ∷ take l.arg-index l.args

@@ -1,9 +1,0 @@
-use Rattle.std.proofs.Common.{◌≡◌, drop}
-use Rattle.std.specs.List.{flat_map}
-use Rattle.cjc_supers.specs.Working.Walk.{with_all}
-use Rattle.cjc_class_info.specs.Refs.{ref_of}
-use Rattle.cjc_type_info.specs.Working.Descs.{descs_at, nibbles_of_each}
-use Rattle.cjc_type_info.proofs.types.Met.put_classes.Given as goal
-
-abbrev pub invariant-loop-number : goal.invariant-loop-number
-invariant-loop-number l = with_all l.self (flat_map (nibbles_of_each (ref_of l.refs) (descs_at l.world)) (drop l.number-index l.order)) ≡ with_all l.fn.self (flat_map (nibbles_of_each (ref_of l.refs) (descs_at l.world)) l.order)

@@ -1,9 +1,0 @@
-use Rattle.std.proofs.Common.{◌≡◌, drop}
-use Rattle.std.specs.List.{flat_map}
-use Rattle.cjc_supers.specs.Working.Walk.{with_all}
-use Rattle.cjc_class_info.specs.Refs.{ref_of}
-use Rattle.cjc_type_info.specs.Working.Descs.{desc_of_method, nibbles_of_each}
-use Rattle.cjc_type_info.proofs.types.Met.put_methods.Given as goal
-
-abbrev pub invariant-loop-method : goal.invariant-loop-method
-invariant-loop-method l = with_all l.self (flat_map (nibbles_of_each (ref_of l.refs) desc_of_method) (drop l.method-index l.methods)) ≡ with_all l.fn.self (flat_map (nibbles_of_each (ref_of l.refs) desc_of_method) l.methods)

@@ -1,5 +1,0 @@
-mod Aids
-mod Sizes
-pub mod Signatures
-pub mod Entries
-mod Interfaces

@@ -1,6 +1,0 @@
-use Rattle.std.proofs.Common.{◌≡◌, ◌++◌, drop}
-use Rattle.cjc_written.specs.Working.Places.{starts}
-use Rattle.cjc_written.proofs.places.starts.Given as goal
-
-abbrev pub invariant-loop-k : goal.invariant-loop-k
-invariant-loop-k l = l.row ++ starts l.before (drop l.k l.insns) (drop l.k l.reaches) ≡ starts 0 l.insns l.reaches

@@ -1,8 +1,0 @@
-use Rattle.cjc_written_laws.proofs.WholeLaws.ClassOrder.{are_ordered, members_are}
-use Rattle.cjc_written_laws.proofs.whole_laws.converted_classes_are_ordered.Goals as goal
-
-pub returns-clause-ordered : goal.returns-clause-ordered
-returns-clause-ordered c = λ list files judged is p whole order e all. are_ordered list files judged is p whole order e all
-
-pub returns-clause-members : goal.returns-clause-members
-returns-clause-members c = λ list files judged is p whole. members_are list files judged is p whole

@@ -1,8 +1,0 @@
-use Rattle.cjc_written_sends.proofs.Objects.{kind_receives, thing_receives}
-use Rattle.cjc_written_sends.proofs.known_objects_receive_calls.Goals as goal
-
-pub returns-clause-objects : goal.returns-clause-objects
-returns-clause-objects c = λ p faults kind known. thing_receives p faults kind known
-
-pub returns-clause-receivers : goal.returns-clause-receivers
-returns-clause-receivers c = λ p faults o known. kind_receives p faults o known
