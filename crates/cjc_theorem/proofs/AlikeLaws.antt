@@ -1,5 +1,6 @@
 pub mod Agreeing
 pub mod Converted
+pub mod Fewest
 pub mod NamedLaws
 pub mod FirstCells
 pub mod CallOpcodes

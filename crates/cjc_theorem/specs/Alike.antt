@@ -1,4 +1,5 @@
 pub mod Alike
+pub mod Halves
 pub mod Left
 pub mod Met
 pub mod Opcodes

@@ -3,6 +3,7 @@
 mod call_opcodes;
 mod converted_laws;
 mod first_cells;
+mod halves;
 mod insn_names;
 mod interface_calls;
 mod joined_laws;
@@ -25,10 +26,12 @@ ghost use Rattle.cjc_check_rules.specs.Consistent.{Consistent};
 ghost use Rattle.cjc_shape.specs.Whole.Conversion.{IsPackageOf};
 
 use crate::fair_exports::fair_exports_are_sound;
-use crate::sound_runs::sound_packages_run_alike;
 pub use call_opcodes::calls_have_opcodes;
 pub use converted_laws::converted_components_are_consistent;
 pub use first_cells::first_cells_are_typed;
+pub use halves::{
+    components_run_as_selected_code, selected_code_behaves_alike, written_code_has_fewest_bytes,
+};
 pub use insn_names::instructions_name_what_is_there;
 pub use interface_calls::{
     fixed_calls_take_words, interface_calls_are_named, private_calls_are_named,
@@ -56,8 +59,8 @@ pub fn converted_packages_behave_alike()
         → (p : Package) → IsPackageOf list files p → limit_breaks p ≡ []
         → (let world = p.files in ExportsAreFair world.exports → Consistent (components_of p) world.exports) }
 {
+    components_run_as_selected_code();
     fair_exports_are_sound();
-    converted_components_run_by_token();
     names_are_met();
-    sound_packages_run_alike();
+    selected_code_behaves_alike();
 }

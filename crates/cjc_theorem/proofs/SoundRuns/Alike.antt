@@ -159,42 +159,55 @@ module _ (list : ListTree) (files : List (List ℕ)) (judged : Judged) (is : IsS
           (same_members list files judged is p draft) ∙ there) in
           (k, one.0, one.1, ap (method_at judged.world) (sym one.2) ∙ found)
 
-      told : (x : Method) → is_initialiser (let id = x.id in id.name) ≡ false → IsOfFile judged.world x
-          → narrow_codes judged.world near own_tables x ≡ laid_from judged.world near p.methods x
-      told x plain o =
+      plain_name : (x : Method) → is_initialiser (let id = x.id in id.name) ≡ false → (o : IsOfFile judged.world x)
+          → is_initialiser (let m = o.method in m.name) ≡ false
+      plain_name x plain o = sym (ap is_initialiser (ap (λ (y : Method). let id = y.id in id.name) o.is
+          ∙ ap (λ (i : MemberId). i.name) (id_of o.class o.method (let m = o.method in m.code)))) ∙ plain
+
+      -- what stands for one that is no initialiser is what its rows select
+      by_draft : (x : Method) → is_initialiser (let id = x.id in id.name) ≡ false → IsOfFile judged.world x
+          → laid_from judged.world near p.methods x ≡ code_of judged.world near draft.rows x
+      by_draft x plain o =
           let u = is_unbroken list files judged is in
           by (let m = o.method in m.code) refl (told_among judged.world list.name u.listed u.world near draft.rows x o
           p.methods each)
         where
-          named : is_initialiser (let m = o.method in m.name) ≡ false
-          named = sym (ap is_initialiser (ap (λ (y : Method). let id = y.id in id.name) o.is
-              ∙ ap (λ (i : MemberId). i.name) (id_of o.class o.method (let m = o.method in m.code)))) ∙ plain
-
           by : (c : Option CodeTree) → (let m = o.method in m.code) ≡ c
               → (laid_from judged.world near p.methods x ≡ code_of judged.world near draft.rows x)
               ⊎ ((laid_from judged.world near p.methods x ≡ code_of judged.world near no_rows x)
               × ((k : ℕ) (m : LaidMethod) → slice_get p.methods k ≡ Some m → method_at judged.world m.member
               ≡ Some x → ⊥))
-              → narrow_codes judged.world near own_tables x ≡ laid_from judged.world near p.methods x
+              → laid_from judged.world near p.methods x ≡ code_of judged.world near draft.rows x
           by None e r =
               let is : x ≡ method_by o.class o.method None = o.is ∙ ap (method_by o.class o.method) e in
-              let same : narrow_codes judged.world near own_tables x ≡ code_of judged.world near no_rows x =
-              subst (λ y. narrow_codes judged.world near own_tables y ≡ code_of judged.world near no_rows y)
-              (sym is) refl in
-              let also : code_of judged.world near draft.rows x ≡ code_of judged.world near no_rows x =
+              let bare : code_of judged.world near draft.rows x ≡ code_of judged.world near no_rows x =
               subst (λ y. code_of judged.world near draft.rows y ≡ code_of judged.world near no_rows y) (sym is)
               refl in
-              ⊎_elim (λ one. same ∙ sym also ∙ sym one) (λ none. same ∙ sym none.0) r
+              ⊎_elim (λ one. one) (λ none. none.0 ∙ sym bare) r
           by (Some tree) e r =
               let is : x ≡ method_by o.class o.method (Some tree) = o.is ∙ ap (method_by o.class o.method) e in
-              ⊎_elim
-              (λ one. subst (λ y. narrow_codes judged.world near own_tables y ≡ code_of judged.world near draft.rows y)
+              ⊎_elim (λ one. one)
+              (λ none. (let (k, m, there, found) = stands_there o.number o.place o.class o.method tree o.is_class
+              o.is_method e (plain_name x plain o) in absurd (none.1 k m there (found ∙ ap Some (sym is)))))
+              r
+
+      -- and so do its least tables
+      told : (x : Method) → is_initialiser (let id = x.id in id.name) ≡ false → IsOfFile judged.world x
+          → narrow_codes judged.world near own_tables x ≡ laid_from judged.world near p.methods x
+      told x plain o = by (let m = o.method in m.code) refl ∙ sym (by_draft x plain o)
+        where
+          by : (c : Option CodeTree) → (let m = o.method in m.code) ≡ c
+              → narrow_codes judged.world near own_tables x ≡ code_of judged.world near draft.rows x
+          by None e =
+              let is : x ≡ method_by o.class o.method None = o.is ∙ ap (method_by o.class o.method) e in
+              subst (λ y. narrow_codes judged.world near own_tables y ≡ code_of judged.world near draft.rows y)
+              (sym is) refl
+          by (Some tree) e =
+              let is : x ≡ method_by o.class o.method (Some tree) = o.is ∙ ap (method_by o.class o.method) e in
+              subst (λ y. narrow_codes judged.world near own_tables y ≡ code_of judged.world near draft.rows y)
               (sym is) (by_rows (method_by o.class o.method (Some tree))
               (draft.rows (method_by o.class o.method (Some tree))) (coded o.number o.place o.class o.method tree
-              o.is_class o.is_method e named)) ∙ sym one)
-              (λ none. (let (k, m, there, found) = stands_there o.number o.place o.class o.method tree o.is_class
-              o.is_method e named in absurd (none.1 k m there (found ∙ ap Some (sym is)))))
-              r
+              o.is_class o.is_method e (plain_name x plain o)))
 
       -- an initialiser does not stand there
       first : (x : Method) → is_initialiser (let id = x.id in id.name) ≡ true → IsOfFile judged.world x
@@ -225,6 +238,14 @@ module _ (list : ListTree) (files : List (List ℕ)) (judged : Judged) (is : IsS
               ≡ laid_in judged.world x
           by true g = first x g (of_file judged.world f x e)
           by false g = told x g (of_file judged.world f x e)
+
+      -- of each method of the package that is no initialiser the code is selected by its rows
+      pub selected_code : (f : Found) (x : Method) → method_at p.files f ≡ Some x
+          → is_initialiser (let id = x.id in id.name) ≡ false
+          → laid_code p x ≡ code_of p.files near draft.rows x
+      selected_code f x e plain =
+          subst (λ (w : Files). laid_in w x ≡ code_of w near draft.rows x) (sym same)
+          (by_draft x plain (of_file judged.world f x (ap (λ (w : Files). method_at w f) (sym same) ∙ e)))
 
       -- ---- it runs alike
 

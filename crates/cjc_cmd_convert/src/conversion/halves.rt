@@ -1,0 +1,61 @@
+//! What lies between the class files of a conversion and whichever components its files spell: the narrow code that is
+//! selected for the package, with each half of the promise. For whoever asks which step of a conversion keeps what.
+//! Laws alone: nothing here runs.
+
+ghost use Rattle.std.specs.Prelude.{◌≡◌, ℕ, List as Items};
+ghost use Rattle.cjc_capread.specs.declared.tree.CapTree.{CapTree};
+ghost use Rattle.cjc_capwrite.specs.Writable.{IsSpelt};
+ghost use Rattle.cjc_components.specs.Components.{components_of};
+ghost use Rattle.cjc_components.specs.Package.{Package};
+ghost use Rattle.cjc_convert.specs.Conversion.{IsConverted};
+ghost use Rattle.cjc_convert.specs.declared.conversion.Converted.{Converted as Written};
+ghost use Rattle.cjc_judge.specs.Rules.{files_spelt};
+ghost use Rattle.cjc_judge.specs.Spelt.{FileTree, IsRead, SpellTrees, exports_of};
+ghost use Rattle.cjc_list.specs.Listed.{ListTree};
+ghost use Rattle.cjc_shape.specs.Whole.Conversion.{IsPackageOf};
+ghost use Rattle.cjc_theorem.specs.Alike.Halves.{CodeBehavesAlike, ComponentsRunAsCode, HasFewestBytes};
+ghost use Rattle.cjc_theorem.specs.FairExports.Fair.{ExportsAreFair};
+
+use cjc_capread::readings;
+use cjc_shape::whole::one_package;
+use cjc_theorem::alike::{
+    components_run_as_selected_code, selected_code_behaves_alike, written_code_has_fewest_bytes,
+};
+
+/// What is converted is one package, of what its files spell, and the files that are made spell its components alone.
+pub fn converted_files_spell_one_package()
+    ensures some { (list : ListTree) (files : Items (Items ℕ)) (made : Written) → IsConverted list files made
+        → (p : Package) × IsPackageOf list files p }
+    ensures one { (list : ListTree) (files : Items (Items ℕ)) (made : Written) → IsConverted list files made
+        → (p q : Package) → IsPackageOf list files p → IsPackageOf list files q → p ≡ q }
+    ensures files { (list : ListTree) (files : Items (Items ℕ)) (trees : Items FileTree)
+        → SpellTrees list.lines files trees → (p : Package) → IsPackageOf list files p
+        → p.files ≡ files_spelt list trees }
+    ensures components { (list : ListTree) (files : Items (Items ℕ)) (made : Written) → IsConverted list files made
+        → (p : Package) → IsPackageOf list files p → (cap : CapTree) → IsSpelt cap made.caps → cap ≡ components_of p }
+{
+    one_package();
+    readings();
+}
+
+/// Over export files that are fair, each half of the promise of what is converted: the narrow code that is selected
+/// behaves as the class files, and whichever components the files that are made spell give the reports of that code. Of
+/// all legal layouts of that code none has fewer bytes than the one that is written, whatever the export files say.
+pub fn both_halves_are_kept()
+    ensures code { (list : ListTree) (files : Items (Items ℕ)) (made : Written) → IsRead list
+        → IsConverted list files made
+        → (trees : Items FileTree) → SpellTrees list.lines files trees → ExportsAreFair (exports_of trees)
+        → (p : Package) → IsPackageOf list files p → CodeBehavesAlike p }
+    ensures components { (list : ListTree) (files : Items (Items ℕ)) (made : Written) → IsRead list
+        → IsConverted list files made
+        → (trees : Items FileTree) → SpellTrees list.lines files trees → ExportsAreFair (exports_of trees)
+        → (p : Package) → IsPackageOf list files p → (cap : CapTree) → IsSpelt cap made.caps
+        → ComponentsRunAsCode list p cap }
+    ensures bytes { (list : ListTree) (files : Items (Items ℕ)) (p : Package) → IsPackageOf list files p
+        → HasFewestBytes p }
+{
+    components_run_as_selected_code();
+    converted_files_spell_one_package();
+    selected_code_behaves_alike();
+    written_code_has_fewest_bytes();
+}

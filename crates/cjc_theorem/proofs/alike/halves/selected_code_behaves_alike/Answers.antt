@@ -1,0 +1,17 @@
+use Rattle.cjc_theorem.proofs.AlikeLaws.Converted.{fair_world, judged_package}
+use Rattle.cjc_theorem.proofs.SoundRuns.Alike.{selected_code}
+use Rattle.cjc_theorem.proofs.alike.halves.selected_code_behaves_alike.Goals as goal
+use Rattle.cjc_shape.proofs.WholeLaws.Second.{package_is_draft}
+
+pub returns : goal.returns
+returns c = λ list files judged of is p laid fair.
+    let exports = c.fair_exports_are_sound.ensures.sound list.name judged.world (judged_package list files judged of is
+    p laid fair) (fair_world list files judged of is p laid fair) in
+    let draft = package_is_draft list files p laid in
+    record {
+      rows = draft.rows;
+      are_least = draft.spelt.least;
+      selected = selected_code list files judged is c.least_ranges_exist.ensures of exports p draft;
+      is_image = laid.is_package.image;
+      alike = λ script. c.sound_packages_run_alike.ensures.packages list files judged of is exports p laid script;
+    }
