@@ -30,6 +30,10 @@ WORDS = {
         makes a package of SIZE classes (1 to 250) from a number, converts it, runs class files and components, and
         tells how that went; reads and writes no file""",
         "jcconv make 7 3"),
+    "compat": ("compat OLD NEW", """
+        tells whether a new version of a package may stand in the place of the old one, by their export files; prints
+        ok, and writes nothing""",
+        "cd tests/cases/compat_a_new_method && ../../../jcconv compat in/old.exp in/new.exp"),
     "explain": ("explain RULE, explain 'REFUSAL' [LIST], explain - [LIST]", """
         what a refusal means, where in the source it points, and how to repair it: by the number of a rule, the whole
         line, or the line on standard input""",

@@ -4,5 +4,5 @@
 mod checking;
 mod laws;
 
-pub use checking::gather_check;
+pub use checking::{gather_check, print_ok};
 pub use laws::one_answer;

@@ -10,11 +10,13 @@ use Rattle.cjc_cmd_convert.specs.Conversion.Conversion.{Conversion, IsConverted,
 use Rattle.cjc_cmd_check.proofs.CheckingLaws.OneAnswer.{one_refusal as one_broken, never_both}
 use Rattle.cjc_cmd_check.specs.Check.{Checks}
 use Rattle.cjc_cmd_check.specs.declared.folder.folder.Folder.{Folder}
+use Rattle.cjc_cmd_compat.proofs.OneAnswer.{one_refusal as one_version, never_both as never_kept_and_refused}
+use Rattle.cjc_cmd_compat.specs.Compat.{Compares}
 use Rattle.cjc_cmd_jvm.proofs.ReportLaws.OneAnswer.{one_refusal_of_runs, never_both as never_run_and_refused}
 use Rattle.cjc_cmd_jvm.specs.Runs.{Runs}
 use Rattle.cjc_cmd_make.specs.Report.Runs as summed
 use Rattle.cjc_cmd_jvm.specs.declared.running.input.Input.{Input}
-use Rattle.cjc_run.specs.Request.{Request, card, check, convert, jvm, make}
+use Rattle.cjc_run.specs.Request.{Request, card, check, compat, convert, jvm, make}
 use Rattle.cjc_run.specs.Command.{command_of}
 use Rattle.cjc_run.specs.Convert.{Makes}
 
@@ -76,6 +78,12 @@ make_once one never given = record {
   not_both = λ todo r made f. never given todo r made f;
 }
 
+compat_once : (old new : List ℕ) (files : List ℕ × List ℕ) → IsOneAnswer (Compares old new files)
+compat_once old new files = record {
+  one = λ r s f g. one_version old new files r s f g;
+  not_both = λ todo r made f. never_kept_and_refused old new files todo r made f;
+}
+
 -- one line a command
 pub makes_once : IsRefusedOnce → IsNeverBoth → RunsOnce → RunsOrRefuses → SumsOnce → SumsOrRefuses
     → (asked : Request) (inputs : (command_of asked).Inputs) → IsOneAnswer ((command_of asked).Makes inputs)
@@ -84,3 +92,4 @@ makes_once one never runs either sums alone (check list dir) inputs = check_once
 makes_once one never runs either sums alone (jvm list script n) inputs = run_once n script inputs
 makes_once one never runs either sums alone (card list dir script n) inputs = card_once runs either n script inputs
 makes_once one never runs either sums alone (make number size) inputs = make_once sums alone inputs
+makes_once one never runs either sums alone (compat old new) inputs = compat_once old new inputs

@@ -24,32 +24,20 @@ use Rattle.cjc_shelf.specs.declared.command.status.Status.{Status}
 use Rattle.cjc_shelf.specs.declared.command.status.Status.TheVariants as status
 use Rattle.cjc_shelf.specs.declared.command.status.Todo.{Todo}
 use Rattle.cjc_list.proofs.Decided.{listed_spelt}
-use Rattle.cjc_run.specs.Request.{Request, card, check, convert, jvm, make}
+use Rattle.cjc_run.specs.Request.{Request, card, check, compat, convert, jvm, make}
 use Rattle.cjc_run.specs.Command.{command_of}
 use Rattle.cjc_cmd_convert.specs.Publication.{files_made, below}
 use Rattle.cjc_run.specs.Convert.{names_of, plan_of_files, plan_of_list, plan_of_convert}
 use Rattle.cjc_run.specs.Promise.{SpellStep, SpellClasses, ExportStep, SpellExports, Converts, Promised}
 use Rattle.cjc_run.proofs.Standing.{stand_made}
+use Rattle.cjc_run.proofs.Got.{at_got, same_complete}
 use Rattle.cjc_run.proofs.CardRan.{keeps_card}
+use Rattle.cjc_run.proofs.Versions.{keeps_compared}
 use Rattle.cjc_run.proofs.Ran.{keeps_run}
 use Rattle.cjc_run.proofs.Summed.{keeps_made}
 use Rattle.cjc_run.proofs.Tested.{keeps_tested}
 
 -- ---- what was read
-
-at_got : {X : Type 0} (name : List ℕ) (next : List ℕ → Verdict X) (o : Option (List ℕ)) (x : X)
-    → at_file name next o ≡ complete x
-    → (bytes : List ℕ) × (o ≡ Some bytes) × (next bytes ≡ complete x)
-at_got name next None x e = absurd cc
-at_got {X} name next (Some bytes) x e =
-    elim (nat_lt longest_file (length bytes)) as (λ b. cond b (too_long name) (next bytes) ≡ complete x → (bs : List ℕ)
-    × (Some bytes ≡ Some bs) × (next bs ≡ complete x)) [
-      | true ↦ λ h. absurd cc
-      | false ↦ λ h. (bytes, refl, h)
-    ] e
-
-same_complete : {X : Type 0} (x y : X) → complete x ≡ complete y → x ≡ y
-same_complete x y e = cc
 
 -- The files of these names have these bytes.
 abbrev pub AllGot : Files → List (List ℕ) → List (List ℕ) → Type 0
@@ -203,6 +191,8 @@ promised_done (check name dir) old new from to t = keeps_tested name dir old new
 promised_done (jvm name script n) old new from to t = keeps_run name script n old new from to t.0 t.1 t.2 t.3
 promised_done (card name dir script n) old new from to t = keeps_card name dir script n old new from to t.0 t.1 t.2 t.3
 promised_done (make number size) old new from to t = keeps_made number size old new from to t.0 t.1 t.2 t.3
+promised_done (compat old_name new_name) old new from to t =
+    keeps_compared old_name new_name old new from to t.0 t.1 t.2 t.3
 
 pub promised : (r : Request) (old new : Shelved) (from to : Sunk) (answer : Status)
     → Acts (command_of r) old new from to answer → answer ≡ status.Done

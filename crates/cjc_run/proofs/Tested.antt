@@ -17,7 +17,7 @@ use Rattle.cjc_run.specs.Request.{check}
 abbrev ok_todo : Todo
 ok_todo = record { files = []; lines = ok_line ∷ [] }
 
-kept_by : (told : Option Files) (new : Shelved) (todo : Todo) → todo ≡ ok_todo → IsWritten told todo new
+pub kept_by : (told : Option Files) (new : Shelved) (todo : Todo) → todo ≡ ok_todo → IsWritten told todo new
     → IfSome told (λ files. new.files ≡ Some files)
 kept_by None new todo is written = tt
 kept_by (Some files) new todo is written = written ∙ ap (λ (t : Todo). Some (written_files t.files files)) is
@@ -32,7 +32,7 @@ tested_by name dir (Some files) folder todo read made = record {
   consistent = made.1;
 }
 
-printed_by : (before : Option (List ℕ)) (to : Sunk) (todo : Todo) → todo ≡ ok_todo
+pub printed_by : (before : Option (List ℕ)) (to : Sunk) (todo : Todo) → todo ≡ ok_todo
     → IfSome before (λ text. to.written ≡ Some (text ++ text_of todo))
     → IfSome before (λ text. to.written ≡ Some (text ++ ok_line))
 printed_by None to todo is printed = tt

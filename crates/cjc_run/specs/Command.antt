@@ -2,9 +2,10 @@
 use Rattle.cjc_shelf.specs.Command.Answer.{Command}
 use Rattle.cjc_cmd_card.specs.Report.Runs as by_token
 use Rattle.cjc_cmd_check.specs.Check.{Checks, plan_of_check}
+use Rattle.cjc_cmd_compat.specs.Compat.{Compares, plan_of_compat}
 use Rattle.cjc_cmd_jvm.specs.Runs.{Runs, plan_of_jvm}
 use Rattle.cjc_cmd_make.specs.Report.Runs as summed
-use Rattle.cjc_run.specs.Request.{Request, card, check, convert, jvm, make}
+use Rattle.cjc_run.specs.Request.{Request, card, check, compat, convert, jvm, make}
 use Rattle.cjc_run.specs.Convert.{plan_of_convert, Makes}
 
 -- of a request what is read, and what is made of that
@@ -18,3 +19,4 @@ command_of (card list dir script n) = record {
   Makes = by_token.Runs n script;
 }
 command_of (make number size) = record { Inputs = _; plan = summed.plan_of_make number size; Makes = summed.Makes }
+command_of (compat old new) = record { Inputs = _; plan = plan_of_compat old new; Makes = Compares old new }

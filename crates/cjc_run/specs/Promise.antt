@@ -22,6 +22,7 @@ use Rattle.cjc_cmd_check.specs.Check.{AreConsistent, check_breaks, ok_line, plan
 use Rattle.cjc_shelf.specs.Command.Plan.{complete, verdict}
 use Rattle.cjc_shelf.specs.declared.command.status.Todo.{Todo}
 use Rattle.cjc_cmd_check.specs.declared.folder.folder.Folder.{Folder}
+use Rattle.cjc_cmd_compat.specs.Compat.{AreCompatible}
 use Rattle.cjc_cmd_card.specs.Report.Runs as by_token
 use Rattle.cjc_cmd_card.specs.Running.Ready as components
 use Rattle.cjc_cmd_card.specs.declared.running.input.Input.{Input as ComponentsInput}
@@ -33,7 +34,7 @@ use Rattle.cjc_script.specs.declared.report.Report.{Report}
 use Rattle.cjc_script_text.specs.Printed.{report_text}
 use Rattle.cjc_cmd_jvm.specs.Runs.{IsReport, plan_of_jvm}
 use Rattle.cjc_cmd_make.specs.Report.Runs.{IsMade}
-use Rattle.cjc_run.specs.Request.{Request, card, check, convert, jvm, make}
+use Rattle.cjc_run.specs.Request.{Request, card, check, compat, convert, jvm, make}
 
 -- by one line: a class file is there and spells the first of these classes, and the other lines the rest; an export
 -- file spells none of them
@@ -140,6 +141,20 @@ pub record MadeReported (number size : ℕ) (old new : Shelved) (from to : Sunk)
   pub kept : IfSome old.files (λ files. new.files ≡ Some files)
   pub printed : IsPrinted todo from to
 
+-- The files of these names were read, spell two versions of an export file, and the new one keeps what the old one says.
+pub record IsCompared (old new : List ℕ) (files : Files) : Type 0 where
+  pub old_bytes : List ℕ
+  pub new_bytes : List ℕ
+  pub old_is : get files old ≡ Some old_bytes
+  pub new_is : get files new ≡ Some new_bytes
+  pub compatible : AreCompatible new (old_bytes, new_bytes)
+
+-- `ok` is printed, nothing is written, and the new version may stand in the place of the old one.
+pub record Compared (old_name new_name : List ℕ) (old new : Shelved) (from to : Sunk) : Type 0 where
+  pub kept : IfSome old.files (λ files. new.files ≡ Some files)
+  pub compared : IfSome old.files (IsCompared old_name new_name)
+  pub printed : IfSome from.written (λ before. to.written ≡ Some (before ++ ok_line))
+
 -- what the request that is done promises of the shelf and the sink before and after
 abbrev pub Promised : Request → Shelved → Shelved → Sunk → Sunk → Type 0
 Promised (convert name dir) old new from to =
@@ -148,3 +163,4 @@ Promised (check name dir) old new from to = Checked name dir old new from to
 Promised (jvm name script n) old new from to = Reported name script n old new from to
 Promised (card name dir script n) old new from to = CardReported name dir script n old new from to
 Promised (make number size) old new from to = MadeReported number size old new from to
+Promised (compat old_name new_name) old new from to = Compared old_name new_name old new from to

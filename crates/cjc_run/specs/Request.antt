@@ -15,6 +15,8 @@ pub data Request : Type 0 where
   card : List ℕ → List ℕ → List ℕ → ℕ → Request
   -- make NUMBER SIZE
   make : ℕ → ℕ → Request
+  -- compat OLD NEW
+  compat : List ℕ → List ℕ → Request
 
 -- how many instructions: one to ten decimal digits, with a value up to 3,000,000,000
 abbrev pub count : List ℕ → Option ℕ
@@ -38,6 +40,7 @@ request (verb ∷ list ∷ dir ∷ []) =
     if bytes_eq verb (codes "convert") then Some (convert list dir)
     else if bytes_eq verb (codes "check") then Some (check list dir)
     else if bytes_eq verb (codes "make") then option_and_then (λ n. option_map (make n) (size dir)) (number list)
+    else if bytes_eq verb (codes "compat") then Some (compat list dir)
     else None
 request (verb ∷ list ∷ script ∷ n ∷ []) = if bytes_eq verb (codes "jvm") then option_map (jvm list script) (count n)
     else None

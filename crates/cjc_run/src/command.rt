@@ -37,6 +37,11 @@ pub(crate) enum Asked<'a> {
         number: u32,
         size: u32,
     },
+    /// `compat OLD NEW`
+    Compat {
+        old: &'a [u8],
+        new: &'a [u8],
+    },
 }
 
 /// How many instructions a word asks for.
@@ -95,6 +100,10 @@ pub(crate) fn asked_by(words: &[Bytes]) -> Option<Asked<'_>>
             dir: dir.items(),
         }),
         [verb, number, size] if verb.items() == b"make".as_slice() => package_asked(number, size),
+        [verb, old, new] if verb.items() == b"compat".as_slice() => Some(Asked::Compat {
+            old: old.items(),
+            new: new.items(),
+        }),
         [verb, list, script, n] if verb.items() == b"jvm".as_slice() => {
             match count(n) {
                 Some(n) => Some(Asked::Jvm {

@@ -15,6 +15,7 @@ use crate::converting::gather_convert;
 use cjc_bytes::Bytes;
 use cjc_cmd_card::report::gather_card;
 use cjc_cmd_check::checking::gather_check;
+use cjc_cmd_compat::gather_compat;
 use cjc_cmd_jvm::report::gather_run;
 use cjc_cmd_make::report::gather_make;
 use cjc_shelf::command::{Status, Todo, publish};
@@ -38,6 +39,7 @@ fn gather<S: Shelf>(alloc: Global, command: Asked<'_>, shelf: &mut S) -> Result<
             n,
         } => gather_card(alloc, list, dir, script, n, shelf),
         Asked::Make { number, size } => gather_make(alloc, number, size, shelf),
+        Asked::Compat { old, new } => gather_compat(alloc, old, new, shelf),
     }
 }
 

@@ -20,7 +20,7 @@ use Rattle.cjc_cmd_check.specs.Check.{Checks, check_breaks, sentence_breaks}
 
 -- ---- ranks
 
-none : {P : Type 0} (b : Break) → Among b [] → P
+pub none : {P : Type 0} (b : Break) → Among b [] → P
 none b among = elim among [ ]
 
 one_head : (x y : ℕ) (xs ys : List ℕ) → AreUpTo (x ∷ xs) (y ∷ ys) → AreUpTo (y ∷ ys) (x ∷ xs) → (x ≡ y) × AreUpTo xs ys
@@ -52,10 +52,10 @@ same_rank a b h g =
     }
 
 -- breaks of one rank have one refusal
-abbrev HaveOneRefusal : List Break → Type 0
+abbrev pub HaveOneRefusal : List Break → Type 0
 HaveOneRefusal bs = (a b : Break) → Among a bs → Among b bs → a.rank ≡ b.rank → a.refusal ≡ b.refusal
 
-firsts_agree : (bs : List Break) → HaveOneRefusal bs → (a b : Break) → IsFirst a bs → IsFirst b bs
+pub firsts_agree : (bs : List Break) → HaveOneRefusal bs → (a b : Break) → IsFirst a bs → IsFirst b bs
     → a.refusal ≡ b.refusal
 firsts_agree bs h a b f g = h a b f.among g.among (same_rank a.rank b.rank (f.least b g.among) (g.least a f.among))
 
@@ -140,7 +140,7 @@ in_cap (Some cap) exports b among = in_sentences (sentences cap exports) b among
 
 -- ---- the whole
 
-unless_one : (xs ys : List Break) → HaveOneRefusal xs → HaveOneRefusal ys → HaveOneRefusal (unless_broken xs ys)
+pub unless_one : (xs ys : List Break) → HaveOneRefusal xs → HaveOneRefusal ys → HaveOneRefusal (unless_broken xs ys)
 unless_one (x ∷ xs) ys f g = f
 unless_one [] ys f g = g
 

@@ -42,7 +42,7 @@ fn test(alloc: Global, folder: &Folder) -> Result<(), Fault>
 }
 
 /// What is printed where nothing is broken.
-fn print_ok(alloc: Global) -> Result<Todo, NoMemory>
+pub fn print_ok(alloc: Global) -> Result<Todo, NoMemory>
     ensures { IfOk result (λ todo. todo ≡ record { files = []; lines = ok_line ∷ [] }) }
 {
     let mut lines = Row::new(alloc);

@@ -1,0 +1,4 @@
+pub mod Ends
+pub mod Keeping
+pub mod Noting
+pub mod OneRank

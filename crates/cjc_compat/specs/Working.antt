@@ -1,0 +1,2 @@
+-- What the code keeps for itself.
+pub mod Names
