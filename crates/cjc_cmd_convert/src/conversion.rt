@@ -3,9 +3,7 @@
 //! it knows no rule and no format, and how files are written is of the crates below.
 mod conversion;
 mod halves;
-mod laws;
 
-pub use cjc_convert::Converted;
+pub use cjc_convert::{Converted, one_answer};
 pub use conversion::convert;
 pub use halves::{both_halves_are_kept, converted_files_spell_one_package};
-pub use laws::one_answer;

@@ -1,4 +1,3 @@
-mod Shapes
 mod Told
 mod OneAnswer
-pub mod ConvertingLaws
+pub mod ConversionLaws

@@ -23,7 +23,7 @@ use Rattle.cjc_shape.proofs.WholeLaws.One.{one_package}
 use Rattle.cjc_shape.proofs.WholeLaws.Second.{package_is_draft}
 use Rattle.cjc_shape.specs.Whole.Conversion.{BreaksWritten, IsDraft, IsRefused, of_form, of_size}
 use Rattle.cjc_world.specs.Files.{Files}
-use Rattle.cjc_convert.proofs.ConvertingLaws.Stops.{none_written}
+use Rattle.cjc_convert.proofs.ConversionLaws.Stops.{none_written}
 use Rattle.cjc_convert.proofs.Told.{sizes_told, written_told}
 use Rattle.cjc_convert.specs.Conversion.{IsConverted}
 use Rattle.cjc_convert.specs.declared.conversion.Converted.{Converted}

@@ -16,3 +16,4 @@ pub mod ToldWorld
 pub mod ToldRules
 pub mod OneRefusal
 pub mod RangesLaws
+pub mod Unbroken

@@ -25,6 +25,10 @@ use std::alloc::Global;
 /// A package that breaks no rule of those that it was tested for.
 #[derive(Drop)]
 pub struct Judged<'a> {
+    /// Its list.
+    pub list: &'a List,
+    /// The files that the list names, in its order.
+    pub files: &'a Row<Bytes>,
     /// Its classes and the export files, in list order.
     pub world: World<'a>,
     /// The instructions of its methods, in the order of the classes and of their methods.
@@ -94,13 +98,15 @@ pub fn test_files(alloc: Global, list: &List, files: &Row<Bytes>) -> Result<(), 
 /// The first broken rule of all these, in the order of refusals.
 pub fn judge<'a>(
     alloc: Global,
-    list: &List,
+    list: &'a List,
     files: &'a Row<Bytes>,
     groups: &[Group],
 ) -> Result<Judged<'a>, Fault>
     requires read { IsRead list.now }
     requires count { length files.now ≡ length list.now.lines }
     requires files { AreFiles files.now }
+    ensures list { IfOk result (λ j. j.list.now ≡ list.now) }
+    ensures files { IfOk result (λ j. j.files.now ≡ files.now) }
     ensures judged { IfOk result (IsJudged list.now files.now groups.now) }
     ensures refused { IfErr result (IsStopped list.now files.now groups.now) }
 {
@@ -121,6 +127,8 @@ pub fn judge<'a>(
         groups,
     )?;
     Ok(Judged {
+        list,
+        files,
         world,
         codes,
         types,

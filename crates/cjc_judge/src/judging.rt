@@ -47,7 +47,7 @@ fn applets_of(alloc: Global, list: &List) -> Result<Row<AppletLine>, NoMemory>
 }
 
 /// What a list settles for all classes, in memory of its own.
-pub fn settings(alloc: Global, list: &List) -> Result<Settings, NoMemory>
+pub(crate) fn settings(alloc: Global, list: &List) -> Result<Settings, NoMemory>
     ensures { IfOk result (λ s. s ≡ settings_of list.now) }
 {
     let applets = applets_of(alloc, list)?;

@@ -6,10 +6,11 @@ mod groups;
 mod judged;
 mod judging;
 mod laws;
+mod parts;
 pub mod ranges;
 mod reading;
 
 pub use groups::Group;
 pub use judged::{Judged, judge, test_files};
-pub use judging::settings;
 pub use laws::{files_first, one_refusal};
+pub use parts::{image_of, tokens_of};

@@ -1,8 +1,6 @@
 //! Which package a list and its files are, whatever package that is: its methods with their narrow code and
 //! their layouts, or the first rule that speaks of what is written for it. Whoever converts a package calls it.
 //! It puts together what the crates below make, and knows no format.
-mod laws;
 mod shaping;
 
-pub use laws::{one_draft, one_package};
 pub use shaping::{Shaped, shape};

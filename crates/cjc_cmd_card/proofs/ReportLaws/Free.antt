@@ -11,7 +11,7 @@ use Rattle.cjc_cmd_card.specs.Running.Ready.{Breaks, IsReady}
 use Rattle.cjc_cmd_card.specs.declared.running.input.Input.{Input}
 use Rattle.cjc_cmd_card.specs.declared.running.ready.Ready.{Ready}
 use Rattle.cjc_clinit.specs.Image.{IsImage}
-use Rattle.cjc_clinit.specs.Rules.{BreaksImage, IsFirstRefused as IsFirstOfImage}
+use Rattle.cjc_clinit.specs.Rules.{BreaksImage}
 use Rattle.cjc_clinit.proofs.OneImage.{one-image}
 use Rattle.cjc_code.specs.PackageCodes.{all_codes}
 use Rattle.cjc_code.specs.declared.method_code.MethodCode.{MethodCode}
@@ -100,21 +100,6 @@ module _ (input : Input) (name : List ℕ) (ready : Ready) (is : IsReady input n
       (of_group (3, groups.Tokens, refl, (trees, are_world, among)))) in
       limited.has_tokens list.name judged.world judged.codes (settings_of list) unlimited
       (ap (tested_breaks (has_applets list)) world_is ∙ none)
-
--- a refusal is of something that is broken
-pub image_refused : (files : Files) (codes : List MethodCode) (e : Fault) (r : Refusal) → e ≡ faults.Refused r
-    → IsFirstOfImage files codes e → ((b : Break) → BreaksImage files codes b → ⊥) → ⊥
-image_refused files codes e r is (inl none) unbroken = let clash : faults.Refused r ≡ faults.NoMemory = sym is ∙ none
-    in cc
-image_refused files codes e r is (inr (b, breaks_it, first, same)) unbroken = unbroken b breaks_it
-
-no_among : (b : Break) → Among b [] → ⊥
-no_among b among = elim among [ ]
-
-pub none_refused : (bs : List Break) (e : Fault) (r : Refusal) → e ≡ faults.Refused r → IsFirstRefusal bs e → bs ≡ []
-    → ⊥
-none_refused bs e r is (inl none) unbroken = let clash : faults.Refused r ≡ faults.NoMemory = sym is ∙ none in cc
-none_refused bs e r is (inr (b, first, same)) unbroken = no_among b (subst (Among b) unbroken first.among)
 
 -- ---- 719
 

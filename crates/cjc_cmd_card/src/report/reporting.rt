@@ -6,12 +6,10 @@ ghost use Rattle.cjc_cmd_card.specs.Report.Runs.{IsReport};
 ghost use Rattle.cjc_cmd_card.specs.Report.Working.{IsPairFault, alone_with};
 ghost use Rattle.cjc_cmd_card.specs.Running.Ready.{IsReady};
 ghost use Rattle.cjc_cmd_card.specs.declared.running.input.Input.{Input as Given};
-ghost use Rattle.cjc_clinit.specs.Image.{IsImage};
 ghost use Rattle.cjc_judge.specs.Rules.{has_applets};
 ghost use Rattle.cjc_components.specs.Paired.Naming.{loaded_of};
 ghost use Rattle.cjc_check_index.specs.Lookup.Parts.{complete_of};
 ghost use Rattle.cjc_check_rules.specs.Complete.{AreSmall, class_info_size, complete};
-ghost use Rattle.cjc_tokens.specs.Tokens.{assigned};
 
 use crate::report::parts::part_of;
 use crate::running::{Input, Ready};
@@ -21,41 +19,14 @@ use cjc_card::runs::run;
 use cjc_card_frame::parts::CellName;
 use cjc_card_link::ClassNames;
 use cjc_check_index::lookup::{Parts, parts_of};
-use cjc_clinit::image;
 use cjc_export::ExportTree;
-use cjc_judge::settings;
+use cjc_judge::{image_of, tokens_of};
 use cjc_list::List;
 use cjc_pairing::card_names::{cell_names, class_names};
 use cjc_pairing::test_pair;
 use cjc_script::{Report, Script};
-use cjc_tokens::{Tokens, assign};
 use cjc_world::StaticImage;
 use std::alloc::Global;
-
-/// What the initialisers of a package leave, which breaks nothing of rule 308.
-fn image_of(alloc: Global, ready: &Ready<'_>) -> Result<StaticImage, NoMemory>
-    requires { (input : Given) × (name : Items ℕ) × IsReady input name ready.now }
-    ensures { IfOk result (IsImage ready.now.judged.world ready.now.judged.codes) }
-{
-    match image(alloc, &ready.judged.world, &ready.judged.codes) {
-        Ok(image) => Ok(image),
-        Err(Fault::NoMemory) => Err(NoMemory),
-        Err(Fault::Refused(_)) => unreachable!(),
-    }
-}
-
-/// The tokens of a package, which breaks nothing of rule 413.
-fn tokens_of(alloc: Global, list: &List, ready: &Ready<'_>) -> Result<Tokens, NoMemory>
-    requires { (input : Given) × (name : Items ℕ) × (input.list ≡ list.now) × IsReady input name ready.now }
-    ensures { IfOk result (λ t. t ≡ assigned (has_applets list.now) ready.now.judged.world) }
-{
-    let settings = settings(alloc, list)?;
-    match assign(alloc, &ready.judged.world, &settings) {
-        Ok(tokens) => Ok(tokens),
-        Err(Fault::NoMemory) => Err(NoMemory),
-        Err(Fault::Refused(_)) => unreachable!(),
-    }
-}
 
 /// The report of components with these names and export files.
 fn run_with(
@@ -91,7 +62,7 @@ fn report_from(
         image.now (complete_of parts.now)) ready.now.script n) }
 {
     let judged = &ready.judged;
-    let tokens = tokens_of(alloc, list, ready)?;
+    let tokens = tokens_of(alloc, list, &judged.world)?;
     let classes = class_names(alloc, &judged.world, &tokens)?;
     let cells = cell_names(alloc, &judged.world, image)?;
     run_with(
@@ -127,7 +98,7 @@ pub fn report_of(alloc: Global, input: &Input, ready: &Ready<'_>, n: u32) -> Res
     ensures report { IfOk result (IsReport input.now ready.now n) }
     ensures refused { IfErr result (IsPairFault ready.now) }
 {
-    let image = image_of(alloc, ready)?;
+    let image = image_of(alloc, &ready.judged.world, &ready.judged.codes)?;
     let parts = parts_in(ready);
     test_pair(alloc, &parts, &ready.judged.world, &image)?;
     Ok(report_from(alloc, &input.list, ready, &parts, &image, n)?)

@@ -10,7 +10,7 @@ ghost use Rattle.cjc_judge.specs.Spelt.{IsRead};
 ghost use Rattle.cjc_shape.specs.Whole.Conversion.{IsRefused};
 
 use cjc_bytes::{Bytes, Fault, Row};
-use cjc_convert::{Converted, assemble};
+use cjc_convert::Converted;
 use cjc_list::List;
 use cjc_theorem::alike::converted_packages_behave_alike;
 use std::alloc::Global;
@@ -33,5 +33,5 @@ pub fn convert(alloc: Global, list: &List, files: &Row<Bytes>) -> Result<Convert
         × (e ≡ faults.Refused r))) }
 {
     converted_packages_behave_alike();
-    assemble(alloc, list, files)
+    cjc_convert::convert(alloc, list, files)
 }

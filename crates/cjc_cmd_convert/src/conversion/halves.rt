@@ -17,7 +17,6 @@ ghost use Rattle.cjc_theorem.specs.Alike.Halves.{CodeBehavesAlike, ComponentsRun
 ghost use Rattle.cjc_theorem.specs.FairExports.Fair.{ExportsAreFair};
 
 use cjc_capread::readings;
-use cjc_shape::whole::one_package;
 use cjc_theorem::alike::{
     components_run_as_selected_code, selected_code_behaves_alike, written_code_has_fewest_bytes,
 };
@@ -34,7 +33,6 @@ pub fn converted_files_spell_one_package()
     ensures components { (list : ListTree) (files : Items (Items ℕ)) (made : Written) → IsConverted list files made
         → (p : Package) → IsPackageOf list files p → (cap : CapTree) → IsSpelt cap made.caps → cap ≡ components_of p }
 {
-    one_package();
     readings();
 }
 

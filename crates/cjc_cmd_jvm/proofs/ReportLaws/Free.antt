@@ -7,12 +7,10 @@ use Rattle.cjc_bytes.specs.Breaks.{Break, foremost}
 use Rattle.cjc_bytes.specs.declared.settings.FileLine.{FileLine}
 use Rattle.cjc_bytes.specs.declared.fault.Fault.{Fault}
 use Rattle.cjc_bytes.specs.declared.fault.Fault.TheVariants as faults
-use Rattle.cjc_bytes.specs.declared.fault.Refusal.{Refusal}
 use Rattle.cjc_jvm_semantics.specs.ByName.{linked}
 use Rattle.cjc_jvm_semantics.specs.Machine.{start}
 use Rattle.cjc_jvm_semantics.specs.OnePackage.{static_array}
-use Rattle.cjc_clinit.specs.Rules.{BreaksImage, IsFirstRefused}
-use Rattle.cjc_code.specs.declared.method_code.MethodCode.{MethodCode}
+use Rattle.cjc_clinit.specs.Rules.{BreaksImage}
 use Rattle.cjc_shelf.specs.Command.Gather.{Judged as IsGiven, status_of_fault}
 use Rattle.cjc_shelf.specs.declared.command.status.Todo.{Todo}
 use Rattle.cjc_code.specs.PackageCodes.{all_codes}
@@ -91,13 +89,6 @@ module _ (list : ListTree) (files : List (List ℕ)) (judged : Judged) (is : IsJ
       here : BreaksImage (files_spelt list trees) (all_codes (classes_of trees)) b
       here = subst (λ (w : Files). BreaksImage w (all_codes (classes_of trees)) b) (sym world_is)
           (subst (λ cs. BreaksImage judged.world cs b) (codes_are ∙ ap all_codes classes_are) breaks_it)
-
--- a refusal is of something that is broken
-pub refused_breaks : (files : Files) (codes : List MethodCode) (e : Fault) (r : Refusal) → e ≡ faults.Refused r
-    → IsFirstRefused files codes e → ((b : Break) → BreaksImage files codes b → ⊥) → ⊥
-refused_breaks files codes e r is (inl none) unbroken = let clash : faults.Refused r ≡ faults.NoMemory = sym is ∙ none
-    in cc
-refused_breaks files codes e r is (inr (b, breaks_it, first, same)) unbroken = unbroken b breaks_it
 
 -- at the start there are the arrays of the image, and what the acts of the script may make
 pub starts_small : (files : Files) (image : StaticImage) (script : Script) (n : ℕ)

@@ -4,15 +4,14 @@ ghost use Rattle.std.specs.Prelude.{◌≡◌, ◌<◌, ◌+◌, ◌^◌, length
 ghost use Rattle.std.specs.List.{sum_by};
 ghost use Rattle.cjc_bytes.specs.Breaks.{Break as Broken};
 ghost use Rattle.cjc_jvm_semantics.specs.ByName.{run as run_by_name};
-ghost use Rattle.cjc_clinit.specs.Image.{IsImage};
 ghost use Rattle.cjc_clinit.specs.Rules.{BreaksImage};
 ghost use Rattle.cjc_code.specs.PackageCodes.{all_codes};
 ghost use Rattle.cjc_cmd_jvm.specs.Runs.{IsReport};
 
 use crate::report::room::{behind_answers, behind_entries};
 use crate::running::Ready;
-use cjc_bytes::{Fault, NoMemory};
-use cjc_clinit::image;
+use cjc_bytes::NoMemory;
+use cjc_judge::image_of;
 use cjc_jvm::runs::run;
 use cjc_jvm_link::{Links, indices_of};
 use cjc_script::{Report, Script};
@@ -32,18 +31,6 @@ fn has_room(image: &StaticImage, script: &Script, n: u32) -> bool
     match behind_entries(script.entries.items(), left - arrays as u32) {
         None => false,
         Some(rest) => behind_answers(script.answers.items(), rest).is_some(),
-    }
-}
-
-/// What the initialisers of a package leave, which breaks nothing of rule 308.
-fn image_of(alloc: Global, ready: &Ready<'_>) -> Result<StaticImage, NoMemory>
-    requires { (b : Broken) → BreaksImage ready.now.judged.world ready.now.judged.codes b → ⊥ }
-    ensures { IfOk result (IsImage ready.now.judged.world ready.now.judged.codes) }
-{
-    match image(alloc, &ready.judged.world, &ready.judged.codes) {
-        Ok(image) => Ok(image),
-        Err(Fault::NoMemory) => Err(NoMemory),
-        Err(Fault::Refused(_)) => unreachable!(),
     }
 }
 
@@ -82,6 +69,6 @@ pub fn report_of(alloc: Global, ready: &Ready<'_>, n: u32) -> Result<Report, NoM
     requires unbroken { (b : Broken) → BreaksImage ready.now.judged.world ready.now.judged.codes b → ⊥ }
     ensures { IfOk result (IsReport ready.now n) }
 {
-    let image = image_of(alloc, ready)?;
+    let image = image_of(alloc, &ready.judged.world, &ready.judged.codes)?;
     report_from(alloc, ready, &image, n)
 }

@@ -31,7 +31,7 @@ pub struct Ready<'a> {
 /// and before all others.
 pub fn make_ready<'a>(
     alloc: Global,
-    list: &List,
+    list: &'a List,
     files: &'a Row<Bytes>,
     name: &[u8],
     text: &[u8],

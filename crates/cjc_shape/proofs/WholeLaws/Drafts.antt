@@ -28,8 +28,7 @@ use Rattle.cjc_narrow.specs.Rows.Selected.{near_fields}
 use Rattle.cjc_ncode.specs.PoolOrder.{pool_order}
 use Rattle.cjc_ncode.specs.declared.narrow.NMethod.{NMethod}
 use Rattle.cjc_ncode.specs.declared.narrow.PoolKey.{PoolKey}
-use Rattle.cjc_shape.specs.declared.prepared.preparing.Prepared.{Prepared}
-use Rattle.cjc_shape.specs.Prepared.{IsPrepared, IsSound}
+use Rattle.cjc_shape.specs.Prepared.{IsSound}
 use Rattle.cjc_shape.proofs.PreparedLaws.Rows.{are_rows, rows_in}
 use Rattle.cjc_shape.proofs.PreparedLaws.Sound.{are_ready, is_tested, is_unbroken}
 use Rattle.cjc_types.specs.declared.state.State.{State}
@@ -129,13 +128,6 @@ module _ (list : ListTree) (files : List (List ℕ)) (judged : Judged) (is : IsS
       ap pool_order f ∙ same_pools world rows (near_fields (pool_order ns)) (near_fields (pool_order narrow_codes)) fs
       ∙ ap pool_order (sym narrow_is) in
       f ∙ ap (λ keys. map (code_at world (near_fields keys) rows) fs) pools ∙ sym narrow_is
-
-  -- ---- what writing starts from
-
-  pub made_narrow : (made : Prepared) → IsPrepared list judged made → made.codes ≡ narrow_codes
-  made_narrow made ready =
-      only_codes made.codes rows rows_are (ready.codes rows rows_are
-      ∙ ap (λ ms. map (code_at world (near_fields (pool_order made.codes)) rows) ms) ready.methods)
 
   -- ---- a draft has this code
 

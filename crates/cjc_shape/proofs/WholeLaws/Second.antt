@@ -21,8 +21,7 @@ use Rattle.cjc_judge.specs.Rules.{Breach, IsFirstOf, IsFirstRefused, OnLevels, o
 use Rattle.cjc_list.specs.Listed.{ListTree}
 use Rattle.cjc_ncode.specs.PoolOrder.{pool_order}
 use Rattle.cjc_ncode.specs.declared.narrow.NMethod.{NMethod}
-use Rattle.cjc_shape.specs.declared.prepared.preparing.Prepared.{Prepared}
-use Rattle.cjc_shape.specs.Prepared.{IsPrepared, IsSound, tested}
+use Rattle.cjc_shape.specs.Prepared.{IsSound, tested}
 use Rattle.cjc_world.specs.declared.found.Found.{Found}
 use Rattle.cjc_world.specs.declared.image.StaticImage.{StaticImage}
 use Rattle.cjc_world.specs.Classes.{Class, all_classes, class_at}

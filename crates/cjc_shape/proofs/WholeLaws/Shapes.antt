@@ -11,6 +11,7 @@ use Rattle.cjc_components.specs.Package.{LaidMethod, Package, codes}
 use Rattle.cjc_components.specs.Written.{code_at}
 use Rattle.cjc_export.specs.Written.{constants}
 use Rattle.cjc_export.specs.declared.tree.ExportTree.{ExportTree}
+use Rattle.cjc_judge.specs.Rules.{has_applets}
 use Rattle.cjc_judge.specs.declared.judged.Judged.{Judged}
 use Rattle.cjc_methods.specs.Layouts.Laid.{AreOf, laid_methods}
 use Rattle.cjc_methods.specs.Layouts.Limits.{IsTold}
@@ -19,13 +20,14 @@ use Rattle.cjc_list.specs.Listed.{ListTree}
 use Rattle.cjc_narrow.specs.Rows.Selected.{near_fields}
 use Rattle.cjc_ncode.specs.PoolOrder.{pool_order}
 use Rattle.cjc_ncode.specs.declared.narrow.NMethod.{NMethod}
-use Rattle.cjc_shape.specs.declared.prepared.preparing.Prepared.{Prepared}
-use Rattle.cjc_shape.specs.Prepared.{IsPrepared, IsSound}
+use Rattle.cjc_shape.specs.Prepared.{BreaksNothing, IsSound}
+use Rattle.cjc_tokens.specs.Tokens.{assigned}
 use Rattle.cjc_world.specs.declared.found.Found.{Found}
 use Rattle.cjc_shape.specs.Whole.Conversion.{IsDraft, IsPackageOf}
-use Rattle.cjc_shape.specs.Whole.Working.Shaped.{IsShaped, Stopped}
+use Rattle.cjc_shape.specs.Whole.Working.Shaped.{IsShaped, Stopped, package_of}
 use Rattle.cjc_shape.specs.declared.whole.shaping.Shaped.{Shaped}
-use Rattle.cjc_shape.proofs.WholeLaws.Drafts.{draft, is_draft, made_narrow, narrow_codes, narrow_is, rows, spelt_by}
+use Rattle.cjc_shape.proofs.WholeLaws.Drafts.{draft, is_draft, narrow_codes, narrow_is, only_codes, rows, rows_are}
+use Rattle.cjc_shape.proofs.WholeLaws.Drafts.{spelt_by}
 use Rattle.cjc_shape.proofs.WholeLaws.Second.{F, W, form_refused, fs, forms_are, is_base, package_is_draft, words_are}
 
 no_among : (b : Break) → Among b [] → ⊥
@@ -66,63 +68,68 @@ module _ (list : ListTree) (files : List (List ℕ)) (judged : Judged) (is : IsS
 
   -- ---- what is told of the draft
 
-  module _ (made : Prepared) (ready : IsPrepared list judged made) where
-    pub told : (name : List ℕ) (members : List Found) (narrow : List NMethod) (exported : ℕ) → list.name ≡ name
-        → made.methods ≡ members → made.codes ≡ narrow → exported ≡ length (constants (export_of d))
-        → IsTold name judged.world members narrow exported d
-    told name members narrow exported e f g h =
-        let base = is_base list files judged is d of_draft in
-        record {
-          by_list = ap (λ (l : ListTree). l.name) base.by_list ∙ e;
-          by_files = base.by_files;
-          by_members = base.by_members ∙ sym ready.methods ∙ f;
-          by_codes = base.by_codes ∙ sym (made_narrow list files judged is made ready) ∙ g;
-          by_export = h;
-        }
+  pub told : (name : List ℕ) (members : List Found) (narrow : List NMethod) (exported : ℕ) → list.name ≡ name
+      → members ≡ fs list files judged is → narrow ≡ narrow_codes list files judged is
+      → exported ≡ length (constants (export_of d)) → IsTold name judged.world members narrow exported d
+  told name members narrow exported e f g h =
+      let base = is_base list files judged is d of_draft in
+      record {
+        by_list = ap (λ (l : ListTree). l.name) base.by_list ∙ e;
+        by_files = base.by_files;
+        by_members = base.by_members ∙ sym f;
+        by_codes = base.by_codes ∙ sym g;
+        by_export = h;
+      }
 
-    -- ---- the package
+  -- ---- narrow code by its own pool
 
-    pub narrow_made : made.codes ≡ map (code_at judged.world (near_fields (pool_order made.codes))
-        (rows list files judged is)) made.methods
-    narrow_made =
-        let n = made_narrow list files judged is made ready in
-        n ∙ narrow_is list files judged is
-        ∙ ap (λ ms. map (code_at judged.world (near_fields (pool_order (narrow_codes list files judged is)))
-        (rows list files judged is)) ms) (sym ready.methods)
-        ∙ ap (λ cs. map (code_at judged.world (near_fields (pool_order cs)) (rows list files judged is)) made.methods)
-        (sym n)
+  pub is_narrow : (members : List Found) (narrow : List NMethod) → members ≡ fs list files judged is
+      → narrow ≡ map (code_at judged.world (near_fields (pool_order narrow)) (rows list files judged is)) members
+      → narrow ≡ narrow_codes list files judged is
+  is_narrow members narrow f e =
+      only_codes list files judged is narrow (rows list files judged is) (rows_are list files judged is)
+      (e ∙ ap (λ ms. map (code_at judged.world (near_fields (pool_order narrow)) (rows list files judged is)) ms) f)
 
-    pub shaped : (s : Shaped) → s.tokens ≡ made.tokens → s.image ≡ made.image
-        → AreOf judged.world made.methods made.codes s.methods
-        → ((p : Package) → p.list ≡ list → p.files ≡ judged.world → s.export ≡ export_of p)
-        → of_methods d (word_breaks d) ≡ [] → form_breaks d ≡ [] → (p : Package) × IsShaped list files s p
-    shaped s tokens image are export none fine =
-        let p : Package = record {
-          list = list;
-          files = judged.world;
-          image = made.image;
-          methods = laid_methods s.methods;
-        } in
-        let whole : IsPackageOf list files p = record {
-          rows = rows list files judged is;
-          spelt = spelt_by list files judged is;
-          is_package = is_package list judged.world (all_codes (let w = judged.world in w.classes)) made.image
-              (subst (λ cs. IsImage judged.world cs made.image) is.judged_by.read.codes_are ready.image)
-              (rows list files judged is) made.methods ready.methods made.codes narrow_made s.methods are;
-        } in
-        let base = is_base list files judged is p (package_is_draft list files p whole) in
-        let own = is_base list files judged is d of_draft in
-        let w = fs list files judged is in
-        let n = narrow_codes list files judged is in (
-          p,
-          record {
-            is_package = whole;
-            by_tokens = tokens ∙ ready.tokens;
-            by_image = image;
-            by_methods = refl;
-            laid = are.laid;
-            by_export = export p refl refl;
-            words = words_are list judged.world w n p base ∙ sym (words_are list judged.world w n d own) ∙ none;
-            forms = forms_are list judged.world w n p base ∙ sym (forms_are list judged.world w n d own) ∙ fine;
-          },
-        )
+  pub selected : (members : List Found) (narrow : List NMethod) → members ≡ fs list files judged is
+      → narrow ≡ narrow_codes list files judged is
+      → narrow ≡ map (code_at judged.world (near_fields (pool_order narrow)) (rows list files judged is)) members
+  selected members narrow f g =
+      g ∙ narrow_is list files judged is
+      ∙ ap (λ ms. map (code_at judged.world (near_fields (pool_order (narrow_codes list files judged is)))
+      (rows list files judged is)) ms) (sym f)
+      ∙ ap (λ cs. map (code_at judged.world (near_fields (pool_order cs)) (rows list files judged is)) members) (sym g)
+
+-- ---- the package
+
+module _ (j : Judged) (is : BreaksNothing j) where
+  pub shaped : (s : Shaped) (members : List Found) (narrow : List NMethod)
+      → members ≡ fs j.list.now j.files.now j is → narrow ≡ narrow_codes j.list.now j.files.now j is
+      → s.tokens ≡ assigned (has_applets j.list.now) j.world → IsImage j.world j.codes s.image
+      → AreOf j.world members narrow s.methods
+      → ((p : Package) → p.list ≡ j.list.now → p.files ≡ j.world → s.export ≡ export_of p)
+      → (let d = draft j.list.now j.files.now j is in of_methods d (word_breaks d) ≡ [])
+      → form_breaks (draft j.list.now j.files.now j is) ≡ [] → IsShaped j s
+  shaped s members narrow f g tokens image are export none fine =
+      let list = j.list.now in
+      let files = j.files.now in
+      let p = package_of j s in
+      let insns = (let w = j.world in all_codes w.classes) in
+      let whole : IsPackageOf list files p = record {
+        rows = rows list files j is;
+        spelt = spelt_by list files j is;
+        is_package = is_package list j.world insns s.image
+            (subst (λ cs. IsImage j.world cs s.image) is.judged_by.read.codes_are image)
+            (rows list files j is) members f narrow (selected list files j is members narrow f g) s.methods are;
+      } in
+      let base = is_base list files j is p (package_is_draft list files p whole) in
+      let own = is_base list files j is (draft list files j is) (is_draft list files j is) in
+      let w = fs list files j is in
+      let n = narrow_codes list files j is in
+      record {
+        is_package = whole;
+        by_tokens = tokens;
+        laid = are.laid;
+        by_export = export p refl refl;
+        words = words_are list j.world w n p base ∙ sym (words_are list j.world w n (draft list files j is) own) ∙ none;
+        forms = forms_are list j.world w n p base ∙ sym (forms_are list j.world w n (draft list files j is) own) ∙ fine;
+      }

@@ -1,24 +1,28 @@
 //! A package by its methods, laid out. The rules that speak of them are tested here: 417, then 311, 414 and 415.
 
-ghost use Rattle.std.specs.Prelude.{◌≡◌, ℕ, List as Items, IfOk, IfErr};
-ghost use Rattle.cjc_components.specs.Package.{Package};
-ghost use Rattle.cjc_shape.specs.Prepared.{IsSound};
+ghost use Rattle.std.specs.Prelude.{◌≡◌, All, IfOk, IfErr};
+ghost use Rattle.cjc_methods.specs.Ready.{IsOwn};
+ghost use Rattle.cjc_shape.specs.Prepared.{BreaksNothing};
 ghost use Rattle.cjc_shape.specs.Whole.Working.Shaped.{IsShaped, Stopped};
+ghost use Rattle.cjc_world.specs.Classes.{all_classes};
+ghost use Rattle.cjc_world.specs.Order.{method_order};
 
-use crate::prepared::prepare;
-use cjc_bytes::Fault;
+use cjc_bytes::{Fault, NoMemory, Row};
 use cjc_export::{ExportTree, pool_size};
 use cjc_exported::export_file::export_of;
-use cjc_judge::Judged;
-use cjc_list::List;
+use cjc_judge::{Judged, image_of, tokens_of};
 use cjc_methods::layouts::{Methods, lay_out, methods_are_of_a_package};
-use cjc_methods::methods_can_be_laid_out;
+use cjc_methods::{
+    method_order, methods_are_own, methods_can_be_laid_out, narrow_codes, test_words,
+};
+use cjc_order::classes::class_order;
 use cjc_tokens::Tokens;
-use cjc_world::StaticImage;
+use cjc_world::{Found, StaticImage, World};
 use std::alloc::Global;
 
 /// A package whose methods are laid out.
 pub struct Shaped {
+    /// The tokens of its classes and members, and of those that export files describe.
     pub tokens: Tokens,
     /// What its static fields hold at first.
     pub image: StaticImage,
@@ -38,27 +42,44 @@ impl Drop for Shaped {
     }
 }
 
+/// The methods of a package in the order of Method.
+fn members_of(alloc: Global, world: &World<'_>) -> Result<Row<Found>, NoMemory>
+    ensures made { IfOk result (λ members. members ≡ method_order (all_classes world.now)) }
+    ensures own { IfOk result (All (IsOwn world.now)) }
+{
+    let order = class_order(alloc, world, false)?;
+    methods_are_own();
+    method_order(alloc, world, order.items())
+}
+
 /// The package with its methods laid out, of one that breaks no rule of its files.
 ///
 /// # Errors
 ///
 /// The first of these: 417; where no method breaks it, 311, 414 or 415, in the order of refusals.
-pub fn shape(alloc: Global, list: &List, judged: &Judged<'_>) -> Result<Shaped, Fault>
-    requires { (files : Items (Items ℕ)) × IsSound list.now files judged.now }
-    ensures shaped { (files : Items (Items ℕ)) → IsSound list.now files judged.now → IfOk result (λ s. (p : Package)
-        × IsShaped list.now files s p) }
-    ensures refused { (files : Items (Items ℕ)) → IsSound list.now files judged.now
-        → IfErr result (Stopped list.now files) }
+pub fn shape(alloc: Global, judged: &Judged<'_>) -> Result<Shaped, Fault>
+    requires { BreaksNothing judged.now }
+    ensures shaped { IfOk result (IsShaped judged.now) }
+    ensures refused { IfErr result (Stopped judged.now.list.now judged.now.files.now) }
 {
     methods_can_be_laid_out();
     methods_are_of_a_package();
-    let prepared = prepare(alloc, list, judged)?;
-    let (tokens, image, members, codes) = prepared.into_parts();
-    let export = export_of(alloc, list, &judged.world, &tokens)?;
+    let members = members_of(alloc, &judged.world)?;
+    test_words(alloc, &judged.world, members.items())?;
+    let tokens = tokens_of(alloc, judged.list, &judged.world)?;
+    let image = image_of(alloc, &judged.world, &judged.codes)?;
+    let codes = narrow_codes(
+        alloc,
+        &judged.world,
+        judged.codes.items(),
+        judged.types.items(),
+        members.items(),
+    )?;
+    let export = export_of(alloc, judged.list, &judged.world, &tokens)?;
     let exported = pool_size(alloc, &export)?;
     let methods = lay_out(
         alloc,
-        list.name.items(),
+        judged.list.name.items(),
         &judged.world,
         members.items(),
         codes,

@@ -55,33 +55,9 @@ use Rattle.cjc_shape_proof.specs.Written.Converted.{IsConverted}
 use Rattle.cjc_shape_proof.proofs.WrittenLaws.Files.{own_unbroken, read_files, same_files}
 use Rattle.cjc_shape_proof.proofs.WrittenLaws.Ordering.{IsOrdered, ordered_by}
 use Rattle.cjc_shape_proof.proofs.WrittenLaws.Places.{coded_there}
+use Rattle.cjc_shape_proof.proofs.WrittenLaws.Shaping.{all_in, none_front, none_of_method, own_at as own_there}
 
 -- ---- lists
-
-all_in : {A : Type 0} (P : A → Type 0) (xs : List A) (k : ℕ) (x : A) → All P xs → slice_get xs k ≡ Some x → P x
-all_in P [] k x all e = cc
-all_in P (y ∷ xs) zero x all e = let is : y ≡ x = cc in subst P is (All-head P y xs all)
-all_in P (y ∷ xs) (suc k) x all e = all_in P xs k x (All-tail P y xs all) e
-
-none_front : {A : Type 0} (xs ys : List A) → xs ++ ys ≡ [] → xs ≡ []
-none_front [] ys e = refl
-none_front (x ∷ xs) ys e = cc
-
-none_back : {A : Type 0} (xs ys : List A) → xs ++ ys ≡ [] → ys ≡ []
-none_back [] ys e = e
-none_back (x ∷ xs) ys e = cc
-
-not_at : (b : Bool) (place : _) (rule : ℕ) → at b place rule ≡ [] → b ≡ false
-not_at false place rule e = refl
-not_at true place rule e = cc
-
-none_each : {A B : Type 0} (f : A → List B) (xs : List A) (k : ℕ) (x : A) → flat_map f xs ≡ [] → slice_get xs k ≡ Some x
-    → f x ≡ []
-none_each f [] k x e g = cc
-none_each f (y ∷ xs) zero x e g = let is : y ≡ x = cc in ap f (sym is)
-    ∙ none_front (f y) (flat_map f xs) (sym (flat_map-cons f y xs) ∙ e)
-none_each f (y ∷ xs) (suc k) x e g = none_each f xs k x (none_back (f y) (flat_map f xs) (sym (flat_map-cons f y xs)
-    ∙ e)) g
 
 contained : {A : Type 0} (xs : List A) (j : ℕ) (x : A) → slice_get xs j ≡ Some x → Contains xs x
 contained xs j x e = (j, slice_get_within xs j x e, get_or_from_slice_get xs j x x e)
@@ -117,7 +93,7 @@ module _ (list : ListTree) (files : List (List ℕ)) (judged : Judged) (p : Pack
       ∙ slice_get-map (λ (x : LaidMethod). x.member) p.methods k ∙ ap (option_map (λ (x : LaidMethod). x.member)) e
 
   own_at : (k : ℕ) (m : LaidMethod) → slice_get p.methods k ≡ Some m → IsOwn p.files m.member
-  own_at k m e = all_in (IsOwn p.files) (method_order (world p)) k m.member owned (member_at k m e)
+  own_at = own_there list files judged is.sound p is.is_package
 
   -- what is selected can be laid out
   abbrev pub WholeLaw : Type 0
@@ -137,27 +113,12 @@ module _ (list : ListTree) (files : List (List ℕ)) (judged : Judged) (p : Pack
       all_in IsWhole (map (code_at p.files near rows) (method_order (world p))) k m.code
       (law p.files judged.codes judged.types own_ready rows own_rows near (method_order (world p)) owned) there
 
-  -- 415
-  pub short_at : (k : ℕ) (m : LaidMethod) → slice_get p.methods k ≡ Some m → (let code = m.code in code.widest ≤ 32767)
-  short_at k m e =
-      let f = m.member in
-      let own = own_at k m e in
-      let here : in_class (layout_breaks p) m (class_at (world p) f.imported f.class) ≡ [] =
-      none_each (λ (x : LaidMethod). let g = x.member in in_class (layout_breaks p) x (class_at (world p) g.imported
-      g.class)) p.methods k m (none_front (of_methods p (layout_breaks p)) _ is.forms) e in
-      let named : layout_breaks p own.class m ≡ [] = sym (ap (in_class (layout_breaks p) m) own.is_class) ∙ here in
-      ltb-false 32767 (let code = m.code in code.widest) (not_at (is_too_long m) _ 415 (none_back _ _ named))
-
   -- 311
   pub ordered_at : (k : ℕ) (m : LaidMethod) → slice_get p.methods k ≡ Some m → IsOrdered m.code
   ordered_at k m e =
-      let f = m.member in
-      let own = own_at k m e in
-      let here : in_class (layout_breaks p) m (class_at (world p) f.imported f.class) ≡ [] =
-      none_each (λ (x : LaidMethod). let g = x.member in in_class (layout_breaks p) x (class_at (world p) g.imported
-      g.class)) p.methods k m (none_front (of_methods p (layout_breaks p)) _ is.forms) e in
-      let named : layout_breaks p own.class m ≡ [] = sym (ap (in_class (layout_breaks p) m) own.is_class) ∙ here in
-      ordered_by m.code _ (none_front _ _ named)
+      let none = none_of_method list files judged is.sound p is.is_package (layout_breaks p)
+      (none_front (of_methods p (layout_breaks p)) _ is.forms) k m e in
+      ordered_by m.code _ (none_front _ _ none)
 
   -- ---- where a method is of its class file
 

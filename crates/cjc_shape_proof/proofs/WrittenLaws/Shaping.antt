@@ -1,14 +1,17 @@
--- A converted package is laid out, and its code has a pool: as those ask who emit its methods.
+-- A package that is laid out has layouts of its methods and a pool, as those ask who emit them.
 use Rattle.std.proofs.Common.{◌≡◌, ℕ, zero, suc, ◌+◌, ◌<◌, ◌≤◌, refl, sym, ap, subst, ◌∙◌, arith, Bool, true, false}
 use Rattle.std.proofs.Common.{List, [], ◌∷◌, ◌++◌, length, map}
-use Rattle.std.specs.Prelude.{◌||◌, Option, Some, None, option_and_then, option_map, position, slice_get, slice_index}
-use Rattle.std.specs.Prelude.{if◌then◌else◌}
+use Rattle.std.specs.Prelude.{◌||◌, All, Option, Some, None, flat_map, option_and_then, option_map, position, slice_get}
+use Rattle.std.specs.Prelude.{slice_index, if◌then◌else◌}
 use Rattle.std.specs.List.{list_any}
-use Rattle.std.proofs.lemmas.List.{length-map}
+use Rattle.std.proofs.lemmas.Bool.{ltb-false}
+use Rattle.std.proofs.lemmas.List.Concat.{flat_map-cons}
+use Rattle.std.proofs.lemmas.List.Elements.{All-head, All-tail}
 use Rattle.std.proofs.lemmas.Option.{slice_get-map}
+use Rattle.cjc_bytes.specs.Breaks.{Break, at}
 use Rattle.cjc_bytes.specs.declared.fault.MemberId.{MemberId}
-use Rattle.cjc_components.specs.ExportFile.{export_of}
-use Rattle.cjc_components.specs.Package.{LaidMethod, Package, codes, tokens}
+use Rattle.cjc_components.specs.Limits.{form_breaks, in_class, is_too_long, layout_breaks, of_methods}
+use Rattle.cjc_components.specs.Package.{LaidMethod, Package, world}
 use Rattle.cjc_judge.specs.declared.judged.Judged.{Judged}
 use Rattle.cjc_narrow.specs.Keys.Working.Same.{same_member-Decides}
 use Rattle.cjc_layout.specs.Handlers.{handlers_of, table_order}
@@ -16,8 +19,7 @@ use Rattle.cjc_layout.specs.Layouts.{IsLayout}
 use Rattle.cjc_layout.specs.Legal.{IsLeast}
 use Rattle.cjc_layout.specs.Sizes.{bytes_before, code_size}
 use Rattle.cjc_layout.specs.declared.layout.Layout.{Layout}
-use Rattle.cjc_methods.specs.Layouts.Laid.{with_layouts}
-use Rattle.cjc_methods.specs.declared.layouts.laid.Laid.{Laid}
+use Rattle.cjc_methods.specs.Ready.{IsOwn}
 use Rattle.cjc_list.specs.Listed.{ListTree}
 use Rattle.cjc_ncode.specs.PoolOrder.{pool_order, same_key, same_member}
 use Rattle.cjc_ncode.specs.declared.narrow.NInsn.{NInsn}
@@ -27,10 +29,14 @@ use Rattle.cjc_ncode.specs.declared.narrow.PoolKey.TheVariants as keys
 use Rattle.cjc_pool.specs.Pool.{IsPool, PoolView, calls, is_called, token_of}
 use Rattle.cjc_tokens.proofs.Facts.{position-cons}
 use Rattle.cjc_tokens.specs.Tokens.{Assigned, joined}
-use Rattle.cjc_shape.specs.Whole.Working.Shaped.{IsShaped}
-use Rattle.cjc_shape.specs.declared.whole.shaping.Shaped.{Shaped}
+use Rattle.cjc_shape.proofs.PreparedLaws.Sound.{is_unbroken}
+use Rattle.cjc_shape.proofs.WholeLaws.Drafts.{same_spelt}
+use Rattle.cjc_shape.proofs.WholeLaws.Ordered.{all_own}
+use Rattle.cjc_shape.specs.Prepared.{IsSound}
+use Rattle.cjc_shape.specs.Whole.Conversion.{IsPackageOf}
+use Rattle.cjc_world.specs.Classes.{Class, all_classes, class_at}
 use Rattle.cjc_world.specs.Files.{Files}
-use Rattle.cjc_shape_proof.specs.Written.Converted.{IsConverted}
+use Rattle.cjc_world.specs.Order.{method_order}
 
 -- ---- the methods of interfaces that code calls
 
@@ -168,56 +174,62 @@ pub layout_wide : (m : NMethod) (wide : List Bool) → (let l = layout_for m wid
 unfolding layout_for
 layout_wide m wide = refl
 
-laid_for : LaidMethod → Laid
-laid_for m = record { member = m.member; is_abstract = m.is_abstract; layout = layout_for m.code m.wide }
+-- ---- what is broken of no method
 
-laid_again : (ms : List LaidMethod) → with_layouts (map (λ m. m.code) ms) (map laid_for ms) ≡ ms
-unfolding laid_for layout_for
-laid_again [] = refl
-laid_again (m ∷ ms) = ap (λ xs. m ∷ xs) (laid_again ms)
+pub none_front : {A : Type 0} (xs ys : List A) → xs ++ ys ≡ [] → xs ≡ []
+none_front [] ys e = refl
+none_front (x ∷ xs) ys e = cc
 
--- a method at a place, by its code
-of_code : (ms : List LaidMethod) (k : ℕ) (c : NMethod) → slice_get (map (λ m. m.code) ms) k ≡ Some c → (m : LaidMethod)
-    × (slice_get ms k ≡ Some m) × (m.code ≡ c)
-of_code [] k c e = cc
-of_code (m ∷ ms) zero c e = (m, refl, cc)
-of_code (m ∷ ms) (suc k) c e = of_code ms k c e
+pub none_back : {A : Type 0} (xs ys : List A) → xs ++ ys ≡ [] → ys ≡ []
+none_back [] ys e = e
+none_back (x ∷ xs) ys e = cc
 
-pub shaped_for : Package → Shaped
-shaped_for p = record {
-  tokens = tokens p;
-  image = p.image;
-  methods = record {
-    codes = codes p;
-    laid = map laid_for p.methods;
-  };
-  export = export_of p;
-}
+pub not_at : (b : Bool) (place : _) (rule : ℕ) → at b place rule ≡ [] → b ≡ false
+not_at false place rule e = refl
+not_at true place rule e = cc
 
-module _ (list : ListTree) (files : List (List ℕ)) (judged : Judged) (p : Package) (is : IsConverted list files judged
-    p) (short : (k : ℕ) (m : LaidMethod) → slice_get p.methods k ≡ Some m → (let code = m.code in code.widest ≤ 32767))
-  where
-    pub is_shaped : IsShaped list files (shaped_for p) p
-    unfolding shaped_for laid_for
-    is_shaped = record {
-      is_package = is.is_package;
-      by_tokens = refl;
-      by_image = refl;
-      by_methods = sym (laid_again p.methods);
-      laid = record {
-        count = length-map p.methods laid_for ∙ sym (length-map p.methods (λ (m : LaidMethod). m.code));
-        each = λ k c l e f.
-            let m = of_code p.methods k c e in
-            let same : Some (laid_for m.0) ≡ Some l = sym (slice_get-map laid_for p.methods k
-            ∙ ap (option_map laid_for) m.1) ∙ f in
-            let one : laid_for m.0 ≡ l = cc in
-            let w = is.is_package.is_package.methods k m.0 m.1 in
-            subst (λ (x : Laid). IsLayout c x.layout) one (subst (λ x. IsLayout x (laid_for m.0).layout) m.2
-            (layout_is (let o = m.0 in o.code) (let o = m.0 in o.wide) w.wide));
-        short = λ k c e. let m = of_code p.methods k c e in subst (λ (x : NMethod). x.widest ≤ 32767) m.2
-            (short k m.0 m.1);
-      };
-      by_export = refl;
-      words = is.words;
-      forms = is.forms;
-    }
+pub none_each : {A B : Type 0} (f : A → List B) (xs : List A) (k : ℕ) (x : A) → flat_map f xs ≡ []
+    → slice_get xs k ≡ Some x → f x ≡ []
+none_each f [] k x e g = cc
+none_each f (y ∷ xs) zero x e g = let is : y ≡ x = cc in ap f (sym is)
+    ∙ none_front (f y) (flat_map f xs) (sym (flat_map-cons f y xs) ∙ e)
+none_each f (y ∷ xs) (suc k) x e g = none_each f xs k x (none_back (f y) (flat_map f xs) (sym (flat_map-cons f y xs)
+    ∙ e)) g
+
+pub all_in : {A : Type 0} (P : A → Type 0) (xs : List A) (k : ℕ) (x : A) → All P xs → slice_get xs k ≡ Some x → P x
+all_in P [] k x all e = cc
+all_in P (y ∷ xs) zero x all e = let is : y ≡ x = cc in subst P is (All-head P y xs all)
+all_in P (y ∷ xs) (suc k) x all e = all_in P xs k x (All-tail P y xs all) e
+
+module _ (list : ListTree) (files : List (List ℕ)) (judged : Judged) (is : IsSound list files judged) (p : Package)
+    (whole : IsPackageOf list files p) where
+  same_world : p.files ≡ judged.world
+  same_world = same_spelt list files judged is p.files whole.rows whole.spelt
+
+  pub own_at : (k : ℕ) (m : LaidMethod) → slice_get p.methods k ≡ Some m → IsOwn p.files m.member
+  own_at k m e =
+      let there : slice_get (method_order (world p)) k ≡ Some m.member =
+      ap (λ fs. slice_get fs k) (sym whole.is_package.members)
+      ∙ slice_get-map (λ (x : LaidMethod). x.member) p.methods k ∙ ap (option_map (λ (x : LaidMethod). x.member)) e in
+      let owned : All (IsOwn p.files) (method_order (world p)) =
+      subst (λ (w : Files). All (IsOwn w) (method_order (all_classes w))) (sym same_world)
+      (all_own judged.world (is_unbroken list files judged is).listed) in
+      all_in (IsOwn p.files) (method_order (world p)) k m.member owned there
+
+  -- nothing of a method
+  pub none_of_method : (B : Class → LaidMethod → List Break) → of_methods p B ≡ [] → (k : ℕ) (m : LaidMethod)
+      → (e : slice_get p.methods k ≡ Some m) → B (own_at k m e).class m ≡ []
+  none_of_method B none k m e =
+      let f = m.member in
+      let own = own_at k m e in
+      let here : in_class B m (class_at (world p) f.imported f.class) ≡ [] =
+      none_each (λ (x : LaidMethod). let g = x.member in in_class B x (class_at (world p) g.imported g.class)) p.methods
+      k m none e in
+      sym (ap (in_class B m) own.is_class) ∙ here
+
+  -- 415
+  pub short_at : form_breaks p ≡ [] → (k : ℕ) (m : LaidMethod) → slice_get p.methods k ≡ Some m
+      → (let code = m.code in code.widest ≤ 32767)
+  short_at forms k m e =
+      let none = none_of_method (layout_breaks p) (none_front (of_methods p (layout_breaks p)) _ forms) k m e in
+      ltb-false 32767 (let code = m.code in code.widest) (not_at (is_too_long m) _ 415 (none_back _ _ none))

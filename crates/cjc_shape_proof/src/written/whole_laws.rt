@@ -1,37 +1,29 @@
 //! What judging and laying out promise of a converted package is what others ask of one. For whoever writes it,
 //! and whoever promises something of what is written. It has laws alone; nothing here runs.
 
-ghost use Rattle.std.specs.Prelude.{◌≡◌, ℕ, All, List, map, false, slice_get, Some};
+ghost use Rattle.std.specs.Prelude.{◌≡◌, [], ℕ, All, List, map, false, Some};
 ghost use Rattle.cjc_order.specs.Classes.Numbers.{IsOfKind, declared_at};
-ghost use Rattle.cjc_components.specs.Names.{names};
-ghost use Rattle.cjc_components.specs.Package.{LaidMethod, Package, codes, tokens, world};
-ghost use Rattle.cjc_components.specs.Package as packages;
-ghost use Rattle.cjc_emit.specs.Emitted.{IsEmittable};
+ghost use Rattle.cjc_components.specs.Limits.{form_breaks};
+ghost use Rattle.cjc_components.specs.Package.{Package, codes, tokens, world};
 ghost use Rattle.cjc_judge.specs.declared.judged.Judged.{Judged};
 ghost use Rattle.cjc_list.specs.Listed.{ListTree};
+ghost use Rattle.cjc_methods.specs.Component.Emittable.{AreEmittable};
 ghost use Rattle.cjc_methods.specs.Ready.{AreOrdered};
-ghost use Rattle.cjc_pool.specs.Pool.{IsPool, PoolView, token_in};
+ghost use Rattle.cjc_pool.specs.Pool.{IsPool, PoolView};
 ghost use Rattle.cjc_shape.specs.Prepared.{IsSound};
 ghost use Rattle.cjc_shape.specs.Whole.Conversion.{IsPackageOf};
-ghost use Rattle.cjc_shape.specs.Whole.Working.Shaped.{IsShaped};
-ghost use Rattle.cjc_shape.specs.declared.whole.shaping.Shaped.{Shaped as Laid};
 ghost use Rattle.cjc_world.specs.Classes.{all_classes};
 ghost use Rattle.cjc_world.specs.Order.{in_order, method_order};
 
 use cjc_shape::judged::pooled_methods_are_emittable;
 
-/// Each method of a package that breaks no rule of its files and is laid out can be emitted by the pool that
+/// Each method of a package that breaks no rule of its files, nor 311, 414 and 415, can be emitted by the pool that
 /// its methods need, with the names that its components have: indices are places in the pool, and the token of
 /// a method of an interface is its place among the interface's methods.
 pub fn converted_methods_are_emittable()
-    ensures keys { (list : ListTree) (files : List (List ℕ)) (judged : Judged) → IsSound list files judged
-        → (s : Laid) (p : Package) → IsShaped list files s p
-        → (pool : PoolView) → IsPool judged.world (tokens p) (codes p) pool → pool.keys ≡ packages.pool p }
-    ensures each { (list : ListTree) (files : List (List ℕ)) (judged : Judged) → IsSound list files judged
-        → (s : Laid) (p : Package) → IsShaped list files s p
-        → (pool : PoolView) → IsPool judged.world (tokens p) (codes p) pool
-        → (k : ℕ) (m : LaidMethod) → slice_get p.methods k ≡ Some m → IsEmittable pool.keys (token_in pool) (names p)
-        m.code m.wide }
+    ensures { (list : ListTree) (files : List (List ℕ)) (judged : Judged) → IsSound list files judged
+        → (p : Package) → IsPackageOf list files p → form_breaks p ≡ []
+        → (pool : PoolView) → IsPool judged.world (tokens p) (codes p) pool → AreEmittable p pool }
 {
     pooled_methods_are_emittable();
 }

@@ -45,5 +45,10 @@ returns-clause-judged c =
     let none = rw c.items-4.ensures at c.in_ok-types.ensures.unbroken in
     judged_from _ _ _ c.in_ok-classes.field-0 all _ c.in_ok-world.ensures.made c.in_ok-world.ensures.unbroken
     c.in_ok-names.ensures.unbroken
-    (record { world = c.in_ok-world.world; codes = c.in_ok-classes.field-0.codes; types = c.in_ok-types.types }) refl
-    refl none c.in_ok-types.ensures.types
+    (record {
+      list = c.args.list;
+      files = c.args.files;
+      world = c.in_ok-world.world;
+      codes = c.in_ok-classes.field-0.codes;
+      types = c.in_ok-types.types;
+    }) refl refl none c.in_ok-types.ensures.types

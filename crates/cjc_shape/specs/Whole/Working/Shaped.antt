@@ -6,21 +6,29 @@ use Rattle.cjc_bytes.specs.declared.fault.Refusal.{Refusal}
 use Rattle.cjc_components.specs.ExportFile.{export_of}
 use Rattle.cjc_components.specs.Limits.{form_breaks, of_methods, word_breaks}
 use Rattle.cjc_components.specs.Package.{Package, tokens}
+use Rattle.cjc_judge.specs.declared.judged.Judged.{Judged}
 use Rattle.cjc_methods.specs.Layouts.Laid.{AreLaid, laid_methods}
 use Rattle.cjc_list.specs.Listed.{ListTree}
 use Rattle.cjc_shape.specs.Whole.Conversion.{IsPackageOf, IsRefused}
 use Rattle.cjc_shape.specs.declared.whole.shaping.Shaped.{Shaped}
 
+-- the package that both are: its list and its files as they were judged, and the rest as it is laid out
+abbrev pub package_of : Judged → Shaped → Package
+package_of j s = record {
+  list = j.list.now;
+  files = j.world;
+  image = s.image;
+  methods = laid_methods s.methods;
+}
+
 -- It is the package of the list and its files, and breaks none of 417, 311, 414 and 415.
-pub record IsShaped (list : ListTree) (files : List (List ℕ)) (s : Shaped) (p : Package) : Type 0 where
-  pub is_package : IsPackageOf list files p
-  pub by_tokens : s.tokens ≡ tokens p
-  pub by_image : s.image ≡ p.image
-  pub by_methods : p.methods ≡ laid_methods s.methods
+pub record IsShaped (j : Judged) (s : Shaped) : Type 0 where
+  pub is_package : IsPackageOf j.list.now j.files.now (package_of j s)
+  pub by_tokens : s.tokens ≡ tokens (package_of j s)
   pub laid : AreLaid s.methods
-  pub by_export : s.export ≡ export_of p
-  pub words : of_methods p (word_breaks p) ≡ []
-  pub forms : form_breaks p ≡ []
+  pub by_export : s.export ≡ export_of (package_of j s)
+  pub words : of_methods (package_of j s) (word_breaks (package_of j s)) ≡ []
+  pub forms : form_breaks (package_of j s) ≡ []
 
 -- The error is want of memory, or that of the first broken rule.
 abbrev pub Stopped : ListTree → List (List ℕ) → Fault → Type 0

@@ -23,8 +23,6 @@ use Rattle.cjc_shape.specs.Judged.Pooled.{ArePooled, IsSelected}
 use Rattle.cjc_shape.specs.Judged.Tested.{IsTested}
 use Rattle.cjc_layout.specs.Layouts.{IsLayout}
 use Rattle.cjc_layout.specs.declared.layout.Layout.{Layout}
-use Rattle.cjc_methods.specs.Layouts.Laid.{AreLaid, laid_method, with_layouts}
-use Rattle.cjc_methods.specs.declared.layouts.laid.Laid.{Laid}
 use Rattle.cjc_list.specs.Listed.{ListTree}
 use Rattle.cjc_ncode.specs.Lowering.Naming.{Naming}
 use Rattle.cjc_methods.proofs.Alike.{one_selected}
@@ -45,12 +43,12 @@ use Rattle.cjc_vtable.specs.Tables.{or_zero}
 use Rattle.cjc_shape.proofs.WholeLaws.Drafts.{narrow_codes, narrow_is, rows, rows_are, same_narrow, same_spelt}
 use Rattle.cjc_shape.proofs.WholeLaws.Ordered.{all_own}
 use Rattle.cjc_shape.proofs.WholeLaws.Second.{package_is_draft}
-use Rattle.cjc_shape.specs.Whole.Working.Shaped.{IsShaped}
-use Rattle.cjc_shape.specs.declared.whole.shaping.Shaped.{Shaped}
+use Rattle.cjc_shape.specs.Whole.Conversion.{IsPackageOf}
 use Rattle.cjc_world.specs.Classes.{Class, all_classes, class_named}
 use Rattle.cjc_world.specs.Files.{Files}
 use Rattle.cjc_world.specs.Order.{method_order}
 use Rattle.cjc_world.specs.declared.found.Found.{Found}
+use Rattle.cjc_shape_proof.proofs.WrittenLaws.Shaping.{layout_for, layout_is, layout_wide, short_at}
 use Rattle.cjc_shape_proof.proofs.WrittenLaws.WholeLaws.Declared.{declared_place}
 
 -- ---- lists
@@ -79,33 +77,10 @@ mapped_at f [] k y e = cc
 mapped_at f (x ∷ xs) zero y e = (x, refl, cc)
 mapped_at f (x ∷ xs) (suc k) y e = mapped_at f xs k y e
 
--- a method with its layout
-pub record IsPut (cs : List NMethod) (laid : List Laid) (k : ℕ) (m : LaidMethod) : Type 0 where
-  pub one : Laid
-  pub is_laid : slice_get laid k ≡ Some one
-  pub is_code : slice_get cs k ≡ Some m.code
-  pub is_wide : (let l = one.layout in m.wide ≡ l.wide)
-
-put_at : (cs : List NMethod) (laid : List Laid) (k : ℕ) (m : LaidMethod) → slice_get (with_layouts cs laid) k ≡ Some m
-    → IsPut cs laid k m
-put_at [] laid k m e = cc
-put_at (c ∷ cs) [] k m e = cc
-put_at (c ∷ cs) (l ∷ laid) zero m e =
-    let is : laid_method c l ≡ m = cc in
-    record {
-      one = l;
-      is_laid = refl;
-      is_code = ap (λ (x : LaidMethod). Some x.code) is;
-      is_wide = ap (λ (x : LaidMethod). x.wide) (sym is);
-    }
-put_at (c ∷ cs) (l ∷ laid) (suc k) m e =
-    let r = put_at cs laid k m e in
-    record { one = r.one; is_laid = r.is_laid; is_code = r.is_code; is_wide = r.is_wide }
-
 -- ---- the package
 
-module _ (list : ListTree) (files : List (List ℕ)) (judged : Judged) (is : IsSound list files judged) (s : Shaped)
-    (p : Package) (shaped : IsShaped list files s p)
+module _ (list : ListTree) (files : List (List ℕ)) (judged : Judged) (is : IsSound list files judged) (p : Package)
+    (whole : IsPackageOf list files p) (forms : form_breaks p ≡ [])
     (pool : PoolView) (made : IsPool judged.world (tokens p) (codes p) pool) where
   abbrev tested : IsTested list files judged
   tested = is_tested list files judged is
@@ -114,13 +89,13 @@ module _ (list : ListTree) (files : List (List ℕ)) (judged : Judged) (is : IsS
   world = judged.world
 
   same_files : p.files ≡ world
-  same_files = let of = shaped.is_package in same_spelt list files judged is p.files of.rows of.spelt
+  same_files = same_spelt list files judged is p.files whole.rows whole.spelt
 
   same_list : p.list ≡ list
-  same_list = let d = package_is_draft list files p shaped.is_package in d.by_list
+  same_list = let d = package_is_draft list files p whole in d.by_list
 
   same_codes : codes p ≡ narrow_codes list files judged is
-  same_codes = same_narrow list files judged is p (package_is_draft list files p shaped.is_package)
+  same_codes = same_narrow list files judged is p (package_is_draft list files p whole)
 
   abbrev applets : Bool
   applets = has_applets p
@@ -132,7 +107,7 @@ module _ (list : ListTree) (files : List (List ℕ)) (judged : Judged) (is : IsS
   few : length pool.keys ≤ 16383
   few =
       let none : at (has_many_entries p) (spot_of_list p) 414 ≡ [] = none_right (of_methods p (layout_breaks p))
-      (at (has_many_entries p) (spot_of_list p) 414) shaped.forms in
+      (at (has_many_entries p) (spot_of_list p) 414) forms in
       let small = or_left _ _ (none_at (has_many_entries p) (spot_of_list p) 414 none) in
       subst (λ (ks : List PoolKey). length ks ≤ 16383) (sym made.keys) (ltb-false 16383 (length (packages.pool p))
       small)
@@ -205,13 +180,9 @@ module _ (list : ListTree) (files : List (List ℕ)) (judged : Judged) (is : IsS
       → IsEmittable pool.keys (token_in pool) n narrow layout.wide) → (k : ℕ) (m : LaidMethod) → slice_get p.methods k
       ≡ Some m → IsEmittable pool.keys (token_in pool) (names p) m.code m.wide
   each_emittable law k m e =
-      let ms = s.methods in
-      let laid = shaped.laid in
-      let put = put_at ms.codes ms.laid k m (ap (λ (xs : List LaidMethod). slice_get xs k) (sym shaped.by_methods) ∙ e)
-      in
-      let one = put.one in
       let here : slice_get (codes p) k ≡ Some m.code = slice_get-map (λ (x : LaidMethod). x.code) p.methods k
       ∙ ap (option_map (λ (x : LaidMethod). x.code)) e in
-      subst (λ w. IsEmittable pool.keys (token_in pool) (names p) m.code w) (sym put.is_wide)
-      (law (names p) named k m.code here one.layout (laid.each k m.code one put.is_code put.is_laid)
-      (laid.short k m.code put.is_code))
+      let w = whole.is_package.methods k m e in
+      subst (λ v. IsEmittable pool.keys (token_in pool) (names p) m.code v) (layout_wide m.code m.wide)
+      (law (names p) named k m.code here (layout_for m.code m.wide) (layout_is m.code m.wide w.wide)
+      (short_at list files judged is p whole forms k m e))

@@ -8,21 +8,20 @@ use Rattle.cjc_list.specs.Listed.{ListTree}
 use Rattle.cjc_narrow.specs.Rows.Selected.{near_fields}
 use Rattle.cjc_shape_proof.specs.Written.Converted.{IsConverted}
 use Rattle.cjc_shape_proof.proofs.WrittenLaws.Files.{files_sound}
-use Rattle.cjc_shape_proof.proofs.WrittenLaws.Made.{all_made, is_small, short_at}
-use Rattle.cjc_shape_proof.proofs.WrittenLaws.Shaping.{has_pool, is_shaped, pool_of, shaped_for}
+use Rattle.cjc_shape_proof.proofs.WrittenLaws.Made.{all_made, is_small}
+use Rattle.cjc_shape_proof.proofs.WrittenLaws.Shaping.{has_pool, pool_of}
 use Rattle.cjc_shape_proof.proofs.written.converted_methods_are_consistent.Goals as goal
 
 made : goal.After-written_methods_are_made → (list : ListTree) (files : List (List ℕ)) (judged : Judged) (p : Package)
     → IsConverted list files judged p → AllAreMade (names p) p.files p.methods
 made c list files judged p is =
-    let shaped = is_shaped list files judged p is (short_at list files judged p is) in
     let pooled = has_pool judged.world (tokens p) (codes p) in
     let law = c.written_methods_are_made.ensures in
     let near = near_fields (pool p) in
     let rows = (let of = is.is_package in of.rows) in
     all_made list files judged p is (names p)
-    (λ k m e. (c.converted_methods_are_emittable.ensures.each list files judged is.sound (shaped_for p) p shaped
-    (pool_of judged.world (tokens p) (codes p)) pooled k m e).written)
+    (λ k m e. ((c.converted_methods_are_emittable.ensures list files judged is.sound p is.is_package is.forms
+    (pool_of judged.world (tokens p) (codes p)) pooled).each k m e).written)
     (λ m w e. law.added (names p) p.files near rows m w e)
     (λ m w class method e. law.without_code (names p) p.files near rows m w class method e)
     (λ m w code class method tree of e finds least some can. law.selected (names p) p.files near rows m w code class

@@ -1,4 +1,4 @@
-use Rattle.std.proofs.Common.{◌≡◌, ◌∙◌, IfOk, ap, map, subst}
+use Rattle.std.proofs.Common.{◌≡◌, ◌∙◌, IfOk, ap, map, subst, sym}
 use Rattle.cjc_card_semantics.specs.Machine.ByToken.{run as run_by_token}
 use Rattle.cjc_card_link.specs.Names.{class_names_of}
 use Rattle.cjc_card_frame.specs.Kinds.{cell_name_of}
@@ -7,7 +7,10 @@ use Rattle.cjc_check_index.specs.Lookup.Parts.{complete_of}
 use Rattle.cjc_components.specs.Paired.Naming.{class_names}
 use Rattle.cjc_world.specs.Classes.{all_classes}
 use Rattle.cjc_world.specs.Order.{class_order}
+use Rattle.cjc_cmd_card.proofs.ReportLaws.Free.{few_cells, few_exported, has_tokens}
 use Rattle.cjc_cmd_card.proofs.ReportLaws.Whole.{loaded_so}
+use Rattle.cjc_list.specs.Listed.{ListTree}
+use Rattle.cjc_tokens.specs.Rules.{FewExported, token_breaks}
 use Rattle.cjc_cmd_card.proofs.report.reporting.report_from.Goals as goal
 
 pub returns : goal.returns
@@ -21,3 +24,18 @@ returns c =
     named celled exported in
     subst (λ l. IfOk c.run_with.result (λ report. report ≡ run_by_token l c.args.ready.now.script c.args.n)) loaded
     c.run_with.ensures
+
+pub tokens_of-requires-clause-exported : goal.tokens_of-requires-clause-exported
+tokens_of-requires-clause-exported c =
+    let r = c.requires.ready in
+    subst (λ (l : ListTree). FewExported (has_applets l) c.args.ready.now.judged.world) r.2 (few_exported r.0 r.1
+    c.args.ready.now r.3)
+
+pub tokens_of-requires-clause-cells : goal.tokens_of-requires-clause-cells
+tokens_of-requires-clause-cells c = let r = c.requires.ready in few_cells r.0 r.1 c.args.ready.now r.3
+
+pub tokens_of-requires-clause-unbroken : goal.tokens_of-requires-clause-unbroken
+tokens_of-requires-clause-unbroken c =
+    let r = c.requires.ready in
+    let world = c.args.ready.now.judged.world in
+    ap (λ (l : ListTree). token_breaks (has_applets l) world) (sym r.2) ∙ has_tokens r.0 r.1 c.args.ready.now r.3

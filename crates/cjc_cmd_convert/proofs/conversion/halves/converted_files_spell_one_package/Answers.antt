@@ -3,12 +3,13 @@ use Rattle.cjc_cmd_convert.proofs.ConversionLaws.OneTree.{one_tree}
 use Rattle.cjc_cmd_convert.proofs.ConversionLaws.Spelt.{files_are}
 use Rattle.cjc_cmd_convert.proofs.conversion.halves.converted_files_spell_one_package.Goals as goal
 use Rattle.cjc_components.specs.Components.{components_of}
+use Rattle.cjc_shape.proofs.WholeLaws.One.{one_package}
 
 pub returns-clause-some : goal.returns-clause-some
 returns-clause-some c = λ list files made is. (is.whole, is.is_package)
 
 pub returns-clause-one : goal.returns-clause-one
-returns-clause-one c = λ list files made is p q one other. c.one_package.ensures list files is.judged is.sound p q one
+returns-clause-one c = λ list files made is p q one other. one_package list files is.judged is.sound p q one
     other
 
 pub returns-clause-files : goal.returns-clause-files
@@ -17,4 +18,4 @@ returns-clause-files c = λ list files trees spell p of. files_are list files tr
 pub returns-clause-components : goal.returns-clause-components
 returns-clause-components c = λ list files made is p of cap spelt.
     one_tree c.readings.ensures.one_tree cap (components_of is.whole) made.caps spelt is.caps_spelt
-    ∙ ap components_of (c.one_package.ensures list files is.judged is.sound is.whole p is.is_package of)
+    ∙ ap components_of (one_package list files is.judged is.sound is.whole p is.is_package of)

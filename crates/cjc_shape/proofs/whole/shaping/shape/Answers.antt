@@ -1,101 +1,113 @@
 use Rattle.std.proofs.Common.{◌≡◌, sym, ap, subst, ◌∙◌, List, length}
-use Rattle.std.specs.Prelude.{All}
+use Rattle.std.specs.Prelude.{All, map}
 use Rattle.std.proofs.lemmas.List.{length-map}
 use Rattle.std.proofs.lemmas.Result.{err_from_is_err_and}
+use Rattle.cjc_components.specs.Package.{Package}
 use Rattle.cjc_components.specs.Written.{code_at}
 use Rattle.cjc_export.specs.Written.{constants}
+use Rattle.cjc_judge.specs.declared.judged.Judged.{Judged}
 use Rattle.cjc_layout.specs.Layouts.{IsWhole}
 use Rattle.cjc_methods.specs.Layouts.Laid.{AreOf}
-use Rattle.cjc_methods.specs.Ready.{IsOwn}
+use Rattle.cjc_methods.specs.Layouts.Limits.{IsTold}
 use Rattle.cjc_narrow.specs.Rows.Selected.{near_fields}
 use Rattle.cjc_ncode.specs.PoolOrder.{pool_order}
-use Rattle.cjc_shape.proofs.PreparedLaws.Sound.{are_ready, is_unbroken}
-use Rattle.cjc_shape.proofs.WholeLaws.Drafts.{draft, is_draft, rows, rows_are}
-use Rattle.cjc_shape.proofs.WholeLaws.Ordered.{all_own}
-use Rattle.cjc_shape.proofs.WholeLaws.Second.{is_base}
-use Rattle.cjc_shape.proofs.WholeLaws.Shapes.{forms_refused, narrow_made, shaped, told, words_refused}
+use Rattle.cjc_ncode.specs.declared.narrow.NMethod.{NMethod}
+use Rattle.cjc_shape.proofs.PreparedLaws.Sound.{are_ready, few_cells, few_exported, has_tokens, no_image_break}
+use Rattle.cjc_shape.proofs.WholeLaws.Drafts.{draft, is_draft, narrow_codes, narrow_is, rows, rows_are}
+use Rattle.cjc_shape.proofs.WholeLaws.Second.{fs, is_base}
+use Rattle.cjc_shape.proofs.WholeLaws.Shapes.{forms_refused, is_narrow, selected, shaped, told, words_refused}
 use Rattle.cjc_shape.proofs.whole.shaping.shape.Goals as goal
 
-pub returns-in_err-prepared-clause-refused : goal.returns-in_err-prepared-clause-refused
-returns-in_err-prepared-clause-refused c = λ files is.
-    let list = c.args.list.now in
-    let judged = c.args.judged.now in
-    let d = draft list files judged is in
-    let base = is_base list files judged is d (is_draft list files judged is) in
-    let p = err_from_is_err_and c.from_residual.result c.from_residual.ensures.1 in
-    rw (p.1, p.2) (words_refused list files judged is c.in_err-prepared.field-0.0 (c.in_err-prepared.ensures.refused d
-    base.by_files base.by_members))
+pub tokens_of-requires-clause-exported : goal.tokens_of-requires-clause-exported
+tokens_of-requires-clause-exported c = let j = c.args.judged.now in few_exported j.list.now j.files.now j c.requires
 
-pub lay_out-requires-clause-own : goal.lay_out-requires-clause-own
-lay_out-requires-clause-own c =
-    let list = c.args.list.now in
-    let judged = c.args.judged.now in
-    let is = c.requires.1 in
-    let ready = c.in_ok-prepared.ensures.prepared in
-    subst (λ ms. All (IsOwn judged.world) ms) (sym (c.items-2.ensures ∙ c.into_parts-tokens.ensures.methods
-    ∙ ready.methods)) (all_own judged.world (is_unbroken list c.requires.0 judged is).listed)
+pub tokens_of-requires-clause-cells : goal.tokens_of-requires-clause-cells
+tokens_of-requires-clause-cells c = let j = c.args.judged.now in few_cells j.list.now j.files.now j c.requires
+
+pub tokens_of-requires-clause-unbroken : goal.tokens_of-requires-clause-unbroken
+tokens_of-requires-clause-unbroken c = let j = c.args.judged.now in has_tokens j.list.now j.files.now j c.requires
+
+pub image_of-requires : goal.image_of-requires
+image_of-requires c = let j = c.args.judged.now in no_image_break j.list.now j.files.now j c.requires
+
+pub narrow_codes-requires-clause-ready : goal.narrow_codes-requires-clause-ready
+narrow_codes-requires-clause-ready c = let j = c.args.judged.now in rw (c.items-2.ensures, c.items-3.ensures)
+    (are_ready j.list.now j.files.now j c.requires)
 
 pub lay_out-requires-clause-whole : goal.lay_out-requires-clause-whole
 lay_out-requires-clause-whole c =
-    let list = c.args.list.now in
-    let judged = c.args.judged.now in
-    let files = c.requires.0 in
-    let is = c.requires.1 in
-    let made = c.in_ok-prepared.prepared in
-    let ready = c.in_ok-prepared.ensures.prepared in
-    let own = subst (λ ms. All (IsOwn judged.world) ms) (sym ready.methods)
-    (all_own judged.world (is_unbroken list files judged is).listed) in
-    let whole = c.methods_can_be_laid_out.ensures judged.world judged.codes judged.types (are_ready list files judged
-    is) (rows list files judged is) (rows_are list files judged is) (near_fields (pool_order made.codes))
-    made.methods own in
-    subst (λ cs. All IsWhole cs) (sym (c.into_parts-tokens.ensures.codes ∙ narrow_made list files judged is made ready))
-    whole
+    let j = c.args.judged.now in
+    let list = j.list.now in
+    let files = j.files.now in
+    let members = c.in_ok-members.members in
+    let codes = c.in_ok-codes.codes in
+    let rs = rows list files j c.requires in
+    let are = rows_are list files j c.requires in
+    let by = c.in_ok-codes.ensures rs (rw (c.items-2.ensures, c.items-3.ensures) are)
+    ∙ ap (map (code_at j.world (near_fields (pool_order codes)) rs)) c.items-4.ensures in
+    subst (λ (cs : List NMethod). All IsWhole cs) (sym by) (c.methods_can_be_laid_out.ensures j.world j.codes j.types
+    (are_ready list files j c.requires) rs are (near_fields (pool_order codes)) members c.in_ok-members.ensures.own)
 
 pub lay_out-requires-clause-count : goal.lay_out-requires-clause-count
 lay_out-requires-clause-count c =
-    let list = c.args.list.now in
-    let judged = c.args.judged.now in
-    let made = c.in_ok-prepared.prepared in
-    let ready = c.in_ok-prepared.ensures.prepared in
-    ap length (c.into_parts-tokens.ensures.codes ∙ narrow_made list c.requires.0 judged c.requires.1 made ready)
-    ∙ length-map made.methods (code_at judged.world (near_fields (pool_order made.codes)) (rows list c.requires.0 judged
-    c.requires.1))
-    ∙ ap length (sym c.into_parts-tokens.ensures.methods ∙ sym c.items-2.ensures)
+    let j = c.args.judged.now in
+    let list = j.list.now in
+    let files = j.files.now in
+    let codes = c.in_ok-codes.codes in
+    let rs = rows list files j c.requires in
+    let by = c.in_ok-codes.ensures rs (rw (c.items-2.ensures, c.items-3.ensures) (rows_are list files j c.requires)) in
+    ap length by ∙ length-map c.items-4.result.now (code_at j.world (near_fields (pool_order codes)) rs)
+    ∙ ap length (c.items-4.ensures ∙ sym c.items-6.ensures)
+
+pub returns-in_err-test_words-clause-refused : goal.returns-in_err-test_words-clause-refused
+returns-in_err-test_words-clause-refused c =
+    let j = c.args.judged.now in
+    let list = j.list.now in
+    let files = j.files.now in
+    let d = draft list files j c.requires in
+    let base = is_base list files j c.requires d (is_draft list files j c.requires) in
+    let e = err_from_is_err_and c.from_residual-in_err-test_words.result c.from_residual-in_err-test_words.ensures.1 in
+    rw (e.1, e.2) (words_refused list files j c.requires _ (c.in_err-test_words.ensures.refused d base.by_files
+    (base.by_members ∙ sym (c.items.ensures ∙ c.in_ok-members.ensures.made))))
 
 pub returns-in_err-methods-clause-refused : goal.returns-in_err-methods-clause-refused
-returns-in_err-methods-clause-refused c = λ files is.
-    let list = c.args.list.now in
-    let judged = c.args.judged.now in
-    let d = draft list files judged is in
-    let base = is_base list files judged is d (is_draft list files judged is) in
-    let made = c.in_ok-prepared.prepared in
-    let ready = c.in_ok-prepared.ensures.prepared in
-    let p = err_from_is_err_and c.from_residual-in_err-methods.result c.from_residual-in_err-methods.ensures.1 in
-    let is_told = told list files judged is made ready c.items.result.now c.items-2.result.now
-    c.into_parts-tokens.result.3 c.in_ok-exported.exported
-    (sym c.items.ensures) (sym c.into_parts-tokens.ensures.methods ∙ sym c.items-2.ensures)
-    (sym c.into_parts-tokens.ensures.codes)
+returns-in_err-methods-clause-refused c =
+    let j = c.args.judged.now in
+    let list = j.list.now in
+    let files = j.files.now in
+    let d = draft list files j c.requires in
+    let base = is_base list files j c.requires d (is_draft list files j c.requires) in
+    let codes = c.in_ok-codes.codes in
+    let rs = rows list files j c.requires in
+    let narrow = is_narrow list files j c.requires c.items-4.result.now codes (c.items-4.ensures
+    ∙ c.in_ok-members.ensures.made) (c.in_ok-codes.ensures rs (rw (c.items-2.ensures, c.items-3.ensures)
+    (rows_are list files j c.requires))) in
+    let is_told = told list files j c.requires c.items-5.result.now c.items-6.result.now codes c.in_ok-exported.exported
+    (sym c.items-5.ensures) (c.items-6.ensures ∙ c.in_ok-members.ensures.made) narrow
     (c.in_ok-exported.ensures ∙ ap (λ t. length (constants t)) (c.in_ok-export.ensures d base.by_list base.by_files)) in
-    rw (p.1, p.2) (forms_refused list files judged is c.in_err-methods.field-0.0 (c.in_ok-prepared.ensures.unbroken d
-    base.by_files base.by_members) (c.in_err-methods.ensures.refused d is_told))
+    let none = c.in_ok-test_words.ensures.unbroken d base.by_files (base.by_members ∙ sym (c.items.ensures
+    ∙ c.in_ok-members.ensures.made)) in
+    let e = err_from_is_err_and c.from_residual-in_err-methods.result c.from_residual-in_err-methods.ensures.1 in
+    rw (e.1, e.2) (forms_refused list files j c.requires _ none (c.in_err-methods.ensures.refused d is_told))
 
 pub returns-clause-shaped : goal.returns-clause-shaped
-returns-clause-shaped c = λ files is.
-    let list = c.args.list.now in
-    let judged = c.args.judged.now in
-    let d = draft list files judged is in
-    let base = is_base list files judged is d (is_draft list files judged is) in
-    let made = c.in_ok-prepared.prepared in
-    let ready = c.in_ok-prepared.ensures.prepared in
-    let is_told = told list files judged is made ready c.items.result.now c.items-2.result.now
-    c.into_parts-tokens.result.3 c.in_ok-exported.exported
-    (sym c.items.ensures) (sym c.into_parts-tokens.ensures.methods ∙ sym c.items-2.ensures)
-    (sym c.into_parts-tokens.ensures.codes)
+returns-clause-shaped c =
+    let j = c.args.judged.now in
+    let list = j.list.now in
+    let files = j.files.now in
+    let d = draft list files j c.requires in
+    let base = is_base list files j c.requires d (is_draft list files j c.requires) in
+    let codes = c.in_ok-codes.codes in
+    let rs = rows list files j c.requires in
+    let narrow = is_narrow list files j c.requires c.items-4.result.now codes (c.items-4.ensures
+    ∙ c.in_ok-members.ensures.made) (c.in_ok-codes.ensures rs (rw (c.items-2.ensures, c.items-3.ensures)
+    (rows_are list files j c.requires))) in
+    let members = c.items-6.ensures ∙ c.in_ok-members.ensures.made in
+    let is_told = told list files j c.requires c.items-5.result.now c.items-6.result.now codes c.in_ok-exported.exported
+    (sym c.items-5.ensures) members narrow
     (c.in_ok-exported.ensures ∙ ap (λ t. length (constants t)) (c.in_ok-export.ensures d base.by_list base.by_files)) in
-    let are : AreOf judged.world made.methods made.codes c.in_ok-methods.methods =
-    subst (λ cs. AreOf judged.world made.methods cs c.in_ok-methods.methods) c.into_parts-tokens.ensures.codes
-    (subst (λ ms. AreOf judged.world ms c.into_parts-tokens.result.3 c.in_ok-methods.methods) (c.items-2.ensures
-    ∙ c.into_parts-tokens.ensures.methods) c.in_ok-methods.ensures.laid) in
-    shaped list files judged is made ready _ c.into_parts-tokens.ensures.tokens c.into_parts-tokens.ensures.image are
-    (λ p e f. c.in_ok-export.ensures p e f)
-    (c.in_ok-prepared.ensures.unbroken d base.by_files base.by_members) (c.in_ok-methods.ensures.unbroken d is_told)
+    let none = c.in_ok-test_words.ensures.unbroken d base.by_files (base.by_members ∙ sym (c.items.ensures
+    ∙ c.in_ok-members.ensures.made)) in
+    shaped j c.requires _ c.items-6.result.now codes members narrow c.in_ok-tokens.ensures c.in_ok-image.ensures
+    c.in_ok-methods.ensures.laid (λ p e f. c.in_ok-export.ensures p e f) none (c.in_ok-methods.ensures.unbroken d
+    is_told)

@@ -3,11 +3,11 @@ use Rattle.cjc_shape.proofs.PreparedLaws.Sound.{is_tested}
 use Rattle.cjc_shape_proof.proofs.WrittenLaws.WholeLaws.Emittable.{each_emittable, pooled}
 use Rattle.cjc_shape_proof.proofs.written.whole_laws.converted_methods_are_emittable.Goals as goal
 
-pub returns-clause-keys : goal.returns-clause-keys
-returns-clause-keys c = λ list files judged is s p shaped pool made. made.keys
-
-pub returns-clause-each : goal.returns-clause-each
-returns-clause-each c = λ list files judged is s p shaped pool made.
-    each_emittable list files judged is s p shaped pool made
-    (c.pooled_methods_are_emittable.ensures.emittable list files judged (is_tested list files judged is) (has_applets p)
-    (codes p) pool (pooled list files judged is s p shaped pool made))
+pub returns : goal.returns
+returns c = λ list files judged is p whole forms pool made.
+    record {
+      keys = made.keys;
+      each = each_emittable list files judged is p whole forms pool made
+          (c.pooled_methods_are_emittable.ensures.emittable list files judged (is_tested list files judged is)
+          (has_applets p) (codes p) pool (pooled list files judged is p whole forms pool made));
+    }

@@ -1,0 +1,5 @@
+pub mod Shapes
+pub mod Stops
+pub mod Handlers
+pub mod Judging
+pub mod Makes

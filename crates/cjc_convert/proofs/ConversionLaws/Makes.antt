@@ -1,0 +1,52 @@
+-- What is written for a package that breaks no rule, and which rule stops it.
+use Rattle.std.proofs.Common.{◌≡◌, ◌∙◌, [], None, Option, Some, ap, inl, inr, subst, sym, ◌⊎◌, ℕ, List}
+use Rattle.cjc_bytes.specs.Breaks.{IsFirstRefusal}
+use Rattle.cjc_bytes.specs.Format.{FileSpells}
+use Rattle.cjc_bytes.specs.Refused.{refusal}
+use Rattle.cjc_bytes.specs.declared.fault.Fault.{Fault}
+use Rattle.cjc_bytes.specs.declared.fault.Fault.TheVariants as faults
+use Rattle.cjc_capwrite.specs.Files.{files_of, limit_of}
+use Rattle.cjc_capwrite.specs.Writable.{IsSpelt}
+use Rattle.cjc_components.specs.Components.{components_of}
+use Rattle.cjc_components.specs.Limits.{size_breaks}
+use Rattle.cjc_convert.proofs.ConversionLaws.Shapes.{its_draft}
+use Rattle.cjc_convert.proofs.ConversionLaws.Stops.{keeps_limits, stopped_by_sizes}
+use Rattle.cjc_convert.specs.Conversion.{IsConverted}
+use Rattle.cjc_convert.specs.declared.conversion.Converted.{Converted}
+use Rattle.cjc_export.specs.ExportFile.{export_file}
+use Rattle.cjc_export.specs.Written.{written}
+use Rattle.cjc_export.specs.declared.tree.ExportTree.{ExportTree}
+use Rattle.cjc_judge.specs.declared.judged.Judged.{Judged}
+use Rattle.cjc_shape.specs.Prepared.{BreaksNothing}
+use Rattle.cjc_shape.specs.Whole.Working.Shaped.{IsShaped, Stopped, package_of}
+use Rattle.cjc_shape.specs.declared.whole.shaping.Shaped.{Shaped}
+
+module _ (j : Judged) (s : Shaped) (is : BreaksNothing j) (h : IsShaped j s) where
+  pub by_sizes : (e : Fault) → IsFirstRefusal (size_breaks (package_of j s)) e → Stopped j.list.now j.files.now e
+  by_sizes = stopped_by_sizes j.list.now j.files.now j is (package_of j s) h.is_package (its_draft j s h) h.words
+      h.forms
+
+  module _ (small : size_breaks (package_of j s) ≡ []) where
+    pub converted : (made : Converted) → made.caps ≡ files_of (components_of (package_of j s))
+        → IsSpelt (components_of (package_of j s)) made.caps → made.export ≡ written s.export
+        → FileSpells export_file s.export made.export → IsConverted j.list.now j.files.now made
+    converted made caps spelt export file = let by = is.judged_by in record {
+      unbroken = by.unbroken;
+      whole = package_of j s;
+      is_package = h.is_package;
+      limits = keeps_limits j.list.now j.files.now j is (package_of j s) h.is_package (its_draft j s h) h.words h.forms
+          small;
+      caps = caps;
+      caps_spelt = spelt;
+      export = export ∙ ap written h.by_export;
+      export_spelt = subst (λ (t : ExportTree). FileSpells export_file t made.export) h.by_export file;
+      judged = j;
+      sound = is;
+    }
+
+-- a tree that keeps the limits is refused for want of memory alone
+pub only_memory : (rule : Option ℕ) (list : List ℕ) (e : Fault) → rule ≡ None
+    → (e ≡ faults.NoMemory) ⊎ ((r : ℕ) × (rule ≡ Some r) × (e ≡ faults.Refused (refusal list r 0)))
+    → e ≡ faults.NoMemory
+only_memory rule list e none (inl memory) = memory
+only_memory rule list e none (inr broken) = absurd (let z : None ≡ Some broken.0 = sym none ∙ broken.1 in cc)

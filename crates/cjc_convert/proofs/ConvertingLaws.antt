@@ -1,4 +1,0 @@
-pub mod Shapes
-pub mod Stops
-pub mod Handlers
-pub mod Results

@@ -1,8 +1,0 @@
--- What a result keeps.
-use Rattle.std.specs.Prelude.{Result, Ok, Err, IfOk}
-
--- two facts of the value in an Ok make a third
-pub both : {X Y : Type 0} (r : Result X Y) (P Q R : X → Type 0) → ((x : X) → P x → Q x → R x) → IfOk r P → IfOk r Q
-    → IfOk r R
-both (Ok x) P Q R f p q = f x p q
-both (Err e) P Q R f p q = tt

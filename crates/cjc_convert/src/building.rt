@@ -1,0 +1,121 @@
+//! All components of a package whose methods are laid out, as one tree: its pool, Method with ReferenceLocation, and
+//! then the rest. Called by `conversion`.
+
+ghost use Rattle.std.specs.Prelude.{◌≡◌, [], length, map, IfErr, IfOk, OnOk};
+ghost use Rattle.cjc_bytes.specs.Breaks.{IsFirstRefusal};
+ghost use Rattle.cjc_classes.specs.Descriptor.Fits.{AreFit};
+ghost use Rattle.cjc_components.specs.Components.{components_of, method, reference_location};
+ghost use Rattle.cjc_components.specs.Limits.{size_breaks};
+ghost use Rattle.cjc_components.specs.Methods.{placed_methods};
+ghost use Rattle.cjc_components.specs.Package as packages;
+ghost use Rattle.cjc_judge.specs.Spelt.{IsRead};
+ghost use Rattle.cjc_pool.specs.Pool.{IsPool};
+ghost use Rattle.cjc_shape.specs.Prepared.{BreaksNothing};
+ghost use Rattle.cjc_shape.specs.Whole.Working.Shaped.{IsShaped, package_of};
+
+use crate::sizes::test_sizes;
+use cjc_bytes::{Fault, NoMemory};
+use cjc_capread::CapTree;
+use cjc_captree::extents::extents;
+use cjc_captree::trees::{Given, components};
+use cjc_classes::key_tokens::key_tokens;
+use cjc_judge::Judged;
+use cjc_methods::component::{Written, method_component};
+use cjc_methods::layouts::offsets;
+use cjc_ncode::PoolKey;
+use cjc_order::classes::class_order;
+use cjc_pool::Pool;
+use cjc_shape::whole::Shaped;
+use cjc_shape_proof::writing::aids_are_short;
+use cjc_shape_proof::written::{
+    converted_classes_are_ordered, converted_methods_are_emittable, static_images_fit,
+};
+use std::alloc::Global;
+
+/// The constant pool of methods that are few enough for one.
+fn pool_of(alloc: Global, judged: &Judged<'_>, shaped: &Shaped) -> Result<Pool, NoMemory>
+    ensures { IfOk result (IsPool judged.now.world shaped.now.tokens shaped.now.methods.codes) }
+{
+    match cjc_pool::build(
+        alloc,
+        judged.list.name.items(),
+        &judged.world,
+        &shaped.tokens,
+        &shaped.methods.codes,
+    ) {
+        Ok(pool) => Ok(pool),
+        Err(_) => Err(NoMemory),
+    }
+}
+
+/// The components of a package, whose pool has these keys and whose methods stand at these offsets and are written so.
+fn components_with(
+    alloc: Global,
+    judged: &Judged<'_>,
+    shaped: &Shaped,
+    keys: &[PoolKey],
+    offsets: &[u32],
+    written: Written,
+) -> Result<CapTree, NoMemory>
+    requires sound { BreaksNothing judged.now }
+    requires shaped { IsShaped judged.now shaped.now }
+    requires fit { AreFit shaped.now.image }
+    requires keys { keys.now ≡ packages.pool (package_of judged.now shaped.now) }
+    requires count { length offsets.now ≡ length shaped.now.methods.codes }
+    requires offsets { offsets.now ≡ map (λ q. q.offset) (placed_methods (package_of judged.now shaped.now)) }
+    requires method { written.method ≡ method (package_of judged.now shaped.now) }
+    requires locations { written.locations ≡ reference_location (package_of judged.now shaped.now) }
+    ensures { IfOk result (λ t. t ≡ components_of (package_of judged.now shaped.now)) }
+{
+    converted_classes_are_ordered();
+    let extents = extents(alloc, &judged.world, &shaped.methods, offsets)?;
+    let tokens = key_tokens(alloc, &judged.world, &shaped.tokens, keys)?;
+    let order = class_order(alloc, &judged.world, false)?;
+    let given = Given {
+        list: judged.list,
+        world: &judged.world,
+        tokens: &shaped.tokens,
+        order: order.items(),
+        image: &shaped.image,
+        keys,
+        key_tokens: tokens.items(),
+        extents: extents.items(),
+    };
+    components(alloc, &given, written.method, written.locations)
+}
+
+/// The components of a package that breaks none of the rules of its files and of 417, 311, 414 and 415.
+///
+/// # Errors
+///
+/// 411 or 416, whichever is the first broken one.
+pub(crate) fn build(alloc: Global, judged: &Judged<'_>, shaped: &Shaped) -> Result<CapTree, Fault>
+    requires read { IsRead judged.now.list.now }
+    requires sound { BreaksNothing judged.now }
+    requires shaped { IsShaped judged.now shaped.now }
+    ensures made { IfOk result (λ t. t ≡ components_of (package_of judged.now shaped.now)) }
+    ensures unbroken { OnOk result (size_breaks (package_of judged.now shaped.now) ≡ []) }
+    ensures refused { IfErr result (IsFirstRefusal (size_breaks (package_of judged.now shaped.now))) }
+{
+    aids_are_short();
+    static_images_fit();
+    converted_methods_are_emittable();
+    let pool = pool_of(alloc, judged, shaped)?;
+    let offsets = offsets(alloc, &shaped.methods)?;
+    let written = method_component(alloc, &shaped.methods, offsets.items(), &pool)?;
+    let cap = components_with(
+        alloc,
+        judged,
+        shaped,
+        pool.keys().items(),
+        offsets.items(),
+        written,
+    )?;
+    test_sizes(
+        alloc,
+        judged.list.name.items(),
+        shaped.methods.codes.items(),
+        &cap,
+    )?;
+    Ok(cap)
+}
