@@ -1,8 +1,10 @@
 pub mod Listing
 pub mod Standing
+pub mod Got
 pub mod Promising
 pub mod OneStatus
 pub mod Tested
 pub mod Ran
 pub mod CardRan
 pub mod Summed
+pub mod Versions
