@@ -38,7 +38,7 @@ class Help(unittest.TestCase):
             run = jcconv(*words)
             self.assertEqual((run.status, run.out), (1, ""))
             self.assertEqual(run.err, "jcconv: there is no word what; there are: convert, check, jvm, card, make,"
-                                      " explain, pack, unpack, advise\n")
+                                      " compat, explain, pack, unpack, advise\n")
 
     def test_words_that_stand_alone(self):
         for words in (["--help", "pack"], ["-h", "-h"], ["--version", "now"], ["--prove", "now"], ["--prove", "-h"]):
@@ -71,7 +71,7 @@ class Help(unittest.TestCase):
     def test_forms_are_those_of_the_program(self):
         page = read(TOP, "docs", "COMMANDS.md").decode()
         usage = re.search(r"`usage: jcconv (.*?)`", page)[1]
-        forms = [helping.WORDS[word][0] for word in ("convert", "check", "jvm", "card", "make")]
+        forms = [helping.WORDS[word][0] for word in ("convert", "check", "jvm", "card", "make", "compat")]
         self.assertEqual(usage.split(", "), forms)
 
 
@@ -101,7 +101,7 @@ class Completion(unittest.TestCase):
         return Run(["bash", "-c", script, "-", *typed], TOP).out.split()
 
     def test_words(self):
-        self.assertEqual(self.words("./jcconv", "c"), ["convert", "check", "card"])
+        self.assertEqual(self.words("./jcconv", "c"), ["convert", "check", "card", "compat"])
         self.assertEqual(set(helping.WORDS) - set(self.words("./jcconv", "")), set())
         self.assertEqual(self.words("./jcconv", "help", "un"), ["unpack"])
 
