@@ -4,14 +4,15 @@ use Rattle.std.proofs.Common.{take, drop, get_or, map, Option, Some, None, refl,
 use Rattle.std.proofs.Common.{arith, drop-cons, add-one, add-zero}
 use Rattle.std.proofs.lemmas.List.{append-nil, drop_all, map-append, take_at, length-append, length-drop, get_or-drop}
 use Rattle.std.proofs.lemmas.List.{drop-drop, take_all, length-map}
-use Rattle.std.proofs.Math.Seq.{take-suc}
+use Rattle.std.proofs.Math.Seq.{take-suc, get_or-append_seam}
+use Rattle.cjc_bytes.specs.declared.descriptor.Kind.{Kind}
 use Rattle.cjc_bytes.specs.declared.descriptor.Role.{Role}
 use Rattle.cjc_bytes.specs.declared.descriptor.Role.TheVariants as roles
 use Rattle.cjc_bytes.specs.Descriptor.{Part, Parts, part_at, base_kind, IsName, last, more, IsClassName, simple, inside}
 use Rattle.cjc_bytes.specs.Descriptor.{IsType, base, object, array, AreTypes, none, next, IsResult, value, nothing}
 use Rattle.cjc_bytes.specs.Descriptor.{IsDescriptor, field, method, IsLongestStart}
-use Rattle.cjc_bytes.specs.Spots.{role_of, cut_by, types_from, types, part_of, gathered, begins_method, parts_of}
-use Rattle.cjc_bytes.specs.Spots.{bad_at, where_none, desc_of}
+use Rattle.cjc_bytes.specs.Spots.{role_of, cut_by, types_from, types, part_of, part_by, gathered, begins_method}
+use Rattle.cjc_bytes.specs.Spots.{parts_of, bad_at, where_none, desc_of}
 use Rattle.cjc_bytes.specs.declared.descriptor.ParseState.TheVariants as spots
 use Rattle.cjc_bytes.proofs.DescriptorRead.{differs, byte_differs, is_descriptor, descriptor_reads, start_of, no_longer}
 
@@ -283,6 +284,50 @@ part_is_at bytes i good le =
     let are : map part_of (types bytes) ≡ d.params ++ d.result ∷ [] = types_are (parts_found bytes good) in
     let lt : i < length (types bytes) = omega (arith, types_count bytes good) in
     ap (λ (q : List Part). get_or q i d.result) (sym are) ∙ get_or-map (types bytes) i d.result lt
+
+-- the result as the last of so many types
+pub part_last : (bytes : List ℕ) (n : ℕ) → bad_at spots.Start bytes ≡ None → n ≡ length (types bytes)
+    → part_of (get_or (types bytes) (n - 1) []) ≡ (parts_of bytes).result
+part_last bytes n good many =
+    let d : Parts = parts_of bytes in
+    let are : map part_of (types bytes) ≡ d.params ++ d.result ∷ [] = types_are (parts_found bytes good) in
+    let lt : n - 1 < length (types bytes) = omega (arith, types_count bytes good) in
+    let at : n - 1 ≡ length d.params = omega (arith, types_count bytes good) in
+    sym (get_or-map (types bytes) (n - 1) d.result lt)
+    ∙ ap (λ (q : List Part). get_or q (n - 1) d.result) are
+    ∙ ap (λ (k : ℕ). get_or (d.params ++ d.result ∷ []) k d.result) at
+    ∙ get_or-append_seam d.params d.result [] d.result
+
+-- ---- the types that are still to come
+
+pub parts_all : (bytes : List ℕ) (n : ℕ) → bad_at spots.Start bytes ≡ None → n ≡ length (types bytes)
+    → take n (map part_of (types bytes)) ≡ (parts_of bytes).params ++ (parts_of bytes).result ∷ []
+parts_all bytes n good many =
+    take_all n (map part_of (types bytes)) (omega (arith, length-map (types bytes) part_of))
+    ∙ types_are (parts_found bytes good)
+
+pub parts_before : (bytes : List ℕ) (n : ℕ) → bad_at spots.Start bytes ≡ None → n ≡ length (types bytes)
+    → take (n - 1) (map part_of (types bytes)) ≡ (parts_of bytes).params
+parts_before bytes n good many =
+    let d : Parts = parts_of bytes in
+    let at : length d.params ≡ n - 1 = omega (arith, types_count bytes good) in
+    ap (take (n - 1)) (types_are (parts_found bytes good)) ∙ take_at d.params (d.result ∷ []) (n - 1) at
+
+pub part_first : (all behind : List (List ℕ)) (first class : List ℕ) (kind : Kind) (n : ℕ) → all ≡ first ∷ behind
+    → 0 < n → kind ≡ (part_of first).kind → class ≡ (part_of first).class
+    → take n (map part_of all) ≡ part_by kind class ∷ take (n - 1) (map part_of behind)
+part_first all behind first class kind n is some of_kind of_class =
+    let more : n ≡ suc (n - 1) = omega arith in
+    let same : part_of first ≡ part_by kind class = rw (of_kind, of_class) refl in
+    ap (λ (q : List (List ℕ)). take n (map part_of q)) is
+    ∙ ap (λ (k : ℕ). take k (part_of first ∷ map part_of behind)) more
+    ∙ ap (λ (p : Part). p ∷ take (n - 1) (map part_of behind)) same
+
+pub types_left : (all behind : List (List ℕ)) (first : List ℕ) (n : ℕ) → all ≡ first ∷ behind → n ≤ length all
+    → n - 1 ≤ length behind
+types_left all behind first n is le =
+    let many : length all ≡ suc (length behind) = ap length is in
+    omega arith
 
 gathered_method : (is_method : Bool) (ps : List Part) → (gathered is_method ps).is_method ≡ is_method
 gathered_method is_method [] = refl

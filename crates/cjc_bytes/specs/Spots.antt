@@ -1,6 +1,7 @@
 -- Reading a descriptor byte by byte, and its parts as functions of its bytes.
 use Rattle.std.specs.Prelude.{ℕ, suc, ◌-◌, Bool, true, false, ◌==◌, if◌then◌else◌, List, [], ◌∷◌, ◌++◌, map, length}
 use Rattle.std.specs.Prelude.{take, Option, Some, None, option_map, unwrap_or}
+use Rattle.cjc_bytes.specs.declared.descriptor.Kind.{Kind}
 use Rattle.cjc_bytes.specs.declared.descriptor.Kind.TheVariants as kinds
 use Rattle.cjc_bytes.specs.declared.descriptor.Role.{Role}
 use Rattle.cjc_bytes.specs.declared.descriptor.Role.TheVariants as roles
@@ -82,6 +83,10 @@ part_of (b ∷ bs) =
     if b == 91 then record { kind = kinds.Ref; class = b ∷ bs }
     else if b == 76 then record { kind = kinds.Ref; class = take (length bs - 1) bs }
     else plain (unwrap_or (base_kind b) kinds.Void)
+
+-- a type by its kind and its class
+abbrev pub part_by : Kind → (class : List ℕ) → Part
+part_by kind class = record { kind = kind; class = class }
 
 -- the parameters, and the last as the result
 abbrev pub gathered : Bool → List Part → Parts

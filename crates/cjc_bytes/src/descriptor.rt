@@ -1,8 +1,8 @@
 //! Descriptors of fields and methods (Java Virtual Machine Specification, sections 4.3.2 and 4.3.3): which
 //! bytes are one, and what its types are. Nothing here takes memory.
 
-ghost use Rattle.std.specs.Prelude.{◌≡◌, ◌<◌, ◌≤◌, ◌^◌, ◌∷◌, false, List, [], length, get_or, ℕ, MatchResult, IfOk};
-ghost use Rattle.std.specs.Prelude.{IfErr};
+ghost use Rattle.std.specs.Prelude.{◌≡◌, ◌<◌, ◌≤◌, ◌^◌, ◌∷◌, ◌++◌, false, List, [], length, get_or, ℕ, MatchResult};
+ghost use Rattle.std.specs.Prelude.{IfOk, IfErr};
 ghost use Rattle.cjc_bytes.specs.declared.descriptor.ParseState.TheVariants as spots;
 ghost use Rattle.cjc_bytes.specs.Descriptor.{Parts, part_at, base_kind, is_name_byte, IsDescriptor, IsLongestStart};
 ghost use Rattle.cjc_bytes.specs.Spots.{behind_type, type_begun, after, end_at, bad_at, role_of, types, part_of};
@@ -103,6 +103,81 @@ impl<'a> Desc<'a> {
         ensures { result.now ≡ (part_at self.now i).class }
     {
         class_of(type_at(self.bytes, i))
+    }
+
+    /// The types of the parameters, in order.
+    #[tactic(auto, using(crate::proofs::DescriptorTypes::parts_before, crate::proofs::DescriptorTypes::types_count))]
+    pub fn parameters(&self) -> Types<'a>
+        ensures parameters { result ≡ self.now.params }
+        ensures few { length self.now.params < 2 ^ 32 }
+    {
+        Types {
+            rest: self.bytes,
+            left: count_types(self.bytes) - 1,
+        }
+    }
+
+    /// The types of the parameters, and then of the result.
+    #[tactic(auto, using(crate::proofs::DescriptorTypes::parts_all))]
+    pub fn types(&self) -> Types<'a>
+        ensures { result ≡ self.now.params ++ self.now.result ∷ [] }
+    {
+        Types {
+            rest: self.bytes,
+            left: count_types(self.bytes),
+        }
+    }
+
+    /// The kind and the class of the result; of a field's descriptor, of its type.
+    #[tactic(auto, using(crate::proofs::DescriptorTypes::part_last, crate::proofs::DescriptorTypes::types_count))]
+    pub fn result_type(&self) -> (Kind, &'a [u8])
+        ensures kind { result.0 ≡ self.now.result.kind }
+        ensures class { result.1.now ≡ self.now.result.class }
+    {
+        let last = type_at(self.bytes, count_types(self.bytes) - 1);
+        (kind_of(last), class_of(last))
+    }
+}
+
+/// The types of a descriptor that are still to come: of each its kind, and its class, which is the name of a class
+/// type, the whole descriptor of an array type, or no bytes.
+#[derive(Drop)]
+pub struct Types<'a> {
+    rest: &'a [u8],
+    left: u32,
+}
+
+impl<'a> Model for Types<'a> {
+    ghost use Rattle.std.specs.Prelude.{◌≤◌, List, length, map, take};
+    ghost use Rattle.cjc_bytes.specs.Descriptor.{Part};
+    ghost use Rattle.cjc_bytes.specs.Spots.{part_of, types};
+
+    ghost Value = { List Part };
+
+    ghost view = { λ t. take t.left (map part_of (types t.rest.now)) };
+
+    ghost invariant = { λ t. t.left ≤ length (types t.rest.now) };
+}
+
+impl<'a> Iterator for Types<'a> {
+    ghost use Rattle.std.specs.Iterator.{YieldsFirstBy, item_count};
+    ghost use Rattle.cjc_bytes.specs.Spots.{part_by};
+
+    type Item = (Kind, &'a [u8]);
+
+    ghost next_gives = { YieldsFirstBy (λ one. part_by one.0 one.1.now) (λ rest. rest) };
+
+    ghost remaining = { item_count (λ rest. rest) };
+
+    #[tactic(auto, using(crate::proofs::DescriptorTypes::part_first, crate::proofs::DescriptorTypes::types_left))]
+    fn next(&mut self) -> Option<(Kind, &'a [u8])> {
+        if self.left == 0 {
+            return None;
+        }
+        let (first, rest) = first_type(self.rest);
+        self.rest = rest;
+        self.left -= 1;
+        Some((kind_of(first), class_of(first)))
     }
 }
 

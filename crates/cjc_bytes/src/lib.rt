@@ -18,7 +18,7 @@ pub use breaks::{
     Break, BrokenAt, Part, PlaceRef, RulePlace, answer, broken, first, refusal, refused, refused_at,
 };
 pub use cursor::Cursor;
-pub use descriptor::{BadDesc, Desc, Kind, descriptors};
+pub use descriptor::{BadDesc, Desc, Kind, Types, descriptors};
 pub use fault::{Fault, MemberId, Place, Refusal, Rule};
 pub use flags::{
     ACC_ABSTRACT, ACC_ANNOTATION, ACC_ENUM, ACC_FINAL, ACC_INTERFACE, ACC_NATIVE, ACC_PRIVATE,

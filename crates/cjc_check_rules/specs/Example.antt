@@ -66,6 +66,7 @@ exported_class token name supers = record {
   token = token;
   flags = 0x0001;
   name = name;
+  listed = supers;
   supers = supers;
   interfaces = [];
   fields = [];

@@ -129,6 +129,7 @@ export_class p c = let w = world p in record {
   token = unwrap_or (token_of_class (tokens p) c.number) 0xFF;
   flags = class_flags w c;
   name = c.name;
+  listed = superclasses w c;
   supers = superclasses w c;
   interfaces = interfaces w c;
   fields = fields_from p c 0 (fields_of p.files c);

@@ -47,8 +47,8 @@ class_tree_fit : (before : List ExportClass) (c : ExportClass) → ClassFits bef
 unfolding class_tree_needs
 class_tree_fit before c h =
     all_append ConstantFits (class_needs c.name) _ (class_fit c.name h.name)
-    (all_append ConstantFits (flat_map class_needs c.supers) _ (all_of_each class_needs ConstantFits IsText class_fit
-    c.supers h.supers)
+    (all_append ConstantFits (flat_map class_needs c.listed) _ (all_of_each class_needs ConstantFits IsText class_fit
+    c.listed h.listed)
     (all_append ConstantFits (flat_map class_needs c.interfaces) _ (all_of_each class_needs ConstantFits IsText
     class_fit c.interfaces h.interfaces)
     (all_append ConstantFits (flat_map field_needs c.fields) (flat_map method_needs c.methods) (all_after field_needs
@@ -110,12 +110,12 @@ module _ (t : ExportTree) (pool : List Constant) where
   unfolding class_tree_needs
   class_tree_named c h =
       let a = all_back (Has pool) (class_needs c.name) _ h in
-      let b = all_back (Has pool) (flat_map class_needs c.supers) _ a in
+      let b = all_back (Has pool) (flat_map class_needs c.listed) _ a in
       let d = all_back (Has pool) (flat_map class_needs c.interfaces) _ b in
       all_append (NameIn t pool) (class_needs c.name) _ (class_named c.name (all_front (Has pool) (class_needs c.name) _
       h))
-      (all_append (NameIn t pool) (flat_map class_needs c.supers) _ (all_mapped class_needs (Has pool) (NameIn t pool)
-      class_named c.supers (all_front (Has pool) (flat_map class_needs c.supers) _ a))
+      (all_append (NameIn t pool) (flat_map class_needs c.listed) _ (all_mapped class_needs (Has pool) (NameIn t pool)
+      class_named c.listed (all_front (Has pool) (flat_map class_needs c.listed) _ a))
       (all_append (NameIn t pool) (flat_map class_needs c.interfaces) _ (all_mapped class_needs (Has pool)
       (NameIn t pool) class_named c.interfaces (all_front (Has pool) (flat_map class_needs c.interfaces) _ b))
       (all_append (NameIn t pool) (flat_map field_needs c.fields) (flat_map method_needs c.methods)

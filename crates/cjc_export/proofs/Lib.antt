@@ -3,6 +3,7 @@ pub mod Grown
 pub mod Adding
 pub mod Putting
 pub mod Numbering
+pub mod Rooted
 pub mod Fitting
 pub mod Spelling
 pub mod Worth

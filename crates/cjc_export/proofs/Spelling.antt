@@ -34,6 +34,7 @@ use Rattle.cjc_export.specs.Members.{is_unbound, method_token_wrong, class_metho
 use Rattle.cjc_export.specs.Members.{interface_name_at, interface_method, method}
 use Rattle.cjc_export.specs.ExportFile.{minor_version, class_token, new_name, new_name_at, method_count, class_tree}
 use Rattle.cjc_export.specs.ExportFile.{front_part, export_file}
+use Rattle.cjc_export.specs.Root.{with_root}
 use Rattle.cjc_export.specs.Constant.{Constant, text, integer, class, this}
 use Rattle.cjc_export.specs.Written.{value_name, class_needs, value_needs, field_needs, method_needs, class_tree_needs}
 use Rattle.cjc_export.specs.Written.{needs, constants, index_of, index_bytes, class_ref, value_bytes, field_bytes}
@@ -792,6 +793,30 @@ module _ (t : ExportTree) (w : IsWritable t) (start : ℕ) where
     fields : EachAfter FieldFits [] c.fields
     count : method_count (is_interface c.flags) (length c.methods) ≡ Some (length c.methods)
     methods : EachAfter (MethodStands (is_interface c.flags) (length c.methods)) [] c.methods
+    supers : c.supers ≡ with_root c.name c.listed
+
+  -- what is read is the class, whose superclasses are those that it lists with java/lang/Object
+  as_read : (c : ExportClass) → c.supers ≡ with_root c.name c.listed
+      → (let read : ExportClass = record {
+        token = c.token;
+        flags = c.flags;
+        name = c.name;
+        listed = c.listed;
+        supers = with_root c.name c.listed;
+        interfaces = c.interfaces;
+        fields = c.fields;
+        methods = c.methods;
+      } in read ≡ c)
+  as_read c e = ap (λ (supers : List (List ℕ)). let read : ExportClass = record {
+    token = c.token;
+    flags = c.flags;
+    name = c.name;
+    listed = c.listed;
+    supers = supers;
+    interfaces = c.interfaces;
+    fields = c.fields;
+    methods = c.methods;
+  } in read) (sym e)
 
   -- behind the interfaces
   members_spell : (at : ℕ) (c : ExportClass) → FieldsFit c → AllByRecursion (Has pool) (flat_map field_needs c.fields)
@@ -803,7 +828,8 @@ module _ (t : ExportTree) (w : IsWritable t) (start : ℕ) where
         token = c.token;
         flags = c.flags;
         name = c.name;
-        supers = c.supers;
+        listed = c.listed;
+        supers = with_root c.name c.listed;
         interfaces = c.interfaces;
         fields = fields;
         methods = methods;
@@ -841,7 +867,7 @@ module _ (t : ExportTree) (w : IsWritable t) (start : ℕ) where
                   pool (MethodStands (is_interface c.flags) (length c.methods))
                   (method_spells (is_interface c.flags) (length c.methods))
                   (at + 2 + length (flat_map (field_bytes pool) c.fields) + 2) [] c.methods h.methods k,
-              (refl, refl),
+              (refl, as_read c h.supers),
             ),
           ),
         ),
@@ -852,14 +878,14 @@ module _ (t : ExportTree) (w : IsWritable t) (start : ℕ) where
   unfolding Spells class_tree class_bytes class_tree_needs
   class_spells at before c h g =
       let after_name = all_back (Has pool) (class_needs c.name) _ g in
-      let after_supers = all_back (Has pool) (flat_map class_needs c.supers) _ after_name in
+      let after_supers = all_back (Has pool) (flat_map class_needs c.listed) _ after_name in
       let after_interfaces = all_back (Has pool) (flat_map class_needs c.interfaces) _ after_supers in
       let own : AllByRecursion (Has pool) (class_needs c.name) = all_front (Has pool) (class_needs c.name) _ g in
       let back : List ℕ = members_bytes pool c in
       let from_interfaces : List ℕ = flat_map (class_ref pool) c.interfaces ++ back in
       let from_count : List ℕ = to_be_bytes w8 (length c.interfaces) ++ from_interfaces in
-      let from_supers : List ℕ = flat_map (class_ref pool) c.supers ++ from_count in
-      let from_super_count : List ℕ = to_be_bytes w16 (length c.supers) ++ from_supers in
+      let from_supers : List ℕ = flat_map (class_ref pool) c.listed ++ from_count in
+      let from_super_count : List ℕ = to_be_bytes w16 (length c.listed) ++ from_supers in
       let from_name : List ℕ = class_ref pool c.name ++ from_super_count in (
         c.token,
         to_be_bytes w8 c.token,
@@ -880,17 +906,17 @@ module _ (t : ExportTree) (w : IsWritable t) (start : ℕ) where
             index_spells (new_name_at read_pool before) pool (at + 1 + 2) (class c.name) c.name w.constants
                 (new_name_found before c.name own.1.0 h.own_name),
             (
-              length c.supers,
-              to_be_bytes w16 (length c.supers),
+              length c.listed,
+              to_be_bytes w16 (length c.listed),
               from_supers,
               refl,
-              u2_spells (at + 1 + 2 + 2) (length c.supers) h.counts.supers,
+              u2_spells (at + 1 + 2 + 2) (length c.listed) h.counts.listed,
               (
-                c.supers,
-                flat_map (class_ref pool) c.supers,
+                c.listed,
+                flat_map (class_ref pool) c.listed,
                 from_count,
                 refl,
-                names_spell (at + 1 + 2 + 2 + 2) c.supers (all_front (Has pool) (flat_map class_needs c.supers) _
+                names_spell (at + 1 + 2 + 2 + 2) c.listed (all_front (Has pool) (flat_map class_needs c.listed) _
                     after_name),
                 (
                   length c.interfaces,
@@ -910,6 +936,7 @@ module _ (t : ExportTree) (w : IsWritable t) (start : ℕ) where
                       fields = h.fields;
                       count = h.count;
                       methods = h.methods;
+                      supers = h.supers;
                     })
                         (all_front (Has pool) (flat_map field_needs c.fields) (flat_map method_needs c.methods)
                         after_interfaces)

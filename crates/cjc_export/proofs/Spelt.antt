@@ -33,6 +33,7 @@ use Rattle.cjc_export.specs.Members.{attribute_content, attribute, no_token, whe
 use Rattle.cjc_export.specs.Members.{interface_token, not_special, interface_name_at, interface_method, method}
 use Rattle.cjc_export.specs.ExportFile.{class_token, new_name, new_name_at, method_count, class_tree, front_part}
 use Rattle.cjc_export.specs.ExportFile.{export_file}
+use Rattle.cjc_export.specs.Root.{with_root}
 use Rattle.cjc_export.specs.Constant.{Constant, text, integer, class, this, same}
 use Rattle.cjc_export.specs.Working.Same.{same-Decides}
 use Rattle.cjc_export.specs.Written.{value_name, class_needs, value_needs, field_needs, method_needs, class_tree_needs}
@@ -574,23 +575,23 @@ module _ (pool : List Entry) (mine : ℕ) where
         sizes : length (class_bytes cs c) ≤ size
 
       class_needed : (c : ExportClass) → AllByRecursion InPool (class_needs c.name)
-          → AllByRecursion InPool (flat_map class_needs c.supers)
+          → AllByRecursion InPool (flat_map class_needs c.listed)
           → AllByRecursion InPool (flat_map class_needs c.interfaces)
           → AllByRecursion InPool (flat_map field_needs c.fields)
           → AllByRecursion InPool (flat_map method_needs c.methods) → AllByRecursion InPool (class_tree_needs c)
       unfolding class_tree_needs
       class_needed c name supers interfaces fields methods =
           all_append InPool (class_needs c.name) _ name
-          (all_append InPool (flat_map class_needs c.supers) _ supers
+          (all_append InPool (flat_map class_needs c.listed) _ supers
           (all_append InPool (flat_map class_needs c.interfaces) _ interfaces
           (all_append InPool (flat_map field_needs c.fields) (flat_map method_needs c.methods) fields methods)))
 
-      class_size : (c : ExportClass) → length (class_bytes cs c) ≡ 12 + (length (flat_map (class_ref cs) c.supers) +
+      class_size : (c : ExportClass) → length (class_bytes cs c) ≡ 12 + (length (flat_map (class_ref cs) c.listed) +
           length (flat_map (class_ref cs) c.interfaces) + length (flat_map (field_bytes cs) c.fields) + length
           (flat_map (method_bytes cs) c.methods))
       unfolding class_bytes members_bytes
       class_size c =
-          let supers = length-append (flat_map (class_ref cs) c.supers) (to_be_bytes w8 (length c.interfaces)
+          let supers = length-append (flat_map (class_ref cs) c.listed) (to_be_bytes w8 (length c.interfaces)
           ++ (flat_map (class_ref cs) c.interfaces ++ members_bytes cs c)) in
           let interfaces = length-append (flat_map (class_ref cs) c.interfaces) (members_bytes cs c) in
           let fields = length-append (flat_map (field_bytes cs) c.fields) (to_be_bytes w16 (length c.methods)
@@ -682,7 +683,8 @@ module _ (pool : List Entry) (mine : ℕ) where
             token = token.x;
             flags = flags.x;
             name = name.x;
-            supers = supers.x;
+            listed = supers.x;
+            supers = with_root name.x supers.x;
             interfaces = interfaces.x;
             fields = fields.x;
             methods = methods.x;
@@ -699,12 +701,13 @@ module _ (pool : List Entry) (mine : ℕ) where
               name = n.0;
               own_name = n.2;
               counts = record {
-                supers = subst (λ (x : ℕ). x < 2 ^ 16) (sym s.0) sc.0;
+                listed = subst (λ (x : ℕ). x < 2 ^ 16) (sym s.0) sc.0;
                 interfaces = subst (λ (x : ℕ). x < 2 ^ 8) (sym i.0) ic.0;
                 fields = subst (λ (x : ℕ). x < 2 ^ 16) (sym f.0) fc.0;
                 methods = subst (λ (x : ℕ). x < 2 ^ 16) counted_so mc.small;
               };
-              supers = s.1;
+              listed = s.1;
+              supers = refl;
               interfaces = i.1;
               fields = f.1;
               count = subst (λ (x : ℕ). method_count (is_interface flags.x) x ≡ Some (length methods.x)) counted_so

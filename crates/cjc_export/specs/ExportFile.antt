@@ -14,6 +14,7 @@ use Rattle.cjc_export.specs.Entry.{Entry}
 use Rattle.cjc_export.specs.Pool.{entry, tested, class_name_at}
 use Rattle.cjc_export.specs.Package.{package_field}
 use Rattle.cjc_export.specs.Members.{grown, class_field, field, method}
+use Rattle.cjc_export.specs.Root.{with_root}
 
 -- ---- classes
 
@@ -48,7 +49,7 @@ class_tree pool so_far = do
   flags ← u2
   name ← number w16 (new_name_at pool so_far)
   super_count ← u2
-  supers ← repeated super_count (class_field pool)
+  listed ← repeated super_count (class_field pool)
   interface_count ← u1
   interfaces ← repeated interface_count (class_field pool)
   field_count ← u2
@@ -59,7 +60,8 @@ class_tree pool so_far = do
     token = token;
     flags = flags;
     name = name;
-    supers = supers;
+    listed = listed;
+    supers = with_root name listed;
     interfaces = interfaces;
     fields = fields;
     methods = methods;

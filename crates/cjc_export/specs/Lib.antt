@@ -4,6 +4,7 @@ pub mod Words
 pub mod Pool
 pub mod Package
 pub mod Members
+pub mod Root
 pub mod ExportFile
 pub mod Constant
 pub mod Written

@@ -1,5 +1,5 @@
--- What stands above a class by the supers that export files list, direct or not, and the virtual methods that a class
--- lists or inherits (Java Card Virtual Machine Specification 2.2.2, sections 5.7 and 5.9).
+-- What stands above a class by the supers that export files list, direct or not, and java/lang/Object, and the virtual
+-- methods that a class lists or inherits (Java Card Virtual Machine Specification 2.2.2, sections 5.7 and 5.9).
 use Rattle.std.specs.Prelude.{◌≡◌, ℕ, zero, suc, ◌+◌, ◌==◌, ◌&&◌, ◌||◌, not, Bool, true, false, if◌then◌else◌, List, []}
 use Rattle.std.specs.Prelude.{◌∷◌, ◌++◌, length, Option, Some, None, codes}
 use Rattle.std.specs.List.{list_any, flat_map, find}

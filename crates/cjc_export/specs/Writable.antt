@@ -13,6 +13,7 @@ use Rattle.cjc_export.specs.Members.{as_desc, may_be_constant, field_token_taken
 use Rattle.cjc_export.specs.Members.{interface_token, not_special}
 use Rattle.cjc_export.specs.ExportFile.{class_token, new_name, method_count}
 use Rattle.cjc_export.specs.Constant.{Constant, text, integer}
+use Rattle.cjc_export.specs.Root.{with_root}
 use Rattle.cjc_export.specs.Written.{constants}
 
 -- A text has at most 65535 bytes.
@@ -27,7 +28,7 @@ ConstantFits _ = Unit {0}
 
 -- The counts of a class fit their fields.
 pub record CountsFit (c : ExportClass) : Type 0 where
-  pub supers : length c.supers < 2 ^ 16
+  pub listed : length c.listed < 2 ^ 16
   pub interfaces : length c.interfaces < 2 ^ 8
   pub fields : length c.fields < 2 ^ 16
   pub methods : length c.methods < 2 ^ 16
@@ -75,7 +76,8 @@ pub record ClassFits (before : List ExportClass) (c : ExportClass) : Type 0 wher
   pub name : IsText c.name
   pub own_name : new_name before c.name ≡ Some c.name
   pub counts : CountsFit c
-  pub supers : AllByRecursion IsText c.supers
+  pub listed : AllByRecursion IsText c.listed
+  pub supers : c.supers ≡ with_root c.name c.listed
   pub interfaces : AllByRecursion IsText c.interfaces
   pub fields : EachAfter FieldFits [] c.fields
   pub count : method_count (is_interface c.flags) (length c.methods) ≡ Some (length c.methods)

@@ -34,9 +34,9 @@ field_needs f = text f.name ∷ text f.desc ∷ value_needs f.constant
 abbrev pub method_needs : ExportMethod → List Constant
 method_needs m = text m.name ∷ text m.desc ∷ []
 
--- the class, the classes and interfaces above it, then what its fields and its methods need
+-- the class, the classes and interfaces that it lists, then what its fields and its methods need
 unfoldable pub class_tree_needs : ExportClass → List Constant
-class_tree_needs c = class_needs c.name ++ (flat_map class_needs c.supers ++ (flat_map class_needs c.interfaces
+class_tree_needs c = class_needs c.name ++ (flat_map class_needs c.listed ++ (flat_map class_needs c.interfaces
     ++ (flat_map field_needs c.fields ++ flat_map method_needs c.methods)))
 
 -- the name of the package, the package, then what its classes need
@@ -86,7 +86,7 @@ members_bytes pool c = to_be_bytes w16 (length c.fields) ++ (flat_map (field_byt
 unfoldable pub class_bytes : List Constant → ExportClass → List ℕ
 class_bytes pool c =
     to_be_bytes w8 c.token ++ (to_be_bytes w16 c.flags ++ (class_ref pool c.name
-    ++ (to_be_bytes w16 (length c.supers) ++ (flat_map (class_ref pool) c.supers
+    ++ (to_be_bytes w16 (length c.listed) ++ (flat_map (class_ref pool) c.listed
     ++ (to_be_bytes w8 (length c.interfaces) ++ (flat_map (class_ref pool) c.interfaces ++ members_bytes pool c))))))
 
 -- ACC_LIBRARY for a library, else no flag

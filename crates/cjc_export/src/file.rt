@@ -18,6 +18,7 @@ ghost use Rattle.cjc_export.specs.ExportFile.{front_part, export_file};
 
 use crate::members::{read_class, read_fields, read_methods};
 use crate::pool::{Entry, Kind, class_name_at, read_pool, test_entries, text_at};
+use crate::root::with_root;
 use crate::tree::{ExportClass, ExportTree};
 use cjc_bytes::{Bytes, Cursor, Fault, Row, Stop, is_interface, refused};
 use std::alloc::Global;
@@ -150,13 +151,16 @@ fn read_class_tree(
         token,
         flags,
         name: Bytes::copy_of(alloc, name)?,
+        listed: Row::new(alloc),
         supers: Row::new(alloc),
         interfaces: Row::new(alloc),
         fields: Row::new(alloc),
         methods: Row::new(alloc),
     };
     let count = cursor.u2()?;
-    class.supers = read_classes(alloc, pool, count, cursor)?;
+    let listed = read_classes(alloc, pool, count, cursor)?;
+    class.supers = with_root(alloc, name, listed.items())?;
+    class.listed = listed;
     let count = cursor.u1()?;
     class.interfaces = read_classes(alloc, pool, u16::from(count), cursor)?;
     let count = cursor.u2()?;

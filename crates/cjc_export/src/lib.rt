@@ -8,6 +8,7 @@ mod lookup;
 mod members;
 mod needs;
 mod pool;
+mod root;
 mod tree;
 mod writing;
 
@@ -15,5 +16,6 @@ pub use file::{read, readings};
 pub use lookup::supers;
 pub use members::may_be_constant;
 pub use needs::pool_size;
+pub use root::copies_of;
 pub use tree::{ExportClass, ExportField, ExportMethod, ExportTree};
 pub use writing::write;

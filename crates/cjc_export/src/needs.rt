@@ -89,7 +89,7 @@ fn need_class_tree<'a>(class: &'a ExportClass, pool: &mut Pool<'a>) -> Result<()
     ensures { OnOk result (pool.new ≡ insert_all same pool.old (class_tree_needs class.now)) }
 {
     need_class(class.name.items(), pool)?;
-    need_classes(class.supers.items(), pool)?;
+    need_classes(class.listed.items(), pool)?;
     need_classes(class.interfaces.items(), pool)?;
     need_fields(class.fields.items(), pool)?;
     need_methods(class.methods.items(), pool)

@@ -34,7 +34,9 @@ pub struct ExportClass {
     pub flags: u16,
     /// The full name.
     pub name: Bytes,
-    /// Superclasses, direct or not.
+    /// The superclasses that the file lists, direct or not.
+    pub listed: Row<Bytes>,
+    /// The superclasses: those, and last java/lang/Object where the file does not list it above another class.
     pub supers: Row<Bytes>,
     /// Interfaces, direct or not.
     pub interfaces: Row<Bytes>,
@@ -48,6 +50,7 @@ impl Drop for ExportClass {
             token: _token,
             flags: _flags,
             name: _name,
+            listed: _listed,
             supers: _supers,
             interfaces: _interfaces,
             fields: _fields,

@@ -125,9 +125,9 @@ fn put_class(class: &ExportClass, pool: &Pool<'_>, out: &mut Out) -> Result<(), 
     out.put1(class.token)?;
     out.put2(class.flags)?;
     put_class_ref(class.name.items(), pool, out)?;
-    let supers = class.supers.items();
-    out.put2(supers.len() as u16)?;
-    put_class_refs(supers, pool, out)?;
+    let listed = class.listed.items();
+    out.put2(listed.len() as u16)?;
+    put_class_refs(listed, pool, out)?;
     let interfaces = class.interfaces.items();
     out.put1(interfaces.len() as u8)?;
     put_class_refs(interfaces, pool, out)?;

@@ -1,7 +1,8 @@
 -- What of a package its export file rests on: what its list and its files keep by their formats, and the rules that it
 -- does not break.
-use Rattle.std.specs.Prelude.{◌≡◌, ◌<◌, ◌^◌, ℕ, [], length, slice_get, false, IfSome, FitsSigned, Some}
-use Rattle.std.specs.List.{AllByRecursion}
+use Rattle.std.specs.Prelude.{◌≡◌, ◌<◌, ◌^◌, ℕ, [], length, slice_get, true, false, IfSome, FitsSigned, Some}
+use Rattle.std.specs.List.{AllByRecursion, list_any}
+use Rattle.std.specs.Str.{bytes_eq}
 use Rattle.std.specs.Int.{w32}
 use Rattle.cjc_bytes.specs.AccessFlags.{is_interface}
 use Rattle.cjc_classfile.specs.declared.tree.ClassTree.{ClassTree}
@@ -10,12 +11,13 @@ use Rattle.cjc_export.specs.declared.tree.ExportTree.{ExportTree}
 use Rattle.cjc_export.specs.Pool.{aid_length}
 use Rattle.cjc_export.specs.Members.{as_desc}
 use Rattle.cjc_export.specs.ExportFile.{method_count}
+use Rattle.cjc_export.specs.Root.{object}
 use Rattle.cjc_export.specs.Written.{constants}
 use Rattle.cjc_export.specs.Writable.{EachAfter, IsText, IsWritable, MethodStands}
 use Rattle.cjc_list.specs.Listed.{ListTree}
 use Rattle.cjc_world.specs.Classes.{Class, class_at}
 use Rattle.cjc_world.specs.Rules.{is_second}
-use Rattle.cjc_order.specs.Supers.Supers.{interfaces}
+use Rattle.cjc_order.specs.Supers.Supers.{interfaces, superclasses}
 use Rattle.cjc_tokens.specs.Rules.{FewCells, FewExported, token_breaks}
 use Rattle.cjc_components.specs.Package.{Package, has_applets, world}
 use Rattle.cjc_components.specs.Exports.{exported_classes}
@@ -66,8 +68,11 @@ pub record IsExportable (p : Package) : Type 0 where
 
 -- ---- what of each class is asked for beside that
 
--- Its interfaces can be counted, and so can its methods, each of which can stand behind those before it.
+-- It stands below java/lang/Object, its interfaces can be counted, and so can its methods, each of which can stand behind
+-- those before it.
 pub record ClassStands (p : Package) (c : Class) : Type 0 where
+  -- java/lang/Object is among its superclasses
+  pub root : list_any (λ x. bytes_eq x object) (superclasses (world p) c) ≡ true
   -- 403
   pub interfaces : length (interfaces (world p) c) < 2 ^ 8
   pub fields : length c.fields < 2 ^ 16

@@ -105,8 +105,8 @@ pub(crate) fn put_parameters(ranges: &mut Row<Interval>, desc: &[u8]) -> Result<
     ensures { OnOk result (ranges.new ≡ ranges.old ++ map range_of (parts desc.now).params) }
 {
     if let Some(parts) = parsed(desc) {
-        for i in 0..parts.params() {
-            ranges.push(of_kind(parts.kind(i)))?;
+        for (kind, _) in parts.parameters() {
+            ranges.push(of_kind(kind))?;
         }
     }
     Ok(())

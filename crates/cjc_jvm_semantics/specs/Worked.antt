@@ -84,6 +84,7 @@ export name supers methods = record {
   token = 0;
   flags = 1;
   name = name;
+  listed = supers;
   supers = supers;
   interfaces = [];
   fields = [];

@@ -107,12 +107,7 @@ fn is_any_missing(world: &World<'_>, desc: &Desc<'_>) -> bool
     ensures { result ≡ list_any (λ p. is_type_missing (all_classes world.now) p.class) (desc.now.params
         ++ desc.now.result ∷ []) }
 {
-    for i in 0..desc.params() {
-        if is_type_missing(world, desc.class(i)) {
-            return true;
-        }
-    }
-    is_type_missing(world, desc.class(desc.params()))
+    desc.types().any(|(_, class)| is_type_missing(world, class))
 }
 
 /// Whether a descriptor names a class that is in no file.

@@ -49,13 +49,7 @@ fn is_other(kind: Kind) -> bool
 fn is_any_unsupported(desc: &Desc<'_>) -> bool
     ensures { result ≡ list_any (λ p. is_unsupported_part p) (desc.now.params ++ desc.now.result ∷ []) }
 {
-    for i in 0..desc.params() {
-        if is_other(desc.kind(i)) || is_unsupported_name(desc.class(i)) {
-            return true;
-        }
-    }
-    let result = desc.params();
-    is_other(desc.kind(result)) || is_unsupported_name(desc.class(result))
+    desc.types().any(|(kind, class)| is_other(kind) || is_unsupported_name(class))
 }
 
 /// Whether char, long, float, double or an array of more than one dimension stands in a descriptor.
@@ -137,13 +131,8 @@ fn is_int(kind: Kind) -> bool
 fn is_any_int(desc: &Desc<'_>) -> bool
     ensures { result ≡ list_any (λ p. is_int_part p) (desc.now.params ++ desc.now.result ∷ []) }
 {
-    for i in 0..desc.params() {
-        if is_int(desc.kind(i)) || is_int_name(desc.class(i)) {
-            return true;
-        }
-    }
-    let result = desc.params();
-    is_int(desc.kind(result)) || is_int_name(desc.class(result))
+    desc.types()
+        .any(|(kind, class)| is_int(kind) || is_int_name(class))
 }
 
 /// Whether int stands in a descriptor.

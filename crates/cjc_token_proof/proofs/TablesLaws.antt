@@ -1,5 +1,6 @@
 pub mod Filed
 pub mod Clean
+pub mod Rooted
 pub mod Order
 pub mod Infos
 pub mod Named

@@ -5,5 +5,6 @@ pub mod Tokens
 pub mod Found
 pub mod Sent
 pub mod Interfaces
+pub mod Root
 pub mod Sending
 pub mod OwnInterfaces

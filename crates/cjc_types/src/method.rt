@@ -113,8 +113,8 @@ fn put_parameters(alloc: Global, cells: &mut Row<Cell>, desc: &[u8]) -> Result<(
     ensures { OnOk result (cells.new ≡ cells.old ++ map value_of (parts desc.now).params) }
 {
     if let Some(parsed) = types::parsed(desc) {
-        for i in 0..parsed.params() {
-            cells.push(types::value_of(alloc, parsed.kind(i), parsed.class(i))?)?;
+        for (kind, class) in parsed.parameters() {
+            cells.push(types::value_of(alloc, kind, class)?)?;
         }
     }
     Ok(())

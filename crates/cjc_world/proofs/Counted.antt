@@ -1,7 +1,8 @@
--- Classes of one kind are numbered in the order in which they stand, so that the list of their places finds a number.
+-- Classes of one kind are numbered in the order in which they stand, so that the list of their places finds a number,
+-- and a number its class.
 use Rattle.std.proofs.Common.{◌≡◌, ℕ, zero, suc, ◌<◌, ◌≤◌, ◌+◌, refl, sym, ap, subst, ◌∙◌, arith, Bool, true, false}
 use Rattle.std.proofs.Common.{List, [], ◌∷◌, ◌++◌, length, get_or, drop, add-one}
-use Rattle.std.specs.Prelude.{Option, Some, None, if◌then◌else◌, ◌&&◌, ◌==◌, option_map, option_and_then}
+use Rattle.std.specs.Prelude.{MatchOption, Option, Some, None, if◌then◌else◌, ◌&&◌, ◌==◌, option_map, option_and_then}
 use Rattle.std.specs.Prelude.{option_to_list, slice_get}
 use Rattle.std.proofs.Math.Seq.{drop-cons}
 use Rattle.std.proofs.lemmas.Bool.Decides.{nat_tests}
@@ -14,8 +15,9 @@ use Rattle.cjc_world.specs.declared.numbers.Numbers.{Numbers}
 use Rattle.cjc_world.specs.declared.spot.ClassPlace.{ClassPlace}
 use Rattle.cjc_world.specs.Classes.{Class, declared, imported, of_class_file, of_export_file, numbered, size}
 use Rattle.cjc_world.specs.Classes.{classes_from, class_at}
-use Rattle.cjc_world.specs.Working.Numbers.{is_of_kind, places_in, places_of}
+use Rattle.cjc_world.specs.Working.Numbers.{AreListed, IsListed, is_of_kind, places_in, places_of}
 use Rattle.cjc_world.specs.Working.Spots.{at, stood}
+use Rattle.cjc_world.proofs.Indexing.{classes_next}
 use Rattle.cjc_world.proofs.Noted.{stood-few}
 
 -- ---- the walk over spots
@@ -260,8 +262,113 @@ module _ (cs : List ClassTree) (es : List ExportTree) where
       (subst (λ k. Meets w (class_at w b k) 0 (slice_get (classes_of b 0 w) n)) (let z : 0 + n ≡ n = omega arith
       in z) (number-meets b 0 0 w (rises b lines) n))
 
+  pub number-answers : (b : Bool) (lines : List FileLine) (ss : List ClassPlace)
+      → stood cs es ss ≡ classes_from cs es 0 0 0 lines → length ss ≡ length (stood cs es ss) → (n : ℕ) (o : Option ℕ)
+      → o ≡ slice_get (places_of b 0 ss) n → MatchOption o (class_at (classes_from cs es 0 0 0 lines) b n ≡ None)
+      (λ p. slice_get (classes_from cs es 0 0 0 lines) p ≡ class_at (classes_from cs es 0 0 0 lines) b n)
+  number-answers b lines ss all few n None e = number-none b lines ss all few n (sym e)
+  number-answers b lines ss all few n (Some p) e = number-place b lines ss all few n p (sym e)
+
 -- what is noted of one kind
 pub noted-places : (b : Bool) (n : Numbers) (ss : List ClassPlace) → n.declared ≡ places_of false 0 ss
     → n.imported ≡ places_of true 0 ss → places_in b n ≡ places_of b 0 ss
 noted-places true n ss d i = i
 noted-places false n ss d i = d
+
+-- ---- the number of a class finds it
+
+number-itself : (b : Bool) (s : ℕ) (w : List Class) → IsRising b s w → (p : ℕ) (c : Class) → slice_get w p ≡ Some c
+    → is_of_kind b c.is_imported ≡ true → (s ≤ c.number) × (class_at w b c.number ≡ Some c)
+unfolding class_at IsRising next
+number-itself b s [] r p c e k = cc
+number-itself b s (d ∷ w) r p c e k = by (is_of_kind b d.is_imported) refl r p e
+    (λ s n h f. number-itself b s w h n c f k)
+  where
+    by : (t : Bool) → is_of_kind b d.is_imported ≡ t → ((t ≡ true → d.number ≡ s) × IsRising b (next t s) w) → (p : ℕ)
+        → slice_get (d ∷ w) p ≡ Some c
+        → ((s p : ℕ) → IsRising b s w → slice_get w p ≡ Some c → (s ≤ c.number) × (class_at w b c.number ≡ Some c))
+        → (s ≤ c.number) × ((if t && (d.number == c.number) then Some d else class_at w b c.number) ≡ Some c)
+    by true f r zero e rest =
+        let is : d ≡ c = cc in
+        let here : d.number ≡ s = r.0 refl in
+        let number : d.number ≡ c.number = ap (λ (v : Class). v.number) is in (
+          omega arith,
+          ap (λ n. if n == c.number then Some d else class_at w b c.number) number
+              ∙ ap (λ t. if t then Some d else class_at w b c.number) (same c.number) ∙ ap Some is,
+        )
+    by true f r (suc p) e rest =
+        let on = rest (s + 1) p r.1 e in
+        let here : d.number ≡ s = r.0 refl in
+        let above = on.0 in
+        let other : (d.number == c.number) ≡ false = unlike d.number c.number (omega arith) in
+        (omega arith, ap (λ t. if t then Some d else class_at w b c.number) other ∙ on.1)
+    by false f r zero e rest =
+        let is : d ≡ c = cc in
+        let kind : is_of_kind b d.is_imported ≡ is_of_kind b c.is_imported =
+        ap (λ (v : Class). is_of_kind b v.is_imported) is in
+        cc
+    by false f r (suc p) e rest = rest s p r.1 e
+
+own-kind : (b : Bool) → is_of_kind b b ≡ true
+own-kind true = refl
+own-kind false = refl
+
+from-each : (w cs : List Class) → ((p : ℕ) (c : Class) → slice_get cs p ≡ Some c → IsListed w c) → AreListed w cs
+unfolding AreListed
+from-each w [] each = tt
+from-each w (c ∷ cs) each = (each 0 c refl, from-each w cs (λ p d e. each (suc p) d e))
+
+module _ (cs : List ClassTree) (es : List ExportTree) where
+  pub all-listed : (lines : List FileLine) → AreListed (classes_from cs es 0 0 0 lines) (classes_from cs es 0 0 0 lines)
+  all-listed lines =
+      let w = classes_from cs es 0 0 0 lines in
+      from-each w w (λ p c e. (number-itself c.is_imported 0 w (rises cs es c.is_imported lines) p c e
+      (own-kind c.is_imported)).1)
+
+pub listed-split : (w cs ds : List Class) → AreListed w (cs ++ ds) → AreListed w cs × AreListed w ds
+unfolding AreListed
+listed-split w [] ds h = (tt, h)
+listed-split w (c ∷ cs) ds h = let rest = listed-split w cs ds h.1 in ((h.0, rest.0), rest.1)
+
+pub listed-class : (w : List Class) (number : ℕ) (o : Option ClassTree) (c : ClassTree) → o ≡ Some c
+    → AreListed w (of_class_file number o) → IsListed w (declared number c)
+unfolding AreListed
+listed-class w number o c e h = let all = subst (λ o. AreListed w (of_class_file number o)) e h in all.0
+
+pub listed-numbered : (w : List Class) (n : ℕ) (xs : List ExportClass) (i : ℕ) (x : ExportClass) → i < length xs
+    → x ≡ get_or xs i x → AreListed w (numbered n xs) → IsListed w (imported (n + i) x)
+unfolding AreListed
+listed-numbered w n [] i x l e h = absurd (omega arith)
+listed-numbered w n (y ∷ xs) zero x l e h =
+    let at : n ≡ n + 0 = omega arith in
+    ap (λ m. class_at w true m) (sym at) ∙ h.0 ∙ ap (λ m. Some (imported m y)) at ∙ ap (λ z. Some (imported (n + 0) z))
+    (sym e)
+listed-numbered w n (y ∷ xs) (suc i) x l e h =
+    let at : n + 1 + i ≡ n + suc i = omega arith in
+    subst (λ m. IsListed w (imported m x)) at (listed-numbered w (n + 1) xs i x (omega arith) e h.1)
+
+module _ (cs : List ClassTree) (es : List ExportTree) (lines : List FileLine) (w : List Class) (c e i k : ℕ)
+    (d : FileLine) (within : k < length lines) (is : d ≡ get_or lines k d)
+    (listed : AreListed w (classes_from cs es c e i (drop k lines))) where
+  pub listed-class-line : d.class_file ≡ true → AreListed w (of_class_file c (slice_get cs c))
+      × AreListed w (classes_from cs es (c + 1) e i (drop (k + 1) lines))
+  listed-class-line t = listed-split w (of_class_file c (slice_get cs c)) (classes_from cs es (c + 1) e i
+      (drop (k + 1) lines)) (subst (AreListed w) (classes_next cs es lines c e i k d within
+      ∙ ap (λ b. if b then of_class_file c (slice_get cs c) ++ classes_from cs es (c + 1) e i (drop (k + 1) lines)
+      else of_export_file i (slice_get es e) ++ classes_from cs es c (e + 1) (i + size (slice_get es e))
+      (drop (k + 1) lines)) (ap (λ (v : FileLine). v.class_file) (sym is) ∙ t)) listed)
+
+  pub listed-export-line : d.class_file ≡ false → AreListed w (of_export_file i (slice_get es e))
+      × AreListed w (classes_from cs es c (e + 1) (i + size (slice_get es e)) (drop (k + 1) lines))
+  listed-export-line t = listed-split w (of_export_file i (slice_get es e)) (classes_from cs es c (e + 1)
+      (i + size (slice_get es e)) (drop (k + 1) lines)) (subst (AreListed w) (classes_next cs es lines c e i k d within
+      ∙ ap (λ b. if b then of_class_file c (slice_get cs c) ++ classes_from cs es (c + 1) e i (drop (k + 1) lines)
+      else of_export_file i (slice_get es e) ++ classes_from cs es c (e + 1) (i + size (slice_get es e))
+      (drop (k + 1) lines)) (ap (λ (v : FileLine). v.class_file) (sym is) ∙ t)) listed)
+
+pub listed-moved : (cs : List ClassTree) (es : List ExportTree) (lines : List FileLine) (w : List Class)
+    (c e i c' e' i' : ℕ) → AreListed w (classes_from cs es c e i lines) → c ≡ c' → e ≡ e' → i ≡ i'
+    → AreListed w (classes_from cs es c' e' i' lines)
+listed-moved cs es lines w c e i c' e' i' h q r s = subst (λ v. AreListed w (classes_from cs es c' e' v lines)) s
+    (subst (λ v. AreListed w (classes_from cs es c' v i lines)) r
+    (subst (λ v. AreListed w (classes_from cs es v e i lines)) q h))

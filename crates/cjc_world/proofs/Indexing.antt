@@ -64,7 +64,7 @@ module _ (cs : List ClassTree) (es : List ExportTree) where
   }
 
   nothing : ExportClass
-  nothing = record { token = 0; flags = 0; name = []; supers = []; interfaces = []; fields = []; methods = [] }
+  nothing = record { token = 0; flags = 0; name = []; listed = []; supers = []; interfaces = []; fields = []; methods = [] }
 
   taken : (xs : List ExportClass) (p : ℕ) (d : ExportClass) → p < length xs → slice_get xs p ≡ Some (get_or xs p d)
   taken [] p d l = absurd (omega arith)
@@ -146,7 +146,7 @@ pub record Indexing (cs : List ClassTree) (es : List ExportTree) (lines : List F
   pub counted : All IsCounted (stood cs es spots)
 
 module _ (cs : List ClassTree) (es : List ExportTree) (lines : List FileLine) where
-  classes_next : (c e i k : ℕ) (d : FileLine) → k < length lines → classes_from cs es c e i (drop k lines) ≡
+  pub classes_next : (c e i k : ℕ) (d : FileLine) → k < length lines → classes_from cs es c e i (drop k lines) ≡
       (if (get_or lines k d).class_file
       then of_class_file c (slice_get cs c) ++ classes_from cs es (c + 1) e i (drop (k + 1) lines)
       else of_export_file i (slice_get es e) ++ classes_from cs es c (e + 1) (i + size (slice_get es e))

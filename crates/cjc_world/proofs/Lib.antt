@@ -27,4 +27,5 @@ pub mod Gets
 pub mod Walked
 pub mod Stepping
 pub mod Once
+pub mod Called
 pub mod UpwardLaws

@@ -28,7 +28,8 @@ pub record Class : Type 0 where
   pub number : ℕ
   pub flags : ℕ
   pub name : List ℕ
-  -- of a class file its superclass alone, of an export file the supers that it lists
+  -- of a class file its superclass alone, of an export file the supers that it lists, and last java/lang/Object where
+  -- it does not list that
   pub supers : List (List ℕ)
   pub interfaces : List (List ℕ)
   pub fields : List Member

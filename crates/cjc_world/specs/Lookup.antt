@@ -1,11 +1,12 @@
 -- Look-up of fields and methods by name and descriptor, and selection (Java Virtual Machine Specification,
 -- sections 5.4.3 and 6.5, invokevirtual).
 use Rattle.std.specs.Prelude.{ℕ, ◌+◌, List, [], ◌∷◌, length, position, Bool, true, false, not, ◌&&◌, ◌==◌}
-use Rattle.std.specs.Prelude.{if◌then◌else◌, Option, Some, None, option_map, codes}
+use Rattle.std.specs.Prelude.{if◌then◌else◌, Option, Some, None, option_map}
 use Rattle.std.specs.Str.{bytes_eq}
 use Rattle.cjc_world.specs.declared.found.Found.{Found}
 use Rattle.cjc_world.specs.Classes.{Member, Class, class_named}
 use Rattle.cjc_bytes.specs.AccessFlags.{is_private, is_static}
+use Rattle.cjc_export.specs.Root as root
 use Rattle.cjc_world.specs.Supertypes.{Supertypes, End, Unknown, Known, supertypes, line}
 use Rattle.cjc_world.specs.Interfaces.{known, gathered}
 
@@ -79,7 +80,7 @@ method_of_interface w interface name desc = or_else (own_of name desc (class_nam
 
 -- the class above all others
 abbrev pub object : List ℕ
-object = codes "java/lang/Object"
+object = root.object
 
 -- an array, whose name begins with [, counts as java/lang/Object
 abbrev pub receiver : List ℕ → List ℕ

@@ -1,4 +1,4 @@
--- When one type is a subtype of another: classes by what their files list, and arrays.
+-- When one type is a subtype of another: classes by what stands above them, and arrays.
 use Rattle.std.specs.Prelude.{ℕ, ◌-◌, List, [], ◌∷◌, length, take, Bool, false, not, ◌&&◌, ◌||◌, ◌==◌, if◌then◌else◌}
 use Rattle.std.specs.Str.{bytes_eq}
 use Rattle.cjc_world.specs.Classes.{Class}

@@ -2,6 +2,7 @@
 pub mod Places
 pub mod Names
 pub mod Numbers
+pub mod Members
 pub mod Tables
 pub mod Asked
 pub mod Known

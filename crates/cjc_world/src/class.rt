@@ -13,9 +13,11 @@ ghost use Rattle.cjc_classfile.specs.declared.tree.MethodTree.{MethodTree as Cla
 ghost use Rattle.cjc_export.specs.declared.tree.ExportMethod.{ExportMethod as ImportedMethod};
 ghost use Rattle.cjc_world.specs.Rules.{members};
 ghost use Rattle.cjc_world.specs.Working.Known.{class_of};
+ghost use Rattle.cjc_world.specs.Working.Members.{flags_at, id_at, IsMemberIndex};
 ghost use Rattle.cjc_world.specs.Lookup.{is_called, is_selectable, is_wanted, member_at, own_field, own_method};
 
 use crate::found::Found;
+use crate::members::first_called;
 use cjc_bytes::{Bytes, is_abstract, is_interface, is_private, is_protected, is_public, is_static};
 use cjc_classfile::{ClassTree, FieldTree, MethodTree};
 use cjc_export::{ExportClass, ExportField, ExportMethod};
@@ -39,7 +41,8 @@ fn is_selectable(flags: u16) -> bool
     !is_private(flags) && !is_static(flags)
 }
 
-fn is_wanted(selecting: bool, flags: u16) -> bool
+/// Whether a look-up or a selection may end at a method.
+pub(crate) fn is_wanted(selecting: bool, flags: u16) -> bool
     ensures { result ≡ is_wanted selecting flags }
 {
     if selecting {
@@ -113,32 +116,20 @@ fn export_field(fields: &[ExportField], name: &[u8], desc: &[u8]) -> Option<usiz
         .position(|f| f.name.items() == name && f.desc.items() == desc)
 }
 
-fn class_method(
-    methods: &[MethodTree<'_>],
-    selecting: bool,
-    name: &[u8],
-    desc: &[u8],
-) -> Option<usize>
-    ensures { result ≡ position (λ m. is_wanted selecting m.flags && (bytes_eq m.name name.now
-        && bytes_eq m.desc desc.now)) methods.now }
+fn class_method(methods: &[MethodTree<'_>], name: &[u8], desc: &[u8]) -> Option<usize>
+    ensures { result ≡ position (λ m. bytes_eq m.name name.now && bytes_eq m.desc desc.now) methods.now }
 {
-    methods.iter().position(|m| {
-        is_wanted(selecting, m.flags) && (m.name.items() == name && m.desc.items() == desc)
-    })
+    methods
+        .iter()
+        .position(|m| m.name.items() == name && m.desc.items() == desc)
 }
 
-fn export_method(
-    methods: &[ExportMethod],
-    selecting: bool,
-    name: &[u8],
-    desc: &[u8],
-) -> Option<usize>
-    ensures { result ≡ position (λ m. is_wanted selecting m.flags && (bytes_eq m.name name.now
-        && bytes_eq m.desc desc.now)) methods.now }
+fn export_method(methods: &[ExportMethod], name: &[u8], desc: &[u8]) -> Option<usize>
+    ensures { result ≡ position (λ m. bytes_eq m.name name.now && bytes_eq m.desc desc.now) methods.now }
 {
-    methods.iter().position(|m| {
-        is_wanted(selecting, m.flags) && (m.name.items() == name && m.desc.items() == desc)
-    })
+    methods
+        .iter()
+        .position(|m| m.name.items() == name && m.desc.items() == desc)
 }
 
 impl<'w, 'a> Known<'w, 'a> {
@@ -192,7 +183,8 @@ impl<'w, 'a> Known<'w, 'a> {
         }
     }
 
-    /// Of a class of the package its superclass alone, of an imported class the supers that its file lists.
+    /// Of a class of the package its superclass alone, of an imported class the supers that its file lists, and last
+    /// java/lang/Object where it does not list that.
     pub fn supers(self) -> &'w [Bytes]
         ensures { result.now ≡ (class_of self.entry).supers }
     {
@@ -223,18 +215,12 @@ impl<'w, 'a> Known<'w, 'a> {
     }
 
     #[tactic(auto, using(crate::proofs::Places::position_of_map))]
-    fn method_place(self, selecting: bool, name: &[u8], desc: &[u8]) -> Option<usize>
-        ensures { result ≡ position (λ m. is_wanted selecting m.flags && is_called name.now desc.now m)
-            (class_of self.entry).methods }
+    fn method_place(self, name: &[u8], desc: &[u8]) -> Option<usize>
+        ensures { result ≡ position (λ m. is_called name.now desc.now m) (class_of self.entry).methods }
     {
         match self {
-            Known::Declared(_, class) => class_method(class.methods.items(), selecting, name, desc),
-            Known::Imported(_, class) => export_method(
-                class.methods.items(),
-                selecting,
-                name,
-                desc,
-            ),
+            Known::Declared(_, class) => class_method(class.methods.items(), name, desc),
+            Known::Imported(_, class) => export_method(class.methods.items(), name, desc),
         }
     }
 
@@ -265,24 +251,32 @@ impl<'w, 'a> Known<'w, 'a> {
         }
     }
 
-    /// The class's own field of this name and descriptor.
-    #[tactic(auto, using(crate::proofs::Places::position_within), unfolding(crate::specs::Lookup::own_field))]
-    pub(crate) fn field(self, name: &[u8], desc: &[u8]) -> Option<Found>
-        requires { length (class_of self).fields + length (class_of self).methods < 2 ^ 32 }
+    /// The class's own field of this name and descriptor, by the index of its fields.
+    #[tactic(auto, unfolding(crate::specs::Lookup::own_field))]
+    pub(crate) fn field(self, places: &[u32], name: &[u8], desc: &[u8]) -> Option<Found>
+        requires { IsMemberIndex (class_of self).fields places.now }
         ensures { result ≡ own_field name.now desc.now (class_of self.entry) }
     {
-        let place = self.field_place(name, desc)?;
-        Some(self.found(place as u32))
+        let place = first_called(self, true, places, false, name, desc)?;
+        Some(self.found(place))
     }
 
-    /// The class's own method of this name and descriptor; in selecting neither a private nor a static one.
+    /// The class's own method of this name and descriptor, by the index of its methods; in selecting neither a private
+    /// nor a static one.
     #[tactic(auto, using(crate::proofs::Places::position_within), unfolding(crate::specs::Lookup::own_method))]
-    pub(crate) fn method(self, selecting: bool, name: &[u8], desc: &[u8]) -> Option<Found>
-        requires { length (class_of self).fields + length (class_of self).methods < 2 ^ 32 }
+    pub(crate) fn method(
+        self,
+        places: &[u32],
+        selecting: bool,
+        name: &[u8],
+        desc: &[u8],
+    ) -> Option<Found>
+        requires counted { length (class_of self).fields + length (class_of self).methods < 2 ^ 32 }
+        requires index { IsMemberIndex (class_of self).methods places.now }
         ensures { result ≡ own_method selecting name.now desc.now (class_of self.entry) }
     {
-        let place = self.method_place(selecting, name, desc)?;
-        Some(self.found((self.field_count() + place) as u32))
+        let place = first_called(self, false, places, selecting, name, desc)?;
+        Some(self.found(self.field_count() as u32 + place))
     }
 
     /// How many fields or methods there are.
@@ -304,7 +298,7 @@ impl<'w, 'a> Known<'w, 'a> {
         if field {
             self.field_place(name, desc)
         } else {
-            self.method_place(false, name, desc)
+            self.method_place(name, desc)
         }
     }
 
@@ -408,6 +402,28 @@ impl<'w, 'a> Known<'w, 'a> {
             self.field_at(place)
         } else {
             self.method_at(place)
+        }
+    }
+    /// The name and the descriptor of the field or method at a place, both empty where there is none.
+    pub(crate) fn id_at(self, field: bool, place: u32) -> (&'w [u8], &'w [u8])
+        ensures name { result.0.now ≡ (id_at (members field (class_of self.entry)) place).0 }
+        ensures desc { result.1.now ≡ (id_at (members field (class_of self.entry)) place).1 }
+    {
+        if (place as usize) < self.member_count(field) {
+            self.member_at(field, place as usize)
+        } else {
+            (&[], &[])
+        }
+    }
+
+    /// The access flags of the field or method at a place, 0 where there is none.
+    pub(crate) fn flags_at(self, field: bool, place: u32) -> u16
+        ensures { result ≡ flags_at (members field (class_of self.entry)) place }
+    {
+        if (place as usize) < self.member_count(field) {
+            self.member_flags(field, place as usize)
+        } else {
+            0
         }
     }
 }

@@ -1,21 +1,25 @@
 //! All classes of a package and of its export files, by name, by number and by place. Nothing here takes memory
 //! but `new`.
 
-ghost use Rattle.std.specs.Prelude.{◌≡◌, suc, [], ◌∷◌, length, slice_get, false, option_map, IfSome, IfOk};
-ghost use Rattle.cjc_world.specs.Classes.{all_classes, class_at, class_named};
+ghost use Rattle.std.specs.Prelude.{◌≡◌, length, slice_get, option_map, IfSome, IfOk, MatchOption, None, Some};
+ghost use Rattle.cjc_world.specs.Classes.{Class, all_classes, class_at, class_named};
 ghost use Rattle.cjc_world.specs.Working.Places.{place_named};
 ghost use Rattle.cjc_world.specs.Supertypes.{supertypes_within, is_below, supertypes, upwards, stands, stands_above};
 ghost use Rattle.cjc_world.specs.Files.{files_of};
 ghost use Rattle.std.specs.List.{list_any};
 ghost use Rattle.std.specs.Str.{bytes_eq};
 ghost use Rattle.cjc_world.specs.Interfaces.{gathered, known};
+ghost use Rattle.cjc_world.specs.Rules.{members};
 ghost use Rattle.cjc_world.specs.Working.Known.{class_of};
+ghost use Rattle.cjc_world.specs.Working.Members.{IsMemberIndex};
+ghost use Rattle.cjc_world.specs.Working.Numbers.{IsListed};
 ghost use Rattle.cjc_world.specs.Working.Spots.{at, IsCounted, IsIndexed};
 ghost use Rattle.cjc_world.specs.Subtype.{is_subclass};
 ghost use Rattle.cjc_world.specs.Lookup.{first, own_field, own_method, field_in};
 
 use crate::class::Known;
 use crate::found::Found;
+use crate::members::{MemberIndex, indices_of};
 use crate::names::{Names, names_of};
 use crate::numbers::{Numbers, numbers_of};
 use crate::spot::{ClassPlace, index, known};
@@ -34,6 +38,7 @@ pub(crate) struct ClassIndex<'a> {
     spots: Row<ClassPlace>,
     names: Names,
     numbers: Numbers,
+    members: Row<MemberIndex>,
 }
 
 impl Drop for ClassIndex<'_> {
@@ -46,6 +51,7 @@ impl Drop for ClassIndex<'_> {
             spots: _spots,
             names: _names,
             numbers: _numbers,
+            members: _members,
         } = self;
     }
 }
@@ -63,11 +69,12 @@ impl<'a> Model for ClassIndex<'a> {
       exports = w.exports;
     } };
 
-    ghost invariant = { λ w. IsClassIndex w.lines w.classes w.exports w.spots w.names w.numbers };
+    ghost invariant = { λ w. IsClassIndex w.lines w.classes w.exports w.spots w.names w.numbers
+        w.members };
 }
 
 impl<'a> ClassIndex<'a> {
-    /// The files, with the classes in them found by place, by name and by number.
+    /// The files, with the classes in them found by place, by name and by number, and members by name and descriptor.
     pub(crate) fn new(
         alloc: Global,
         package_name: &[u8],
@@ -80,6 +87,7 @@ impl<'a> ClassIndex<'a> {
         let spots = index(alloc, lines.items(), classes.items(), exports.items())?;
         let names = names_of(alloc, spots.items(), classes.items(), exports.items())?;
         let numbers = numbers_of(alloc, spots.items())?;
+        let members = indices_of(alloc, spots.items(), classes.items(), exports.items())?;
         let package = Bytes::copy_of(alloc, package_name)?;
         Ok(ClassIndex {
             package,
@@ -89,6 +97,7 @@ impl<'a> ClassIndex<'a> {
             spots,
             names,
             numbers,
+            members,
         })
     }
 
@@ -148,8 +157,16 @@ impl<'a> ClassIndex<'a> {
         ensures at { option_map class_of result ≡ class_at (all_classes self.now) imported class }
         ensures counted { IfSome result (λ k. IsCounted (class_of k)) }
     {
-        let place = self.numbers.get(imported, class)?;
+        let place = self.place_at(imported, class)?;
         self.class_in(place)
+    }
+
+    /// The place in the list of the class that a look-up means by its number.
+    fn place_at(&self, imported: bool, class: u32) -> Option<u32>
+        ensures { MatchOption result (class_at (all_classes self.now) imported class ≡ None)
+            (λ p. slice_get (all_classes self.now) p ≡ class_at (all_classes self.now) imported class) }
+    {
+        self.numbers.get(imported, class)
     }
 
     /// How many classes there are.
@@ -174,5 +191,26 @@ impl<'a> ClassIndex<'a> {
         ensures { result ≡ place_named (all_classes self.now) name.now }
     {
         self.names.get(name)
+    }
+    /// The places of the fields, or of the methods, of the class at a place, in the order of names and descriptors.
+    pub(crate) fn members_in(&self, place: u32, field: bool) -> &[u32]
+        ensures { (c : Class) → slice_get (all_classes self.now) place ≡ Some c
+            → IsMemberIndex (members field c) result.now }
+    {
+        match self.members.items().get(place as usize) {
+            Some(index) => index.places(field),
+            None => &[],
+        }
+    }
+
+    /// The same of a class that stands in the list.
+    pub(crate) fn members_of(&self, class: Known<'_, 'a>, field: bool) -> &[u32]
+        requires { IsListed (all_classes self.now) (class_of class) }
+        ensures { IsMemberIndex (members field (class_of class.entry)) result.now }
+    {
+        match self.place_at(class.is_imported(), class.number()) {
+            Some(place) => self.members_in(place, field),
+            None => &[],
+        }
     }
 }

@@ -11,6 +11,7 @@ mod found;
 mod image;
 mod laws;
 mod lookup;
+mod members;
 mod names;
 mod numbers;
 mod rules;

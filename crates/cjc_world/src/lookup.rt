@@ -45,7 +45,7 @@ impl<'a> ClassIndex<'a> {
         ensures { result ≡ field_of name.now desc.now (slice_get (all_classes self.now) place) }
     {
         match self.class_in(place) {
-            Some(class) => class.field(name, desc),
+            Some(class) => class.field(self.members_in(place, true), name, desc),
             None => None,
         }
     }
@@ -54,7 +54,7 @@ impl<'a> ClassIndex<'a> {
         ensures { result ≡ method_of selecting name.now desc.now (slice_get (all_classes self.now) place) }
     {
         match self.class_in(place) {
-            Some(class) => class.method(selecting, name, desc),
+            Some(class) => class.method(self.members_in(place, false), selecting, name, desc),
             None => None,
         }
     }
@@ -244,8 +244,8 @@ impl<'a> ClassIndex<'a> {
     fn own_of(&self, class: &[u8], name: &[u8], desc: &[u8]) -> Option<Found>
         ensures { result ≡ own_of name.now desc.now (class_named (all_classes self.now) class.now) }
     {
-        match self.class_named(class) {
-            Some(class) => class.method(false, name, desc),
+        match self.place_named(class) {
+            Some(place) => self.method_in(place, false, name, desc),
             None => None,
         }
     }

@@ -5,11 +5,13 @@ ghost use Rattle.std.specs.Prelude.{◌≡◌, ◌<◌, ◌^◌, ◌+◌, ◌||�
 ghost use Rattle.cjc_bytes.specs.Told.{break_of, text_of};
 ghost use Rattle.std.specs.List.{list_any, list_all};
 ghost use Rattle.std.specs.Str.{bytes_eq};
-ghost use Rattle.cjc_world.specs.Classes.{all_classes, class_named, numbered};
+ghost use Rattle.cjc_world.specs.Classes.{all_classes, class_named, numbered, of_class_file, of_export_file};
 ghost use Rattle.cjc_bytes.specs.AccessFlags.{is_interface};
 ghost use Rattle.cjc_world.specs.Working.Unchecked.{IsHeld};
 ghost use Rattle.cjc_world.specs.Supertypes.{is_below, stands_above};
 ghost use Rattle.cjc_world.specs.Working.Known.{class_of};
+ghost use Rattle.cjc_world.specs.Working.Members.{IsMemberIndex};
+ghost use Rattle.cjc_world.specs.Working.Numbers.{AreListed, IsListed};
 ghost use Rattle.cjc_world.specs.Lookup.{object};
 ghost use Rattle.cjc_world.specs.Rules.{breaks, breaks_from, class_breaks, class_file_breaks, classes_breaks};
 ghost use Rattle.cjc_world.specs.Rules.{export_file_breaks, is_second_package, class_rules, is_earlier, member_rules};
@@ -22,6 +24,7 @@ ghost use Rattle.cjc_world.specs.Rules.{is_type_missing, lists_missing, lists_wr
 
 use crate::class::Known;
 use crate::class_index::ClassIndex;
+use crate::members::first_called;
 use crate::spot::{size, sum};
 use crate::unchecked::UncheckedWorld;
 use crate::world::OBJECT;
@@ -230,12 +233,7 @@ impl<'a> ClassIndex<'a> {
         ensures { result ≡ list_any (λ p. is_type_missing (all_classes self.now) p.class) (desc.now.params
             ++ desc.now.result ∷ []) }
     {
-        for i in 0..desc.params() {
-            if self.is_type_missing(desc.class(i)) {
-                return true;
-            }
-        }
-        self.is_type_missing(desc.class(desc.params()))
+        desc.types().any(|(_, class)| self.is_type_missing(class))
     }
 
     /// Whether a descriptor names a class that is in no file.
@@ -252,20 +250,22 @@ impl<'a> ClassIndex<'a> {
         }
     }
 
-    /// The first rule that a field or method of a class breaks.
+    /// The first rule that a field or method of a class breaks, by the index of these.
     #[tactic(auto, unfolding(crate::specs::Rules::member_rules, crate::specs::Rules::is_twice, crate::specs::Rules::head))]
     fn member_rule(
         &self,
         class: Known<'_, 'a>,
         field: bool,
+        places: &[u32],
         place: usize,
         name: &[u8],
         desc: &[u8],
     ) -> Option<u16>
+        requires { IsMemberIndex (members field (class_of class)) places.now }
         ensures { result ≡ head (member_rules (all_classes self.now) (class_of class.entry)
             (members field (class_of class.entry)) place name.now desc.now) }
     {
-        if is_earlier(class.place(field, name, desc), place) {
+        if is_earlier(first_called(class, field, places, false, name, desc), place) {
             Some(202)
         } else if !class.is_imported() && self.is_desc_missing(desc) {
             Some(203)
@@ -283,12 +283,14 @@ impl<'a> ClassIndex<'a> {
         known: Known<'w, 'a>,
         field: bool,
     ) -> Option<Break<'w>>
+        requires { IsListed (all_classes self.now) (class_of known) }
         ensures { option_map break_of result ≡ head (members_from file file_name.now class (all_classes self.now)
             (class_of known.entry) field 0 (members field (class_of known.entry))) }
     {
+        let places = self.members_of(known, field);
         for place in 0..known.member_count(field) {
             let (name, desc) = known.member_at(field, place);
-            if let Some(rule) = self.member_rule(known, field, place, name, desc) {
+            if let Some(rule) = self.member_rule(known, field, places, place, name, desc) {
                 return Some(Break {
                     rule,
                     spot: RulePlace {
@@ -439,6 +441,7 @@ impl<'a> UncheckedWorld<'a> {
         known: Known<'w, 'a>,
         field: bool,
     ) -> Option<Break<'w>>
+        requires { IsListed (all_classes self.now) (class_of known) }
         ensures { option_map break_of result ≡ head (members_from file file_name.now class (all_classes self.now)
             (class_of known.entry) field 0 (members field (class_of known.entry))) }
     {
@@ -454,7 +457,8 @@ impl<'a> UncheckedWorld<'a> {
         class: usize,
         known: Known<'w, 'a>,
     ) -> Option<Break<'w>>
-        requires { IsHeld self.now known }
+        requires held { IsHeld self.now known }
+        requires listed { IsListed (all_classes self.now) (class_of known) }
         ensures { option_map break_of result ≡ head (class_breaks self.now.package_name file file_name.now class
             (all_classes self.now) (class_of known.entry)) }
     {
@@ -488,7 +492,8 @@ impl<'a> UncheckedWorld<'a> {
         number: u32,
         classes: &'w [ExportClass],
     ) -> Option<Break<'w>>
-        requires { number + length classes.now < 2 ^ 32 }
+        requires few { number + length classes.now < 2 ^ 32 }
+        requires listed { AreListed (all_classes self.now) (numbered number classes.now) }
         ensures { option_map break_of result ≡ head (classes_breaks self.now.package_name file file_name.now 1
             (all_classes self.now) (numbered number classes.now)) }
     {
@@ -509,6 +514,7 @@ impl<'a> UncheckedWorld<'a> {
         file_name: &'w [u8],
         place: u32,
     ) -> Option<Break<'w>>
+        requires { AreListed (all_classes self.now) (of_class_file place (slice_get self.now.classes place)) }
         ensures { option_map break_of result ≡ head (class_file_breaks self.now file file_name.now
             (all_classes self.now) place (slice_get self.now.classes place)) }
     {
@@ -527,6 +533,7 @@ impl<'a> UncheckedWorld<'a> {
         place: u32,
         number: u32,
     ) -> Result<Option<Break<'w>>, NoMemory>
+        requires { AreListed (all_classes self.now) (of_export_file number (slice_get self.now.exports place)) }
         ensures { IfOk result (λ b. option_map break_of b ≡ head (export_file_breaks self.now file file_name.now
             (all_classes self.now) place number (slice_get self.now.exports place))) }
     {
@@ -616,11 +623,11 @@ fn has_tree(trees: &[ExportTree], name: &[u8]) -> bool
     trees.iter().any(|t| t.name.items() == name)
 }
 
-fn is_earlier(place: Option<usize>, other: usize) -> bool
+fn is_earlier(place: Option<u32>, other: usize) -> bool
     ensures { result ≡ is_earlier place other }
 {
     match place {
-        Some(place) => place < other,
+        Some(place) => (place as usize) < other,
         None => false,
     }
 }

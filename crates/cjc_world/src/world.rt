@@ -226,8 +226,9 @@ impl<'a> World<'a> {
     }
 
     /// Whether a type is a subtype of another (Java Virtual Machine Specification, section 4.10.1.2). Both are given
-    /// by the name of a class or interface, or by the descriptor of an array. A class is below what its file lists,
-    /// over steps. An array is java/lang/Object and its supers, and follows the references that it has.
+    /// by the name of a class or interface, or by the descriptor of an array. A class is below what its file lists
+    /// and java/lang/Object, over steps. An array is java/lang/Object and its supers, and follows the references that
+    /// it has.
     #[tactic(auto, unfolding(crate::specs::Subtype::is_subtype))]
     pub fn subtype(&self, sub: &[u8], sup: &[u8]) -> bool
         ensures { result ≡ is_subtype (all_classes self.now) sub.now sup.now }

@@ -1,11 +1,9 @@
 -- The nibbles of a descriptor's parts.
-use Rattle.std.proofs.Common.{◌≡◌, ℕ, zero, suc, ◌+◌, ◌<◌, ◌≤◌, Bool, true, false, List, [], ◌∷◌, ◌++◌, map, length}
-use Rattle.std.proofs.Common.{get_or, take, refl, sym, ap, ◌∙◌, arith, append_assoc, append-nil, Option, Some, None}
+use Rattle.std.proofs.Common.{◌≡◌, ℕ, Bool, true, false, List, [], ◌∷◌, ◌++◌, map, refl, sym, ap, ◌∙◌}
+use Rattle.std.proofs.Common.{append_assoc, append-nil, Option, Some, None}
 use Rattle.std.specs.Prelude.{if◌then◌else◌, option_and_then}
 use Rattle.std.specs.List.{flat_map}
-use Rattle.std.proofs.lemmas.List.{get_or_append_left, take_more, map-append}
-use Rattle.std.proofs.lemmas.List.Concat.{flat_map-append}
-use Rattle.cjc_bytes.specs.Descriptor.{Part, Parts, part_at}
+use Rattle.cjc_bytes.specs.Descriptor.{Part, Parts}
 use Rattle.cjc_bytes.specs.Spots.{desc_of}
 use Rattle.cjc_capread.specs.declared.tree.ClassRef.{ClassRef}
 use Rattle.cjc_script.specs.Sorts.{Signature, Sort, field_sort, result_by, signature_by, sort_of, sort_or_none}
@@ -14,21 +12,17 @@ use Rattle.cjc_classes.specs.TypeInfo.Working.Nibbles.{nibbles_in, parts_nibbles
 
 -- ---- parameters
 
-pub params_next : (f : Sort → List ℕ) (start out : List ℕ) (d : Parts) (i : ℕ) → i < length d.params → out ≡ start
-    ++ flat_map f (map sort_of (take i d.params))
-    → out ++ f (sort_of (part_at d i)) ≡ start ++ flat_map f (map sort_of (take (i + 1) d.params))
-params_next f start out d i lt so_far =
-    let ps = d.params in
-    let x = get_or ps i d.result in
-    let one : flat_map f (map sort_of (x ∷ [])) ≡ f (sort_of x) = append-nil (f (sort_of x)) in
-    ap (λ o. o ++ f (sort_of (part_at d i))) so_far
-    ∙ append_assoc start (flat_map f (map sort_of (take i ps))) (f (sort_of (part_at d i)))
-    ∙ ap (λ p. start ++ (flat_map f (map sort_of (take i ps)) ++ f (sort_of p))) (get_or_append_left ps (d.result
-    ∷ []) d.result i lt)
-    ∙ ap (λ xs. start ++ (flat_map f (map sort_of (take i ps)) ++ xs)) (sym one)
-    ∙ ap (λ xs. start ++ xs) (sym (flat_map-append f (map sort_of (take i ps)) (map sort_of (x ∷ []))))
-    ∙ ap (λ xs. start ++ flat_map f xs) (sym (map-append sort_of (take i ps) (x ∷ [])))
-    ∙ ap (λ xs. start ++ flat_map f (map sort_of xs)) (sym (take_more ps i d.result lt))
+pub params_next : (f : Sort → List ℕ) (out total : List ℕ) (all rest : List Part) (p : Part) → all ≡ p ∷ rest
+    → out ++ flat_map f (map sort_of all) ≡ total → (out ++ f (sort_of p)) ++ flat_map f (map sort_of rest) ≡ total
+params_next f out total all rest p is so_far =
+    append_assoc out (f (sort_of p)) (flat_map f (map sort_of rest))
+    ∙ ap (λ ps. out ++ flat_map f (map sort_of ps)) (sym is)
+    ∙ so_far
+
+pub params_end : (f : Sort → List ℕ) (out total : List ℕ) (all : List Part) → all ≡ []
+    → out ++ flat_map f (map sort_of all) ≡ total → out ≡ total
+params_end f out total all is so_far =
+    sym (append-nil out) ∙ ap (λ ps. out ++ flat_map f (map sort_of ps)) (sym is) ∙ so_far
 
 -- ---- descriptors
 

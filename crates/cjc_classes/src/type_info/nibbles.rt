@@ -9,7 +9,7 @@ ghost use Rattle.cjc_classes.specs.ClassInfo.Refs.{ref_of};
 ghost use Rattle.cjc_classes.specs.TypeInfo.Working.Nibbles.{nibbles_in, parts_nibbles};
 
 use crate::class_info::ClassRefs;
-use crate::type_info::sort::{Sort, parsed, sort_at};
+use crate::type_info::sort::{Sort, parsed, result_sort, sort_by};
 use cjc_bytes::{Bytes, Desc, Kind, NoMemory, Row};
 use cjc_capread::ClassRef;
 use std::alloc::Global;
@@ -68,13 +68,13 @@ fn put_sort<'a>(out: &mut Bytes, refs: &ClassRefs, sort: Sort<'a>) -> Result<(),
     }
 }
 
-#[tactic(auto, using(crate::proofs::TypeInfo::Parts::params_next))]
+#[tactic(auto, using(crate::proofs::TypeInfo::Parts::params_next, crate::proofs::TypeInfo::Parts::params_end))]
 fn put_params<'a>(out: &mut Bytes, refs: &ClassRefs, desc: &Desc<'a>) -> Result<(), NoMemory>
     ensures { OnOk result (out.new ≡ out.old ++ flat_map (sort_nibbles (ref_of refs.now))
         (map sort_of desc.now.params)) }
 {
-    for i in 0..desc.params() {
-        put_sort(out, refs, sort_at(desc, i)?)?;
+    for (kind, class) in desc.parameters() {
+        put_sort(out, refs, sort_by(kind, class)?)?;
     }
     Ok(())
 }
@@ -83,11 +83,11 @@ fn put_result<'a>(out: &mut Bytes, refs: &ClassRefs, desc: &Desc<'a>) -> Result<
     ensures { let d = desc.now in let r = d.result in OnOk result (out.new ≡ out.old
         ++ result_nibbles (ref_of refs.now) (result_by r.kind r)) }
 {
-    let count = desc.params();
-    match desc.kind(count) {
+    let (kind, class) = desc.result_type();
+    match kind {
         Kind::Void => out.push(1),
         _ => {
-            let sort = sort_at(desc, count)?;
+            let sort = sort_by(kind, class)?;
             put_sort(out, refs, sort)
         }
     }
@@ -101,7 +101,7 @@ fn put_parts<'a>(out: &mut Bytes, refs: &ClassRefs, desc: &Desc<'a>) -> Result<(
         put_params(out, refs, desc)?;
         put_result(out, refs, desc)
     } else {
-        let sort = sort_at(desc, desc.params())?;
+        let sort = result_sort(desc)?;
         put_sort(out, refs, sort)
     }
 }

@@ -2,8 +2,7 @@
 //! cells of static fields. Nothing here takes memory; a descriptor whose length 32 bits don't count, which no
 //! class file has, is taken for want of it.
 
-ghost use Rattle.std.specs.Prelude.{◌≡◌, ◌≤◌, length, IfOk};
-ghost use Rattle.cjc_bytes.specs.Descriptor.{part_at};
+ghost use Rattle.std.specs.Prelude.{◌≡◌, IfOk};
 ghost use Rattle.cjc_bytes.specs.Spots.{desc_of, part_of};
 ghost use Rattle.cjc_script.specs.Sorts.{array_by, field_sort, reference_to, shape_named, sort_by, sort_of};
 ghost use Rattle.cjc_classes.specs.TypeInfo.Meant.{sort_meant};
@@ -73,8 +72,8 @@ fn reference_to(name: &[u8]) -> Result<Sort<'_>, NoMemory>
     }
 }
 
-/// A type by its kind and its name.
-fn sort_by(kind: Kind, name: &[u8]) -> Result<Sort<'_>, NoMemory>
+/// A type by its kind and its class.
+pub(crate) fn sort_by(kind: Kind, name: &[u8]) -> Result<Sort<'_>, NoMemory>
     ensures { IfOk result (λ sort. sort_meant sort ≡ sort_by kind name.now) }
 {
     match kind {
@@ -88,12 +87,12 @@ fn sort_by(kind: Kind, name: &[u8]) -> Result<Sort<'_>, NoMemory>
     }
 }
 
-/// The type of the parameter at a place; behind them, of the result.
-pub(crate) fn sort_at<'a>(desc: &Desc<'a>, i: u32) -> Result<Sort<'a>, NoMemory>
-    requires { i ≤ length desc.now.params }
-    ensures { IfOk result (λ sort. sort_meant sort ≡ sort_of (part_at desc.now i)) }
+/// The type of the result; of a field's descriptor its type.
+pub(crate) fn result_sort<'a>(desc: &Desc<'a>) -> Result<Sort<'a>, NoMemory>
+    ensures { IfOk result (λ sort. sort_meant sort ≡ sort_of desc.now.result) }
 {
-    sort_by(desc.kind(i), desc.class(i))
+    let (kind, class) = desc.result_type();
+    sort_by(kind, class)
 }
 
 /// The type of a field.
@@ -102,7 +101,7 @@ pub fn field_sort(desc: &[u8]) -> Result<Sort<'_>, NoMemory>
 {
     match parsed(desc)? {
         Some(parsed) => {
-            let sort = sort_at(&parsed, parsed.params())?;
+            let sort = result_sort(&parsed)?;
             Ok(sort)
         }
         None => Ok(Sort::NoValue),

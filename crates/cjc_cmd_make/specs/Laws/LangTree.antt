@@ -14,6 +14,7 @@ class token name supers = record {
   token = token;
   flags = 1;
   name = name;
+  listed = supers;
   supers = supers;
   interfaces = [];
   fields = [];

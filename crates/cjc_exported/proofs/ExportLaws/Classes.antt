@@ -6,6 +6,7 @@ use Rattle.std.proofs.lemmas.List.{length-map}
 use Rattle.std.proofs.lemmas.Option.{slice_get_within}
 use Rattle.cjc_classfile.specs.declared.tree.FieldTree.{FieldTree}
 use Rattle.cjc_export.specs.declared.tree.ExportClass.{ExportClass}
+use Rattle.cjc_export.proofs.Rooted.{root_same}
 use Rattle.cjc_export.specs.ExportFile.{class_token, new_name}
 use Rattle.cjc_export.specs.Writable.{ClassFits, EachAfter, FieldFits, IsWritable}
 use Rattle.cjc_world.specs.Classes.{Class, field_of_class}
@@ -70,14 +71,15 @@ module _ (p : Package) (h : IsExportable p) (stands : ClassesStand p) (few : (le
         own_name = subst (λ (x : ExportClass). new_name (let t = export_of p in take k t.classes) x.name ≡ Some x.name)
             (sym is) (own_name p h places k e at);
         counts = record {
-          supers = (let lt : length (superclasses (world p) c) < 2 ^ 16 = omega (arith, supers, entries)
+          listed = (let lt : length (superclasses (world p) c) < 2 ^ 16 = omega (arith, supers, entries)
               in lt);
           interfaces = s.interfaces;
           fields = (let lt : length (fields_from p c 0 (fields_of p.files c)) < 2 ^
               16 = omega (arith, fewer_fields, long, fields_few) in lt);
           methods = s.methods;
         };
-        supers = super_texts p h c own;
+        listed = super_texts p h c own;
+        supers = sym (root_same c.name (superclasses (world p) c) s.root);
         interfaces = interface_texts p h c own;
         fields = subst (λ (fs : List FieldTree). EachAfter FieldFits [] (fields_from p c 0 fs)) (sym shown)
             (fields_fit p h c own);

@@ -100,26 +100,26 @@ of_class pool (x ∷ cs) (suc k) c h e = of_class pool cs k c (all_back (Has poo
     (flat_map class_tree_needs cs) h) e
 
 supers_in : (t : ExportTree) (k : ℕ) (c : ExportClass) → slice_get t.classes k ≡ Some c
-    → AllByRecursion (Has (constants t)) (map class c.supers)
+    → AllByRecursion (Has (constants t)) (map class c.listed)
 unfolding needs class_tree_needs
 supers_in t k c e =
     let all = all_in [] (needs t) in
     let one = of_class (constants t) t.classes k c all.1.1 e in
-    let rest = flat_map class_needs c.supers ++ (flat_map class_needs c.interfaces ++ (flat_map field_needs c.fields
+    let rest = flat_map class_needs c.listed ++ (flat_map class_needs c.interfaces ++ (flat_map field_needs c.fields
     ++ flat_map method_needs c.methods)) in
     let behind = all_back (Has (constants t)) (class_needs c.name) rest one in
-    classes_in (constants t) c.supers (all_front (Has (constants t)) (flat_map class_needs c.supers)
+    classes_in (constants t) c.listed (all_front (Has (constants t)) (flat_map class_needs c.listed)
     (flat_map class_needs c.interfaces ++ (flat_map field_needs c.fields ++ flat_map method_needs c.methods))
     behind)
 
 -- names that stand once each
 pub few_supers : (t : ExportTree) (k : ℕ) (c : ExportClass) (names : List (List ℕ)) → slice_get t.classes k ≡ Some c
-    → c.supers ≡ each_once [] names → length c.supers ≤ length (constants t)
+    → c.listed ≡ each_once [] names → length c.listed ≤ length (constants t)
 few_supers t k c names e is =
-    let worth = worth_at_most ones (constants t) (map class c.supers) (supers_in t k c e) in
-    let own : insert_all same [] (map class c.supers) ≡ map class c.supers =
+    let worth = worth_at_most ones (constants t) (map class c.listed) (supers_in t k c e) in
+    let own : insert_all same [] (map class c.listed) ≡ map class c.listed =
     ap (λ xs. insert_all same [] (map class xs)) is ∙ all_new [] names ∙ ap (map class) (sym is) in
-    let counted : total ones (insert_all same [] (map class c.supers)) ≡ length c.supers = ap (total ones) own
-    ∙ total_ones (map class c.supers) ∙ length-map c.supers class in
+    let counted : total ones (insert_all same [] (map class c.listed)) ≡ length c.listed = ap (total ones) own
+    ∙ total_ones (map class c.listed) ∙ length-map c.listed class in
     let pool = total_ones (constants t) in
     omega (arith, worth, counted, pool)

@@ -3,6 +3,7 @@ use Rattle.std.proofs.Common.{◌≡◌, ℕ, zero, suc, refl, sym, subst, Bool,
 use Rattle.std.proofs.Common.{Option, Some, None}
 use Rattle.std.specs.Prelude.{if◌then◌else◌}
 use Rattle.std.specs.List.{AllByRecursion}
+use Rattle.cjc_export.proofs.Rooted.{root_texts}
 use Rattle.cjc_export.specs.Supers.{is_one_of}
 use Rattle.cjc_export.specs.Writable.{ClassFits, EachAfter, IsText}
 use Rattle.cjc_world.specs.Classes.{Class, class_named}
@@ -53,7 +54,11 @@ lists_texts p h x c e = by c (filed p.files x c e)
         let (k, place) = has-get t files.exports of_file in
         let fits = h.exports k t place in
         let (before, one) = has_each ClassFits [] t.classes d fits.classes of_tree in
-        record { name = one.name; supers = one.supers; interfaces = one.interfaces }
+        record {
+          name = one.name;
+          supers = subst (AllByRecursion IsText) (sym one.supers) (root_texts d.name d.listed one.listed);
+          interfaces = one.interfaces;
+        }
 
 -- ---- a tree of names
 

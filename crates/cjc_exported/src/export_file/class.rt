@@ -18,7 +18,7 @@ use crate::export_file::inherited::put_inherited_methods;
 use crate::export_file::own::{put_given, put_own};
 use crate::export_file::source::Source;
 use cjc_bytes::{ACC_SHAREABLE, ACC_SUPER, Bytes, NoMemory, Row};
-use cjc_export::{ExportClass, ExportMethod};
+use cjc_export::{ExportClass, ExportMethod, copies_of};
 use cjc_order::supers::{interfaces, superclasses};
 use cjc_world::Known;
 use std::alloc::Global;
@@ -94,6 +94,7 @@ pub(crate) fn export_class(
     ensures { IfOk result (λ c. c ≡ export_class (package_in source.now) (class_of class.entry)) }
 {
     let supers = superclasses(alloc, source.world, class)?;
+    let listed = copies_of(alloc, supers.items())?;
     let interfaces = interfaces(alloc, source.world, class)?;
     let fields = fields(alloc, source, class)?;
     let methods = methods(alloc, source, class)?;
@@ -103,6 +104,7 @@ pub(crate) fn export_class(
         token: source.class_token(class),
         flags,
         name,
+        listed,
         supers,
         interfaces,
         fields,

@@ -114,19 +114,19 @@ catch_end place row catches i total le so_far = sym (append-nil row) ∙ ap (λ 
 
 -- ---- words
 
-pub widths_next : (words : ℕ) (parts : List Part) (i : ℕ) (d : Part) (total : ℕ) → i < length parts
-    → words + widths (map sort_of (drop i parts)) ≡ total → (words + width (sort_of (get_or parts i d))) + widths
-    (map sort_of (drop (i + 1) parts)) ≡ total
-widths_next words parts i d total lt so_far =
-    let first : widths (map sort_of (drop i parts)) ≡ width (sort_of (get_or parts i d)) + widths
-    (map sort_of (drop (i + 1) parts)) = ap (λ ps. widths (map sort_of ps)) (from_index parts i d lt) in
-    omega arith
+pub widths_next : (words more : ℕ) (all rest : List Part) (p : Part) (total : ℕ) → all ≡ p ∷ rest
+    → more ≡ width (sort_of p) → words + widths (map sort_of all) ≡ total
+    → (words + more) + widths (map sort_of rest) ≡ total
+widths_next words more all rest p total is one so_far =
+    let first : widths (map sort_of all) ≡ width (sort_of p) + widths (map sort_of rest) =
+    ap (λ ps. widths (map sort_of ps)) is in
+    omega (arith, first, one, so_far)
 
-pub widths_end : (words : ℕ) (parts : List Part) (i : ℕ) (total : ℕ) → length parts ≤ i
-    → words + widths (map sort_of (drop i parts)) ≡ total → words ≡ total
-widths_end words parts i total le so_far =
-    let none : widths (map sort_of (drop i parts)) ≡ 0 = ap (λ ps. widths (map sort_of ps)) (drop_all i parts le) in
-    omega arith
+pub widths_end : (words : ℕ) (all : List Part) (total : ℕ) → all ≡ [] → words + widths (map sort_of all) ≡ total
+    → words ≡ total
+widths_end words all total is so_far =
+    let none : widths (map sort_of all) ≡ 0 = ap (λ ps. widths (map sort_of ps)) is in
+    omega (arith, none, so_far)
 
 -- ---- how many instructions are written, whatever names stand for
 

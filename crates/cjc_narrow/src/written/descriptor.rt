@@ -42,8 +42,8 @@ fn widths(desc: &Desc<'_>) -> u64
     ensures few { result < 2 ^ 34 }
 {
     let mut words = 0;
-    for i in 0..desc.params() {
-        words += width(desc.kind(i));
+    for (kind, _) in desc.parameters() {
+        words += width(kind);
     }
     words
 }

@@ -16,6 +16,7 @@ pub mod Limited
 pub mod Sizes
 pub mod Consistency
 pub mod Flags
+pub mod Rooted
 pub mod Exportable
 pub mod Standing
 pub mod OwnTokens

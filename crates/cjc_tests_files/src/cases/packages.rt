@@ -36,6 +36,7 @@ fn imported(alloc: Global, words: &str) -> Result<ExportClass, NoMemory> {
         token: 0,
         flags: 1,
         name: text(alloc, name)?,
+        listed: texts(alloc, supers)?,
         supers: texts(alloc, supers)?,
         interfaces: Row::new(alloc),
         fields: Row::new(alloc),

@@ -134,6 +134,7 @@ fn imported(alloc: Global, words: &str) -> Result<ExportClass, NoMemory> {
         token: 0,
         flags: flags(access)?,
         name: text(alloc, name)?,
+        listed: texts(alloc, supers)?,
         supers: texts(alloc, supers)?,
         interfaces: texts(alloc, interfaces)?,
         fields: Row::new(alloc),

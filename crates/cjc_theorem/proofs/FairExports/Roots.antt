@@ -6,22 +6,24 @@ use Rattle.std.specs.Str.{bytes_eq}
 use Rattle.cjc_jvm_semantics.specs.Effects.{Arithmetic, ArrayStore, ClassCast, Fault, IndexOutside, NegativeSize}
 use Rattle.cjc_jvm_semantics.specs.Effects.{NullPointer, exception_class}
 use Rattle.cjc_bytes.specs.AccessFlags.{is_interface}
+use Rattle.cjc_export.proofs.Rooted.{has_root}
 use Rattle.cjc_export.specs.declared.tree.ExportClass.{ExportClass}
 use Rattle.cjc_export.specs.declared.tree.ExportTree.{ExportTree}
 use Rattle.cjc_theorem.specs.FairExports.Fair.{ExportsAreFair}
-use Rattle.cjc_theorem.proofs.FairExports.Alone.{acyclic, found, one_abroad, same_supertypes}
+use Rattle.cjc_theorem.proofs.FairExports.Alone.{acyclic, found}
 use Rattle.cjc_world_proof.proofs.SelectionLaws.Rules.{only_object, super_class}
 use Rattle.cjc_world_proof.specs.Files.{ExportsAreSound}
 use Rattle.cjc_subset.specs.Members.{imports}
 use Rattle.cjc_token_proof.proofs.TablesLaws.Clean.{language}
 use Rattle.cjc_token_proof.proofs.TablesLaws.Filed.{has-back, has-front}
+use Rattle.cjc_token_proof.proofs.TablesLaws.Rooted.{import_root}
 use Rattle.cjc_token_proof.specs.Tables.Sound.{IsSound}
 use Rattle.cjc_world.specs.Upwards.{OnLine, here, up}
-use Rattle.cjc_world.proofs.UpwardLaws.Lines.{above_on, below_line, line_below}
+use Rattle.cjc_world.proofs.UpwardLaws.Lines.{above_on, below_line, line_below, line_is_below}
 use Rattle.cjc_vtable.proofs.Filed.{Has, at_front, behind, has-get}
 use Rattle.cjc_world.specs.Classes.{Class, all_classes, class_named, imported}
 use Rattle.cjc_world.specs.Files.{Files}
-use Rattle.cjc_world.specs.Supertypes.{Above, is_below, stands_by_supers}
+use Rattle.cjc_world.specs.Supertypes.{Above, Lists, after, foremost, is_below}
 use Rattle.cjc_world.specs.Lookup.{object}
 use Rattle.cjc_world.specs.Rules.{has_array_exceptions, has_class, has_exception, has_language, has_needed}
 use Rattle.cjc_world.specs.Rules.{has_other_exceptions, has_roots, throwable}
@@ -137,17 +139,22 @@ no_throwable NegativeSize = refl
 no_throwable ClassCast = refl
 no_throwable ArrayStore = refl
 
+-- ---- what lists java/lang/Object
+
+root_listed : (xs : List (List ℕ)) → has_root xs ≡ true → Lists object xs
+root_listed [] e = absurd cc
+root_listed (x ∷ xs) e = by (bytes_eq x object) refl e (root_listed xs)
+  where
+    by : (b : Bool) → bytes_eq x object ≡ b → (b || has_root xs) ≡ true → (has_root xs ≡ true → Lists object xs)
+        → Lists object (x ∷ xs)
+    by true f e rest = subst (λ z. Lists object (z ∷ xs)) (sym (bytes-true x object f)) foremost
+    by false f e rest = after (rest e)
+
 -- ---- no interfaces
 
-module _ (list : List ℕ) (files : Files) (sound : IsSound list files) (fair : ExportsAreFair files.exports) where
+module _ (list : List ℕ) (files : Files) (sound : IsSound list files) where
   abbrev w : List Class
   w = all_classes files
-
-  pub below_root : (n : ℕ) (c : ExportClass) → slice_get (imports files.exports) n ≡ Some c → is_interface c.flags
-      ≡ false → is_below w c.name object ≡ true
-  unfolding is_below
-  below_root n c e plain = ap (stands_by_supers object) (same_supertypes list files sound (c.name
-      ∷ []) (one_abroad list files sound n c e)) ∙ fair.roots n c e plain
 
   -- what stands on a line is the first class there, or no interface
   last_plain : (x : List ℕ) (d : Class) → OnLine w x d → (class_named w x ≡ Some d) ⊎ (is_interface d.flags ≡ false)
@@ -190,6 +197,16 @@ module _ (list : List ℕ) (files : Files) (sound : IsSound list files) (fair : 
   abbrev root_class : Class
   root_class = let s = object_there in imported s.number s.class
 
+  -- each class of an export file is java/lang/Object, or has it above it
+  pub below_root : (n : ℕ) (c : ExportClass) → slice_get (imports files.exports) n ≡ Some c → is_below w c.name object
+      ≡ true
+  below_root n c e = (let s = object_there in ap (is_below w c.name) (sym s.named))
+      ∙ line_is_below w (acyclic list files sound) c.name root_class (⊎_elim
+      (λ same. here (ap (class_named w) same ∙ found_as object object_there))
+      (λ listed. up (imported n c) (found list files sound n c e) (root_listed c.supers listed) (here (found_as object
+      object_there)))
+      (import_root files (let r = sound.read in r.exports) n c e))
+
   abbrev top : Class
   top = let s = throwable_there in imported s.number s.class
 
@@ -208,7 +225,7 @@ module _ (list : List ℕ) (files : Files) (sound : IsSound list files) (fair : 
   root_line =
       let s = throwable_there in
       below_line w (acyclic list files sound) throwable object root_class (ap (λ x. is_below w x object) (sym s.named)
-      ∙ below_root s.number s.class s.listed top_plain) (found_as object object_there)
+      ∙ below_root s.number s.class s.listed) (found_as object object_there)
 
   root_plain : is_interface root_class.flags ≡ false
   root_plain = ⊎_elim
@@ -251,8 +268,8 @@ module _ (list : List ℕ) (files : Files) (sound : IsSound list files) (fair : 
       by false e = refl
       by true e = absurd (on e (exception_class fault) refl (fault_line fault))
 
-  pub exports_sound : ExportsAreSound files
-  exports_sound = record {
+  pub exports_sound : ExportsAreFair files.exports → ExportsAreSound files
+  exports_sound fair = record {
     names = fair.names;
     exceptions = λ fault. (let s = fault_there fault in record {
       number = s.number;
@@ -268,5 +285,5 @@ module _ (list : List ℕ) (files : Files) (sound : IsSound list files) (fair : 
       found = found_as object s;
       no_interface = root_plain;
     });
-    roots = below_root;
+    roots = λ n c e plain. below_root n c e;
   }

@@ -12,7 +12,7 @@ use Rattle.cjc_export.specs.declared.tree.ExportMethod.{ExportMethod}
 use Rattle.cjc_theorem.specs.FairExports.Fair.{ExportsAreFair, world_of}
 use Rattle.cjc_theorem.proofs.FairExports.Alone.{acyclic, filed, found, same_supertypes, supers_abroad}
 use Rattle.cjc_theorem.proofs.FairExports.Roots.{below_root, object_there}
-use Rattle.cjc_world_proof.proofs.SelectionLaws.Rules.{listed_abroad, super_class}
+use Rattle.cjc_world_proof.proofs.SelectionLaws.Rules.{listed_abroad}
 use Rattle.cjc_token_proof.specs.Tables.Sound.{IsSound}
 use Rattle.cjc_tokens.specs.Members.{In, Signature, all_methods, first_of, has, is_initialiser, later, same}
 use Rattle.cjc_tokens.specs.Members.{signature_of}
@@ -170,13 +170,6 @@ module _ (list : List ℕ) (files : Files) (sound : IsSound list files) (fair : 
       (ap (λ (v : Member). is_private v.flags) q.2 ∙ fair.visible r.0 r.1 r.2 k q.0 q.1)
       (ap (λ (v : Member). is_static v.flags) q.2 ∙ fair.interfaces r.0 r.1 r.2 here k q.0 q.1)
 
-  supers : (y : List ℕ) (i : Class) → class_named w y ≡ Some i → is_interface i.flags ≡ true → i.is_imported ≡ true
-      → i.supers ≡ object ∷ []
-  supers y i e interface is =
-      let r = filed list files sound y i e is in
-      ap (λ (v : Class). v.supers) r.3 ∙ fair.supers r.0 r.1 r.2 (ap (λ (v : Class). is_interface v.flags) (sym r.3)
-      ∙ interface)
-
   -- ---- java/lang/Object
 
   -- it has no superclass that some file has
@@ -186,11 +179,9 @@ module _ (list : List ℕ) (files : Files) (sound : IsSound list files) (fair : 
       let import = listed_abroad list files sound.unbroken object s o d e is (lists-front s o.supers o.interfaces l) f
       in
       let r = filed list files sound s d f import in
-      let plain : is_interface r.1.flags ≡ false = ap (λ (v : Class). is_interface v.flags) (sym r.3)
-      ∙ super_class list files sound.unbroken object s o d e l f in
       let name : r.1.name ≡ s = ap (λ (v : Class). v.name) (sym r.3) ∙ class_named-name w s d f in
       let on : OnLine w s o = below_line w (acyclic list files sound) s object o (ap (λ x. is_below w x object)
-      (sym name) ∙ below_root list files sound fair r.0 r.1 r.2 plain) e in
+      (sym name) ∙ below_root list files sound r.0 r.1 r.2) e in
       let o_name : o.name ≡ object = class_named-name w object o e in
       let first : Above w object s = directly o e (lists-front s o.supers o.interfaces l) in
       ⊎_elim
@@ -241,7 +232,7 @@ module _ (list : List ℕ) (files : Files) (sound : IsSound list files) (fair : 
       ∙ interface) j (method_of_export m) there
 
   root_import : (o : Class) × (class_named w object ≡ Some o) × (o.is_imported ≡ true)
-  root_import = let s = object_there list files sound fair in (
+  root_import = let s = object_there list files sound in (
     imported s.number s.class,
     ap (class_named w) (sym s.named) ∙ found list files sound s.number s.class s.listed,
     refl,
@@ -255,7 +246,6 @@ exports_send list p sound fair =
     record {
       ask = ask list p.files sound fair;
       listed = listed list p.files sound fair;
-      supers = supers list p.files sound fair;
       objects = λ y i e interface m among asked. objects list p.files sound fair o.0 o.1 o.2 m among
           (interface_plain (world p) i (signature_of m) asked);
     }

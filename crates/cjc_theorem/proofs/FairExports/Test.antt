@@ -142,28 +142,12 @@ fair_method interface root m =
     not (is_private m.flags) && (not (is_initialiser m.name) || is_static m.flags)
     && (not interface || not (is_static m.flags)) && (not (root && is_static m.flags) || is_initialiser m.name)
 
--- the names are these
-unfoldable pub same_names : List (List ℕ) → List (List ℕ) → Bool
-same_names [] [] = true
-same_names (x ∷ xs) (y ∷ ys) = bytes_eq x y && same_names xs ys
-same_names xs ys = false
-
-same_names_are : (xs ys : List (List ℕ)) → same_names xs ys ≡ true → xs ≡ ys
-unfolding same_names
-same_names_are [] [] e = refl
-same_names_are [] (y ∷ ys) e = absurd cc
-same_names_are (x ∷ xs) [] e = absurd cc
-same_names_are (x ∷ xs) (y ∷ ys) e =
-    ap (λ z. z ∷ xs) (bytes-true x y (both_front (bytes_eq x y) (same_names xs ys) e))
-    ∙ ap (λ zs. y ∷ zs) (same_names_are xs ys (both_back (bytes_eq x y) (same_names xs ys) e))
-
 unfoldable pub members_above : List Class → ExportClass → List Member
 members_above w c = map method_of_export c.methods ++ all_methods (upwards (supertypes w c.supers))
 
 unfoldable pub fair_class : List Class → ExportClass → Bool
 fair_class w c =
     names_from false c.name
-    && (if is_interface c.flags then same_names c.supers (object ∷ []) else is_below w c.name object)
     && (is_interface c.flags || one_to_one (members_above w c))
     && list_all (fair_method (is_interface c.flags) (bytes_eq c.name object)) c.methods
 
@@ -204,8 +188,6 @@ is_not false e = refl
 -- what is told of a class
 record IsFairClass (w : List Class) (c : ExportClass) : Type 0 where
   name : IsClassName c.name
-  root : is_interface c.flags ≡ false → is_below w c.name object ≡ true
-  super : is_interface c.flags ≡ true → c.supers ≡ object ∷ []
   tokens : is_interface c.flags ≡ false → IsOneToOne (map method_of_export c.methods
       ++ all_methods (upwards (supertypes w c.supers)))
   methods : (k : ℕ) (m : ExportMethod) → slice_get c.methods k ≡ Some m
@@ -215,20 +197,14 @@ told_class : (w : List Class) (c : ExportClass) → fair_class w c ≡ true → 
 unfolding fair_class members_above
 told_class w c e =
     let N = names_from false c.name in
-    let S = if is_interface c.flags then same_names c.supers (object ∷ []) else is_below w c.name object in
     let T = is_interface c.flags || one_to_one (members_above w c) in
     let M = list_all (fair_method (is_interface c.flags) (bytes_eq c.name object)) c.methods in
-    let three = both_front (N && S && T) M e in
-    let two = both_front (N && S) T three in
+    let two = both_front (N && T) M e in
     record {
-      name = (named_so c.name).0 (both_front N S two);
-      root = λ f. ap (λ b. if b then same_names c.supers (object ∷ []) else is_below w c.name object) (sym f)
-          ∙ both_back N S two;
-      super = λ f. same_names_are c.supers (object ∷ []) (ap (λ b. if b then same_names c.supers (object ∷ [])
-          else is_below w c.name object) (sym f) ∙ both_back N S two);
+      name = (named_so c.name).0 (both_front N T two);
       tokens = λ f. is_one_to_one (members_above w c) (ap (λ b. b || one_to_one (members_above w c)) (sym f)
-          ∙ both_back (N && S) T three);
-      methods = each_of (fair_method (is_interface c.flags) (bytes_eq c.name object)) c.methods (both_back (N && S
+          ∙ both_back N T two);
+      methods = each_of (fair_method (is_interface c.flags) (bytes_eq c.name object)) c.methods (both_back (N
           && T) M e);
     }
 
@@ -305,8 +281,6 @@ module _ (exports : List ExportTree) (e : are_fair exports ≡ true) where
   unfolding are_fair
   tested_exports_are_fair = record {
     names = λ n c f. (one n c f).name;
-    roots = λ n c f. (one n c f).root;
-    supers = λ n c f. (one n c f).super;
     tokens = λ n c f. (one n c f).tokens;
     implements = exports_implement (world_of exports) (both_back (list_all (fair_class (world_of exports))
         (imports exports)) (all_implement (world_of exports)) e);

@@ -23,16 +23,13 @@ use Rattle.cjc_narrow_proof.specs.Laws.Unbroken.{AreSpelt}
 use Rattle.cjc_world_proof.specs.Files.{IsImportedClass}
 use Rattle.cjc_subset.specs.Checks.{check_breaks}
 use Rattle.cjc_subset.specs.Members.{imports}
-use Rattle.cjc_order.specs.Supers.Supers.{each_once, names_upwards, superclasses}
-use Rattle.cjc_token_proof.proofs.TablesLaws.Clean.{has_named}
-use Rattle.cjc_token_proof.proofs.TablesLaws.Filed.{import_filed}
 use Rattle.cjc_token_proof.specs.Tables.Sound.{IsSound}
 use Rattle.cjc_tokens.proofs.Facts.{chosen-In}
 use Rattle.cjc_tokens.specs.Lines.{line_of}
 use Rattle.cjc_tokens.specs.Members.{In, all_methods, first_of, is_exposed, is_virtual, later, signature_of}
 use Rattle.cjc_tokens.specs.Slots.{slots, token}
-use Rattle.cjc_world.proofs.UpwardLaws.Lines.{line_is_below, of_line}
-use Rattle.cjc_world.specs.Upwards.{IsOrdered, OnLine, here, up}
+use Rattle.cjc_world.proofs.UpwardLaws.Lines.{of_line}
+use Rattle.cjc_world.specs.Upwards.{IsOrdered}
 use Rattle.cjc_vtable.proofs.Calls.{In-front}
 use Rattle.cjc_vtable.proofs.Filed.{Has, get-has, has-get}
 use Rattle.cjc_vtable.proofs.Once.{one_method}
@@ -40,17 +37,14 @@ use Rattle.cjc_vtable.proofs.Worlds.{tokens_are_once}
 use Rattle.cjc_vtable.specs.Calls.{IsOneToOne, selects}
 use Rattle.cjc_vtable.specs.Laws.{KeepsRules, Under, below, itself}
 use Rattle.cjc_world.specs.Classes.{Class, Member, class_named, imported, method_of_export}
-use Rattle.cjc_world.specs.Supertypes.{Lists, foremost, supertypes_within, is_below, supertypes, line, upwards}
+use Rattle.cjc_world.specs.Supertypes.{supertypes, line, upwards}
 use Rattle.cjc_world.specs.Lookup.{object}
-use Rattle.cjc_world.proofs.Cycles.{class_named-name}
-use Rattle.cjc_world.proofs.Settled.{AreSupertypes-one, supertypes-AreSupertypes, supertypes-known, lists-front}
+use Rattle.cjc_world.proofs.Settled.{AreSupertypes-one, supertypes-AreSupertypes}
 use Rattle.cjc_token_proof.specs.WrittenSends.Sends.{ExportsImplement}
 use Rattle.cjc_theorem.specs.Open.{ExportsAreOpen}
 use Rattle.cjc_theorem.proofs.FairWriting.Entries.{IsBound, IsEntry, class_entry, interface_entry}
 use Rattle.cjc_theorem.proofs.FairWriting.Beside.{IsFrom, IsImport, IsKnown, IsWritten, all_from, beside, cs}
-use Rattle.cjc_theorem.proofs.FairWriting.Beside.{found_by_name, import_named, import_there, known, of_one, on_line}
-use Rattle.cjc_theorem.proofs.FairWriting.Beside.{own_here, own_named, own_there, still_acyclic, v}
-use Rattle.cjc_theorem.proofs.FairWriting.Upwards.{line_under, under_super}
+use Rattle.cjc_theorem.proofs.FairWriting.Beside.{known, of_one, on_line, own_here, own_named, still_acyclic, v}
 use Rattle.cjc_theorem.proofs.FairWriting.Worlds.{found}
 
 -- ---- flags
@@ -80,9 +74,6 @@ interface_kept f shareable = ap (nat_lt 0) (and_pow r 9 ∙ ap (λ b. b * 2 ^ 9)
     by false = omega (arith, first, second)
 
 -- ---- lists
-
-no_list : {A : Type 0} {x : List ℕ} → Lists x [] → A
-no_list i = elim i [ ]
 
 in_at : (m : Member) (ms : List Member) → In m ms → (k : ℕ) × (slice_get ms k ≡ Some m)
 in_at m [] h = elim h [ ]
@@ -222,106 +213,6 @@ module _ (list : List ℕ) (p : Package) (codes : List MethodCode) (settings : S
   top : OfEach (beside list p sound before following split) (λ c. c.name ≡ object → c.supers ≡ [])
   top = each (λ c. c.name ≡ object → c.supers ≡ []) open_ones.top (λ k c at same. absurd (not_object k c at same))
 
-  -- ---- superclasses of interfaces
-
-  -- above java/lang/Object is nothing
-  object_alone : names_upwards (supertypes w (object ∷ [])) ≡ object ∷ []
-  unfolding supertypes supertypes_within
-  object_alone =
-      let o = imported root.number root.class in
-      let name : o.name ≡ object = class_named-name w object o root.found in
-      let bare : o.supers ≡ [] = open_ones.top root.number root.class root.listed name in
-      ap names_upwards (supertypes-known w ordered.acyclic object o root.found)
-      ∙ ap (λ xs. o.name ∷ names_upwards (supertypes w xs) ++ []) bare
-      ∙ ap (λ x. x ∷ []) name
-
-  own_supers : (k : ℕ) (c : Class) → slice_get (exported_classes p) k ≡ Some c → is_interface (let x = export_class p c
-      in x.flags) ≡ true → superclasses w c ≡ object ∷ []
-  own_supers k c at is =
-      let named = own_named list p sound before following split k c at in
-      let s = rules.single c.name c named (own_here list p sound before following split k c at) in
-      let up_is : s.0 ≡ object = ordered.only_object c.name s.0 c named (sym (kept k c at)
-      ∙ is) (subst (Lists s.0) (sym s.1) foremost) in
-      ap (λ xs. each_once [] (names_upwards (supertypes w xs))) (s.1 ∙ ap (λ x. x ∷ []) up_is)
-      ∙ ap (each_once []) object_alone
-
-  supers : OfEach (beside list p sound before following split) (λ c. is_interface c.flags ≡ true → c.supers ≡ object
-      ∷ [])
-  supers = each (λ c. is_interface c.flags ≡ true → c.supers ≡ object ∷ []) fair.supers own_supers
-
-  -- ---- java/lang/Object above each class
-
-  -- what stands over superclasses above a class of an export file stands above it there too
-  import_under : (x y : List ℕ) → Under w x y → ((c : Class) → class_named w x ≡ Some c → c.is_imported ≡ true)
-      → Under u x y
-  import_under x y itself abroad = itself
-  import_under x z (below {y = m} c f l rest) abroad =
-      let is = abroad c f in
-      let r = import_filed p.files sound.classes sound.exports c (has_named w x c f) is in
-      let e = r.1 in
-      let there = found_by_name list p sound before following split e (import_there list p sound before following split
-      r.0 e r.2) in
-      let name : e.name ≡ x = ap (λ (d : Class). d.name) (sym r.3) ∙ class_named-name w x c f in
-      let l_here : Lists m e.supers = subst (λ (d : Class). Lists m d.supers) r.3 l in
-      below (imported there.0 e) (ap (class_named u) (sym name) ∙ there.1) l_here (import_under m z rest
-      (λ d g. ordered.abroad x m c d f is (lists-front m c.supers c.interfaces l) g))
-
-  under_line : (x y : List ℕ) (d : Class) → Under u x y → class_named u y ≡ Some d → OnLine u x d
-  under_line x y d itself f = here f
-  under_line x y d (below {y = m} c e l rest) f = up c e l (under_line m y d rest f)
-
-  abbrev object_there : (n : ℕ) × (class_named u (let o = root.class in o.name) ≡ Some (imported n root.class))
-  object_there = found_by_name list p sound before following split root.class (import_there list p sound before
-      following split root.number root.class root.listed)
-
-  object_name : (let o = root.class in o.name) ≡ object
-  object_name = class_named-name w object (imported root.number root.class) root.found
-
-  object_found : class_named u object ≡ Some (imported object_there.0 root.class)
-  object_found = ap (class_named u) (sym object_name) ∙ object_there.1
-
-  below_object : (x : List ℕ) → Under u x object → is_below u x object ≡ true
-  below_object x under = ap (is_below u x) (sym object_name)
-      ∙ line_is_below u (still_acyclic list p sound before following split) x (imported object_there.0 root.class)
-      (under_line x object (imported object_there.0 root.class) under object_found)
-
-  -- a class that is no interface has it above it in the world of the package
-  over_object : (x : List ℕ) (c : Class) → class_named w x ≡ Some c → is_interface c.flags ≡ false → Under w x object
-  over_object x c e plain =
-      let o = ordered.rooted x c e plain in
-      let name : o.0.name ≡ object = class_named-name w object o.0 o.1 in
-      subst (Under w x) name (line_under w x o.0 o.2)
-
-  import_root : (n : ℕ) (e : ExportClass) → slice_get (imports exports) n ≡ Some e → is_interface e.flags ≡ false
-      → is_below u e.name object ≡ true
-  import_root n e at plain =
-      let named = import_named list p sound before following split n e at in
-      below_object e.name (import_under e.name object (over_object e.name (imported n e) named plain)
-      (λ c f. ap (λ (d : Class). d.is_imported) (same_class (sym f ∙ named))))
-
-  own_root : (k : ℕ) (c : Class) → slice_get (exported_classes p) k ≡ Some c → is_interface (let x = export_class p c
-      in x.flags) ≡ false → is_below u c.name object ≡ true
-  own_root k c at plain =
-      let e = export_class p c in
-      let there = found_by_name list p sound before following split e (own_there list p sound before following split k c
-      at) in
-      let l : Lists object (superclasses w c) = listed c.name object (over_object c.name c named (sym (kept k c at)
-      ∙ plain)) refl refl in
-      below_object c.name (below (imported there.0 e) there.1 l itself)
-    where
-      named : class_named w c.name ≡ Some c
-      named = own_named list p sound before following split k c at
-
-      listed : (x y : List ℕ) → Under w x y → x ≡ c.name → y ≡ object → Lists y (superclasses w c)
-      listed x y itself same is = absurd (not_object k c at (sym same ∙ is))
-      listed x y (below {y = m} d f l rest) same is =
-          let one : d ≡ c = same_class (sym f ∙ ap (class_named w) same ∙ named) in
-          under_super w ordered.acyclic c m y (subst (λ (b : Class). Lists m b.supers) one l) rest
-
-  roots : OfEach (beside list p sound before following split) (λ c. is_interface c.flags ≡ false
-      → is_below u c.name object ≡ true)
-  roots = each (λ c. is_interface c.flags ≡ false → is_below u c.name object ≡ true) import_root own_root
-
   -- ---- tokens
 
   -- what stands over superclasses above a class that is no interface is none
@@ -438,8 +329,6 @@ module _ (list : List ℕ) (p : Package) (codes : List MethodCode) (settings : S
   pub still_fair : ExportsAreFair (beside list p sound before following split)
   still_fair = record {
     names = names;
-    roots = roots;
-    supers = supers;
     tokens = tokens;
     implements = implements;
     visible = visible;

@@ -1,7 +1,7 @@
 -- The premise on export files, said of them alone: what each says of its classes and methods, as the export files of a
 -- Java
 -- Card platform do (Java Card Virtual Machine Specification 2.2.2, sections 4.3.7 and 5.7 to 5.9).
-use Rattle.std.specs.Prelude.{◌≡◌, ℕ, List, [], ◌∷◌, ◌++◌, map, true, false, slice_get, Some}
+use Rattle.std.specs.Prelude.{◌≡◌, ℕ, List, ◌++◌, map, true, false, slice_get, Some}
 use Rattle.cjc_jvm_semantics.specs.OnePackage.{is_initialiser}
 use Rattle.cjc_bytes.specs.AccessFlags.{is_interface, is_private, is_static}
 use Rattle.cjc_bytes.specs.Descriptor.{IsClassName}
@@ -12,7 +12,7 @@ use Rattle.cjc_subset.specs.Members.{imports}
 use Rattle.cjc_tokens.specs.Members.{all_methods}
 use Rattle.cjc_vtable.specs.Calls.{IsOneToOne}
 use Rattle.cjc_world.specs.Classes.{Class, method_of_export, numbered}
-use Rattle.cjc_world.specs.Supertypes.{is_below, supertypes, upwards}
+use Rattle.cjc_world.specs.Supertypes.{supertypes, upwards}
 use Rattle.cjc_world.specs.Lookup.{object}
 use Rattle.cjc_token_proof.specs.WrittenSends.Sends.{ExportsImplement}
 
@@ -32,10 +32,6 @@ OfMethods c P = (k : ℕ) (m : ExportMethod) → slice_get c.methods k ≡ Some 
 pub record ExportsAreFair (exports : List ExportTree) : Type 0 where
   -- its name is one that classes have
   pub names : OfEach exports (λ c. IsClassName c.name)
-  -- one that is no interface is java/lang/Object, or has it among its superclasses over steps
-  pub roots : OfEach exports (λ c. is_interface c.flags ≡ false → is_below (world_of exports) c.name object ≡ true)
-  -- the superclass of an interface is java/lang/Object, and it lists no other
-  pub supers : OfEach exports (λ c. is_interface c.flags ≡ true → c.supers ≡ object ∷ [])
   -- Along a class that is no interface and its superclasses one name and descriptor has one virtual token, and one
   -- virtual token has one name and descriptor.
   -- The tokens of an interface's methods are counted apart from those of its superclass java/lang/Object.

@@ -874,8 +874,8 @@ module _ (list : List ℕ) (p : Package) (sound : IsSound list p.files) (facts :
     has_behind is js h = let r = first_after finds (known is) (known js) h.0 h.1
         in (r.0, ap (first finds) (Rattle.cjc_world.proofs.Rising.known-append is js) ∙ r.1)
 
-    module _ (supers : (y : List ℕ) (c : Class) → class_named w y ≡ Some c → is_interface c.flags ≡ true
-        → c.supers ≡ object ∷ []) (y : List ℕ) (i : Class) (known_i : class_named w y ≡ Some i)
+    module _ (only_object : (y s : List ℕ) (c : Class) → class_named w y ≡ Some c → is_interface c.flags ≡ true
+        → Lists s c.supers → s ≡ object) (y : List ℕ) (i : Class) (known_i : class_named w y ≡ Some i)
         (here : is_interface i.flags ≡ true) (t : ℕ) (is : place_in i ≡ Some t) where
       -- it stands above java/lang/Object
       object_has : (k : Supertypes) → AreSupertypes w (object ∷ []) k → stands y k ≡ true
@@ -888,6 +888,28 @@ module _ (list : List ℕ) (p : Package) (sound : IsSound list p.files) (facts :
           (kinds.no_array y (ap is_some known_i)) ∙ ap (stands y) same ∙ st in
           let r = token_found object o.0 o.1 o.3 y i known_i here sub t is in
           (r.0, ap (λ q. first finds (known (gathered false q))) (sym same) ∙ r.1)
+
+      -- so it does above names that are all that one
+      objects_have : (xs : List (List ℕ)) (k : Supertypes) → AreSupertypes w xs k → ((s : List ℕ) → Lists s xs → s
+          ≡ object) → stands y k ≡ true → Has (known (gathered false k))
+      unfolding gathered known
+      objects_have xs k ends only st = absurd (cc)
+      objects_have xs k (unknown_here {x = x} nowhere kn) only st =
+          let o = facts.object_class in
+          let clash : None ≡ Some o.0 = sym nowhere ∙ ap (class_named w) (only x foremost) ∙ o.1 in
+          absurd (cc)
+      objects_have xs k (known_here {x = x} {xs = rest} {c = c} {supers = su} {interfaces = it} {next = next} e ks ki
+          kn) only st =
+          let A = gathered false su in
+          let B = gathered true it in
+          let R = gathered false next in
+          ⊎_elim
+          (λ front. has_front (A ++ B ++ []) R (subst (λ (q : List Interface). Has (known q))
+          (Rattle.std.proofs.lemmas.List.append-nil (A ++ B ++ []))
+          (object_has (Known c su it End) (known_here (ap (class_named w) (sym (only x foremost)) ∙ e) ks ki ends)
+          (or_left ((bytes_eq c.name y || stands y su) || stands y it) false front))))
+          (λ more. has_behind (A ++ B ++ []) R (objects_have rest next kn (λ s l. only s (after l)) more))
+          (or_split ((bytes_eq c.name y || stands y su) || stands y it) (stands y next) st)
 
       -- or it is the interface, or stands above it
       step_has : (x : List ℕ) (c : Class) (su it next : Supertypes) → class_named w x ≡ Some c
@@ -907,7 +929,7 @@ module _ (list : List ℕ) (p : Package) (sound : IsSound list p.files) (facts :
           (λ side. ⊎_elim
           (λ name. itself_has name)
           (λ h. has_front (A
-          ++ B) H (has_front A B (object_has su (subst (λ ss. AreSupertypes w ss su) (supers x c e c_here) ks) h)))
+          ++ B) H (has_front A B (objects_have c.supers su ks (λ s l. only_object x s c e c_here l) h)))
           (or_split (bytes_eq c.name y) (stands y su) side))
           (λ h. has_front (A ++ B) H (has_behind A B (on_it h)))
           (or_split (bytes_eq c.name y || stands y su) (stands y it) front)))
@@ -988,8 +1010,8 @@ module _ (list : List ℕ) (p : Package) (sound : IsSound list p.files) (facts :
               let one : i ≡ d = cc in
               let clash : Some t ≡ None = sym is ∙ ap place_in one ∙ lacks in absurd (cc)))
               (λ h. has_front (gathered false (supertypes w d.supers)) (gathered true (supertypes w d.interfaces))
-              (object_has (supertypes w d.supers) (subst (λ ss. AreSupertypes w ss (supertypes w d.supers))
-              (supers y0 d named named_here) (facts.are_supertypes d.supers)) h))
+              (objects_have d.supers (supertypes w d.supers) (facts.are_supertypes d.supers)
+              (λ s l. only_object y0 s d named named_here l) h))
               (or_split (bytes_eq d.name y) (stands y (supertypes w d.supers)) side))
               (λ h. has_behind (gathered false (supertypes w d.supers)) (gathered true (supertypes w d.interfaces))
               (listed_has d.interfaces (supertypes w d.interfaces) (facts.are_supertypes d.interfaces)

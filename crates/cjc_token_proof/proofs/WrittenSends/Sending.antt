@@ -11,7 +11,6 @@ use Rattle.cjc_bytes.specs.declared.fault.MemberId.{MemberId}
 use Rattle.cjc_jvm_semantics.specs.Linked.{Method}
 use Rattle.cjc_jvm_semantics.specs.OnePackage.{ResolvedMember, is_constructor, is_initialiser, is_sendable, method_at}
 use Rattle.cjc_jvm_semantics.specs.OnePackage.{method_hit, select_in, sent_named}
-use Rattle.cjc_token_proof.proofs.ByToken.Members.{bytes_same}
 use Rattle.cjc_token_proof.specs.ByToken.Above.{IsAtOrAbove}
 use Rattle.cjc_token_proof.specs.ByToken.Names.{NamesAgree}
 use Rattle.cjc_token_proof.specs.ByToken.Supers.{KindsAgree, SaysKinds}
@@ -30,8 +29,6 @@ use Rattle.cjc_components.specs.Package.{Package, world}
 use Rattle.cjc_ncode.specs.Lowering.Naming.{Naming}
 use Rattle.cjc_ncode.specs.Lowering.Placed.{Placed}
 use Rattle.cjc_script.specs.Sorts.{Shape, OfClass, OfNumbers, OfReferences, shape_name}
-use Rattle.cjc_token_proof.proofs.TablesLaws.Above.{rules_of}
-use Rattle.cjc_token_proof.proofs.TablesLaws.Lists.{right_supers}
 use Rattle.cjc_token_proof.specs.Tables.Loading.{naming}
 use Rattle.cjc_token_proof.specs.Tables.Sound.{IsSound}
 use Rattle.cjc_tokens.specs.Members.{has, is_virtual}
@@ -42,7 +39,7 @@ use Rattle.cjc_vtable.specs.Calls.{is_special}
 use Rattle.cjc_vtable.specs.Laws.{ImportedCallsAgree, Under, selection}
 use Rattle.cjc_world.specs.Classes.{Class, class_named}
 use Rattle.cjc_world.specs.Interfaces.{gathered, known}
-use Rattle.cjc_world.specs.Supertypes.{Known, End, Lists, foremost, supertypes, line, stands, upwards}
+use Rattle.cjc_world.specs.Supertypes.{supertypes, line, stands, upwards}
 use Rattle.cjc_world.specs.Lookup.{find_method, first, is_selectable, object, own_method}
 use Rattle.cjc_world.specs.Lookup as lookup
 use Rattle.cjc_world.specs.Subtype.{is_subtype}
@@ -51,11 +48,12 @@ use Rattle.cjc_token_proof.proofs.WrittenCalls.Facts.{Facts}
 use Rattle.cjc_token_proof.proofs.WrittenCalls.Found.{line_named}
 use Rattle.cjc_token_proof.proofs.WrittenCalls.SupertypeTrees.{name_is}
 use Rattle.cjc_token_proof.proofs.WrittenCalls.Receivers.{first_step}
-use Rattle.cjc_token_proof.proofs.WrittenCalls.Towers.{class_stands, height_fits, line_is, line_of_names}
+use Rattle.cjc_token_proof.proofs.WrittenCalls.Towers.{class_stands, height_fits, line_is}
 use Rattle.cjc_token_proof.specs.WrittenCalls.Calls.{ExportsKeep, KeepsSubtypes, KeepsTokens, Receives, numbers, one_of}
 use Rattle.cjc_token_proof.specs.WrittenCalls.Calls.{references}
 use Rattle.cjc_token_proof.proofs.WrittenSends.Found as sought
 use Rattle.cjc_token_proof.proofs.WrittenSends.Interfaces as interfaces
+use Rattle.cjc_token_proof.proofs.WrittenSends.Root.{above_interface, object_above, only_object}
 use Rattle.cjc_token_proof.proofs.WrittenSends.Sent as sends
 use Rattle.cjc_token_proof.specs.WrittenSends.Sends.{ExportsSend, InterfacesAsk}
 
@@ -84,17 +82,6 @@ module _ (list : List ℕ) (p : Package) (sound : IsSound list p.files) (facts :
   abbrev sent_of : Shape (List ℕ) → MemberId → (sub : Bool) → Option Found → Option Method
   sent_of kind id sub o = sends.sent_of list p sound facts subtypes tokens kinds kinds_agree names_agree imported_calls
       place begins kind id sub o
-
-  -- java/lang/Object alone stands above an interface over superclasses
-  supers : (y : List ℕ) (c : Class) → class_named w y ≡ Some c → is_interface c.flags ≡ true → c.supers ≡ object ∷ []
-  supers y c known_c here = by c.is_imported refl
-    where
-      by : (b : Bool) → c.is_imported ≡ b → c.supers ≡ object ∷ []
-      by true import = send.supers y c known_c here import
-      by false own =
-          let one = facts.rules.single y c known_c own in
-          let right = right_supers w c (let r = rules_of list p sound y c known_c in r.supers) in
-          one.1 ∙ ap (λ x. x ∷ []) (right.of_interface here one.0 (subst (Lists one.0) (sym one.1) foremost))
 
   -- the interfaces behind the line of a name
   abbrev behind : List ℕ → List Class
@@ -264,9 +251,7 @@ module _ (list : List ℕ) (p : Package) (sound : IsSound list p.files) (facts :
           line_here : first finds (line w id.class) ≡ lookup.or_else (finds d) (first finds (line w object))
           line_here =
               ap (first finds) (line_is p facts id.class d named) ∙ first_step finds d (upwards (supertypes w d.supers))
-              ∙ ap (λ ss. lookup.or_else (finds d) (first finds (upwards (supertypes w ss)))) (supers id.class d named
-              named_here)
-              ∙ ap (λ cs. lookup.or_else (finds d) (first finds cs)) (sym (line_of_names p facts object))
+              ∙ ap (lookup.or_else (finds d)) (above_interface list p sound facts finds id.class d named named_here)
 
           found_is : (o : Option Found) → finds d ≡ o → find_method w id.class id.name id.desc
               ≡ lookup.or_else (lookup.or_else o (first finds (line w object))) (first finds (behind id.class))
@@ -346,11 +331,8 @@ module _ (list : List ℕ) (p : Package) (sound : IsSound list p.files) (facts :
               let o = facts.object_class in
               let here = ap is_some named in
               let there = ap is_some o.1 in
-              let top : stands object (supertypes w d.supers) ≡ true =
-              ap (λ ss. stands object (supertypes w ss)) (supers id.class d named named_here)
-              ∙ ap (stands object) (interfaces.supertypes_is list p sound facts subtypes tokens keep kinds kinds_agree
-              names_agree imported_calls told_kinds place begins ask send id object o.0 o.1)
-              ∙ object_here o.0 (name_is w object o.0 o.1) in
+              let top : stands object (supertypes w d.supers) ≡ true = object_above list p sound facts id.class d named
+              named_here in
               let over : is_subtype w id.class object ≡ true =
               interfaces.subtype_is w id.class object (kinds.no_array id.class here) (kinds.no_array object there)
               ∙ ap (stands object) (interfaces.supertypes_is list p sound facts subtypes tokens keep kinds kinds_agree
@@ -368,18 +350,6 @@ module _ (list : List ℕ) (p : Package) (sound : IsSound list p.files) (facts :
               imported_calls told_kinds place begins ask send id x id.class (ap is_some e) here sub)
               (interfaces.kind_above list p sound facts subtypes tokens keep kinds kinds_agree names_agree
               imported_calls told_kinds place begins ask send id id.class object here there over))
-            where
-              object_here : (o : Class) → o.name ≡ object
-                  → stands object (Known o (supertypes w o.supers) (supertypes w o.interfaces) End) ≡ true
-              object_here o name =
-                  ap (λ y. ((bytes_eq y object || stands object (supertypes w o.supers))
-                  || stands object (supertypes w o.interfaces)) || false) name
-                  ∙ interfaces.or_left ((bytes_eq object object || stands object (supertypes w o.supers))
-                  || stands object (supertypes w o.interfaces)) false
-                  (interfaces.or_left (bytes_eq object object || stands object (supertypes w o.supers))
-                  (stands object (supertypes w o.interfaces))
-                  (interfaces.or_left (bytes_eq object object) (stands object (supertypes w o.supers))
-                  (bytes_same object)))
 
           interface_sent : Begins (sent_to n.loaded receiving (n.class id.class) id) (find_method w id.class id.name
               id.desc)
@@ -409,7 +379,7 @@ module _ (list : List ℕ) (p : Package) (sound : IsSound list p.files) (facts :
                   id) object_told (first finds (behind id.class))
                   (λ nowhere. behind_sent id.class d named sub (λ y i known_i here kind t is. interfaces.above_found
                   list p sound facts subtypes tokens keep kinds kinds_agree names_agree imported_calls told_kinds
-                  place begins ask send id plain not_constructor supers y i known_i here t is id.class d named
+                  place begins ask send id plain not_constructor (only_object list p sound facts) y i known_i here t is id.class d named
                   named_here none kind))
                   ∙ ap (λ q. begun (sent_of (OfClass x) id true q))
                   (sym (found_is None (own_lacks none (finds d) refl)))

@@ -41,16 +41,11 @@ ExportsImplement w =
     → is_exposed given.flags ≡ true
 
 -- What export files say of interfaces and of java/lang/Object. Left out are a private or static method of an interface;
--- an
--- interface that lists no super, or a method twice; and a private or static method of java/lang/Object with the name
--- and
+-- an interface that lists a method twice; and a private or static method of java/lang/Object with the name and
 -- descriptor of an interface's method.
 pub record ExportsSend (p : Package) : Type 0 where
   pub ask : InterfacesAsk true (world p)
   pub listed : ExportsListInterfaces p
-  -- over superclasses java/lang/Object alone stands above an interface
-  pub supers : (y : List ℕ) (i : Class) → class_named (world p) y ≡ Some i → is_interface i.flags ≡ true
-      → i.is_imported ≡ true → i.supers ≡ object ∷ []
   -- what java/lang/Object has by the name and descriptor of an interface's method is neither private nor static
   pub objects : (y : List ℕ) (i : Class) → class_named (world p) y ≡ Some i → is_interface i.flags ≡ true
       → (m : Member) → In m (all_methods (line (world p) object)) → has (interface_methods (world p) i) (signature_of m)

@@ -6,10 +6,12 @@ use Rattle.std.specs.Str.{bytes_eq}
 use Rattle.cjc_bytes.specs.declared.settings.FileLine.{FileLine}
 use Rattle.cjc_classfile.specs.declared.tree.ClassTree.{ClassTree}
 use Rattle.cjc_export.specs.declared.tree.ExportTree.{ExportTree}
+use Rattle.cjc_world.specs.declared.members.MemberIndex.{MemberIndex}
 use Rattle.cjc_world.specs.declared.names.Names.{Names}
 use Rattle.cjc_world.specs.declared.numbers.Numbers.{Numbers}
 use Rattle.cjc_world.specs.declared.spot.ClassPlace.{ClassPlace}
 use Rattle.cjc_world.specs.Classes.{Class, classes_from}
+use Rattle.cjc_world.specs.Working.Members.{AreIndices}
 use Rattle.cjc_world.specs.Working.Numbers.{places_of}
 use Rattle.cjc_world.specs.Working.Places.{place_named}
 use Rattle.cjc_world.specs.Working.Spots.{at, IsIndexed}
@@ -30,10 +32,11 @@ spot_named classes exports (s ∷ ss) name = if is_named (at classes exports s) 
     else option_map suc (spot_named classes exports ss name)
 
 -- The spots are those of all classes, in order, each name is noted at its first class, and each number at the class of
--- its kind.
+-- its kind; and each class has an index of its members.
 pub record IsClassIndex (lines : List FileLine) (classes : List ClassTree) (exports : List ExportTree)
-    (spots : List ClassPlace) (names : Names) (numbers : Numbers) : Type 0 where
+    (spots : List ClassPlace) (names : Names) (numbers : Numbers) (indices : List MemberIndex) : Type 0 where
   pub indexed : IsIndexed lines classes exports spots
   pub named : (name : List ℕ) → place_in names name ≡ place_named (classes_from classes exports 0 0 0 lines) name
   pub declared : numbers.declared ≡ places_of false 0 spots
   pub imported : numbers.imported ≡ places_of true 0 spots
+  pub members : AreIndices (classes_from classes exports 0 0 0 lines) indices

@@ -8,6 +8,7 @@ use Rattle.cjc_export.specs.Pool
 use Rattle.cjc_export.specs.Package
 use Rattle.cjc_export.specs.Members
 use Rattle.cjc_export.specs.ExportFile
+use Rattle.cjc_export.specs.Root
 use Rattle.cjc_cmd_make.specs.Package.Lang.{lang_file}
 use Rattle.cjc_cmd_make.specs.Laws.LangTree.{lang_tree}
 use Rattle.cjc_cmd_make.proofs.laws.lang_spells_its_tree.Goals as goal
@@ -19,4 +20,5 @@ unfolding repeated in_a_row iterated u1 u2 u4 raw front digits read_file each al
     Members.desc_at Members.desc_field Members.constant_name_at Members.integer_at Members.attribute_content
     Members.attribute Members.field Members.class_method Members.interface_name_at Members.interface_method
     Members.method ExportFile.new_name_at ExportFile.class_tree ExportFile.front_part ExportFile.export_file
+    Root.with_root
 returns c = file_ok ExportFile.export_file lang_file lang_tree refl

@@ -22,6 +22,7 @@ use Rattle.cjc_classfile.specs.declared.tree.ClassTree.{ClassTree}
 use Rattle.cjc_components.specs.ExportFile.{export_of}
 use Rattle.cjc_components.specs.Limits.{has_many_entries, layout_breaks, of_methods, spot_of_list}
 use Rattle.cjc_components.specs.Package.{Package, pool, world}
+use Rattle.cjc_export.proofs.Rooted.{has_root}
 use Rattle.cjc_export.specs.Members.{as_desc}
 use Rattle.cjc_export.specs.Pool.{aid_length}
 use Rattle.cjc_export.specs.Writable.{IsText}
@@ -39,7 +40,7 @@ use Rattle.cjc_code.proofs.ReadLaws.Members.{read_class}
 use Rattle.cjc_code.specs.ReadLaws.Members.{IsDescOf}
 use Rattle.cjc_tokens.specs.Rules.{FewCells}
 use Rattle.cjc_vtable.proofs.Numbers.{at-tree}
-use Rattle.cjc_order.specs.Supers.Supers.{interfaces}
+use Rattle.cjc_order.specs.Supers.Supers.{interfaces, superclasses}
 use Rattle.cjc_world.specs.Classes.{Class, class_at, declared, field_of_class}
 use Rattle.cjc_world.specs.Rules.{is_second}
 use Rattle.cjc_shape_proof.proofs.WrittenLaws.FittingLaws.Exported.{or_second}
@@ -49,6 +50,7 @@ use Rattle.cjc_shape_proof.proofs.WrittenLaws.FittingLaws.Limited.{acyclic, by_f
 use Rattle.cjc_shape_proof.proofs.WrittenLaws.FittingLaws.Limited.{few_imports, are_supertypes, list_short, tokens}
 use Rattle.cjc_shape_proof.proofs.WrittenLaws.FittingLaws.Limited.{unbroken, writable}
 use Rattle.cjc_shape_proof.proofs.WrittenLaws.FittingLaws.Listed.{aid_long, aid_short, spelt}
+use Rattle.cjc_shape_proof.proofs.WrittenLaws.FittingLaws.Rooted.{own_root}
 use Rattle.cjc_shape_proof.proofs.WrittenLaws.FittingLaws.Rules as Rules
 use Rattle.cjc_shape_proof.specs.Written.LaidOut.{ExportedMethodsStand, IsLaidOut, MethodsStand}
 
@@ -200,6 +202,8 @@ module _ (list : ListTree) (files : List (List ℕ)) (judged : Judged) (p : Pack
         in
         let mapped = length-map t.fields field_of_class in
         record {
+          root = ap (λ (d : Class). has_root (superclasses (world p) d)) own.is ∙ own_root list.name p.files u.listed u.world
+              (writable list files judged p is) (acyclic list files judged p is) own.number t own.is_tree;
           interfaces = omega (arith, named, kept, few, same);
           fields = omega (arith, count, fields, mapped);
           methods = methods.methods;

@@ -1,6 +1,10 @@
-use Rattle.std.proofs.Common.{◌≡◌, ◌++◌, map, take}
-use Rattle.cjc_types.specs.Types.{value_of}
+use Rattle.std.proofs.Common.{◌≡◌, ◌++◌, map}
+use Rattle.cjc_types.specs.Types.{parts, value_of}
 use Rattle.cjc_types.proofs.method.put_parameters.Given as goal
 
-abbrev pub invariant-loop-i : goal.invariant-loop-i
-invariant-loop-i l = l.cells ≡ l.initial.cells ++ map value_of (take l.i l.parsed.params)
+abbrev pub invariant-loop-kind : goal.invariant-loop-kind
+invariant-loop-kind l = record {
+  can : (goal.iterator-loop-kind).can_next l.kind-iterator;
+  ends : (goal.iterator-loop-kind).is_finite l.kind-iterator;
+  same : l.cells ++ map value_of l.kind-iterator ≡ l.initial.cells ++ map value_of (parts l.desc).params;
+}

@@ -1,8 +1,13 @@
-use Rattle.std.proofs.Common.{◌≡◌, ◌+◌, ◌≤◌, ◌*◌, map, drop}
+use Rattle.std.proofs.Common.{◌≡◌, ◌+◌, ◌<◌, ◌≤◌, ◌*◌, ◌^◌, map, length}
 use Rattle.cjc_script.specs.Sorts.{sort_of}
 use Rattle.cjc_card_semantics.specs.Bytecode.Arguments.{widths}
 use Rattle.cjc_narrow.proofs.written.descriptor.widths.Given as goal
 
-abbrev pub invariant-loop-i : goal.invariant-loop-i
-invariant-loop-i l = (l.words + widths (map sort_of (drop l.i l.desc.params)) ≡ widths (map sort_of l.desc.params))
-    × (l.words ≤ 2 * l.i)
+abbrev pub invariant-loop-kind : goal.invariant-loop-kind
+invariant-loop-kind l = record {
+  can : (goal.iterator-loop-kind).can_next l.kind-iterator;
+  ends : (goal.iterator-loop-kind).is_finite l.kind-iterator;
+  counted : l.words + widths (map sort_of l.kind-iterator) ≡ widths (map sort_of l.desc.params);
+  few : l.words + 2 * length l.kind-iterator ≤ 2 * length l.desc.params;
+  small : length l.desc.params < 2 ^ 32;
+}

@@ -1,8 +1,14 @@
 use Rattle.std.proofs.Common.{sym, ◌∙◌}
 use Rattle.cjc_bytes.specs.Told.{break_of}
 use Rattle.cjc_world.specs.Classes.{all_classes}
+use Rattle.cjc_world.proofs.Counted.{listed-numbered}
 use Rattle.cjc_world.proofs.Heads.{classes_break_here, classes_go_on, classes_end}
 use Rattle.cjc_world.proofs.unchecked.UncheckedWorld.classes_break.Goals as goal
+
+pub class_break-requires-clause-listed : goal.class_break-requires-clause-listed
+class_break-requires-clause-listed c =
+    listed-numbered (all_classes c.args.self.now) c.args.number c.args.classes.now c.loop-place.place
+    c.index-classes-place.result c.loop-place-test.true c.index-classes-place.is c.requires.listed
 
 pub returns-in-Some : goal.returns-in-Some
 returns-in-Some c =

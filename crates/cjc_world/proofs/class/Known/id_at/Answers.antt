@@ -1,0 +1,35 @@
+use Rattle.std.proofs.Common.{◌<◌, ◌≤◌, [], sym, ap, subst, ◌∙◌}
+use Rattle.std.proofs.lemmas.Option.{slice_get-get_or}
+use Rattle.cjc_world.specs.Classes.{Member}
+use Rattle.cjc_world.specs.Rules.{members}
+use Rattle.cjc_world.specs.Working.Known.{class_of}
+use Rattle.cjc_world.specs.Working.Members.{id_of}
+use Rattle.cjc_world.proofs.Indexing.{got_none}
+use Rattle.cjc_world.proofs.class.Known.id_at.Goals as goal
+
+nobody : Member
+nobody = record { flags = 0; name = []; desc = []; token = 0 }
+
+pub returns-then-place-member_count-clause-name : goal.returns-then-place-member_count-clause-name
+returns-then-place-member_count-clause-name c =
+    let ms = members c.args.field (class_of c.args.self) in
+    c.member_at.ensures.name nobody ∙ ap (λ o. (id_of o).0) (sym (slice_get-get_or ms c.args.place nobody
+    (subst (λ n. c.args.place < n) c.member_count.ensures c.if-place-member_count.true)))
+
+pub returns-then-place-member_count-clause-desc : goal.returns-then-place-member_count-clause-desc
+returns-then-place-member_count-clause-desc c =
+    let ms = members c.args.field (class_of c.args.self) in
+    c.member_at.ensures.desc nobody ∙ ap (λ o. (id_of o).1) (sym (slice_get-get_or ms c.args.place nobody
+    (subst (λ n. c.args.place < n) c.member_count.ensures c.if-place-member_count.true)))
+
+pub returns-else-place-member_count-clause-name : goal.returns-else-place-member_count-clause-name
+returns-else-place-member_count-clause-name c =
+    let ms = members c.args.field (class_of c.args.self) in
+    ap (λ o. (id_of o).0) (got_none ms c.args.place (subst (λ n. n ≤ c.args.place) c.member_count.ensures
+    c.if-place-member_count.false))
+
+pub returns-else-place-member_count-clause-desc : goal.returns-else-place-member_count-clause-desc
+returns-else-place-member_count-clause-desc c =
+    let ms = members c.args.field (class_of c.args.self) in
+    ap (λ o. (id_of o).1) (got_none ms c.args.place (subst (λ n. n ≤ c.args.place) c.member_count.ensures
+    c.if-place-member_count.false))
