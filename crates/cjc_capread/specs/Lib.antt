@@ -20,3 +20,5 @@ pub mod MethodHeader
 pub mod Kinds
 pub mod Working
 pub mod Decoder
+-- Definitions of lower crates, for those above.
+pub use Rattle.cjc_bytes.specs as Bytes

@@ -1,6 +1,9 @@
 //! The components of a CAP file: what they say, as trees, and which bytes spell them.
 #![tactic(auto)]
 
+// Lower crates, for those above.
+pub use cjc_bytes as bytes;
+
 pub mod card;
 mod class;
 mod component;

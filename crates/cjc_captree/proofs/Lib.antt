@@ -1,3 +1,6 @@
 pub mod ExtentsLaws
 pub mod LimitsLaws
 pub mod TreesLaws
+-- Lemmas of lower crates, for those above.
+pub use Rattle.cjc_components.proofs.ClassOrder as ClassOrder
+pub use Rattle.cjc_methods.proofs as Methods

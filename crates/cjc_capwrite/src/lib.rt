@@ -2,6 +2,10 @@
 //! of how a tree was made.
 #![tactic(auto)]
 
+// Lower crates, for those above.
+pub use cjc_bytes as bytes;
+pub use cjc_capread as capread;
+
 mod class;
 mod descriptor;
 mod export;

@@ -4,3 +4,6 @@ pub mod Frame
 pub mod Objects
 pub mod Cells
 pub mod Kinds
+-- Definitions of lower crates, for those above.
+pub use Rattle.cjc_jvm_step.specs.ClassFile as ClassFile
+pub use Rattle.cjc_jvm_step.specs as JvmStep

@@ -8,7 +8,7 @@ use Rattle.std.proofs.lemmas.Simd.{map-map}
 use Rattle.cjc_card_semantics.specs.Machine.Loaded.{Loaded}
 use Rattle.cjc_capread.specs.declared.tree.ClassEntry.{ClassEntry}
 use Rattle.cjc_capread.specs.declared.tree.InterfaceEntry.{InterfaceEntry}
-use Rattle.cjc_export.specs.declared.tree.ExportClass.{ExportClass}
+use Rattle.cjc_check_index.specs.ExportFile.declared.tree.ExportClass.{ExportClass}
 use Rattle.cjc_card_semantics.specs.Machine.Classes.{Class, External, IsClass, IsInterface, all_supers}
 use Rattle.cjc_card_semantics.specs.Machine.Classes.{class_of as class_by_ref, closure, external, external_named, is_in}
 use Rattle.cjc_card_semantics.specs.Machine.Classes.{object_above, object_class, or_else, same_class, some_of, supers}

@@ -8,9 +8,9 @@ use Rattle.cjc_capread.specs.declared.tree.ClassInfo.{ClassInfo}
 use Rattle.cjc_capread.specs.declared.tree.ClassEntry.{ClassEntry}
 use Rattle.cjc_capread.specs.declared.tree.InterfaceEntry.{InterfaceEntry}
 use Rattle.cjc_capread.specs.declared.tree.ImplementedInterface.{ImplementedInterface}
-use Rattle.cjc_check_rules.specs.Spots.{placed, starts}
-use Rattle.cjc_check_rules.specs.Complete.{interface_size, class_size, map_size, class_info_size}
-use Rattle.cjc_check_rules.specs.Classes.{first_class}
+use Rattle.cjc_check_index.specs.CheckRules.Spots.{placed, starts}
+use Rattle.cjc_check_index.specs.CheckRules.Complete.{interface_size, class_size, map_size, class_info_size}
+use Rattle.cjc_check_index.specs.CheckRules.Classes.{first_class}
 use Rattle.cjc_card_semantics.specs.Machine.Classes.{Info, IsInterface, IsClass, info_size, map_sizes, number_from}
 use Rattle.cjc_card_semantics.specs.Machine.Classes.{offset_from}
 use Rattle.cjc_card_link.specs.Indices.{first_place}

@@ -10,3 +10,5 @@ mod ByPlace
 mod Climbing
 mod Stepping
 mod Outer
+-- Lemmas of lower crates, for those above.
+pub use Rattle.cjc_check_index.proofs.CheckRules as CheckRules

@@ -2,8 +2,8 @@
 use Rattle.std.proofs.Common.{◌≡◌, ℕ, ◌+◌, refl, sym, ap, ◌∙◌, arith, Bool, Option, Some, None}
 use Rattle.std.specs.Prelude.{option_map, option_and_then, slice_get, List}
 use Rattle.cjc_capread.specs.declared.tree.StaticRef.TheVariants as statics
-use Rattle.cjc_export.specs.declared.tree.ExportClass.{ExportClass}
-use Rattle.cjc_export.specs.declared.tree.ExportTree.{ExportTree}
+use Rattle.cjc_check_index.specs.ExportFile.declared.tree.ExportClass.{ExportClass}
+use Rattle.cjc_check_index.specs.ExportFile.declared.tree.ExportTree.{ExportTree}
 use Rattle.cjc_card_semantics.specs.Machine.Loaded.{OfFile}
 use Rattle.cjc_card_semantics.specs.Machine.Classes.{external, with_token}
 use Rattle.cjc_card_semantics.specs.Machine.Operations.{Callee, method_through, outer, static_method, unbound_of}

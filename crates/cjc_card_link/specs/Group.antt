@@ -1,6 +1,6 @@
 -- A group of one package with the export files that it imports, which stand in the order of Import.
 use Rattle.std.specs.Prelude.{ℕ, zero, suc, ◌+◌, List, [], ◌∷◌, length, map}
-use Rattle.cjc_export.specs.declared.tree.ExportTree.{ExportTree}
+use Rattle.cjc_check_index.specs.ExportFile.declared.tree.ExportTree.{ExportTree}
 use Rattle.cjc_card_semantics.specs.Machine.Loaded.{Import, OfFile, Part, Loaded}
 use Rattle.cjc_card_frame.specs.Kinds.{cell_name_of}
 use Rattle.cjc_card_link.specs.declared.part.Part.{Part as PartData}

@@ -9,7 +9,7 @@ ghost use Rattle.cjc_card_link.specs.Indices.{number_under};
 
 use crate::indices::Numbers;
 use crate::infos::{Info, Infos};
-use cjc_bytes::NoMemory;
+use cjc_capread::bytes::NoMemory;
 use cjc_capread::{ClassDescriptor, ClassRef, MethodDescriptor};
 use std::alloc::Global;
 

@@ -13,7 +13,7 @@ ghost use Rattle.cjc_card_link.specs.Tables.{AreKept, loaded_of};
 
 use crate::infos::Info;
 use crate::tables::Tables;
-use cjc_bytes::Bytes;
+use cjc_capread::bytes::Bytes;
 use cjc_capread::{ClassEntry, ImplementedInterface};
 use cjc_card_frame::heap::{Class, same_class};
 

@@ -11,10 +11,10 @@ ghost use Rattle.cjc_card_link.specs.Exported.{exported_class};
 ghost use Rattle.cjc_card_link.specs.Indices.{class_under};
 
 use crate::indices::Classes;
-use cjc_bytes::{NoMemory, Row};
+use cjc_capread::bytes::{NoMemory, Row};
 use cjc_card_frame::heap::Class;
+use cjc_check_index::export_file::{ExportClass, ExportTree};
 use cjc_check_index::lookup::tokens_of;
-use cjc_export::{ExportClass, ExportTree};
 use std::alloc::Global;
 use std::marker::Model;
 
@@ -29,7 +29,7 @@ pub(crate) struct Exported<'a> {
 
 impl<'a> Model for Exported<'a> {
     ghost use Rattle.std.specs.Prelude.{List};
-    ghost use Rattle.cjc_export.specs.declared.tree.ExportTree.{ExportTree as Tree};
+    ghost use Rattle.cjc_check_index.specs.ExportFile.declared.tree.ExportTree.{ExportTree as Tree};
     ghost use Rattle.cjc_card_link.specs.Exported.{AreExported};
 
     ghost Value = { List Tree };

@@ -2,14 +2,14 @@
 
 ghost use Rattle.std.specs.Prelude.{◌≡◌, ◌<◌, ◌+◌, ◌^◌, ◌++◌, ◌==◌, ℕ, length, option_map, option_and_then, slice_get};
 ghost use Rattle.std.specs.Prelude.{IfOk, IfSome, OnOk};
-ghost use Rattle.cjc_check_rules.specs.Complete.{class_info_size};
+ghost use Rattle.cjc_check_index.specs.CheckRules.Complete.{class_info_size};
 ghost use Rattle.cjc_card_semantics.specs.Machine.Classes.{number_from, offset_from, info_size};
-ghost use Rattle.cjc_check_rules.specs.Spots.{starts};
+ghost use Rattle.cjc_check_index.specs.CheckRules.Spots.{starts};
 ghost use Rattle.cjc_card_link.specs.Indices.{number_under, first_place};
 ghost use Rattle.cjc_card_link.specs.Infos.{AreInfos, info_by, infos_in};
 
 use crate::indices::Numbers;
-use cjc_bytes::{NoMemory, Row};
+use cjc_capread::bytes::{NoMemory, Row};
 use cjc_capread::{ClassEntry, ClassInfo, InterfaceEntry};
 use cjc_check_index::lookup::{first_class, starts};
 use std::alloc::Global;

@@ -3,6 +3,13 @@
 //! no frame that runs, and not how names came to components.
 #![tactic(auto)]
 
+// Lower crates, for those above.
+pub use cjc_capread as capread;
+pub use cjc_card_frame as card_frame;
+pub use cjc_card_frame::classfile;
+pub use cjc_check_index as check_index;
+pub use cjc_check_index::{check_rules, export_file};
+
 mod calls;
 mod described;
 mod dispatch;

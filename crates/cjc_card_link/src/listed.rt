@@ -12,7 +12,7 @@ use crate::part::Part;
 use crate::tables::Tables;
 use cjc_capread::PoolEntry;
 use cjc_card_frame::heap::Class;
-use cjc_export::ExportTree;
+use cjc_check_index::export_file::ExportTree;
 
 impl<'a> Tables<'a> {
     /// A package by its number.

@@ -12,7 +12,7 @@ ghost use Rattle.cjc_card_link.specs.Tables.{AreKept, loaded_of};
 use crate::infos::Info;
 use crate::names::ClassNames;
 use crate::tables::Tables;
-use cjc_bytes::is_interface;
+use cjc_capread::bytes::is_interface;
 use cjc_card_frame::heap::Class;
 
 impl<'a> Tables<'a> {

@@ -1,7 +1,7 @@
 //! Names beside components: of each class info its class, methods and fields, in the order of the components. A
 //! CAP file has no names, so whoever runs one gives them.
 
-use cjc_bytes::{Bytes, Row};
+use cjc_capread::bytes::{Bytes, Row};
 
 /// The name and descriptor of a method.
 #[derive(Drop)]

@@ -5,7 +5,7 @@ ghost use Rattle.std.specs.Option.{option_copied};
 ghost use Rattle.std.specs.Str.{bytes_eq};
 ghost use Rattle.cjc_card_semantics.specs.Machine.Classes.{class_of as class_by_ref, external, external_named, info_of};
 ghost use Rattle.cjc_card_semantics.specs.Machine.Classes.{superclass};
-ghost use Rattle.cjc_check_rules.specs.Complete.{class_info_size};
+ghost use Rattle.cjc_check_index.specs.CheckRules.Complete.{class_info_size};
 ghost use Rattle.cjc_card_frame.specs.Objects.{class_of};
 ghost use Rattle.cjc_card_link.specs.Group.{alone};
 ghost use Rattle.cjc_card_link.specs.Infos.{info_by};
@@ -18,10 +18,10 @@ use crate::indices::{Numbers, Places};
 use crate::infos::{Info, Infos};
 use crate::names::ClassNames;
 use crate::part::Part;
-use cjc_bytes::NoMemory;
+use cjc_capread::bytes::NoMemory;
 use cjc_capread::{ClassRef, Method};
 use cjc_card_frame::heap::Class;
-use cjc_export::{ExportClass, ExportTree};
+use cjc_check_index::export_file::{ExportClass, ExportTree};
 use std::alloc::Global;
 
 // More handlers and more export files than there are.

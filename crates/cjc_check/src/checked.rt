@@ -4,9 +4,9 @@
 ghost use Rattle.std.specs.Prelude.{◌≡◌};
 ghost use Rattle.cjc_check_rules.specs.Consistent.{Consistent};
 
-use cjc_bytes::Row;
 use cjc_capread::CapTree;
-use cjc_export::ExportTree;
+use cjc_capread::bytes::Row;
+use cjc_check_rules::export_file::ExportTree;
 
 /// Consistent components and the export files that they import, in the order of Import.
 #[derive(Drop)]

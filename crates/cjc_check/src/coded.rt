@@ -3,17 +3,17 @@
 ghost use Rattle.std.specs.Prelude.{◌≡◌, IfOk, map};
 ghost use Rattle.cjc_check.specs.Coded.{AreCoded};
 ghost use Rattle.cjc_check.specs.Codes.Bodies.{AreBodies, IsCut, code_of, cut_of};
-ghost use Rattle.cjc_check_index.specs.Lookup.Indexed.{IsIndexed};
-ghost use Rattle.cjc_check_index.specs.Lookup.Parts.{complete_of};
+ghost use Rattle.cjc_check_tables.specs.CheckIndex.Lookup.Indexed.{IsIndexed};
+ghost use Rattle.cjc_check_tables.specs.CheckIndex.Lookup.Parts.{complete_of};
 ghost use Rattle.cjc_check_rules.specs.Codes.{all_codes, codes, whole_spots};
 ghost use Rattle.cjc_check_rules.specs.Spots.{first};
 ghost use Rattle.cjc_check_rules.specs.Complete.{AreSmall};
 
 use crate::codes::{Body, Cutting, cut, whole_spot};
 use crate::jumps::{all_indices, handler_spot, index_spot, jump_spot, location_spot};
-use cjc_bytes::NoMemory;
-use cjc_check_index::lookup::Names;
+use cjc_capread::bytes::NoMemory;
 use cjc_check_rules::ComponentPlace;
+use cjc_check_tables::check_index::lookup::Names;
 use std::alloc::Global;
 
 /// Where 709, 710, 711, 712 and 714 are broken first, each by itself.

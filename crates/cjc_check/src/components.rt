@@ -2,9 +2,9 @@
 //! consistent.
 
 ghost use Rattle.std.specs.Prelude.{◌≡◌, IfErr, IfOk, List, OnOk, flat_map, option_map};
-ghost use Rattle.cjc_bytes.specs.Breaks.{IsFirstOf, IsFirstRefusal};
-ghost use Rattle.cjc_bytes.specs.Told.{break_of};
-ghost use Rattle.cjc_check_index.specs.Lookup.Parts.{complete_of};
+ghost use Rattle.cjc_capread.specs.Bytes.Breaks.{IsFirstOf, IsFirstRefusal};
+ghost use Rattle.cjc_capread.specs.Bytes.Told.{break_of};
+ghost use Rattle.cjc_check_tables.specs.CheckIndex.Lookup.Parts.{complete_of};
 ghost use Rattle.cjc_check_rules.specs.Complete.{AreSmall, IsSmall, complete};
 ghost use Rattle.cjc_check_rules.specs.Consistent.{Consistent, Unbroken, breaks, breaks_of, of_complete};
 ghost use Rattle.cjc_check_rules.specs.Consistent.{where_complete};
@@ -12,12 +12,12 @@ ghost use Rattle.cjc_check_rules.specs.Consistent.{where_complete};
 use crate::checked::Checked;
 use crate::firsts::{first_break, first_spots};
 use crate::order::with_sentence;
-use cjc_bytes::{Break, Fault, NoMemory, Row, answer};
 use cjc_capread::CapTree;
-use cjc_check_index::lookup::{Parts, parts_of};
+use cjc_capread::bytes::{Break, Fault, NoMemory, Row, answer};
 use cjc_check_rules::consistent_where_unbroken;
+use cjc_check_rules::export_file::ExportTree;
+use cjc_check_tables::check_index::lookup::{Parts, parts_of};
 use cjc_check_tables::counts::{directory_spot, flags_spot};
-use cjc_export::ExportTree;
 use std::alloc::Global;
 
 /// The first break of components of which only Applet and Export may be absent.

@@ -2,12 +2,12 @@
 //! of these in the order of refusals. What looks classes up is made here, once.
 
 ghost use Rattle.std.specs.Prelude.{◌≡◌, ◌+◌, ◌<◌, ◌^◌, IfOk, List, flat_map, option_map};
-ghost use Rattle.cjc_bytes.specs.Breaks.{IsFirstOf};
-ghost use Rattle.cjc_bytes.specs.Told.{break_of};
+ghost use Rattle.cjc_capread.specs.Bytes.Breaks.{IsFirstOf};
+ghost use Rattle.cjc_capread.specs.Bytes.Told.{break_of};
 ghost use Rattle.cjc_check.specs.Firsts.{AreCounted, AreFirsts, from_whole};
-ghost use Rattle.cjc_export.specs.declared.tree.ExportTree.{ExportTree as Export};
-ghost use Rattle.cjc_check_index.specs.Lookup.Indexed.{IsIndexed};
-ghost use Rattle.cjc_check_index.specs.Lookup.Parts.{complete_of};
+ghost use Rattle.cjc_check_rules.specs.ExportFile.declared.tree.ExportTree.{ExportTree as Export};
+ghost use Rattle.cjc_check_tables.specs.CheckIndex.Lookup.Indexed.{IsIndexed};
+ghost use Rattle.cjc_check_tables.specs.CheckIndex.Lookup.Parts.{complete_of};
 ghost use Rattle.cjc_check_rules.specs.Classes.{first_class, first_interface};
 ghost use Rattle.cjc_check_rules.specs.Complete.{AreSmall, Complete, class_info_size, class_size, interface_size};
 ghost use Rattle.cjc_check_rules.specs.Consistent.{breaks_of, of_complete};
@@ -16,12 +16,12 @@ ghost use Rattle.cjc_check_rules.specs.Spots.{starts};
 use crate::coded::{Coded, code_spots};
 use crate::linked::{Linked, link_spots};
 use crate::order::{both, is_true, with_sentence};
-use cjc_bytes::{Break, NoMemory, Row};
 use cjc_capread::ClassInfo;
-use cjc_check_index::lookup::{Names, Parts, first_class, starts, tokens_of};
+use cjc_capread::bytes::{Break, NoMemory, Row};
 use cjc_check_rules::ComponentPlace;
+use cjc_check_rules::export_file::ExportTree;
+use cjc_check_tables::check_index::lookup::{Names, Parts, first_class, starts, tokens_of};
 use cjc_check_tables::counts::{image_spot, import_spot, stop_spot};
-use cjc_export::ExportTree;
 use std::alloc::Global;
 
 /// Where 703, 713 and 716 are broken first, each by itself.

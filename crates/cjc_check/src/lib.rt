@@ -2,6 +2,9 @@
 //! sentences, and the first broken one is answered. It needs no class files.
 #![tactic(auto)]
 
+// Lower crates, for those above.
+pub use cjc_check_rules::export_file;
+
 mod checked;
 mod coded;
 pub mod codes;

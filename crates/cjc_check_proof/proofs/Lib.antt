@@ -5,3 +5,5 @@ pub mod FlagsLaws
 pub mod ConsistentLaws
 pub mod PromisesLaws
 pub mod LimitsLaws
+-- Lemmas of lower crates, for those above.
+pub use Rattle.cjc_pool.proofs as Pool

@@ -5,3 +5,5 @@ pub mod Exports
 pub mod Consistent
 pub mod Made
 pub mod Limits
+-- Definitions of lower crates, for those above.
+pub use Rattle.cjc_pool.specs as Pool

@@ -3,3 +3,5 @@ pub mod Beside
 pub mod Firsts
 pub mod Numbered
 pub mod Starts
+-- Lemmas of lower crates, for those above.
+pub use Rattle.cjc_capread.proofs as CapRead

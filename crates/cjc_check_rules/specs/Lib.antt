@@ -16,3 +16,6 @@ pub mod Exports
 pub mod Described
 pub mod Consistent
 pub mod Example
+-- Definitions of lower crates, for those above.
+pub use Rattle.cjc_export.specs as ExportFile
+pub use Rattle.cjc_capread.specs as CapRead

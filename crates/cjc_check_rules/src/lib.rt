@@ -3,6 +3,10 @@
 //! runs.
 #![tactic(auto)]
 
+// Lower crates, for those above.
+pub use cjc_capread as capread;
+pub use cjc_export as export_file;
+
 mod laws;
 mod spot;
 mod worked;

@@ -3,8 +3,8 @@ use Rattle.std.proofs.Common.{◌≡◌, subst, List, [], inl, inr, Option, Some
 use Rattle.std.specs.Prelude.{option_map, IfNone}
 use Rattle.cjc_bytes.specs.declared.fault.Fault.{Fault}
 use Rattle.cjc_bytes.specs.Breaks.{Break, Among, IsFirstOf, IsFirstRefusal}
-use Rattle.cjc_code.specs.declared.method_code.MethodCode.{MethodCode}
-use Rattle.cjc_world.specs.Files.{Files}
+use Rattle.cjc_subset.specs.Bytecode.declared.method_code.MethodCode.{MethodCode}
+use Rattle.cjc_subset.specs.World.Files.{Files}
 use Rattle.cjc_clinit.specs.Rules.{AreBreaks, BreaksImage, IsFirstRefused}
 
 none-among : {P : Type 0} (b : Break) → Among b [] → P

@@ -5,13 +5,13 @@ use Rattle.std.specs.Prelude.{Option, Some, None, Result, Ok, Err, slice_get, sl
 use Rattle.cjc_bytes.specs.Breaks.{Break, Among, IsFirstOf}
 use Rattle.cjc_bytes.specs.declared.fault.MemberId.{MemberId}
 use Rattle.cjc_bytes.proofs.Firsts.{among_left, among_right}
-use Rattle.cjc_classfile.specs.declared.tree.ClassTree.{ClassTree}
-use Rattle.cjc_classfile.specs.declared.tree.FieldTree.{FieldTree}
-use Rattle.cjc_code.specs.declared.method_code.MethodCode.{MethodCode}
-use Rattle.cjc_world.specs.declared.image.ArrayCell.{ArrayCell}
-use Rattle.cjc_world.specs.declared.image.StaticImage.{StaticImage}
-use Rattle.cjc_world.specs.declared.image.ValueCell.{ValueCell}
-use Rattle.cjc_world.specs.Files.{Files}
+use Rattle.cjc_subset.specs.ClassFile.declared.tree.ClassTree.{ClassTree}
+use Rattle.cjc_subset.specs.ClassFile.declared.tree.FieldTree.{FieldTree}
+use Rattle.cjc_subset.specs.Bytecode.declared.method_code.MethodCode.{MethodCode}
+use Rattle.cjc_subset.specs.World.declared.image.ArrayCell.{ArrayCell}
+use Rattle.cjc_subset.specs.World.declared.image.StaticImage.{StaticImage}
+use Rattle.cjc_subset.specs.World.declared.image.ValueCell.{ValueCell}
+use Rattle.cjc_subset.specs.World.Files.{Files}
 use Rattle.cjc_clinit.specs.declared.stage.Held.{Held}
 use Rattle.cjc_clinit.specs.Initialiser.{nothing_in}
 use Rattle.cjc_clinit.specs.Image.{AreInitialised, IsImage, arrays_of, empty, field_id, fields_in, held_in, image_of}

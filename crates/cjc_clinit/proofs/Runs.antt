@@ -1,10 +1,10 @@
 -- Instructions read one after the other, without their offsets.
 use Rattle.std.proofs.Common.{◌≡◌, ◌∙◌, refl, ap, ℕ, List, [], ◌∷◌, ◌++◌}
 use Rattle.std.specs.Prelude.{Option, Some, None, Result, Ok, Err, option_and_then}
-use Rattle.cjc_classfile.specs.declared.tree.ClassTree.{ClassTree}
-use Rattle.cjc_code.specs.declared.insn.JInsn.{JInsn}
-use Rattle.cjc_code.specs.declared.insn.JOp.{JOp}
-use Rattle.cjc_world.specs.Files.{Files}
+use Rattle.cjc_subset.specs.ClassFile.declared.tree.ClassTree.{ClassTree}
+use Rattle.cjc_subset.specs.Bytecode.declared.insn.JInsn.{JInsn}
+use Rattle.cjc_subset.specs.Bytecode.declared.insn.JOp.{JOp}
+use Rattle.cjc_subset.specs.World.Files.{Files}
 use Rattle.cjc_clinit.specs.Initialiser.{ops_of}
 use Rattle.cjc_clinit.specs.Working.Reading.{State, read, state_after, or_wrong}
 

@@ -5,12 +5,12 @@ use Rattle.std.proofs.Math.Seq.{drop-cons}
 use Rattle.std.proofs.lemmas.Grind.{common_steps}
 use Rattle.std.proofs.Common.{◌++◌, Bool, true, false, subst, take, append_assoc, append-nil}
 use Rattle.std.specs.Prelude.{Option, Some, None, Result, Ok, Err, map, slice_set, if◌then◌else◌}
-use Rattle.cjc_world.specs.declared.image.ArrayCell.{ArrayCell}
+use Rattle.cjc_subset.specs.World.declared.image.ArrayCell.{ArrayCell}
 use Rattle.cjc_clinit.specs.declared.stage.Held.{Held}
-use Rattle.cjc_classfile.specs.declared.tree.ClassTree.{ClassTree}
-use Rattle.cjc_code.specs.declared.insn.JInsn.{JInsn}
-use Rattle.cjc_code.specs.declared.method_code.MethodCode.{MethodCode}
-use Rattle.cjc_world.specs.Files.{Files}
+use Rattle.cjc_subset.specs.ClassFile.declared.tree.ClassTree.{ClassTree}
+use Rattle.cjc_subset.specs.Bytecode.declared.insn.JInsn.{JInsn}
+use Rattle.cjc_subset.specs.Bytecode.declared.method_code.MethodCode.{MethodCode}
+use Rattle.cjc_subset.specs.World.Files.{Files}
 use Rattle.cjc_clinit.specs.Initialiser.{nothing_in}
 use Rattle.cjc_clinit.specs.Working.Reading.{IsRead, State, Puts, puts, read, state_after, or_wrong, is_ended, ended}
 use Rattle.cjc_clinit.specs.Working.Reading.{with_read, after_code, after_codes, and_then}

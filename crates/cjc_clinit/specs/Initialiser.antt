@@ -9,17 +9,17 @@ use Rattle.std.specs.Str.{bytes_eq}
 use Rattle.cjc_bytes.specs.declared.fault.MemberId.{MemberId}
 use Rattle.cjc_bytes.specs.declared.descriptor.Kind.{Kind}
 use Rattle.cjc_bytes.specs.declared.descriptor.Kind.TheVariants as kinds
-use Rattle.cjc_classfile.specs.declared.tree.ClassTree.{ClassTree}
-use Rattle.cjc_classfile.specs.declared.tree.FieldTree.{FieldTree}
-use Rattle.cjc_classfile.specs.declared.tree.MethodTree.{MethodTree}
-use Rattle.cjc_code.specs.declared.insn.JInsn.{JInsn}
-use Rattle.cjc_code.specs.declared.insn.JOp.{JOp}
-use Rattle.cjc_code.specs.declared.insn.JOp.TheVariants as jop
-use Rattle.cjc_code.specs.Jvm as jvm
-use Rattle.cjc_world.specs.declared.found.Found.{Found}
-use Rattle.cjc_world.specs.Files.{Files}
-use Rattle.cjc_world.specs.Classes.{all_classes}
-use Rattle.cjc_world.specs.Lookup.{find_field}
+use Rattle.cjc_subset.specs.ClassFile.declared.tree.ClassTree.{ClassTree}
+use Rattle.cjc_subset.specs.ClassFile.declared.tree.FieldTree.{FieldTree}
+use Rattle.cjc_subset.specs.ClassFile.declared.tree.MethodTree.{MethodTree}
+use Rattle.cjc_subset.specs.Bytecode.declared.insn.JInsn.{JInsn}
+use Rattle.cjc_subset.specs.Bytecode.declared.insn.JOp.{JOp}
+use Rattle.cjc_subset.specs.Bytecode.declared.insn.JOp.TheVariants as jop
+use Rattle.cjc_subset.specs.Bytecode.Jvm as jvm
+use Rattle.cjc_subset.specs.World.declared.found.Found.{Found}
+use Rattle.cjc_subset.specs.World.Files.{Files}
+use Rattle.cjc_subset.specs.World.Classes.{all_classes}
+use Rattle.cjc_subset.specs.World.Lookup.{find_field}
 use Rattle.cjc_clinit.specs.declared.stage.Held.{Held}
 use Rattle.cjc_clinit.specs.declared.stage.Held.TheVariants as held
 use Rattle.cjc_clinit.specs.Fields.{Contents, ANumber, ANull, AnArray, is_cell, fits, takes, held_by}

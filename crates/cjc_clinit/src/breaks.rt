@@ -17,10 +17,10 @@ use crate::fields::has_unfit_value;
 use crate::puts::{after_code, is_initialiser};
 use crate::stage::Held;
 use cjc_bytes::{Break, NoMemory, Row, RulePlace, broken, file_of, first, is_interface};
-use cjc_classfile::{ClassTree, FieldTree, MethodTree};
-use cjc_code::MethodCode;
+use cjc_subset::bytecode::MethodCode;
+use cjc_subset::classfile::{ClassTree, FieldTree, MethodTree};
+use cjc_subset::world::{ArrayCell, World};
 use cjc_subset::{class_spot, method_spot};
-use cjc_world::{ArrayCell, World};
 use std::alloc::Global;
 
 fn has_initialiser(methods: &[MethodTree<'_>]) -> bool

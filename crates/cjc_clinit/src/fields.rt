@@ -5,8 +5,8 @@ ghost use Rattle.cjc_clinit.specs.Fields.{array_desc, fits, fits_kind, has_unfit
 ghost use Rattle.cjc_clinit.specs.Fields.{number_kind, value_fits};
 
 use cjc_bytes::{Kind, is_static};
-use cjc_classfile::FieldTree;
-use cjc_export::may_be_constant;
+use cjc_subset::classfile::FieldTree;
+use cjc_subset::export_file::may_be_constant;
 
 /// Whether a field is static and no constant.
 pub(crate) fn is_cell(field: &FieldTree) -> bool

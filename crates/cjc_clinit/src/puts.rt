@@ -13,9 +13,9 @@ use crate::fields::is_cell;
 use crate::stage::{Held, Stage};
 use crate::stages::{held_by, stage_after, takes};
 use cjc_bytes::{Bytes, MemberId, NoMemory, Row};
-use cjc_classfile::{ClassTree, FieldTree, MethodTree};
-use cjc_code::{JInsn, JOp, MethodCode};
-use cjc_world::{ArrayCell, Found, World};
+use cjc_subset::bytecode::{JInsn, JOp, MethodCode};
+use cjc_subset::classfile::{ClassTree, FieldTree, MethodTree};
+use cjc_subset::world::{ArrayCell, Found, World};
 use std::alloc::Global;
 
 // ---- one put

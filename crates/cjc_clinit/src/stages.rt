@@ -9,7 +9,7 @@ ghost use Rattle.cjc_clinit.specs.Working.Reading.{stage_after, takes_from};
 use crate::fields::{array_desc, fits, fits_kind, is_reference, number_kind};
 use crate::stage::{Held, Stage};
 use cjc_bytes::{Kind, NoMemory, Row};
-use cjc_code::{JOp, jvm};
+use cjc_subset::bytecode::{JOp, jvm};
 use std::alloc::Global;
 
 const MOST_ITEMS: u32 = 32_767;

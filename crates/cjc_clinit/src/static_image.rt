@@ -15,9 +15,9 @@ use crate::fields::{is_cell, is_reference, number_kind};
 use crate::puts::no_puts;
 use crate::stage::{Held, Start};
 use cjc_bytes::{Break, Bytes, Fault, MemberId, NoMemory, Row, answer};
-use cjc_classfile::{ClassTree, FieldTree};
-use cjc_code::{Codes, MethodCode};
-use cjc_world::{ArrayCell, StaticImage, ValueCell, World};
+use cjc_subset::bytecode::{Codes, MethodCode};
+use cjc_subset::classfile::{ClassTree, FieldTree};
+use cjc_subset::world::{ArrayCell, StaticImage, ValueCell, World};
 use std::alloc::Global;
 
 // ---- one field

@@ -1,2 +1,4 @@
 pub mod FolderLaws
 pub mod CheckingLaws
+-- Lemmas of lower crates, for those above.
+pub use Rattle.cjc_shelf.proofs as Shelf

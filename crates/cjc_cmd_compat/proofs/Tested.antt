@@ -1,24 +1,24 @@
 -- What two versions break, by how each is read.
 use Rattle.std.proofs.Common.{◌≡◌, ℕ, List, [], ◌∷◌, ◌++◌, refl, sym, ap, subst, ◌∙◌, arith, inl, inr, Result, Ok, Err}
 use Rattle.std.specs.Prelude.{◌⊎◌, IfErr}
-use Rattle.cjc_bytes.specs.Breaks.{Among, Break, IsFirst, IsFirstRefusal, after, broken_at, foremost}
-use Rattle.cjc_bytes.specs.Format.{FileBreaks, FileSpells}
-use Rattle.cjc_bytes.specs.Order.{AreUpTo, NotAfter, numbers}
-use Rattle.cjc_bytes.specs.Reading.{read_file}
-use Rattle.cjc_bytes.specs.Refused.{IsBreak, refusal}
-use Rattle.cjc_bytes.specs.declared.fault.Fault.{Fault}
-use Rattle.cjc_bytes.specs.declared.fault.Fault.TheVariants as faults
-use Rattle.cjc_bytes.proofs.Firsts.{among_one, first_of_one, upto_refl}
-use Rattle.cjc_bytes.proofs.Laws.{file_breaks, file_spelt}
+use Rattle.cjc_compat.specs.Bytes.Breaks.{Among, Break, IsFirst, IsFirstRefusal, after, broken_at, foremost}
+use Rattle.cjc_compat.specs.Bytes.Format.{FileBreaks, FileSpells}
+use Rattle.cjc_compat.specs.Bytes.Order.{AreUpTo, NotAfter, numbers}
+use Rattle.cjc_compat.specs.Bytes.Reading.{read_file}
+use Rattle.cjc_compat.specs.Bytes.Refused.{IsBreak, refusal}
+use Rattle.cjc_compat.specs.Bytes.declared.fault.Fault.{Fault}
+use Rattle.cjc_compat.specs.Bytes.declared.fault.Fault.TheVariants as faults
+use Rattle.cjc_compat.proofs.Bytes.Firsts.{among_one, first_of_one, upto_refl}
+use Rattle.cjc_compat.proofs.Bytes.Laws.{file_breaks, file_spelt}
 use Rattle.cjc_cmd_check.proofs.CheckingLaws.OneAnswer.{none}
 use Rattle.cjc_cmd_check.specs.Folder.Breaks.{break_in, file_spot, unless_broken}
 use Rattle.cjc_cmd_compat.specs.Compat.{AreCompatible, Compares, compat_breaks, format_breaks, old_file, version_breaks}
 use Rattle.cjc_compat.specs.References.{KeepsReferences}
 use Rattle.cjc_compat.specs.Rules.{breaks, new_file}
-use Rattle.cjc_export.specs.ExportFile.{export_file}
-use Rattle.cjc_export.specs.declared.tree.ExportTree.{ExportTree}
-use Rattle.cjc_shelf.specs.Command.Gather.{Judged, status_of_fault}
-use Rattle.cjc_shelf.specs.declared.command.status.Todo.{Todo}
+use Rattle.cjc_compat.specs.ExportFile.ExportFile.{export_file}
+use Rattle.cjc_compat.specs.ExportFile.declared.tree.ExportTree.{ExportTree}
+use Rattle.cjc_cmd_check.specs.Shelf.Command.Gather.{Judged, status_of_fault}
+use Rattle.cjc_cmd_check.specs.Shelf.declared.command.status.Todo.{Todo}
 
 -- the breaks by what reading each version gives
 abbrev breaks_by : (old new : List ℕ) → Result ExportTree ℕ → Result ExportTree ℕ → List Break

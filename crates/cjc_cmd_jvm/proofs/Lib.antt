@@ -1,2 +1,4 @@
 pub mod RunningLaws
 pub mod ReportLaws
+-- Lemmas of lower crates, for those above.
+pub use Rattle.cjc_shelf.proofs as Shelf

@@ -3,8 +3,8 @@
 //! 7. Laws alone: no code calls them.
 ghost use Rattle.std.specs.Prelude.{◌≡◌, ◌++◌, ◌∷◌, [], ℕ, codes};
 ghost use Rattle.cjc_bytes.specs.Format.{FileSpells};
-ghost use Rattle.cjc_classfile.specs.ClassFile as Reader;
-ghost use Rattle.cjc_export.specs.ExportFile.{export_file};
+ghost use Rattle.cjc_cmd_convert.specs.ClassFile.ClassFile as Reader;
+ghost use Rattle.cjc_cmd_convert.specs.ExportFile.ExportFile.{export_file};
 ghost use Rattle.cjc_cmd_make.specs.Package.ClassFile.{file_bytes};
 ghost use Rattle.cjc_cmd_make.specs.Package.Classes.{class_with};
 ghost use Rattle.cjc_cmd_make.specs.Package.Lang.{lang_file};

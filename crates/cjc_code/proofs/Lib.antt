@@ -7,3 +7,5 @@ pub mod RuleLaws
 pub mod StartLaws
 pub mod Decided
 pub mod ReadLaws
+-- Lemmas of lower crates, for those above.
+pub use Rattle.cjc_range.proofs as Range

@@ -11,3 +11,7 @@ pub mod Samples
 pub mod Rules
 pub mod PackageCodes
 pub mod ReadLaws
+-- Definitions of lower crates, for those above.
+pub use Rattle.cjc_bytes.specs as Bytes
+pub use Rattle.cjc_range.specs as Range
+pub use Rattle.cjc_classfile.specs as ClassFile

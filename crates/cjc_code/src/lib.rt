@@ -2,6 +2,11 @@
 //! the names that their operands stand for.
 #![tactic(auto)]
 
+// Lower crates, for those above.
+pub use cjc_bytes as bytes;
+pub use cjc_classfile as classfile;
+pub use cjc_range as range;
+
 mod cutting;
 mod decoding;
 mod insn;

@@ -10,7 +10,8 @@ use Rattle.cjc_bytes.specs.AccessFlags.{is_interface, is_static}
 use Rattle.cjc_bytes.specs.Breaks.{Break, RulePlace, at, each_from}
 use Rattle.cjc_bytes.specs.Order.{FilePlace}
 use Rattle.cjc_compat.specs.References.{InstanceField, KeepsReferences, Kind, ListsSuper, Meant, Reference, Resolves}
-use Rattle.cjc_compat.specs.References.{StaticField, StaticMethod, VirtualMethod, class, field, interface, is_class, is_member}
+use Rattle.cjc_compat.specs.References.{StaticField, StaticMethod, VirtualMethod, class, field, interface, is_class}
+use Rattle.cjc_compat.specs.References.{is_member}
 use Rattle.cjc_compat.specs.References.{kind_of_field, kind_of_method, method, superclass, to_class, to_member}
 use Rattle.cjc_compat.specs.Rules.{at_class, at_field, at_method, breaks, class_breaks, is_constant, is_field, is_less}
 use Rattle.cjc_compat.specs.Rules.{is_lost_field, is_lost_method, is_method, is_of_kind, is_other_class, is_other_table}

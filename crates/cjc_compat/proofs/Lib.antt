@@ -2,3 +2,5 @@ pub mod Ends
 pub mod Keeping
 pub mod Noting
 pub mod OneRank
+-- Lemmas of lower crates, for those above.
+pub use Rattle.cjc_bytes.proofs as Bytes

@@ -2,6 +2,10 @@
 //! version that breaks none of them keeps. The command `compat` calls it. It knows no class file and no component.
 #![tactic(auto)]
 
+// Lower crates, for those above.
+pub use cjc_bytes as bytes;
+pub use cjc_export as export_file;
+
 mod laws;
 mod names;
 mod rules;

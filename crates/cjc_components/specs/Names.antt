@@ -3,29 +3,29 @@
 use Rattle.std.specs.Prelude.{ℕ, List, [], map, position, unwrap_or, slice_get, option_map, option_and_then, Option}
 use Rattle.std.specs.Prelude.{Some, None, Bool, if◌then◌else◌}
 use Rattle.std.specs.Str.{bytes_eq}
-use Rattle.cjc_bytes.specs.declared.fault.MemberId.{MemberId}
-use Rattle.cjc_capread.specs.declared.tree.ClassRef.{ClassRef}
-use Rattle.cjc_capread.specs.declared.tree.ClassRef.TheVariants.{Inside, Outside}
-use Rattle.cjc_capread.specs.declared.tree.StaticRef.{StaticRef}
-use Rattle.cjc_capread.specs.declared.tree.StaticRef.TheVariants as refs
-use Rattle.cjc_capread.specs.declared.tree.PoolEntry.{PoolEntry}
+use Rattle.cjc_list.specs.Bytes.declared.fault.MemberId.{MemberId}
+use Rattle.cjc_capwrite.specs.CapRead.declared.tree.ClassRef.{ClassRef}
+use Rattle.cjc_capwrite.specs.CapRead.declared.tree.ClassRef.TheVariants.{Inside, Outside}
+use Rattle.cjc_capwrite.specs.CapRead.declared.tree.StaticRef.{StaticRef}
+use Rattle.cjc_capwrite.specs.CapRead.declared.tree.StaticRef.TheVariants as refs
+use Rattle.cjc_capwrite.specs.CapRead.declared.tree.PoolEntry.{PoolEntry}
 use Rattle.cjc_check_rules.specs.Described.{all_starts}
-use Rattle.cjc_card_semantics.specs.Machine.Loaded.{Loaded}
-use Rattle.cjc_card_semantics.specs.Machine.Classes.{Class as CardClass, Own, External, external_from, or_else}
-use Rattle.cjc_card_semantics.specs.Machine.Dispatch.{Open}
-use Rattle.cjc_card_semantics.specs.Machine.Operations.{Fixed, Outer, Callee, token_of}
-use Rattle.cjc_world.specs.declared.found.Found.{Found}
-use Rattle.cjc_world.specs.Classes.{Class, class_named}
-use Rattle.cjc_world.specs.Lookup.{find_field, find_method}
-use Rattle.cjc_world.specs.Order.{class_order}
-use Rattle.cjc_tokens.specs.Members.{Signature, same}
-use Rattle.cjc_tokens.specs.Lines.{Line, line_of}
-use Rattle.cjc_tokens.specs.Slots.{slots, hidden_slots, token}
-use Rattle.cjc_tokens.specs.Methods.{interface_methods, with_high_bit}
-use Rattle.cjc_tokens.specs.Tokens.{token_of_member}
+use Rattle.cjc_narrow.specs.CardSemantics.Machine.Loaded.{Loaded}
+use Rattle.cjc_narrow.specs.CardSemantics.Machine.Classes.{Class as CardClass, Own, External, external_from, or_else}
+use Rattle.cjc_narrow.specs.CardSemantics.Machine.Dispatch.{Open}
+use Rattle.cjc_narrow.specs.CardSemantics.Machine.Operations.{Fixed, Outer, Callee, token_of}
+use Rattle.cjc_vtable.specs.World.declared.found.Found.{Found}
+use Rattle.cjc_vtable.specs.World.Classes.{Class, class_named}
+use Rattle.cjc_vtable.specs.World.Lookup.{find_field, find_method}
+use Rattle.cjc_vtable.specs.World.Order.{class_order}
+use Rattle.cjc_vtable.specs.Tokens.Members.{Signature, same}
+use Rattle.cjc_vtable.specs.Tokens.Lines.{Line, line_of}
+use Rattle.cjc_vtable.specs.Tokens.Slots.{slots, hidden_slots, token}
+use Rattle.cjc_vtable.specs.Tokens.Methods.{interface_methods, with_high_bit}
+use Rattle.cjc_vtable.specs.Tokens.Tokens.{token_of_member}
 use Rattle.cjc_vtable.specs.Tables.{or_zero}
 use Rattle.cjc_vtable.specs.Calls.{finds_hidden}
-use Rattle.cjc_ncode.specs.Lowering.Naming.{Naming, entry_of}
+use Rattle.cjc_narrow.specs.NCode.Lowering.Naming.{Naming, entry_of}
 use Rattle.cjc_narrow.specs.Keys.Index.{index_of}
 use Rattle.cjc_components.specs.Package.{Package, world, tokens, pool}
 use Rattle.cjc_components.specs.Methods.{method_offset}

@@ -1,20 +1,20 @@
 -- StaticField: the static fields of a package and what they hold at first (Java Card Virtual Machine Specification
 -- 2.2.2, section 6.10).
 use Rattle.std.specs.Prelude.{ℕ, ◌+◌, ◌*◌, List, [], ◌∷◌, ◌++◌, map, length, flat_map, sum_by, if◌then◌else◌, ℤ}
-use Rattle.cjc_bytes.specs.declared.fault.MemberId.{MemberId}
-use Rattle.cjc_bytes.specs.declared.descriptor.Kind.{Kind}
-use Rattle.cjc_bytes.specs.declared.descriptor.Kind.TheVariants as kinds
-use Rattle.cjc_capread.specs.declared.tree.ArrayInit.{ArrayInit}
-use Rattle.cjc_capread.specs.declared.tree.StaticField.{StaticField}
-use Rattle.cjc_script.specs.declared.value.Value.TheVariants.{Num}
-use Rattle.cjc_script.specs.Sorts.{Sort, Boolean, Byte, Short, Int, Reference, NoValue, field_sort}
-use Rattle.cjc_card_semantics.specs.Bytecode.Effects.{Letter}
-use Rattle.cjc_card_semantics.specs.Bytecode.Effects
-use Rattle.cjc_card_semantics.specs.Machine.Statics.{number_bytes}
-use Rattle.cjc_world.specs.declared.image.ArrayCell.{ArrayCell}
-use Rattle.cjc_world.specs.declared.image.ValueCell.{ValueCell}
-use Rattle.cjc_world.specs.declared.image.StaticImage.{StaticImage}
-use Rattle.cjc_ncode.specs.PoolOrder.{same_member}
+use Rattle.cjc_list.specs.Bytes.declared.fault.MemberId.{MemberId}
+use Rattle.cjc_list.specs.Bytes.declared.descriptor.Kind.{Kind}
+use Rattle.cjc_list.specs.Bytes.declared.descriptor.Kind.TheVariants as kinds
+use Rattle.cjc_capwrite.specs.CapRead.declared.tree.ArrayInit.{ArrayInit}
+use Rattle.cjc_capwrite.specs.CapRead.declared.tree.StaticField.{StaticField}
+use Rattle.cjc_narrow.specs.Script.declared.value.Value.TheVariants.{Num}
+use Rattle.cjc_narrow.specs.Script.Sorts.{Sort, Boolean, Byte, Short, Int, Reference, NoValue, field_sort}
+use Rattle.cjc_narrow.specs.CardSemantics.Bytecode.Effects.{Letter}
+use Rattle.cjc_narrow.specs.CardSemantics.Bytecode.Effects
+use Rattle.cjc_narrow.specs.CardSemantics.Machine.Statics.{number_bytes}
+use Rattle.cjc_vtable.specs.World.declared.image.ArrayCell.{ArrayCell}
+use Rattle.cjc_vtable.specs.World.declared.image.ValueCell.{ValueCell}
+use Rattle.cjc_vtable.specs.World.declared.image.StaticImage.{StaticImage}
+use Rattle.cjc_narrow.specs.NCode.PoolOrder.{same_member}
 
 -- ---- cells
 

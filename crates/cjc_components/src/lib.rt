@@ -4,6 +4,18 @@
 //! here runs.
 #![tactic(auto)]
 
+// Lower crates, for those above.
+pub use cjc_capwrite as capwrite;
+pub use cjc_capwrite::capread;
+pub use cjc_emit as emit;
+pub use cjc_emit::layout;
+pub use cjc_list as list;
+pub use cjc_list::bytes;
+pub use cjc_narrow as narrow;
+pub use cjc_narrow::ncode;
+pub use cjc_vtable as vtable;
+pub use cjc_vtable::{class_order, subset, tokens, world};
+
 pub mod paired;
 
 ghost use Rattle.std.specs.Prelude.{◌≡◌, map, length};

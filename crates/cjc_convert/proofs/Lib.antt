@@ -1,3 +1,5 @@
 mod Told
 mod OneAnswer
 pub mod ConversionLaws
+-- Lemmas of lower crates, for those above.
+pub use Rattle.cjc_shape_proof.proofs.Shape as Shape

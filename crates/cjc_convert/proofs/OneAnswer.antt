@@ -1,28 +1,28 @@
 -- What a conversion answers of a list and its files is one.
 use Rattle.std.proofs.Common.{◌≡◌, inl, inr, true, false, ℕ, suc, sym, ap, subst, ◌∙◌, Bool, List, [], ◌∷◌, length}
 use Rattle.std.specs.Prelude.{if◌then◌else◌}
-use Rattle.cjc_bytes.specs.Breaks.{Break}
-use Rattle.cjc_bytes.specs.Order.{Rank}
-use Rattle.cjc_bytes.specs.Refused.{refused_at}
-use Rattle.cjc_bytes.specs.declared.fault.Refusal.{Refusal}
-use Rattle.cjc_bytes.specs.declared.settings.FileLine.{FileLine}
-use Rattle.cjc_capwrite.specs.Files.{files_of}
-use Rattle.cjc_capwrite.specs.declared.files.CapFiles.{CapFiles}
-use Rattle.cjc_components.specs.Components.{components_of}
-use Rattle.cjc_components.specs.ExportFile.{export_of}
-use Rattle.cjc_components.specs.Package.{Package}
-use Rattle.cjc_export.specs.Written.{written}
-use Rattle.cjc_judge.proofs.Firsts.{one_spelling}
-use Rattle.cjc_judge.proofs.OneRefusal.{one_first_of, one_on_levels, one_refusal}
-use Rattle.cjc_judge.proofs.Places.{IsTold, class_files, place_at}
-use Rattle.cjc_judge.specs.Rules.{Breach, OnLevels, files_spelt, on_first, on_second}
-use Rattle.cjc_judge.specs.Spelt.{FileTree, SpellTrees, classes_of, of_class, of_export}
-use Rattle.cjc_list.specs.Listed.{ListTree}
-use Rattle.cjc_shape.specs.Prepared.{tested}
-use Rattle.cjc_shape.proofs.WholeLaws.One.{one_package}
-use Rattle.cjc_shape.proofs.WholeLaws.Second.{package_is_draft}
-use Rattle.cjc_shape.specs.Whole.Conversion.{BreaksWritten, IsDraft, IsRefused, of_form, of_size}
-use Rattle.cjc_world.specs.Files.{Files}
+use Rattle.cjc_shape_proof.specs.Bytes.Breaks.{Break}
+use Rattle.cjc_shape_proof.specs.Bytes.Order.{Rank}
+use Rattle.cjc_shape_proof.specs.Bytes.Refused.{refused_at}
+use Rattle.cjc_shape_proof.specs.Bytes.declared.fault.Refusal.{Refusal}
+use Rattle.cjc_shape_proof.specs.Bytes.declared.settings.FileLine.{FileLine}
+use Rattle.cjc_captree.specs.CapWrite.Files.{files_of}
+use Rattle.cjc_captree.specs.CapWrite.declared.files.CapFiles.{CapFiles}
+use Rattle.cjc_captree.specs.Components.Components.{components_of}
+use Rattle.cjc_captree.specs.Components.ExportFile.{export_of}
+use Rattle.cjc_captree.specs.Components.Package.{Package}
+use Rattle.cjc_shape_proof.specs.ExportFile.Written.{written}
+use Rattle.cjc_shape_proof.proofs.Judge.Firsts.{one_spelling}
+use Rattle.cjc_shape_proof.proofs.Judge.OneRefusal.{one_first_of, one_on_levels, one_refusal}
+use Rattle.cjc_shape_proof.proofs.Judge.Places.{IsTold, class_files, place_at}
+use Rattle.cjc_shape_proof.specs.Judge.Rules.{Breach, OnLevels, files_spelt, on_first, on_second}
+use Rattle.cjc_shape_proof.specs.Judge.Spelt.{FileTree, SpellTrees, classes_of, of_class, of_export}
+use Rattle.cjc_captree.specs.List.Listed.{ListTree}
+use Rattle.cjc_shape_proof.specs.Shape.Prepared.{tested}
+use Rattle.cjc_shape_proof.proofs.Shape.WholeLaws.One.{one_package}
+use Rattle.cjc_shape_proof.proofs.Shape.WholeLaws.Second.{package_is_draft}
+use Rattle.cjc_shape_proof.specs.Shape.Whole.Conversion.{BreaksWritten, IsDraft, IsRefused, of_form, of_size}
+use Rattle.cjc_captree.specs.World.Files.{Files}
 use Rattle.cjc_convert.proofs.ConversionLaws.Stops.{none_written}
 use Rattle.cjc_convert.proofs.Told.{sizes_told, written_told}
 use Rattle.cjc_convert.specs.Conversion.{IsConverted}

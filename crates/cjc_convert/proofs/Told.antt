@@ -6,30 +6,34 @@ use Rattle.std.specs.Str.{bytes_eq}
 use Rattle.std.proofs.lemmas.Bool.{ltb-true}
 use Rattle.std.proofs.lemmas.List.{length-map}
 use Rattle.std.proofs.lemmas.Option.{slice_get-map, slice_get_cases, slice_get_within}
-use Rattle.cjc_bytes.specs.Breaks.{Break, at, broken_at, class_spot, member_spot}
-use Rattle.cjc_bytes.specs.Order.{file_of}
-use Rattle.cjc_bytes.specs.Refused.{method_text}
-use Rattle.cjc_order.proofs.ClassesLaws.Declared.{order_declared}
-use Rattle.cjc_order.specs.Classes.Numbers.{declared_at}
-use Rattle.cjc_classfile.specs.declared.tree.ClassTree.{ClassTree}
-use Rattle.cjc_classfile.specs.declared.tree.MethodTree.{MethodTree}
-use Rattle.cjc_components.specs.Descriptor.{as_added, method_in, methods_with_added, no_member}
-use Rattle.cjc_components.specs.Limits.{else_of, form_breaks, has_far_types, has_large_component, has_many_entries}
-use Rattle.cjc_components.specs.Limits.{has_many_words, in_class, is_too_long, layout_breaks, method_spot, of_methods}
-use Rattle.cjc_components.specs.Limits.{order_breaks, size_breaks, spot_of_list, word_breaks}
-use Rattle.cjc_components.specs.Package.{LaidMethod, Package, world}
-use Rattle.cjc_judge.proofs.Each.{Each, each_append, each_at, each_more, each_none}
-use Rattle.cjc_judge.proofs.Places.{IsFileOf, IsTold, class_files, file_is_of, told_at_class, told_at_method, told_list}
-use Rattle.cjc_layout.specs.Refusals.{least, overtaking}
-use Rattle.cjc_tokens.proofs.Held.{at_front}
-use Rattle.cjc_vtable.proofs.Filed.{Has, get-has}
-use Rattle.cjc_vtable.proofs.Numbers.{at-tree}
-use Rattle.cjc_world.specs.Added.{added}
-use Rattle.cjc_world.specs.Classes.{Class, Member, all_classes, class_at, declared, field_of_class, method_of_class}
-use Rattle.cjc_world.specs.Files.{Files}
-use Rattle.cjc_world.specs.Lookup.{member_at}
-use Rattle.cjc_world.specs.Order.{in_order, method_order, methods_in_turn, methods_of_class, places, written}
-use Rattle.cjc_world.specs.declared.found.Found.{Found}
+use Rattle.cjc_shape_proof.specs.Bytes.Breaks.{Break, at, broken_at, class_spot, member_spot}
+use Rattle.cjc_shape_proof.specs.Bytes.Order.{file_of}
+use Rattle.cjc_shape_proof.specs.Bytes.Refused.{method_text}
+use Rattle.cjc_captree.proofs.ClassOrder.ClassesLaws.Declared.{order_declared}
+use Rattle.cjc_captree.specs.ClassOrder.Classes.Numbers.{declared_at}
+use Rattle.cjc_shape_proof.specs.ClassFile.declared.tree.ClassTree.{ClassTree}
+use Rattle.cjc_shape_proof.specs.ClassFile.declared.tree.MethodTree.{MethodTree}
+use Rattle.cjc_captree.specs.Components.Descriptor.{as_added, method_in, methods_with_added, no_member}
+use Rattle.cjc_captree.specs.Components.Limits.{else_of, form_breaks, has_far_types, has_large_component}
+use Rattle.cjc_captree.specs.Components.Limits.{has_many_entries}
+use Rattle.cjc_captree.specs.Components.Limits.{has_many_words, in_class, is_too_long, layout_breaks, method_spot}
+use Rattle.cjc_captree.specs.Components.Limits.{of_methods}
+use Rattle.cjc_captree.specs.Components.Limits.{order_breaks, size_breaks, spot_of_list, word_breaks}
+use Rattle.cjc_captree.specs.Components.Package.{LaidMethod, Package, world}
+use Rattle.cjc_shape_proof.proofs.Judge.Each.{Each, each_append, each_at, each_more, each_none}
+use Rattle.cjc_shape_proof.proofs.Judge.Places.{IsFileOf, IsTold, class_files, file_is_of, told_at_class}
+use Rattle.cjc_shape_proof.proofs.Judge.Places.{told_at_method, told_list}
+use Rattle.cjc_captree.specs.Layout.Refusals.{least, overtaking}
+use Rattle.cjc_shape_proof.proofs.Tokens.Held.{at_front}
+use Rattle.cjc_shape_proof.proofs.VTable.Filed.{Has, get-has}
+use Rattle.cjc_shape_proof.proofs.VTable.Numbers.{at-tree}
+use Rattle.cjc_captree.specs.World.Added.{added}
+use Rattle.cjc_captree.specs.World.Classes.{Class, Member, all_classes, class_at, declared, field_of_class}
+use Rattle.cjc_captree.specs.World.Classes.{method_of_class}
+use Rattle.cjc_captree.specs.World.Files.{Files}
+use Rattle.cjc_captree.specs.World.Lookup.{member_at}
+use Rattle.cjc_captree.specs.World.Order.{in_order, method_order, methods_in_turn, methods_of_class, places, written}
+use Rattle.cjc_captree.specs.World.declared.found.Found.{Found}
 use Rattle.cjc_shape_proof.proofs.WrittenLaws.FittingLaws.Order.{has_cons, has_either, has_none}
 
 -- ---- methods stand behind the fields of their classes

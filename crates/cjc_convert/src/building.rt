@@ -2,30 +2,30 @@
 //! then the rest. Called by `conversion`.
 
 ghost use Rattle.std.specs.Prelude.{◌≡◌, [], length, map, IfErr, IfOk, OnOk};
-ghost use Rattle.cjc_bytes.specs.Breaks.{IsFirstRefusal};
-ghost use Rattle.cjc_classes.specs.Descriptor.Fits.{AreFit};
-ghost use Rattle.cjc_components.specs.Components.{components_of, method, reference_location};
-ghost use Rattle.cjc_components.specs.Limits.{size_breaks};
-ghost use Rattle.cjc_components.specs.Methods.{placed_methods};
-ghost use Rattle.cjc_components.specs.Package as packages;
-ghost use Rattle.cjc_judge.specs.Spelt.{IsRead};
-ghost use Rattle.cjc_pool.specs.Pool.{IsPool};
-ghost use Rattle.cjc_shape.specs.Prepared.{BreaksNothing};
-ghost use Rattle.cjc_shape.specs.Whole.Working.Shaped.{IsShaped, package_of};
+ghost use Rattle.cjc_shape_proof.specs.Bytes.Breaks.{IsFirstRefusal};
+ghost use Rattle.cjc_captree.specs.Classes.Descriptor.Fits.{AreFit};
+ghost use Rattle.cjc_captree.specs.Components.Components.{components_of, method, reference_location};
+ghost use Rattle.cjc_captree.specs.Components.Limits.{size_breaks};
+ghost use Rattle.cjc_captree.specs.Components.Methods.{placed_methods};
+ghost use Rattle.cjc_captree.specs.Components.Package as packages;
+ghost use Rattle.cjc_shape_proof.specs.Judge.Spelt.{IsRead};
+ghost use Rattle.cjc_captree.specs.Pool.Pool.{IsPool};
+ghost use Rattle.cjc_shape_proof.specs.Shape.Prepared.{BreaksNothing};
+ghost use Rattle.cjc_shape_proof.specs.Shape.Whole.Working.Shaped.{IsShaped, package_of};
 
 use crate::sizes::test_sizes;
-use cjc_bytes::{Fault, NoMemory};
-use cjc_capread::CapTree;
+use cjc_captree::capread::CapTree;
+use cjc_captree::class_order::classes::class_order;
+use cjc_captree::classes::key_tokens::key_tokens;
 use cjc_captree::extents::extents;
+use cjc_captree::methods::component::{Written, method_component};
+use cjc_captree::methods::layouts::offsets;
+use cjc_captree::pool::Pool;
 use cjc_captree::trees::{Given, components};
-use cjc_classes::key_tokens::key_tokens;
-use cjc_judge::Judged;
-use cjc_methods::component::{Written, method_component};
-use cjc_methods::layouts::offsets;
-use cjc_ncode::PoolKey;
-use cjc_order::classes::class_order;
-use cjc_pool::Pool;
-use cjc_shape::whole::Shaped;
+use cjc_shape_proof::bytes::{Fault, NoMemory};
+use cjc_shape_proof::judge::Judged;
+use cjc_shape_proof::ncode::PoolKey;
+use cjc_shape_proof::shape::whole::Shaped;
 use cjc_shape_proof::writing::aids_are_short;
 use cjc_shape_proof::written::{
     converted_classes_are_ordered, converted_methods_are_emittable, static_images_fit,
@@ -36,7 +36,7 @@ use std::alloc::Global;
 fn pool_of(alloc: Global, judged: &Judged<'_>, shaped: &Shaped) -> Result<Pool, NoMemory>
     ensures { IfOk result (IsPool judged.now.world shaped.now.tokens shaped.now.methods.codes) }
 {
-    match cjc_pool::build(
+    match cjc_captree::pool::build(
         alloc,
         judged.list.name.items(),
         &judged.world,

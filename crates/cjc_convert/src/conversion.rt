@@ -2,19 +2,19 @@
 //! the package's files stands until the end.
 
 ghost use Rattle.std.specs.Prelude.{◌≡◌, ◌⊎◌, ◌≤◌, ◌^◌, length, All, IfOk, IfErr};
-ghost use Rattle.cjc_bytes.specs.declared.fault.Fault.TheVariants as faults;
-ghost use Rattle.cjc_bytes.specs.declared.fault.Refusal.{Refusal as Broken};
+ghost use Rattle.cjc_shape_proof.specs.Bytes.declared.fault.Fault.TheVariants as faults;
+ghost use Rattle.cjc_shape_proof.specs.Bytes.declared.fault.Refusal.{Refusal as Broken};
 ghost use Rattle.cjc_convert.specs.Conversion.{IsConverted};
-ghost use Rattle.cjc_judge.specs.Spelt.{IsRead};
-ghost use Rattle.cjc_shape.specs.Whole.Conversion.{IsRefused};
+ghost use Rattle.cjc_shape_proof.specs.Judge.Spelt.{IsRead};
+ghost use Rattle.cjc_shape_proof.specs.Shape.Whole.Conversion.{IsRefused};
 
 use crate::building::build;
 use crate::files::are_bytes;
-use cjc_bytes::{Bytes, Fault, Row};
-use cjc_capwrite::CapFiles;
-use cjc_judge::{Group, judge};
-use cjc_list::List;
-use cjc_shape::whole::shape;
+use cjc_captree::capwrite::CapFiles;
+use cjc_captree::list::List;
+use cjc_shape_proof::bytes::{Bytes, Fault, Row};
+use cjc_shape_proof::judge::{Group, judge};
+use cjc_shape_proof::shape::whole::shape;
 use cjc_shape_proof::writing::{
     aids_are_short, components_can_be_written, export_files_can_be_written,
 };
@@ -62,8 +62,8 @@ pub fn convert(alloc: Global, list: &List, files: &Row<Bytes>) -> Result<Convert
     let caps = {
         // 411, 416
         let cap = build(alloc, &judged, &shaped)?;
-        cjc_capwrite::write(alloc, list.name.items(), &cap)?
+        cjc_captree::capwrite::write(alloc, list.name.items(), &cap)?
     };
-    let export = cjc_export::write(alloc, &shaped.export)?;
+    let export = cjc_shape_proof::export_file::write(alloc, &shaped.export)?;
     Ok(Converted { caps, export })
 }

@@ -3,7 +3,7 @@
 ghost use Rattle.std.specs.Prelude.{◌≡◌, ◌<◌, ℕ, List as Items, Some, slice_get};
 ghost use Rattle.std.specs.List.{AllByRecursion};
 
-use cjc_bytes::{Bytes, Row};
+use cjc_shape_proof::bytes::{Bytes, Row};
 
 fn are_numbers_of_bytes(bytes: &[u8])
     ensures { AllByRecursion (λ b. b < 256) bytes.now }

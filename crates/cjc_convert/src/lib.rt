@@ -3,6 +3,9 @@
 //! and no format: both are of the crates below.
 #![tactic(auto)]
 
+// Lower crates, for those above.
+pub use cjc_captree::{capread, capwrite, list};
+
 mod building;
 mod conversion;
 mod files;

@@ -4,3 +4,5 @@ mod Spelled
 mod Whole
 mod Decoded
 pub mod EmitLaws
+-- Lemmas of lower crates, for those above.
+pub use Rattle.cjc_layout.proofs as Layout

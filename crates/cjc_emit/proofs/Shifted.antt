@@ -4,7 +4,7 @@ use Rattle.std.proofs.Common.{true, false, List, [], ◌∷◌, ◌++◌, length
 use Rattle.std.specs.Prelude.{nat_le, nat_lt, if◌then◌else◌, ◌+ℤ◌, ◌-ℤ◌, ◌&&◌}
 use Rattle.std.proofs.lemmas.Bool.{cases_lt}
 use Rattle.std.proofs.lemmas.Bool.Decides.{nat_tests}
-use Rattle.cjc_card_semantics.specs.Bytecode.Meanings.{Meaning, Ranged, meaning}
+use Rattle.cjc_ncode.specs.CardSemantics.Bytecode.Meanings.{Meaning, Ranged, meaning}
 use Rattle.cjc_capread.specs.Decode.{Instruction}
 use Rattle.cjc_capread.proofs.Headers.{short_read}
 use Rattle.cjc_ncode.specs.declared.narrow.NCase.{NCase}

@@ -7,14 +7,14 @@ use Rattle.std.specs.Prelude.{if◌then◌else◌, ◌+ℤ◌, ◌-ℤ◌}
 use Rattle.std.proofs.lemmas.Bool.{cases_lt}
 use Rattle.std.proofs.lemmas.Bool.Decides.{nat_tests}
 use Rattle.std.proofs.lemmas.Int.{ints}
-use Rattle.cjc_bytes.specs.declared.fault.MemberId.{MemberId}
+use Rattle.cjc_capread.specs.Bytes.declared.fault.MemberId.{MemberId}
 use Rattle.cjc_capread.specs.Opcodes.{Operand, Byte, Signed1, Signed2, Signed4, Index1, Index2, Form, Fields, Table}
 use Rattle.cjc_capread.specs.Opcodes.{Lookup, form, forms, info, op_info, width}
 use Rattle.cjc_capread.specs.Decode.{Instruction, operand_bytes, operands_bytes, two_bytes, four_bytes, before_table}
 use Rattle.cjc_capread.specs.Decode.{up_to, pairs, emitted, below, IsWithin, positive, negative, Fits, AllFit, none}
 use Rattle.cjc_capread.specs.Decode.{more, IsWritable}
-use Rattle.cjc_card_semantics.specs.Bytecode.Meanings.{Meaning, Branches, Ranged, Paired, meanings, meaning}
-use Rattle.cjc_card_semantics.specs.Bytecode.Meanings.{known_meaning}
+use Rattle.cjc_ncode.specs.CardSemantics.Bytecode.Meanings.{Meaning, Branches, Ranged, Paired, meanings, meaning}
+use Rattle.cjc_ncode.specs.CardSemantics.Bytecode.Meanings.{known_meaning}
 use Rattle.cjc_ncode.specs.declared.narrow.NCase.{NCase}
 use Rattle.cjc_ncode.specs.declared.narrow.NInsn.{NInsn}
 use Rattle.cjc_ncode.specs.declared.narrow.NInsn.TheVariants as insns

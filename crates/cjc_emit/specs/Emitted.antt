@@ -2,7 +2,7 @@
 -- Machine Specification 2.2.2, sections 6.9.2 and 6.12).
 use Rattle.std.specs.Prelude.{◌≡◌, ℕ, ◌+◌, List, [], ◌∷◌, ◌++◌, length, position, slice_get, Option, Some, None, Bool}
 use Rattle.std.specs.Prelude.{nat_lt, ◌&&◌, ◌==◌, if◌then◌else◌}
-use Rattle.cjc_bytes.specs.declared.fault.MemberId.{MemberId}
+use Rattle.cjc_capread.specs.Bytes.declared.fault.MemberId.{MemberId}
 use Rattle.cjc_capread.specs.declared.opcode.OpInfo.{OpInfo}
 use Rattle.cjc_capread.specs.Opcodes.{op_info}
 use Rattle.cjc_ncode.specs.declared.narrow.NInsn.{NInsn}

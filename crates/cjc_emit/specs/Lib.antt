@@ -2,3 +2,5 @@ pub mod Emitted
 pub mod Worked
 pub mod Working
 pub mod Said
+-- Definitions of lower crates, for those above.
+pub use Rattle.cjc_layout.specs as Layout

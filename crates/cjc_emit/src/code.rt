@@ -8,7 +8,7 @@ use crate::numbers::{distance_bits, put_low};
 use crate::operands::{jump_opcode, put_with_one, put_with_two};
 use crate::pool::PoolLookup;
 use crate::switches::{label_at, put_switch};
-use cjc_bytes::{Bytes, MemberId, NoMemory};
+use cjc_capread::bytes::{Bytes, MemberId, NoMemory};
 use cjc_capread::card;
 use cjc_ncode::NInsn;
 

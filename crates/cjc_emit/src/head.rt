@@ -5,7 +5,7 @@ ghost use Rattle.std.specs.Prelude.{◌≡◌, ◌<◌, IfOk};
 ghost use Rattle.cjc_ncode.specs.Lowering.Placed.{extended_header, short_header};
 ghost use Rattle.cjc_emit.specs.Emitted.{header_bytes};
 
-use cjc_bytes::{Bytes, NoMemory, Row};
+use cjc_capread::bytes::{Bytes, NoMemory, Row};
 use cjc_ncode::NMethod;
 use std::alloc::Global;
 

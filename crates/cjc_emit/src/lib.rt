@@ -3,6 +3,9 @@
 //! chosen.
 #![tactic(auto)]
 
+// Lower crates, for those above.
+pub use cjc_layout as layout;
+
 pub mod emit_laws;
 
 ghost use Rattle.std.specs.Prelude.{◌≡◌, ◌∷◌, [], ◌++◌, ℕ, Bool, false, List, Some, drop, slice_get};

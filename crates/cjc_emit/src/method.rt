@@ -10,7 +10,7 @@ use crate::emitted::MethodBytes;
 use crate::head::header;
 use crate::places::mark_all;
 use crate::pool::PoolLookup;
-use cjc_bytes::{NoMemory, Row};
+use cjc_capread::bytes::{NoMemory, Row};
 use cjc_layout::Layout;
 use cjc_ncode::NMethod;
 use std::alloc::Global;

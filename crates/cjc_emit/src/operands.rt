@@ -6,7 +6,7 @@ ghost use Rattle.cjc_capread.specs.Opcodes.{op_info};
 ghost use Rattle.cjc_emit.specs.Working.{jump_opcode, length_by, with_one, with_two};
 
 use crate::numbers::put_low;
-use cjc_bytes::{Bytes, NoMemory};
+use cjc_capread::bytes::{Bytes, NoMemory};
 use cjc_capread::op;
 
 /// The bytes of an instruction of an opcode.

@@ -5,7 +5,7 @@ ghost use Rattle.std.specs.Prelude.{◌≡◌, ◌++◌, ◌≤◌, length, OnOk
 ghost use Rattle.cjc_emit.specs.Emitted.{index_place, insn_places};
 ghost use Rattle.cjc_emit.specs.Working.{all_marked};
 
-use cjc_bytes::{NoMemory, Row};
+use cjc_capread::bytes::{NoMemory, Row};
 use cjc_capread::{OpInfo, card, op};
 use cjc_ncode::NInsn;
 

@@ -7,7 +7,7 @@ ghost use Rattle.cjc_emit.specs.Working.{bits, low_bytes, label_at, lookup_bytes
 ghost use Rattle.cjc_emit.specs.Working.{range_bytes, switch_bytes, table_bytes};
 
 use crate::numbers::{distance_bits, last_bits, put_low};
-use cjc_bytes::{Bytes, NoMemory};
+use cjc_capread::bytes::{Bytes, NoMemory};
 use cjc_capread::card;
 use cjc_ncode::NCase;
 

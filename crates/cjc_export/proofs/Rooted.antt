@@ -1,5 +1,7 @@
--- What stands above a class of an export file with java/lang/Object: it is there, and changes nothing where it is listed.
-use Rattle.std.proofs.Common.{◌≡◌, ℕ, ◌<◌, ◌^◌, refl, ap, arith, Bool, true, false, List, [], ◌∷◌, ◌++◌, length, inl, inr}
+-- What stands above a class of an export file with java/lang/Object: it is there, and changes nothing where it is
+-- listed.
+use Rattle.std.proofs.Common.{◌≡◌, ℕ, ◌<◌, ◌^◌, refl, ap, arith, Bool, true, false, List, [], ◌∷◌, ◌++◌, length, inl}
+use Rattle.std.proofs.Common.{inr}
 use Rattle.std.specs.Prelude.{◌⊎◌, ◌||◌, if◌then◌else◌}
 use Rattle.std.specs.List.{AllByRecursion, list_any}
 use Rattle.std.specs.Str.{bytes_eq}

@@ -13,3 +13,5 @@ pub mod Writable
 pub mod Lookup
 pub mod Tokens
 pub mod Supers
+-- Definitions of lower crates, for those above.
+pub use Rattle.cjc_bytes.specs as Bytes

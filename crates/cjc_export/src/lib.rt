@@ -2,6 +2,9 @@
 //! chapter 5). They are read and written by one grammar.
 #![tactic(auto)]
 
+// Lower crates, for those above.
+pub use cjc_bytes as bytes;
+
 mod constants;
 mod file;
 mod lookup;

@@ -4,9 +4,9 @@ use Rattle.std.specs.Prelude.{◌≡◌, ◌<◌, ◌^◌, ℕ, [], length, slic
 use Rattle.std.specs.List.{AllByRecursion, list_any}
 use Rattle.std.specs.Str.{bytes_eq}
 use Rattle.std.specs.Int.{w32}
-use Rattle.cjc_bytes.specs.AccessFlags.{is_interface}
-use Rattle.cjc_classfile.specs.declared.tree.ClassTree.{ClassTree}
-use Rattle.cjc_classfile.specs.declared.tree.FieldTree.{FieldTree}
+use Rattle.cjc_export.specs.Bytes.AccessFlags.{is_interface}
+use Rattle.cjc_world.specs.ClassFile.declared.tree.ClassTree.{ClassTree}
+use Rattle.cjc_world.specs.ClassFile.declared.tree.FieldTree.{FieldTree}
 use Rattle.cjc_export.specs.declared.tree.ExportTree.{ExportTree}
 use Rattle.cjc_export.specs.Pool.{aid_length}
 use Rattle.cjc_export.specs.Members.{as_desc}
@@ -14,10 +14,10 @@ use Rattle.cjc_export.specs.ExportFile.{method_count}
 use Rattle.cjc_export.specs.Root.{object}
 use Rattle.cjc_export.specs.Written.{constants}
 use Rattle.cjc_export.specs.Writable.{EachAfter, IsText, IsWritable, MethodStands}
-use Rattle.cjc_list.specs.Listed.{ListTree}
+use Rattle.cjc_components.specs.List.Listed.{ListTree}
 use Rattle.cjc_world.specs.Classes.{Class, class_at}
 use Rattle.cjc_world.specs.Rules.{is_second}
-use Rattle.cjc_order.specs.Supers.Supers.{interfaces, superclasses}
+use Rattle.cjc_components.specs.ClassOrder.Supers.Supers.{interfaces, superclasses}
 use Rattle.cjc_tokens.specs.Rules.{FewCells, FewExported, token_breaks}
 use Rattle.cjc_components.specs.Package.{Package, has_applets, world}
 use Rattle.cjc_components.specs.Exports.{exported_classes}
@@ -68,7 +68,8 @@ pub record IsExportable (p : Package) : Type 0 where
 
 -- ---- what of each class is asked for beside that
 
--- It stands below java/lang/Object, its interfaces can be counted, and so can its methods, each of which can stand behind
+-- It stands below java/lang/Object, its interfaces can be counted, and so can its methods, each of which can stand
+-- behind
 -- those before it.
 pub record ClassStands (p : Package) (c : Class) : Type 0 where
   -- java/lang/Object is among its superclasses

@@ -9,3 +9,5 @@ pub mod Steps
 pub mod Tables
 pub mod Walks
 pub mod Working
+-- Definitions of lower crates, for those above.
+pub use Rattle.cjc_bytes.specs as Bytes

@@ -4,6 +4,9 @@
 //! hands on to others. Nothing here knows what a state means.
 #![tactic(auto)]
 
+// Lower crates, for those above.
+pub use cjc_bytes as bytes;
+
 mod flow;
 mod handed;
 mod marks;

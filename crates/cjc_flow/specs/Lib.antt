@@ -3,3 +3,5 @@ pub mod Constants
 pub mod Tables
 pub mod Working
 pub mod Tests
+-- Definitions of lower crates, for those above.
+pub use Rattle.cjc_intervals.specs as Intervals

@@ -11,7 +11,7 @@ ghost use Rattle.cjc_flow.specs.Working.Arriving.{all_known, known_in, rounded_c
 
 use crate::intervals::{Intervals, full_interval};
 use crate::state::Ranges;
-use cjc_bytes::{NoMemory, Row};
+use cjc_fixpoint::bytes::{NoMemory, Row};
 use cjc_range::Interval;
 use cjc_types::{Cell, Frame};
 use std::alloc::Global;

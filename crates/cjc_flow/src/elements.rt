@@ -1,15 +1,15 @@
 //! What array loads of a method give, by its types. Called by ranging.rt.
 
 ghost use Rattle.std.specs.Prelude.{◌≡◌, List, option_map, IfOk};
-ghost use Rattle.cjc_world.specs.Classes.{Class};
+ghost use Rattle.cjc_types.specs.World.Classes.{Class};
 ghost use Rattle.cjc_types.specs.Tables.{IsTypeTable, rows_of, state_of};
 ghost use Rattle.cjc_flow.specs.Working.Given.{element_at as element_by, element_given as given_element, elements_of};
 
 use crate::intervals::full_interval;
 use crate::values;
-use cjc_bytes::{NoMemory, Row};
-use cjc_code::{JInsn, JOp};
+use cjc_fixpoint::bytes::{NoMemory, Row};
 use cjc_range::Interval;
+use cjc_types::bytecode::{JInsn, JOp};
 use cjc_types::{Cell, Frame, Method, Operands, TypeTable, TypeWalk};
 use std::alloc::Global;
 

@@ -6,7 +6,7 @@ ghost use Rattle.cjc_intervals.specs.Flow.{argument_ranges, first_state};
 use crate::intervals::{Intervals, full_interval};
 use crate::state::Ranges;
 use crate::values;
-use cjc_bytes::{NoMemory, Row, is_static};
+use cjc_fixpoint::bytes::{NoMemory, Row, is_static};
 use cjc_range::Interval;
 use cjc_types::Method;
 use std::alloc::Global;

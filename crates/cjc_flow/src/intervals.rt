@@ -7,7 +7,7 @@ ghost use Rattle.cjc_range.specs.Rows.{join_row};
 ghost use Rattle.cjc_range.specs.Span.{full, width, IsWord};
 ghost use Rattle.cjc_intervals.specs.Steps.{operand};
 
-use cjc_bytes::NoMemory;
+use cjc_fixpoint::bytes::NoMemory;
 use cjc_range::Interval;
 use std::alloc::Global;
 use std::marker::Model;

@@ -2,13 +2,13 @@
 
 ghost use Rattle.std.specs.Prelude.{◌≡◌, ◌<◌, ◌==◌, ◌||◌, not, ◌++◌, ℕ, Option, List, ℤ, Some, None, map, filter_map};
 ghost use Rattle.std.specs.Prelude.{length, slice_get, get_or, IfOk, OnOk};
-ghost use Rattle.cjc_bytes.specs.declared.fault.MemberId.{MemberId as Field};
-ghost use Rattle.cjc_classfile.specs.Code.{CodeTree};
-ghost use Rattle.cjc_classfile.specs.declared.tree.ClassTree.{ClassTree as Class};
-ghost use Rattle.cjc_classfile.specs.declared.tree.MethodTree.{MethodTree as ClassMethod};
-ghost use Rattle.cjc_code.specs.declared.insn.JInsn.{JInsn as Insn};
+ghost use Rattle.cjc_fixpoint.specs.Bytes.declared.fault.MemberId.{MemberId as Field};
+ghost use Rattle.cjc_types.specs.ClassFile.Code.{CodeTree};
+ghost use Rattle.cjc_types.specs.ClassFile.declared.tree.ClassTree.{ClassTree as Class};
+ghost use Rattle.cjc_types.specs.ClassFile.declared.tree.MethodTree.{MethodTree as ClassMethod};
+ghost use Rattle.cjc_types.specs.Bytecode.declared.insn.JInsn.{JInsn as Insn};
 ghost use Rattle.cjc_fixpoint.specs.Kept.{IsAscending, StandsForLeast, mark_of as mark_by};
-ghost use Rattle.cjc_world.specs.Classes.{all_classes};
+ghost use Rattle.cjc_types.specs.World.Classes.{all_classes};
 ghost use Rattle.cjc_types.specs.declared.state.State.{State as TypeState};
 ghost use Rattle.cjc_types.specs.Flow.{body_of};
 ghost use Rattle.cjc_types.specs.Marks.{is_marked, marks_of};
@@ -28,14 +28,14 @@ use crate::repeats::Bounded;
 use crate::state::{self, Ranges};
 use crate::targets::is_target;
 use crate::{arrival, entry, steps};
-use cjc_bytes::{NoMemory, Row};
-use cjc_classfile::Catch;
-use cjc_code::{JInsn, JOp, MethodCode};
+use cjc_fixpoint::bytes::{NoMemory, Row};
 use cjc_fixpoint::{Edge, Flow, Repeating, Table, Walk, moved_on, solve};
 use cjc_range::Interval;
+use cjc_types::bytecode::{JInsn, JOp, MethodCode};
+use cjc_types::classfile::Catch;
 use cjc_types::rows::{put_all, put_some};
+use cjc_types::world::World;
 use cjc_types::{Method, TypeTable, bounds_of, covers, insns, repeats_at};
-use cjc_world::World;
 use std::alloc::Global;
 use std::marker::Model;
 

@@ -5,7 +5,7 @@ ghost use Rattle.cjc_types.specs.Repeats.{CoverAlike};
 
 use crate::ranging::Ranging;
 use crate::state::Ranges;
-use cjc_bytes::{NoMemory, Row};
+use cjc_fixpoint::bytes::{NoMemory, Row};
 use cjc_fixpoint::{Edge, Flow, Repeating};
 use std::alloc::Global;
 

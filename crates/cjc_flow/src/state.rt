@@ -7,7 +7,7 @@ ghost use Rattle.cjc_intervals.specs.Steps.{operand};
 ghost use Rattle.cjc_flow.specs.States.{stack_in};
 
 use crate::intervals::{self, Intervals};
-use cjc_bytes::{NoMemory, Row};
+use cjc_fixpoint::bytes::{NoMemory, Row};
 use cjc_range::Interval;
 use std::alloc::Global;
 use std::marker::Model;

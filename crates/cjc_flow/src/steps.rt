@@ -15,9 +15,9 @@ ghost use Rattle.cjc_flow.specs.Working.Given.{after_by, behind_by, given_by, st
 use crate::intervals::{Intervals, full_interval};
 use crate::state::{self, Ranges};
 use crate::values;
-use cjc_bytes::{MemberId, NoMemory, Row};
-use cjc_code::{JOp, jvm};
+use cjc_fixpoint::bytes::{MemberId, NoMemory, Row};
 use cjc_range::Interval;
+use cjc_types::bytecode::{JOp, jvm};
 use cjc_types::insns;
 use std::alloc::Global;
 

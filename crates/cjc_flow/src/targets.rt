@@ -4,7 +4,7 @@ ghost use Rattle.std.specs.Prelude.{◌≡◌, IfOk};
 ghost use Rattle.cjc_types.specs.Marks.{is_handler, is_jumped_to, is_place, leads_to};
 ghost use Rattle.cjc_intervals.specs.Flow.{is_target};
 
-use cjc_bytes::NoMemory;
+use cjc_fixpoint::bytes::NoMemory;
 use cjc_types::{Method, insns};
 use std::alloc::Global;
 

@@ -8,9 +8,9 @@ ghost use Rattle.cjc_range.specs.Span.{byte_range, short_range};
 ghost use Rattle.cjc_types.specs.Types.{is_void, parts};
 
 use crate::intervals::full_interval;
-use cjc_bytes::{Kind, NoMemory, Row};
-use cjc_code::jvm;
+use cjc_fixpoint::bytes::{Kind, NoMemory, Row};
 use cjc_range::Interval;
+use cjc_types::bytecode::jvm;
 use cjc_types::{Cell, Name, parsed};
 use std::alloc::Global;
 

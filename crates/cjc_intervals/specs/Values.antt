@@ -1,16 +1,16 @@
 -- The intervals of values that no instruction computes: those of a type, of what an array holds, and of a length.
 use Rattle.std.specs.Prelude.{ℕ, Bool, ◌==◌, if◌then◌else◌, List, [], ◌∷◌, ℤ, pos}
 use Rattle.std.specs.List.{list_all}
-use Rattle.cjc_bytes.specs.Descriptor.{Part}
-use Rattle.cjc_bytes.specs.declared.descriptor.Kind.{Kind}
-use Rattle.cjc_bytes.specs.declared.descriptor.Kind.TheVariants as kinds
+use Rattle.cjc_types.specs.Bytes.Descriptor.{Part}
+use Rattle.cjc_types.specs.Bytes.declared.descriptor.Kind.{Kind}
+use Rattle.cjc_types.specs.Bytes.declared.descriptor.Kind.TheVariants as kinds
 use Rattle.cjc_range.specs.Span.{Span, span, byte_range, short_range, full}
 use Rattle.cjc_range.specs.Rows.{clip}
 use Rattle.cjc_types.specs.declared.cell.Cell.{Cell}
 use Rattle.cjc_types.specs.declared.cell.Cell.TheVariants.{Number, Refs, Unusable}
 use Rattle.cjc_types.specs.Types.{is_void}
 use Rattle.cjc_types.specs.Rules.{is_array_by}
-use Rattle.cjc_code.specs.Jvm as jvm
+use Rattle.cjc_types.specs.Bytecode.Jvm as jvm
 
 -- the numbers of a boolean
 abbrev pub boolean_range : Span

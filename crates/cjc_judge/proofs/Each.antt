@@ -6,7 +6,7 @@ use Rattle.cjc_bytes.specs.Breaks.{Break, Among, foremost, after, RulePlace, at,
 use Rattle.cjc_bytes.specs.Order.{FilePlace, file_of}
 use Rattle.cjc_classfile.specs.declared.tree.ClassTree.{ClassTree}
 use Rattle.cjc_classfile.specs.declared.tree.MethodTree.{MethodTree}
-use Rattle.cjc_subset.specs.Places.{of_method, of_class, of_code}
+use Rattle.cjc_vtable.specs.Subset.Places.{of_method, of_class, of_code}
 use Rattle.cjc_world.specs.Files.{Files}
 
 pub record Each (P : Break → Type 0) (bs : List Break) : Type 0 where

@@ -17,3 +17,7 @@ pub mod ToldRules
 pub mod OneRefusal
 pub mod RangesLaws
 pub mod Unbroken
+-- Lemmas of lower crates, for those above.
+pub use Rattle.cjc_bytes.proofs as Bytes
+pub use Rattle.cjc_clinit.proofs as Clinit
+pub use Rattle.cjc_flow.proofs as Flow

@@ -11,7 +11,7 @@ use Rattle.cjc_bytes.proofs.Laws.{one_value, one_place, spelt_or_broken}
 use Rattle.cjc_classfile.specs.ClassFile.{class_file, refusal_at}
 use Rattle.cjc_classfile.specs.declared.tree.ClassTree.{ClassTree}
 use Rattle.cjc_code.specs.PackageCodes.{all_codes}
-use Rattle.cjc_export.specs.ExportFile.{export_file}
+use Rattle.cjc_world.specs.ExportFile.ExportFile.{export_file}
 use Rattle.cjc_list.specs.Listed.{ListTree}
 use Rattle.cjc_judge.specs.OutOfRange.{IsOutOfRange}
 use Rattle.cjc_judge.specs.Codes.{all_unsupported_insns}

@@ -13,7 +13,7 @@ use Rattle.cjc_bytes.specs.Refused.{refused_at, in_class, field_text, method_tex
 use Rattle.cjc_classfile.specs.declared.tree.ClassTree.{ClassTree}
 use Rattle.cjc_classfile.specs.declared.tree.FieldTree.{FieldTree}
 use Rattle.cjc_classfile.specs.declared.tree.MethodTree.{MethodTree}
-use Rattle.cjc_subset.specs.Places.{at_class, at_field, at_method}
+use Rattle.cjc_vtable.specs.Subset.Places.{at_class, at_field, at_method}
 use Rattle.cjc_world.specs.Classes.{Class, Member, declared, field_of_class, method_of_class, of_class_file}
 use Rattle.cjc_world.specs.Classes.{of_export_file, size}
 use Rattle.cjc_world.specs.Files.{Files}

@@ -14,13 +14,15 @@ use Rattle.cjc_classfile.specs.declared.tree.FieldTree.{FieldTree}
 use Rattle.cjc_classfile.specs.declared.tree.MethodTree.{MethodTree}
 use Rattle.cjc_code.specs.declared.insn.JInsn.{JInsn}
 use Rattle.cjc_code.specs.declared.method_code.MethodCode.{MethodCode}
-use Rattle.cjc_subset.specs.Checks as checks
-use Rattle.cjc_subset.specs.Names.{insn_breaks, catch_breaks, catches_of, method_breaks, code_breaks, name_breaks}
-use Rattle.cjc_subset.specs.Overriding.{is_inherited, method_against, class_against, supertype_breaks}
-use Rattle.cjc_subset.specs.Overriding.{overriding_breaks}
-use Rattle.cjc_subset.specs.Places.{at_class, at_field, at_method}
-use Rattle.cjc_tokens.specs.Rules.{breaks_from, breaks_where, has_high_token, is_few, tested_breaks, token_breaks}
-use Rattle.cjc_tokens.specs.Rules.{at_class as token_at_class}
+use Rattle.cjc_vtable.specs.Subset.Checks as checks
+use Rattle.cjc_vtable.specs.Subset.Names.{insn_breaks, catch_breaks, catches_of, method_breaks, code_breaks}
+use Rattle.cjc_vtable.specs.Subset.Names.{name_breaks}
+use Rattle.cjc_vtable.specs.Subset.Overriding.{is_inherited, method_against, class_against, supertype_breaks}
+use Rattle.cjc_vtable.specs.Subset.Overriding.{overriding_breaks}
+use Rattle.cjc_vtable.specs.Subset.Places.{at_class, at_field, at_method}
+use Rattle.cjc_vtable.specs.Tokens.Rules.{breaks_from, breaks_where, has_high_token, is_few, tested_breaks}
+use Rattle.cjc_vtable.specs.Tokens.Rules.{token_breaks}
+use Rattle.cjc_vtable.specs.Tokens.Rules.{at_class as token_at_class}
 use Rattle.cjc_world.specs.Classes.{Class, all_classes, declared, imported}
 use Rattle.cjc_world.specs.Exported.{is_exported}
 use Rattle.cjc_world.specs.Files.{Files}

@@ -5,8 +5,8 @@ use Rattle.cjc_bytes.specs.declared.fault.MemberId.{MemberId}
 use Rattle.cjc_types.specs.declared.state.State.{State}
 use Rattle.cjc_types.specs.Flow.{Body}
 use Rattle.cjc_types.specs.Tables.{IsLeastTable, Breach}
-use Rattle.cjc_intervals.specs.Frames.{RangeState}
-use Rattle.cjc_intervals.specs.Tables.{IsLeastRanges}
+use Rattle.cjc_flow.specs.Intervals.Frames.{RangeState}
+use Rattle.cjc_flow.specs.Intervals.Tables.{IsLeastRanges}
 use Rattle.cjc_flow.specs.Tests.Answers.{IsFirstBroken}
 use Rattle.cjc_world.specs.Classes.{all_classes}
 use Rattle.cjc_world.specs.Files.{Files}

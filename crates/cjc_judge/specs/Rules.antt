@@ -16,8 +16,8 @@ use Rattle.cjc_classfile.specs.declared.tree.MethodTree.{MethodTree}
 use Rattle.cjc_code.specs.declared.method_code.MethodCode.{MethodCode}
 use Rattle.cjc_code.specs.Decoded.{decoding_at}
 use Rattle.cjc_code.specs.Decoded as decoded
-use Rattle.cjc_export.specs.ExportFile.{export_file}
-use Rattle.cjc_export.specs.declared.tree.ExportTree.{ExportTree}
+use Rattle.cjc_world.specs.ExportFile.ExportFile.{export_file}
+use Rattle.cjc_world.specs.ExportFile.declared.tree.ExportTree.{ExportTree}
 use Rattle.cjc_list.specs.Listed.{ListTree}
 use Rattle.cjc_world.specs.Classes.{all_classes}
 use Rattle.cjc_world.specs.Files.{Files, files_of}
@@ -25,11 +25,11 @@ use Rattle.cjc_world.specs.Rules.{breaks}
 use Rattle.cjc_bytes.specs.Breaks.{Break, Among, broken_at, each, IsFirstOf as FirstOfList}
 use Rattle.cjc_bytes.specs.declared.order.FileKey.TheVariants as keys
 use Rattle.cjc_bytes.specs.Order.{Rank, NotAfter, file_number, file_of}
-use Rattle.cjc_subset.specs.Names.{name_breaks}
-use Rattle.cjc_subset.specs.Checks.{check_breaks}
+use Rattle.cjc_vtable.specs.Subset.Names.{name_breaks}
+use Rattle.cjc_vtable.specs.Subset.Checks.{check_breaks}
 use Rattle.cjc_clinit.specs.Rules.{BreaksImage}
-use Rattle.cjc_tokens.specs.Rules.{tested_breaks}
-use Rattle.cjc_subset.specs.Places.{at_method, of_code}
+use Rattle.cjc_vtable.specs.Tokens.Rules.{tested_breaks}
+use Rattle.cjc_vtable.specs.Subset.Places.{at_method, of_code}
 use Rattle.cjc_types.specs.Flow.{Body, body_of}
 use Rattle.cjc_types.specs.Tables.{IsMethodOf, IsBrokenBy}
 use Rattle.cjc_judge.specs.OutOfRange.{IsOutOfRange}

@@ -4,8 +4,8 @@ use Rattle.cjc_bytes.specs.Format.{FileSpells}
 use Rattle.cjc_bytes.specs.declared.settings.FileLine.{FileLine}
 use Rattle.cjc_classfile.specs.ClassFile.{class_file}
 use Rattle.cjc_classfile.specs.declared.tree.ClassTree.{ClassTree}
-use Rattle.cjc_export.specs.ExportFile.{export_file}
-use Rattle.cjc_export.specs.declared.tree.ExportTree.{ExportTree}
+use Rattle.cjc_world.specs.ExportFile.ExportFile.{export_file}
+use Rattle.cjc_world.specs.ExportFile.declared.tree.ExportTree.{ExportTree}
 use Rattle.cjc_list.specs.Listed.{ListTree}
 use Rattle.cjc_list.specs.Spelling.{IsSpelt as IsListSpelt}
 

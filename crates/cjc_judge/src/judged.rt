@@ -15,11 +15,11 @@ use crate::reading::{Trees, read_files};
 use cjc_bytes::{Bytes, Fault, FileLine, NoMemory, Row};
 use cjc_classfile::ClassTree;
 use cjc_code::Codes;
-use cjc_export::ExportTree;
 use cjc_list::List;
-use cjc_subset::names;
 use cjc_types::TypeTable;
+use cjc_vtable::subset::names;
 use cjc_world::World;
+use cjc_world::export_file::ExportTree;
 use std::alloc::Global;
 
 /// A package that breaks no rule of those that it was tested for.

@@ -9,7 +9,7 @@ ghost use Rattle.cjc_classfile.specs.Code.{CodeTree};
 ghost use Rattle.cjc_classfile.specs.declared.tree.ClassTree.{ClassTree};
 ghost use Rattle.cjc_classfile.specs.declared.tree.MethodTree.{MethodTree};
 ghost use Rattle.cjc_types.specs.Tables.{IsMethodOf, IsOfPackage};
-ghost use Rattle.cjc_tokens.specs.Rules.{tested_breaks};
+ghost use Rattle.cjc_vtable.specs.Tokens.Rules.{tested_breaks};
 ghost use Rattle.cjc_judge.specs.Rules.{unsupported_break, unsupported_breaks, settings_of, method_break, BreaksType};
 ghost use Rattle.cjc_judge.specs.Rules.{BreaksAnyType, BreaksRange, BreaksAnyRange, IsFirstIn, IsFirstFault};
 ghost use Rattle.cjc_judge.specs.Rules.{IsOfThirdHundred};
@@ -26,9 +26,9 @@ use cjc_bytes::{
 };
 use cjc_code::{Codes, MethodCode};
 use cjc_list::List;
-use cjc_subset::{class_spot, first_broken, method_spot};
-use cjc_tokens::first_high;
 use cjc_types::{InferError, TypeTable, infer_method};
+use cjc_vtable::subset::{class_spot, first_broken, method_spot};
+use cjc_vtable::tokens::first_high;
 use cjc_world::World;
 use std::alloc::Global;
 

@@ -2,6 +2,11 @@
 //! every command that starts from class files; it knows nothing of what is written or run.
 #![tactic(auto)]
 
+// Lower crates, for those above.
+pub use cjc_bytes as bytes;
+pub use cjc_list as list;
+pub use cjc_world as world;
+
 mod groups;
 mod judged;
 mod judging;

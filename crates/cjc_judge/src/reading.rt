@@ -10,7 +10,7 @@ ghost use Rattle.cjc_judge.specs.Working.Reading.{DecodesMethod, DecodesClass, R
 use cjc_bytes::{Bytes, Fault, FileLine, Row};
 use cjc_classfile::ClassTree;
 use cjc_code::{Codes, DecodeError, MethodCode, refusal_of};
-use cjc_export::ExportTree;
+use cjc_world::export_file::ExportTree;
 use std::alloc::Global;
 
 /// What the files of a list spell, the classes and the export files each in list order.
@@ -141,9 +141,7 @@ fn read_file<'a>(
     if line.class_file {
         read_class(alloc, line.name.items(), bytes, trees)
     } else {
-        trees
-            .exports
-            .push(cjc_export::read(alloc, line.name.items(), bytes)?)?;
+        trees.exports.push(cjc_world::export_file::read(alloc, line.name.items(), bytes)?)?;
         Ok(())
     }
 }

@@ -1,3 +1,5 @@
 pub mod Acts
 pub mod States
 pub mod Runs
+-- Definitions of lower crates, for those above.
+pub use Rattle.cjc_jvm_semantics.specs as JvmSemantics

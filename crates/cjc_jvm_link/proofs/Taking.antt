@@ -6,14 +6,14 @@ use Rattle.std.proofs.lemmas.Bool.{eqb-true}
 use Rattle.std.proofs.lemmas.Bool.Decides.{Decides-eqb}
 use Rattle.std.proofs.Math.Seq.{drop-cons}
 use Rattle.std.proofs.lemmas.List.{drop_all, map-append, take_more}
-use Rattle.cjc_bytes.specs.declared.breaks.BrokenAt.{BrokenAt}
-use Rattle.cjc_classfile.specs.declared.tree.ClassTree.{ClassTree}
-use Rattle.cjc_classfile.specs.declared.tree.MethodTree.{MethodTree}
-use Rattle.cjc_classfile.specs.Code.{CodeTree}
-use Rattle.cjc_code.specs.declared.insn.JInsn.{JInsn}
-use Rattle.cjc_code.specs.declared.method_code.MethodCode.{MethodCode}
-use Rattle.cjc_code.specs.Decoded.{decoding, decoded, insns_of}
-use Rattle.cjc_code.specs.PackageCodes.{first_insns, code_with, where_code, of_methods, of_classes}
+use Rattle.cjc_world.specs.Bytes.declared.breaks.BrokenAt.{BrokenAt}
+use Rattle.cjc_world.specs.ClassFile.declared.tree.ClassTree.{ClassTree}
+use Rattle.cjc_world.specs.ClassFile.declared.tree.MethodTree.{MethodTree}
+use Rattle.cjc_world.specs.ClassFile.Code.{CodeTree}
+use Rattle.cjc_jvm_semantics.specs.Bytecode.declared.insn.JInsn.{JInsn}
+use Rattle.cjc_jvm_semantics.specs.Bytecode.declared.method_code.MethodCode.{MethodCode}
+use Rattle.cjc_jvm_semantics.specs.Bytecode.Decoded.{decoding, decoded, insns_of}
+use Rattle.cjc_jvm_semantics.specs.Bytecode.PackageCodes.{first_insns, code_with, where_code, of_methods, of_classes}
 use Rattle.cjc_jvm_link.specs.Methods.{is_first, insns_at, behind, insns_in}
 
 other : (a b : ℕ) → (a ≡ b → ⊥) → (a == b) ≡ false

@@ -5,3 +5,5 @@ pub mod Fresh
 pub mod Keys
 pub mod Starts
 pub mod Working
+-- Definitions of lower crates, for those above.
+pub use Rattle.cjc_world.specs as World

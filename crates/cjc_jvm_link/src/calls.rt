@@ -3,7 +3,7 @@
 
 ghost use Rattle.std.specs.Prelude.{◌≡◌, ◌&&◌, ℕ, List, Option, Some, None, not, option_map, option_and_then};
 ghost use Rattle.std.specs.Prelude.{MatchOption, if◌then◌else◌};
-ghost use Rattle.cjc_bytes.specs.declared.fault.MemberId.{MemberId as Id};
+ghost use Rattle.cjc_world.specs.Bytes.declared.fault.MemberId.{MemberId as Id};
 ghost use Rattle.cjc_world.specs.Classes.{all_classes, class_named};
 ghost use Rattle.cjc_world.specs.Supertypes.{line};
 ghost use Rattle.cjc_world.specs.Lookup.{is_selectable, receiver, find_method};
@@ -17,9 +17,9 @@ ghost use Rattle.cjc_jvm_link.specs.Found.{hit_of};
 
 use crate::hits::{Owner, owner_of};
 use crate::links::Links;
-use cjc_bytes::{MemberId, is_interface, is_private, is_static};
-use cjc_code::jvm;
+use cjc_jvm_semantics::bytecode::jvm;
 use cjc_jvm_step::step::{Call, Callee};
+use cjc_world::bytes::{MemberId, is_interface, is_private, is_static};
 use cjc_world::{Found, Known};
 
 const OBJECT: &[u8] = b"java/lang/Object";

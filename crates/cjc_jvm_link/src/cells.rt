@@ -2,8 +2,8 @@
 
 ghost use Rattle.std.specs.Prelude.{◌≡◌, ◌<◌, ◌^◌, ◌++◌, ◌+◌, ◌∷◌, [], ℕ, List, map, length, IfOk, OnOk, Some, None};
 ghost use Rattle.std.specs.Prelude.{option_map, if◌then◌else◌};
-ghost use Rattle.cjc_bytes.specs.declared.fault.MemberId.{MemberId as Id};
-ghost use Rattle.cjc_script.specs.Sorts.{array_of, OfNumbers};
+ghost use Rattle.cjc_world.specs.Bytes.declared.fault.MemberId.{MemberId as Id};
+ghost use Rattle.cjc_jvm_semantics.specs.Script.Sorts.{array_of, OfNumbers};
 ghost use Rattle.cjc_jvm_step.specs.Heap.Kinds.{elements_of};
 ghost use Rattle.cjc_world.specs.declared.image.StaticImage.{StaticImage as Image};
 ghost use Rattle.cjc_jvm_semantics.specs.Effects.{is_same_field};
@@ -13,11 +13,11 @@ ghost use Rattle.cjc_jvm_link.specs.Starts.{start_in, either, AreStarts};
 ghost use Rattle.std.specs.Cmp.{partial_equiv_from_equiv};
 
 use crate::zeros::{field_id, zero_of};
-use cjc_bytes::{Kind, MemberId, NoMemory, Row, is_static};
-use cjc_classfile::{ClassTree, FieldTree};
-use cjc_export::may_be_constant;
+use cjc_jvm_semantics::script::{FieldValue, Value};
 use cjc_jvm_step::heap::{ArrayKind, Element, Heap, HeapObject, TypeName};
-use cjc_script::{FieldValue, Value};
+use cjc_world::bytes::{Kind, MemberId, NoMemory, Row, is_static};
+use cjc_world::classfile::{ClassTree, FieldTree};
+use cjc_world::export_file::may_be_constant;
 use cjc_world::{ArrayCell, StaticImage, ValueCell};
 use std::alloc::Global;
 use std::collections::HashMap;
@@ -33,7 +33,7 @@ struct Key<'k> {
 }
 
 impl<'k> Model for Key<'k> {
-    ghost use Rattle.cjc_bytes.specs.declared.fault.MemberId.{MemberId};
+    ghost use Rattle.cjc_world.specs.Bytes.declared.fault.MemberId.{MemberId};
 
     ghost Value = { MemberId };
 

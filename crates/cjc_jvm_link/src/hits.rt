@@ -9,10 +9,10 @@ ghost use Rattle.cjc_jvm_semantics.specs.OnePackage.{constant_in, exported_const
 ghost use Rattle.cjc_jvm_step.specs.Step.Names.{field_of};
 ghost use Rattle.cjc_jvm_link.specs.Found.{hit_of, hit_at};
 
-use cjc_bytes::{MemberId, is_static};
-use cjc_classfile::ClassTree;
-use cjc_export::{ExportClass, ExportTree, may_be_constant};
 use cjc_jvm_step::step::ResolvedField;
+use cjc_world::bytes::{MemberId, is_static};
+use cjc_world::classfile::ClassTree;
+use cjc_world::export_file::{ExportClass, ExportTree, may_be_constant};
 use cjc_world::{Found, Known, World};
 
 /// The class that declares a member, and the member's flags.

@@ -5,8 +5,8 @@ ghost use Rattle.cjc_jvm_semantics.specs.Effects.{or_other};
 ghost use Rattle.cjc_jvm_step.specs.Frame.Places.{IsIndex};
 ghost use Rattle.cjc_jvm_link.specs.Methods.{AreIndices};
 
-use cjc_bytes::{NoMemory, Row};
-use cjc_code::{JInsn, MethodCode};
+use cjc_jvm_semantics::bytecode::{JInsn, MethodCode};
+use cjc_world::bytes::{NoMemory, Row};
 use std::alloc::Global;
 
 // More instructions than any method has.

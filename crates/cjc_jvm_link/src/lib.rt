@@ -2,6 +2,9 @@
 //! who runs class files by name; it knows no frame that runs, no tokens and no components.
 #![tactic(auto)]
 
+// Lower crates, for those above.
+pub use cjc_world as world;
+
 mod calls;
 mod cells;
 mod fresh;

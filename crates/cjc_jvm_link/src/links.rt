@@ -2,7 +2,7 @@
 //! is called for.
 
 ghost use Rattle.std.specs.Prelude.{◌≡◌, ◌&&◌, option_map, option_and_then, map, IfOk};
-ghost use Rattle.cjc_code.specs.PackageCodes.{all_codes};
+ghost use Rattle.cjc_jvm_semantics.specs.Bytecode.PackageCodes.{all_codes};
 ghost use Rattle.cjc_world.specs.Classes.{all_classes};
 ghost use Rattle.cjc_jvm_semantics.specs.Effects.{fresh_field};
 ghost use Rattle.cjc_world.specs.Classes.{class_named};
@@ -19,12 +19,12 @@ use crate::cells::{cells, heap_of};
 use crate::fresh::Fresh;
 use crate::hits::field_named;
 use crate::methods::all_methods;
-use cjc_bytes::{MemberId, NoMemory, Row, is_abstract, is_interface, is_static};
-use cjc_code::MethodCode;
+use cjc_jvm_semantics::bytecode::MethodCode;
+use cjc_jvm_semantics::script::FieldValue;
 use cjc_jvm_step::frame::Method;
 use cjc_jvm_step::heap::Heap;
 use cjc_jvm_step::step::{Call, Callee, LookUps, ResolvedField};
-use cjc_script::FieldValue;
+use cjc_world::bytes::{MemberId, NoMemory, Row, is_abstract, is_interface, is_static};
 use cjc_world::{Found, Known, StaticImage, World};
 use std::alloc::Global;
 use std::marker::Model;

@@ -2,15 +2,15 @@
 //! first instruction.
 
 ghost use Rattle.std.specs.Prelude.{◌≡◌, ◌<◌, ◌+◌, ◌++◌, ◌^◌, length, map, IfOk};
-ghost use Rattle.cjc_code.specs.PackageCodes.{all_codes, of_methods, of_classes, code_with};
+ghost use Rattle.cjc_jvm_semantics.specs.Bytecode.PackageCodes.{all_codes, of_methods, of_classes, code_with};
 ghost use Rattle.cjc_jvm_semantics.specs.OnePackage.{method_by};
 ghost use Rattle.cjc_jvm_step.specs.Frame.Places.{IsIndex};
 ghost use Rattle.cjc_jvm_link.specs.Methods.{AreIndices, methods_of, insns_in, insns_at, behind};
 
-use cjc_bytes::{NoMemory, Row};
-use cjc_classfile::{ClassTree, MethodTree};
-use cjc_code::{JInsn, MethodCode};
+use cjc_jvm_semantics::bytecode::{JInsn, MethodCode};
 use cjc_jvm_step::frame::Method;
+use cjc_world::bytes::{NoMemory, Row};
+use cjc_world::classfile::{ClassTree, MethodTree};
 use std::alloc::Global;
 
 /// The instructions of methods that are still to be taken, and their indices.

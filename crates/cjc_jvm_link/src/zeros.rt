@@ -1,14 +1,14 @@
 //! The zero, false or null that a field of a descriptor holds before anything is put there.
 
 ghost use Rattle.std.specs.Prelude.{◌≡◌, IfOk};
-ghost use Rattle.cjc_bytes.specs.Descriptor.{part_at};
-ghost use Rattle.cjc_script.specs.Sorts.{field_sort, sort_by, sort_of, zero_of};
+ghost use Rattle.cjc_world.specs.Bytes.Descriptor.{part_at};
+ghost use Rattle.cjc_jvm_semantics.specs.Script.Sorts.{field_sort, sort_by, sort_of, zero_of};
 ghost use Rattle.cjc_jvm_semantics.specs.Effects.{fresh_field};
 ghost use Rattle.cjc_jvm_semantics.specs.OnePackage.{of_class};
 
-use cjc_bytes::{Bytes, Desc, Kind, MemberId, NoMemory};
+use cjc_jvm_semantics::script::{FieldValue, Value};
 use cjc_jvm_step::step::shape_named;
-use cjc_script::{FieldValue, Value};
+use cjc_world::bytes::{Bytes, Desc, Kind, MemberId, NoMemory};
 use std::alloc::Global;
 
 // More bytes than the descriptors of any file have.

@@ -2,18 +2,18 @@
 use Rattle.std.specs.Prelude.{ℕ, List, [], ◌∷◌, ◌++◌, map, Option, Some, None, true, false, ℤ, pos, negsuc, codes}
 use Rattle.cjc_bytes.specs.declared.fault.MemberId.{MemberId}
 use Rattle.cjc_bytes.specs.declared.descriptor.Kind.TheVariants as kinds
-use Rattle.cjc_classfile.specs.declared.tree.Catch.{Catch}
-use Rattle.cjc_classfile.specs.declared.tree.ClassTree.{ClassTree}
-use Rattle.cjc_classfile.specs.declared.tree.FieldTree.{FieldTree}
-use Rattle.cjc_classfile.specs.declared.tree.MethodTree.{MethodTree}
-use Rattle.cjc_classfile.specs.PoolItem.{PoolItem}
-use Rattle.cjc_classfile.specs.PoolItem as items
+use Rattle.cjc_code.specs.ClassFile.declared.tree.Catch.{Catch}
+use Rattle.cjc_code.specs.ClassFile.declared.tree.ClassTree.{ClassTree}
+use Rattle.cjc_code.specs.ClassFile.declared.tree.FieldTree.{FieldTree}
+use Rattle.cjc_code.specs.ClassFile.declared.tree.MethodTree.{MethodTree}
+use Rattle.cjc_code.specs.ClassFile.PoolItem.{PoolItem}
+use Rattle.cjc_code.specs.ClassFile.PoolItem as items
 use Rattle.cjc_code.specs.declared.insn.JInsn.{JInsn}
 use Rattle.cjc_code.specs.declared.insn.JOp.{JOp}
 use Rattle.cjc_code.specs.declared.insn.JOp.TheVariants as jop
-use Rattle.cjc_export.specs.declared.tree.ExportClass.{ExportClass}
-use Rattle.cjc_export.specs.declared.tree.ExportMethod.{ExportMethod}
-use Rattle.cjc_export.specs.declared.tree.ExportTree.{ExportTree}
+use Rattle.cjc_world.specs.ExportFile.declared.tree.ExportClass.{ExportClass}
+use Rattle.cjc_world.specs.ExportFile.declared.tree.ExportMethod.{ExportMethod}
+use Rattle.cjc_world.specs.ExportFile.declared.tree.ExportTree.{ExportTree}
 use Rattle.cjc_script.specs.declared.value.Value.{Value}
 use Rattle.cjc_script.specs.declared.value.Value.TheVariants.{Num, Null}
 use Rattle.cjc_script.specs.declared.script.Entry.{Entry}

@@ -3,6 +3,7 @@
 //! machine.
 #![tactic(auto)]
 
+// Lower crates, for those above.
 ghost use Rattle.std.specs.Prelude.{◌≡◌, ◌≢◌, ◌≤◌, ℕ, ℤ, codes, pos, negsuc, replicate, slice_get, length, take};
 ghost use Rattle.std.specs.Prelude.{reverse, nat_le, nat_lt, ◌++◌, false, true, List, Option, Some, None, [], ◌∷◌};
 ghost use Rattle.cjc_bytes.specs.declared.fault.MemberId.{MemberId};
@@ -34,6 +35,11 @@ ghost use Rattle.cjc_jvm_semantics.specs.Worked.{id, object, call, send, answer,
 ghost use Rattle.cjc_jvm_semantics.specs.Worked.{both, app_package, a_b, an_a, r, r_image, cell, roomy, two_arrays};
 ghost use Rattle.cjc_jvm_semantics.specs.Worked.{arrays_with};
 ghost use Rattle.cjc_jvm_semantics.specs.Wallet.{wallet_package, wallet_script, wallet_report};
+
+pub use cjc_code as bytecode;
+pub use cjc_code::classfile;
+pub use cjc_script as script;
+pub use cjc_world as world;
 
 /// For every record of look-ups and every script: a run that is over stays as it is, however many instructions
 /// it is given, and no note is taken back.

@@ -8,8 +8,8 @@ ghost use Rattle.cjc_layout.specs.Refusals.{shares, overtakes, overtakes_any, ov
 ghost use Rattle.cjc_layout.specs.Working.{place_for, offset_at};
 
 use crate::layout::Handler;
-use cjc_bytes::{Bytes, NoMemory, Row};
 use cjc_ncode::NCatch;
+use cjc_ncode::bytes::{Bytes, NoMemory, Row};
 use std::alloc::{AllocError, Global};
 
 fn has_range(c: &NCatch) -> bool

@@ -1,7 +1,7 @@
 //! Layouts of methods: which jumps are wide, where instructions stand, and the handlers. Whoever emits bytes
 //! reads them. They know no token and no index.
 
-use cjc_bytes::{Bytes, Row};
+use cjc_ncode::bytes::{Bytes, Row};
 
 /// An exception handler (Java Card Virtual Machine Specification 2.2.2, section 6.9.2), at offsets in bytes
 /// from the method's first instruction.

@@ -1,7 +1,7 @@
 //! The layout of a method, or the rule that it breaks. Called by whoever emits methods' bytes.
 
 ghost use Rattle.std.specs.Prelude.{◌≡◌, ◌≤◌, ◌⊎◌, length, None, IfOk, OnOk, IfErr};
-ghost use Rattle.cjc_bytes.specs.declared.fault.Fault.TheVariants as faults;
+ghost use Rattle.cjc_ncode.specs.Bytes.declared.fault.Fault.TheVariants as faults;
 ghost use Rattle.cjc_ncode.specs.declared.narrow.NMethod.{NMethod};
 ghost use Rattle.cjc_layout.specs.Sizes.{code_size, widest_size, AllLead, bytes_before};
 ghost use Rattle.cjc_layout.specs.Legal.{IsLeast};
@@ -12,7 +12,7 @@ use crate::handlers::{first_overtaking, written_handlers};
 use crate::jumps::widen_all;
 use crate::layout::Layout;
 use crate::sizes::narrow_sizes;
-use cjc_bytes::{Fault, MemberId, NoMemory, Part, PlaceRef, Row, refused_at};
+use cjc_ncode::bytes::{Fault, MemberId, NoMemory, Part, PlaceRef, Row, refused_at};
 use cjc_ncode::{NInsn, NMethod};
 use std::alloc::Global;
 

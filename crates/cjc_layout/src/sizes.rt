@@ -1,13 +1,13 @@
 //! The bytes of narrow instructions. Called by the choice of wide jumps. It knows no offset.
 
 ghost use Rattle.std.specs.Prelude.{◌≡◌, false, ◌≤◌, length, map, IfOk};
-ghost use Rattle.cjc_capread.specs.Opcodes.{form, op_info};
+ghost use Rattle.cjc_ncode.specs.CapRead.Opcodes.{form, op_info};
 ghost use Rattle.cjc_layout.specs.Sizes.{size_by, insn_size, widest_size};
 ghost use Rattle.cjc_layout.specs.Working.{switch_size, length_by};
 
-use cjc_bytes::NoMemory;
-use cjc_capread::{card, op};
 use cjc_ncode::NInsn;
+use cjc_ncode::bytes::NoMemory;
+use cjc_ncode::capread::{card, op};
 use std::alloc::Global;
 
 /// The bytes of a switch with so many cases.

@@ -3,3 +3,5 @@ pub mod Items
 pub mod Wholes
 pub mod Texts
 pub mod Decided
+-- Lemmas of lower crates, for those above.
+pub use Rattle.cjc_bytes.proofs as Bytes

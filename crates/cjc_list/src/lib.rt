@@ -2,6 +2,9 @@
 //! imports, read into a `List`. It knows no file but the list.
 #![tactic(auto)]
 
+// Lower crates, for those above.
+pub use cjc_bytes as bytes;
+
 mod line;
 mod listing;
 mod read;

@@ -7,17 +7,17 @@ use Rattle.cjc_types.specs.declared.state.State.{State}
 use Rattle.cjc_world.specs.declared.found.Found.{Found}
 use Rattle.cjc_world.specs.Classes.{all_classes}
 use Rattle.cjc_world.specs.Files.{Files}
-use Rattle.cjc_jvm_semantics.specs.Linked.{Method}
-use Rattle.cjc_jvm_semantics.specs.OnePackage.{method_at}
+use Rattle.cjc_components.specs.JvmSemantics.Linked.{Method}
+use Rattle.cjc_components.specs.JvmSemantics.OnePackage.{method_at}
 use Rattle.cjc_ncode.specs.declared.narrow.NMethod.{NMethod}
 use Rattle.cjc_ncode.specs.PoolOrder.{class_key, has_catch_type, insn_keys, is_some, method_keys, pool_order}
 use Rattle.cjc_ncode.specs.Written.{reached}
-use Rattle.cjc_narrow.proofs.KeysLaws.Indices.{same_pool}
-use Rattle.cjc_narrow.specs.Rows.Forms.{FormsOnly}
-use Rattle.cjc_narrow.specs.Rows.Package.{code_of}
-use Rattle.cjc_narrow.specs.Rows.Resolved.{is_near, resolution}
-use Rattle.cjc_narrow.specs.Rows.Selected.{near_fields}
-use Rattle.cjc_narrow.proofs.RowsLaws.Keys.{forms_only}
+use Rattle.cjc_components.proofs.Narrow.KeysLaws.Indices.{same_pool}
+use Rattle.cjc_components.specs.Narrow.Rows.Forms.{FormsOnly}
+use Rattle.cjc_components.specs.Narrow.Rows.Package.{code_of}
+use Rattle.cjc_components.specs.Narrow.Rows.Resolved.{is_near, resolution}
+use Rattle.cjc_components.specs.Narrow.Rows.Selected.{near_fields}
+use Rattle.cjc_components.proofs.Narrow.RowsLaws.Keys.{forms_only}
 use Rattle.cjc_components.specs.Written.{code_at, code_by}
 
 module _ (files : Files) (rows : Method → List (Option State)) (before after : List MemberId) where

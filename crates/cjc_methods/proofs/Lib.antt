@@ -13,3 +13,8 @@ pub mod Alike
 mod Laid
 pub mod LayoutsLaws
 pub mod ComponentLaws
+-- Lemmas of lower crates, for those above.
+pub use Rattle.cjc_components.proofs.ClassOrder as ClassOrder
+pub use Rattle.cjc_types.proofs as Types
+pub use Rattle.cjc_components.proofs.Layout as Layout
+pub use Rattle.cjc_pool.proofs as Pool

@@ -6,15 +6,15 @@ use Rattle.std.specs.Str.{bytes_eq}
 use Rattle.std.proofs.lemmas.List.{length-map}
 use Rattle.std.proofs.lemmas.Option.{get_or_from_slice_get}
 use Rattle.cjc_bytes.specs.declared.fault.MemberId.{MemberId}
-use Rattle.cjc_classfile.specs.declared.tree.ClassTree.{ClassTree}
-use Rattle.cjc_classfile.specs.declared.tree.MethodTree.{MethodTree}
+use Rattle.cjc_world.specs.ClassFile.declared.tree.ClassTree.{ClassTree}
+use Rattle.cjc_world.specs.ClassFile.declared.tree.MethodTree.{MethodTree}
 use Rattle.cjc_world.specs.declared.found.Found.{Found}
 use Rattle.cjc_world.specs.Added.{added, added_at, added_to, named_by}
 use Rattle.cjc_world.specs.Classes.{Class, declared, field_of_class, method_of_class, all_classes, class_at}
 use Rattle.cjc_world.specs.Files.{Files}
 use Rattle.cjc_world.specs.Order.{methods_of_class}
 use Rattle.cjc_world.specs.Order as order
-use Rattle.cjc_vtable.proofs.Numbers.{at-tree}
+use Rattle.cjc_components.proofs.VTable.Numbers.{at-tree}
 use Rattle.cjc_methods.specs.Working.Members.{own, places, written}
 
 pub places_next : (out : List Found) (class first k count : ℕ) (total : List Found) → k < count

@@ -2,14 +2,14 @@
 use Rattle.std.proofs.Common.{◌≡◌, sym, ap, subst, ◌∙◌, Bool, List}
 use Rattle.std.specs.Prelude.{Some}
 use Rattle.cjc_bytes.specs.declared.fault.MemberId.{MemberId}
-use Rattle.cjc_classfile.specs.Code.{CodeTree}
-use Rattle.cjc_classfile.specs.declared.tree.ClassTree.{ClassTree}
-use Rattle.cjc_classfile.specs.declared.tree.MethodTree.{MethodTree}
-use Rattle.cjc_code.specs.declared.insn.JInsn.{JInsn}
+use Rattle.cjc_world.specs.ClassFile.Code.{CodeTree}
+use Rattle.cjc_world.specs.ClassFile.declared.tree.ClassTree.{ClassTree}
+use Rattle.cjc_world.specs.ClassFile.declared.tree.MethodTree.{MethodTree}
+use Rattle.cjc_types.specs.Bytecode.declared.insn.JInsn.{JInsn}
 use Rattle.cjc_world.specs.Files.{Files}
-use Rattle.cjc_narrow.specs.Rows.Selected.{selected_code}
-use Rattle.cjc_narrow.specs.Written.Rows.{rows_by}
-use Rattle.cjc_narrow.specs.Select.Select.{IsSelectable}
+use Rattle.cjc_components.specs.Narrow.Rows.Selected.{selected_code}
+use Rattle.cjc_components.specs.Narrow.Written.Rows.{rows_by}
+use Rattle.cjc_components.specs.Narrow.Select.Select.{IsSelectable}
 
 pub tree_same : (method m : MethodTree) (tree t : CodeTree) → method.code ≡ Some tree → method ≡ m → m.code ≡ Some t
     → tree ≡ t

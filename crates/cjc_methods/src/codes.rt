@@ -3,9 +3,9 @@
 
 ghost use Rattle.std.specs.Prelude.{◌≡◌, List, Option, All, map, IfOk};
 ghost use Rattle.cjc_types.specs.declared.state.State.{State as Before};
-ghost use Rattle.cjc_jvm_semantics.specs.Linked.{Method};
+ghost use Rattle.cjc_components.specs.JvmSemantics.Linked.{Method};
 ghost use Rattle.cjc_ncode.specs.PoolOrder.{pool_order};
-ghost use Rattle.cjc_narrow.specs.Rows.Selected.{near_fields};
+ghost use Rattle.cjc_components.specs.Narrow.Rows.Selected.{near_fields};
 ghost use Rattle.cjc_components.specs.Written.{code_at};
 ghost use Rattle.cjc_methods.specs.Ready.{AreReady, AreRows, IsOwn};
 ghost use Rattle.cjc_methods.specs.Words.{HasRoom};
@@ -13,10 +13,10 @@ ghost use Rattle.cjc_methods.specs.Words.{HasRoom};
 use crate::places::class_places;
 use crate::selecting::{Sources, codes_at};
 use cjc_bytes::{NoMemory, Row};
-use cjc_code::MethodCode;
-use cjc_narrow::keys::{Numbers, number};
+use cjc_components::narrow::keys::{Numbers, number};
 use cjc_ncode::NMethod;
 use cjc_types::TypeTable;
+use cjc_types::bytecode::MethodCode;
 use cjc_world::{Found, World};
 use std::alloc::Global;
 

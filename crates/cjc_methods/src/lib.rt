@@ -3,6 +3,11 @@
 //! calls it. It knows no token and no offset.
 #![tactic(auto)]
 
+// Lower crates, for those above.
+pub use cjc_components::class_order;
+pub use cjc_ncode as ncode;
+pub use cjc_pool as pool;
+
 mod codes;
 pub mod component;
 mod laws;

@@ -8,7 +8,7 @@ ghost use Rattle.cjc_methods.specs.Ready.{AreOrdered, IsOwn};
 ghost use Rattle.cjc_methods.specs.Working.Members.{places, written};
 
 use cjc_bytes::{NoMemory, Row};
-use cjc_classfile::{ClassTree, MethodTree};
+use cjc_world::classfile::{ClassTree, MethodTree};
 use cjc_world::{Found, World};
 use std::alloc::Global;
 

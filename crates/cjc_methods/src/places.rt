@@ -5,7 +5,7 @@ ghost use Rattle.std.specs.Prelude.{◌≡◌, ◌++◌, IfOk, OnOk};
 ghost use Rattle.cjc_methods.specs.Working.Places.{behind, behind_all, class_places, code_places, place_if, place_in};
 
 use cjc_bytes::{NoMemory, Row};
-use cjc_classfile::{ClassTree, Code, MethodTree};
+use cjc_world::classfile::{ClassTree, Code, MethodTree};
 use std::alloc::Global;
 
 /// The place behind that of a method's code.

@@ -1,16 +1,16 @@
 //! Which instructions of a method are reached: those before which its types have a frame. It knows no narrow code.
 
 ghost use Rattle.std.specs.Prelude.{◌≡◌, List, IfOk};
-ghost use Rattle.cjc_classfile.specs.Code.{CodeTree};
-ghost use Rattle.cjc_classfile.specs.declared.tree.ClassTree.{ClassTree as ClassFile};
-ghost use Rattle.cjc_classfile.specs.declared.tree.MethodTree.{MethodTree as ClassMethod};
+ghost use Rattle.cjc_world.specs.ClassFile.Code.{CodeTree};
+ghost use Rattle.cjc_world.specs.ClassFile.declared.tree.ClassTree.{ClassTree as ClassFile};
+ghost use Rattle.cjc_world.specs.ClassFile.declared.tree.MethodTree.{MethodTree as ClassMethod};
 ghost use Rattle.cjc_types.specs.Flow.{body_of};
 ghost use Rattle.cjc_types.specs.Tables.{IsMethodOf, IsOfPackage, IsTypeTable, rows_of};
 ghost use Rattle.cjc_world.specs.Classes.{Class, all_classes};
-ghost use Rattle.cjc_narrow.specs.Written.Rows.{has_rows};
+ghost use Rattle.cjc_components.specs.Narrow.Written.Rows.{has_rows};
 
 use cjc_bytes::{NoMemory, Row};
-use cjc_code::MethodCode;
+use cjc_types::bytecode::MethodCode;
 use cjc_types::{Method, TypeTable, TypeWalk};
 use cjc_world::World;
 use std::alloc::Global;

@@ -2,17 +2,17 @@
 //! first to know the pool, and again by its indices.
 
 ghost use Rattle.std.specs.Prelude.{◌≡◌, ◌∷◌, ◌++◌, List, Option, Some, false, All, length, map, slice_get, IfOk, OnOk};
-ghost use Rattle.cjc_classfile.specs.Code.{CodeTree};
-ghost use Rattle.cjc_classfile.specs.declared.tree.ClassTree.{ClassTree as ClassFile};
-ghost use Rattle.cjc_classfile.specs.declared.tree.MethodTree.{MethodTree as ClassMethod};
-ghost use Rattle.cjc_code.specs.declared.method_code.MethodCode.{MethodCode as Code};
+ghost use Rattle.cjc_world.specs.ClassFile.Code.{CodeTree};
+ghost use Rattle.cjc_world.specs.ClassFile.declared.tree.ClassTree.{ClassTree as ClassFile};
+ghost use Rattle.cjc_world.specs.ClassFile.declared.tree.MethodTree.{MethodTree as ClassMethod};
+ghost use Rattle.cjc_types.specs.Bytecode.declared.method_code.MethodCode.{MethodCode as Code};
 ghost use Rattle.cjc_types.specs.declared.state.State.{State as Before};
 ghost use Rattle.cjc_types.specs.declared.table.TypeTable.{TypeTable as Types};
 ghost use Rattle.cjc_types.specs.Tables.{IsMethodOf, IsOfPackage};
 ghost use Rattle.cjc_world.specs.Classes.{Class, all_classes, class_at};
-ghost use Rattle.cjc_jvm_semantics.specs.Linked.{Method};
-ghost use Rattle.cjc_narrow.specs.Rows.Selected.{near_fields, selected_code};
-ghost use Rattle.cjc_narrow.specs.Written.Rows.{has_rows, rows_by};
+ghost use Rattle.cjc_components.specs.JvmSemantics.Linked.{Method};
+ghost use Rattle.cjc_components.specs.Narrow.Rows.Selected.{near_fields, selected_code};
+ghost use Rattle.cjc_components.specs.Narrow.Written.Rows.{has_rows, rows_by};
 ghost use Rattle.cjc_components.specs.Descriptor.{method_in};
 ghost use Rattle.cjc_components.specs.Limits.{has_many_words};
 ghost use Rattle.cjc_components.specs.Written.{code_at, no_code};
@@ -24,11 +24,11 @@ use crate::method::method_in;
 use crate::places::place_in;
 use crate::reached::reached;
 use cjc_bytes::{NoMemory, Row};
-use cjc_code::MethodCode;
-use cjc_narrow::keys::Numbers;
-use cjc_narrow::select::{argument_words, select};
+use cjc_components::narrow::keys::Numbers;
+use cjc_components::narrow::select::{argument_words, select};
 use cjc_ncode::NMethod;
 use cjc_types::TypeTable;
+use cjc_types::bytecode::MethodCode;
 use cjc_world::{Found, World};
 use std::alloc::Global;
 

@@ -1,6 +1,9 @@
 //! Selection: the narrow code of a method, from its instructions, types and intervals.
 #![tactic(auto)]
 
+// Lower crates, for those above.
+pub use cjc_ncode as ncode;
+
 pub mod keys;
 pub mod rows;
 pub mod select;

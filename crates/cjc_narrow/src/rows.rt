@@ -2,10 +2,10 @@
 //! the look-ups of the machine that runs it. It knows no token and no offset of the components.
 ghost use Rattle.std.specs.Prelude.{◌≡◌, Bool, List};
 ghost use Rattle.cjc_bytes.specs.declared.fault.MemberId.{MemberId};
-ghost use Rattle.cjc_code.specs.declared.insn.JInsn.{JInsn};
+ghost use Rattle.cjc_ncode.specs.Bytecode.declared.insn.JInsn.{JInsn};
 ghost use Rattle.cjc_ncode.specs.Written.{Resolution};
-ghost use Rattle.cjc_world.specs.declared.image.StaticImage.{StaticImage};
-ghost use Rattle.cjc_world.specs.Files.{Files};
+ghost use Rattle.cjc_jvm_semantics.specs.World.declared.image.StaticImage.{StaticImage};
+ghost use Rattle.cjc_jvm_semantics.specs.World.Files.{Files};
 ghost use Rattle.cjc_narrow.specs.Rows.Forms.{FormsOnly};
 ghost use Rattle.cjc_narrow.specs.Rows.Names.{FieldsAgreeIn, IsCounted};
 

@@ -4,7 +4,7 @@
 //! instructions are reached.
 ghost use Rattle.std.specs.Prelude.{◌≡◌, List};
 ghost use Rattle.cjc_bytes.specs.declared.fault.MemberId.{MemberId as Member};
-ghost use Rattle.cjc_world.specs.Files.{Files};
+ghost use Rattle.cjc_jvm_semantics.specs.World.Files.{Files};
 ghost use Rattle.cjc_ncode.specs.PoolOrder.{pool_order};
 ghost use Rattle.cjc_narrow.specs.Select.Forms.{Selection, all_selected};
 

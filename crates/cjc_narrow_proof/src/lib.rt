@@ -1,6 +1,11 @@
 //! Selection preserves runs: narrow code does by label what class files do by name.
 #![tactic(auto)]
 
+// Lower crates, for those above.
+pub use cjc_emit as emit;
+pub use cjc_intervals as intervals;
+pub use cjc_types as types;
+
 pub mod laws;
 pub mod names;
 pub mod runs;

@@ -1,7 +1,7 @@
 -- The run of narrow code by label and name, on words of 16 bits: the machine of its look-ups.
 use Rattle.std.specs.Prelude.{ℕ, ◌+◌, ◌*◌, List, [], ◌∷◌, map, Option, Some, None, option_map, option_and_then, Bool}
 use Rattle.std.specs.Prelude.{true, false, nat_le, nat_lt, ◌==◌, ◌&&◌, if◌then◌else◌, slice_get, ℤ, pos, ◌+ℤ◌}
-use Rattle.cjc_bytes.specs.declared.fault.MemberId.{MemberId}
+use Rattle.cjc_code.specs.Bytes.declared.fault.MemberId.{MemberId}
 use Rattle.cjc_script.specs.declared.value.Value.{Value}
 use Rattle.cjc_script.specs.declared.script.Script.{Script}
 use Rattle.cjc_script.specs.declared.report.FieldValue.{FieldValue}

@@ -3,6 +3,11 @@
 //! and emits code stands on its types. It knows no tokens and no offsets.
 #![tactic(auto)]
 
+// Lower crates, for those above.
+pub use cjc_card_semantics::{capread, export_file};
+pub use cjc_code as bytecode;
+pub use cjc_code::{bytes, classfile};
+
 pub mod int_code;
 pub mod lowering;
 

@@ -1,7 +1,7 @@
 //! Narrow instructions and methods. Called by whoever selects, lays out and emits code; they know no token
 //! and no offset.
 
-use cjc_bytes::{Bytes, MemberId, Row};
+use cjc_code::bytes::{Bytes, MemberId, Row};
 
 /// What an entry of the constant pool names (Java Card Virtual Machine Specification 2.2.2, section 6.7).
 #[derive(Drop)]

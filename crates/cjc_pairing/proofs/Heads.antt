@@ -4,16 +4,16 @@ use Rattle.std.proofs.Common.{sym, ap, subst, ◌∙◌, arith, Option, Some, No
 use Rattle.std.specs.Prelude.{◌==◌, option_to_list}
 use Rattle.std.proofs.lemmas.Bool.Decides.{nat_tests}
 use Rattle.std.proofs.lemmas.List.{drop_more, drop_all}
-use Rattle.cjc_bytes.proofs.Firsts.{first_of_one}
-use Rattle.cjc_bytes.specs.Breaks.{Break, IsFirst, IsFirstOf}
-use Rattle.cjc_capread.specs.declared.tree.ClassDescriptor.{ClassDescriptor}
-use Rattle.cjc_components.specs.Paired.Pairs.{head_of, methods_spots}
-use Rattle.cjc_check_rules.specs.Complete.{described_size}
-use Rattle.cjc_check_rules.specs.Consistent.{break_at}
-use Rattle.cjc_check_rules.specs.declared.spot.ComponentPlace.{ComponentPlace}
-use Rattle.cjc_check_rules.specs.Spots.{beside, in_info, unless}
-use Rattle.cjc_world.specs.Classes.{Class}
-use Rattle.cjc_world.specs.Order.{methods_of_class}
+use Rattle.cjc_classes.proofs.Bytes.Firsts.{first_of_one}
+use Rattle.cjc_classes.specs.Bytes.Breaks.{Break, IsFirst, IsFirstOf}
+use Rattle.cjc_card_link.specs.CapRead.declared.tree.ClassDescriptor.{ClassDescriptor}
+use Rattle.cjc_classes.specs.Components.Paired.Pairs.{head_of, methods_spots}
+use Rattle.cjc_card_link.specs.CheckRules.Complete.{described_size}
+use Rattle.cjc_card_link.specs.CheckRules.Consistent.{break_at}
+use Rattle.cjc_card_link.specs.CheckRules.declared.spot.ComponentPlace.{ComponentPlace}
+use Rattle.cjc_card_link.specs.CheckRules.Spots.{beside, in_info, unless}
+use Rattle.cjc_classes.specs.World.Classes.{Class}
+use Rattle.cjc_classes.specs.World.Order.{methods_of_class}
 use Rattle.cjc_pairing.specs.Working.Heads.{count_spots_at}
 
 -- ---- classes beside numbers

@@ -3,14 +3,14 @@
 
 ghost use Rattle.std.specs.Prelude.{◌≡◌, ◌+◌, ◌++◌, ◌<◌, length, map, count_by, IfOk, OnOk};
 ghost use Rattle.std.specs.List.{flat_map};
-ghost use Rattle.cjc_world.specs.Classes.{all_classes};
-ghost use Rattle.cjc_world.specs.Order.{class_order, methods_of_class};
+ghost use Rattle.cjc_classes.specs.World.Classes.{all_classes};
+ghost use Rattle.cjc_classes.specs.World.Order.{class_order, methods_of_class};
 ghost use Rattle.cjc_pairing.specs.Working.Counts.{count_at, count_in, is_written};
 
-use cjc_bytes::{NoMemory, Row};
-use cjc_classfile::{ClassTree, MethodTree};
-use cjc_order::classes::class_order;
-use cjc_world::World;
+use cjc_card_link::classfile::{ClassTree, MethodTree};
+use cjc_classes::bytes::{NoMemory, Row};
+use cjc_classes::class_order::classes::class_order;
+use cjc_classes::world::World;
 use std::alloc::Global;
 
 const INITIALISER: &[u8] = b"<clinit>";

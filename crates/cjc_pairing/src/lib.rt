@@ -3,6 +3,9 @@
 //! knows no name of a member.
 #![tactic(auto)]
 
+// Lower crates, for those above.
+pub use cjc_card_link as card_link;
+
 mod breaks;
 pub mod card_names;
 mod cells;

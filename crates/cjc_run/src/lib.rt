@@ -3,6 +3,11 @@
 //! no system: where files are kept and text goes, its caller says.
 #![tactic(auto)]
 
+// Lower crates, for those above.
+pub use cjc_bytes as bytes;
+pub use cjc_list as list;
+pub use cjc_shelf as shelf;
+
 mod command;
 mod converting;
 mod laws;

@@ -1,7 +1,7 @@
 //! One line of a script: an act, a call that a run begins with, or an answer to an imported call.
 
 ghost use Rattle.std.specs.Prelude.{◌≡◌, ◌<◌, ◌^◌, length};
-ghost use Rattle.cjc_bytes.specs.Found.{Finds, kept};
+ghost use Rattle.cjc_list.specs.Bytes.Found.{Finds, kept};
 ghost use Rattle.cjc_script_text.specs.Grammar.{call_of, send_of, give_of, throw_of, array_act, object_act, put_act};
 ghost use Rattle.cjc_script_text.specs.Grammar.{act_or_reply_of, item_by, item_of, said};
 ghost use Rattle.cjc_script_text.specs.Working.{AreShort};
@@ -9,7 +9,7 @@ ghost use Rattle.cjc_script_text.specs.Working.{AreShort};
 use crate::word::{
     is_array, is_name, read_method, read_number, read_reference, read_value, read_values,
 };
-use cjc_bytes::{Bytes, Line, MemberId, Row, Stop, Word, words};
+use cjc_list::bytes::{Bytes, Line, MemberId, Row, Stop, Word, words};
 use cjc_script::{Act, Reply, Value};
 use std::alloc::Global;
 

@@ -2,6 +2,10 @@
 //! machine, and of files no name but the script's own in a refusal.
 #![tactic(auto)]
 
+// Lower crates, for those above.
+pub use cjc_list as list;
+pub use cjc_script as script;
+
 mod item;
 mod partial_script;
 mod printing;

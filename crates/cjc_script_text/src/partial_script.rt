@@ -2,11 +2,11 @@
 //! stand before. Called by `reading`.
 
 ghost use Rattle.std.specs.Prelude.{◌≡◌, ◌+◌, ◌<◌, ◌^◌, length, IfOk};
-ghost use Rattle.cjc_bytes.specs.Found.{Finds};
+ghost use Rattle.cjc_list.specs.Bytes.Found.{Finds};
 ghost use Rattle.cjc_script_text.specs.Scripted.{fresh, with_item, with_line, turns, ended};
 
 use crate::item::{Item, read_item};
-use cjc_bytes::{Line, NoMemory, Row, Stop};
+use cjc_list::bytes::{Line, NoMemory, Row, Stop};
 use cjc_script::{Act, Answer, Entry, Script};
 use std::alloc::Global;
 use std::mem;

@@ -7,7 +7,7 @@ ghost use Rattle.cjc_script_text.specs.Printed.{object_text, value_text, value_w
 ghost use Rattle.cjc_script_text.specs.Printed.{note_line, static_line, field_value_word, field_words, thing_line};
 ghost use Rattle.cjc_script_text.specs.Printed.{thing_lines, outcome_line, report_text};
 
-use cjc_bytes::{Bytes, MemberId, NoMemory, Out};
+use cjc_list::bytes::{Bytes, MemberId, NoMemory, Out};
 use cjc_script::{FieldValue, Note, Outcome, Report, Thing, Value};
 use itoa::Buffer;
 use std::alloc::Global;

@@ -2,18 +2,18 @@
 //! lines add up to is kept in a `PartialScript`.
 
 ghost use Rattle.std.specs.Prelude.{◌≡◌, ◌<◌, ◌≤◌, ◌^◌, ◌⊎◌, ◌↔◌, length, IfOk, IfErr};
-ghost use Rattle.cjc_bytes.specs.Found.{Finds};
-ghost use Rattle.cjc_bytes.specs.Text.{kept_lines};
-ghost use Rattle.cjc_bytes.specs.Refused.{IsUnlessNoMemory};
-ghost use Rattle.cjc_bytes.specs.declared.fault.Fault.TheVariants as faults;
-ghost use Rattle.cjc_bytes.specs.declared.fault.Refusal.{Refusal as Refused};
+ghost use Rattle.cjc_list.specs.Bytes.Found.{Finds};
+ghost use Rattle.cjc_list.specs.Bytes.Text.{kept_lines};
+ghost use Rattle.cjc_list.specs.Bytes.Refused.{IsUnlessNoMemory};
+ghost use Rattle.cjc_list.specs.Bytes.declared.fault.Fault.TheVariants as faults;
+ghost use Rattle.cjc_list.specs.Bytes.declared.fault.Refusal.{Refusal as Refused};
 ghost use Rattle.cjc_list.specs.Listed.{answer};
 ghost use Rattle.cjc_script_text.specs.Scripted.{ScriptTree, Codes, fresh, with_lines, of_lines, scripted};
 ghost use Rattle.cjc_script_text.specs.Spelling.{IsSpelt, IsBroken, SaysBroken};
 ghost use Rattle.cjc_script_text.specs.Working.{AreShortLines};
 
 use crate::partial_script::PartialScript;
-use cjc_bytes::{Fault, Line, Stop, kept_lines, refused};
+use cjc_list::bytes::{Fault, Line, Stop, kept_lines, refused};
 use cjc_script::Script;
 use std::alloc::Global;
 

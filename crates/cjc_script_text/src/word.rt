@@ -2,13 +2,13 @@
 
 ghost use Rattle.std.specs.Prelude.{◌≡◌, ◌==◌, ◌<◌, ◌^◌, length, position};
 ghost use Rattle.std.specs.List.{list_all};
-ghost use Rattle.cjc_bytes.specs.Found.{Finds, kept};
+ghost use Rattle.cjc_list.specs.Bytes.Found.{Finds, kept};
 ghost use Rattle.cjc_list.specs.Grammar.{is_name_byte, is_name_part, is_name};
 ghost use Rattle.cjc_script_text.specs.Words.{number_of, reference_of, value_of, values_of, is_method, is_array};
 ghost use Rattle.cjc_script_text.specs.Words.{method_of};
 ghost use Rattle.cjc_script_text.specs.Working.{AreShort};
 
-use cjc_bytes::{Bytes, Desc, MemberId, Row, Stop, Word, short_decimal};
+use cjc_list::bytes::{Bytes, Desc, MemberId, Row, Stop, Word, short_decimal};
 use cjc_script::Value;
 use std::alloc::Global;
 

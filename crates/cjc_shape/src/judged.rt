@@ -1,29 +1,29 @@
 //! What judging promises of a package is what selecting its methods, laying them out and emitting them ask. For whoever
 //! converts a package. It has definitions and laws alone; nothing here runs.
 ghost use Rattle.std.specs.Prelude.{◌≡◌, ◌≤◌, ℕ, Bool, List, slice_get, Some};
-ghost use Rattle.cjc_bytes.specs.declared.fault.MemberId.{MemberId as Member};
-ghost use Rattle.cjc_classfile.specs.Code.{CodeTree};
-ghost use Rattle.cjc_classfile.specs.declared.tree.ClassTree.{ClassTree};
-ghost use Rattle.cjc_classfile.specs.declared.tree.MethodTree.{MethodTree};
-ghost use Rattle.cjc_code.specs.declared.method_code.MethodCode.{MethodCode};
-ghost use Rattle.cjc_emit.specs.Emitted.{IsEmittable, IsNamedBy};
+ghost use Rattle.cjc_world.specs.Bytes.declared.fault.MemberId.{MemberId as Member};
+ghost use Rattle.cjc_world.specs.ClassFile.Code.{CodeTree};
+ghost use Rattle.cjc_world.specs.ClassFile.declared.tree.ClassTree.{ClassTree};
+ghost use Rattle.cjc_world.specs.ClassFile.declared.tree.MethodTree.{MethodTree};
+ghost use Rattle.cjc_narrow_proof.specs.Bytecode.declared.method_code.MethodCode.{MethodCode};
+ghost use Rattle.cjc_narrow_proof.specs.Emit.Emitted.{IsEmittable, IsNamedBy};
 ghost use Rattle.cjc_judge.specs.declared.judged.Judged.{Judged};
-ghost use Rattle.cjc_layout.specs.Layouts.{IsLayout, IsWhole};
-ghost use Rattle.cjc_layout.specs.declared.layout.Layout.{Layout as Placing};
-ghost use Rattle.cjc_list.specs.Listed.{ListTree};
-ghost use Rattle.cjc_ncode.specs.Lowering.Naming.{Naming};
-ghost use Rattle.cjc_narrow.specs.Rows.Selected.{selected_code};
-ghost use Rattle.cjc_ncode.specs.declared.narrow.NMethod.{NMethod as Narrow};
-ghost use Rattle.cjc_pool.specs.Pool.{PoolView, token_in};
-ghost use Rattle.cjc_pool.specs.Named.{CallsHaveTokens};
-ghost use Rattle.cjc_narrow.specs.Select.Select.{IsSelectable};
-ghost use Rattle.cjc_tokens.specs.Tokens.{assigned};
-ghost use Rattle.cjc_types.specs.declared.table.TypeTable.{TypeTable};
-ghost use Rattle.cjc_narrow.specs.Written.Rows.{has_rows, rows_by};
+ghost use Rattle.cjc_methods.specs.Layout.Layouts.{IsLayout, IsWhole};
+ghost use Rattle.cjc_methods.specs.Layout.declared.layout.Layout.{Layout as Placing};
+ghost use Rattle.cjc_judge.specs.List.Listed.{ListTree};
+ghost use Rattle.cjc_methods.specs.NCode.Lowering.Naming.{Naming};
+ghost use Rattle.cjc_narrow_proof.specs.Narrow.Rows.Selected.{selected_code};
+ghost use Rattle.cjc_methods.specs.NCode.declared.narrow.NMethod.{NMethod as Narrow};
+ghost use Rattle.cjc_methods.specs.Pool.Pool.{PoolView, token_in};
+ghost use Rattle.cjc_methods.specs.Pool.Named.{CallsHaveTokens};
+ghost use Rattle.cjc_narrow_proof.specs.Narrow.Select.Select.{IsSelectable};
+ghost use Rattle.cjc_exported.specs.Tokens.Tokens.{assigned};
+ghost use Rattle.cjc_methods.specs.Types.declared.table.TypeTable.{TypeTable};
+ghost use Rattle.cjc_narrow_proof.specs.Narrow.Written.Rows.{has_rows, rows_by};
 ghost use Rattle.cjc_shape.specs.Judged.Pooled.{ArePooled};
 ghost use Rattle.cjc_shape.specs.Judged.Tested.{IsOne, IsTested, states};
 
-use cjc_emit::emit_laws::layouts_can_be_said;
+use cjc_narrow_proof::emit::emit_laws::layouts_can_be_said;
 
 /// Each method of a package that breaks no rule of limits and types, and may not name int, can be selected, of
 /// the instructions that its table reaches; and what is selected can be laid out, whichever field instructions

@@ -2,8 +2,8 @@
 -- a receiver.
 use Rattle.std.specs.Prelude.{◌≡◌, ℕ, List, Some, false, true}
 use Rattle.std.specs.List.{list_all}
-use Rattle.cjc_jvm_semantics.specs.Linked.{Method}
-use Rattle.cjc_jvm_semantics.specs.OnePackage.{is_initialiser, method_by}
+use Rattle.cjc_world_proof.specs.JvmSemantics.Linked.{Method}
+use Rattle.cjc_world_proof.specs.JvmSemantics.OnePackage.{is_initialiser, method_by}
 use Rattle.cjc_bytes.specs.Descriptor.{IsClassName}
 use Rattle.cjc_bytes.specs.declared.fault.MemberId.{MemberId}
 use Rattle.cjc_bytes.specs.declared.settings.Settings.{Settings}
@@ -11,19 +11,19 @@ use Rattle.cjc_world_proof.specs.Calls.Solid.{IsOwn}
 use Rattle.cjc_classfile.specs.Code.{CodeTree}
 use Rattle.cjc_classfile.specs.declared.tree.ClassTree.{ClassTree}
 use Rattle.cjc_classfile.specs.declared.tree.MethodTree.{MethodTree}
-use Rattle.cjc_code.specs.declared.method_code.MethodCode.{MethodCode}
-use Rattle.cjc_fixpoint.specs.Tables.{HasRow}
+use Rattle.cjc_subset.specs.Bytecode.declared.method_code.MethodCode.{MethodCode}
+use Rattle.cjc_tokens.specs.Fixpoint.Tables.{HasRow}
 use Rattle.cjc_narrow_proof.specs.Laws.Left.{HasLeast}
 use Rattle.cjc_narrow_proof.specs.Laws.Unbroken.{IsUnbroken}
 use Rattle.cjc_narrow_proof.specs.Runs.Tables.{Tables}
 use Rattle.cjc_world_proof.specs.Files.{AreReadFiles, ExportsAreSound}
 use Rattle.cjc_narrow_proof.specs.Tables.Calls.{count_of}
-use Rattle.cjc_types.specs.declared.cell.Cell.{Cell}
-use Rattle.cjc_types.specs.declared.cell.Cell.TheVariants.{Refs}
-use Rattle.cjc_types.specs.declared.state.State.{State}
-use Rattle.cjc_types.specs.Flow.{Body}
-use Rattle.cjc_types.specs.Rules.{receiver_class}
-use Rattle.cjc_types.specs.Steps.{operand}
+use Rattle.cjc_narrow_proof.specs.Types.declared.cell.Cell.{Cell}
+use Rattle.cjc_narrow_proof.specs.Types.declared.cell.Cell.TheVariants.{Refs}
+use Rattle.cjc_narrow_proof.specs.Types.declared.state.State.{State}
+use Rattle.cjc_narrow_proof.specs.Types.Flow.{Body}
+use Rattle.cjc_narrow_proof.specs.Types.Rules.{receiver_class}
+use Rattle.cjc_narrow_proof.specs.Types.Steps.{operand}
 use Rattle.cjc_world.specs.Classes.{all_classes}
 use Rattle.cjc_world.specs.Files.{Files}
 use Rattle.cjc_world.specs.Subtype.{is_subtype}

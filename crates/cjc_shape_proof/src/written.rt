@@ -6,10 +6,10 @@ mod whole_laws;
 
 ghost use Rattle.std.specs.Prelude.{◌≡◌, ◌≢◌, ℕ, Bool, List};
 ghost use Rattle.cjc_world_proof.specs.Calls.Solid.{IsSolid};
-ghost use Rattle.cjc_card_semantics.specs.Machine.ByToken.{run as run_by_token};
+ghost use Rattle.cjc_ncode.specs.CardSemantics.Machine.ByToken.{run as run_by_token};
 ghost use Rattle.cjc_clinit.specs.Image.{IsImage};
 ghost use Rattle.cjc_world_proof.specs.Initialisers.Values.{StandOnce};
-ghost use Rattle.cjc_code.specs.PackageCodes.{all_codes};
+ghost use Rattle.cjc_subset.specs.Bytecode.PackageCodes.{all_codes};
 ghost use Rattle.cjc_check_proof.specs.Code.Caught.{HandlersLie};
 ghost use Rattle.cjc_check_proof.specs.Code.Ends.{AllStayInside};
 ghost use Rattle.cjc_check_proof.specs.Code.Kinds.{AllHaveKinds};
@@ -19,12 +19,12 @@ ghost use Rattle.cjc_token_proof.specs.Components.Methods.{HasMethods};
 ghost use Rattle.cjc_token_proof.specs.Components.OwnNames.{HaveOwnNames};
 ghost use Rattle.cjc_components.specs.Names.{names};
 ghost use Rattle.cjc_components.specs.Package.{Package, world};
-ghost use Rattle.cjc_judge.specs.declared.judged.Judged.{Judged};
-ghost use Rattle.cjc_list.specs.Listed.{ListTree};
-ghost use Rattle.cjc_narrow.specs.Rows.Package.{run as run_by_label};
+ghost use Rattle.cjc_shape.specs.Judge.declared.judged.Judged.{Judged};
+ghost use Rattle.cjc_components.specs.List.Listed.{ListTree};
+ghost use Rattle.cjc_components.specs.Narrow.Rows.Package.{run as run_by_label};
 ghost use Rattle.cjc_ncode.specs.ByLabel.{Callee};
-ghost use Rattle.cjc_script.specs.declared.report.Outcome.TheVariants.{Stuck};
-ghost use Rattle.cjc_script.specs.declared.script.Script.{Script};
+ghost use Rattle.cjc_ncode.specs.Script.declared.report.Outcome.TheVariants.{Stuck};
+ghost use Rattle.cjc_ncode.specs.Script.declared.script.Script.{Script};
 ghost use Rattle.cjc_world_proof.specs.Files.{AreReadFiles};
 ghost use Rattle.cjc_token_proof.specs.Tables.Loading.{loaded};
 ghost use Rattle.cjc_token_proof.specs.Tables.Sound.{AreTyped, IsSound};
@@ -38,10 +38,10 @@ ghost use Rattle.cjc_shape_proof.specs.Written.Joined.{IsJoined, NamesAreThere};
 use cjc_check_proof::promises::{
     made_methods_are_consistent, packages_have_their_methods, written_methods_are_made,
 };
-use cjc_layout::order_changes_no_search;
-use cjc_methods::methods_can_be_laid_out;
+use cjc_components::layout::order_changes_no_search;
 use cjc_ncode::lowering::runs_agree;
 use cjc_shape::judged::pooled_methods_are_emittable;
+use cjc_shape::methods::methods_can_be_laid_out;
 use cjc_token_proof::calls::methods_are_placed;
 use cjc_token_proof::tables::{
     class_tables_agree, classes_keep_rules, fields_are_typed, memories_begin_alike,

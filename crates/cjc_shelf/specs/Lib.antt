@@ -5,3 +5,5 @@ pub mod Memory
 pub mod MemSink
 pub mod Disk
 pub mod Command
+-- Definitions of lower crates, for those above.
+pub use Rattle.cjc_bytes.specs as Bytes

@@ -2,6 +2,9 @@
 //! knows what a file is for.
 #![tactic(auto)]
 
+// Lower crates, for those above.
+pub use cjc_bytes as bytes;
+
 pub mod command;
 mod disk;
 mod mem_sink;

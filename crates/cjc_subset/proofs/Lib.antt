@@ -6,3 +6,6 @@ pub mod Noted
 pub mod Unmet
 pub mod Callees
 pub mod Fits
+-- Lemmas of lower crates, for those above.
+pub use Rattle.cjc_code.proofs.Range as Range
+pub use Rattle.cjc_code.proofs as Bytecode

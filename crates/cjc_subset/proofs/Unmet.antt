@@ -7,8 +7,8 @@ use Rattle.std.proofs.lemmas.Slice.Eq.{bytes_eq-Decides}
 use Rattle.cjc_bytes.specs.AccessFlags.{is_abstract, is_interface, is_private, is_static}
 use Rattle.cjc_bytes.specs.Breaks.{Break, at, each_from}
 use Rattle.cjc_bytes.specs.Order.{FilePlace}
-use Rattle.cjc_classfile.specs.declared.tree.ClassTree.{ClassTree}
-use Rattle.cjc_classfile.specs.declared.tree.MethodTree.{MethodTree}
+use Rattle.cjc_code.specs.ClassFile.declared.tree.ClassTree.{ClassTree}
+use Rattle.cjc_code.specs.ClassFile.declared.tree.MethodTree.{MethodTree}
 use Rattle.cjc_world.specs.Classes.{Class, Member, declared, method_of_class}
 use Rattle.cjc_world.specs.Lookup.{is_called, selected}
 use Rattle.cjc_subset.specs.Members.{hit, is_initialiser}

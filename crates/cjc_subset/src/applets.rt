@@ -8,7 +8,7 @@ ghost use Rattle.cjc_world.specs.Classes.{all_classes, declared, method_of_class
 ghost use Rattle.cjc_subset.specs.Applets.{has_unfit_applets, is_install, is_unfit_applet, is_unfit_class, repeats_aid};
 
 use cjc_bytes::{AppletLine, is_abstract, is_public, is_static};
-use cjc_classfile::{ClassTree, MethodTree};
+use cjc_code::classfile::{ClassTree, MethodTree};
 use cjc_world::{Known, World};
 
 const APPLET: &[u8] = b"javacard/framework/Applet";

@@ -9,8 +9,8 @@ ghost use Rattle.cjc_subset.specs.Limits.{has_many_interfaces, is_above, listed_
 ghost use Rattle.cjc_subset.specs.Limits.{listed_by_imported, listed_names, most_interfaces, noted};
 
 use cjc_bytes::{Bytes, NoMemory, Row, is_interface};
-use cjc_classfile::ClassTree;
-use cjc_export::{ExportClass, ExportTree};
+use cjc_code::classfile::ClassTree;
+use cjc_world::export_file::{ExportClass, ExportTree};
 use cjc_world::{Known, World};
 use std::alloc::Global;
 

@@ -9,7 +9,7 @@ ghost use Rattle.cjc_subset.specs.Working.Kinds.{may_break};
 
 use crate::overriding::{is_open, is_package_visible, is_special};
 use cjc_bytes::{NoMemory, Row, is_abstract, is_interface, is_private, is_static};
-use cjc_classfile::{ClassTree, MethodTree};
+use cjc_code::classfile::{ClassTree, MethodTree};
 use std::alloc::Global;
 
 /// The kinds of methods that a class has. All but the last leave out constructors and `<clinit>`.

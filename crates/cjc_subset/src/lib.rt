@@ -2,6 +2,12 @@
 //! what its instructions may name, and which types, flags, overriding methods, applets and sizes are allowed.
 #![tactic(auto)]
 
+// Lower crates, for those above.
+pub use cjc_code as bytecode;
+pub use cjc_code::{classfile, range};
+pub use cjc_world as world;
+pub use cjc_world::export_file;
+
 mod applets;
 mod checking;
 mod flags;

@@ -8,7 +8,7 @@ ghost use Rattle.cjc_subset.specs.Working.Sums.{left_of};
 
 use crate::naming::catches_of;
 use cjc_bytes::{Settings, is_static};
-use cjc_classfile::{ClassTree, FieldTree, MethodTree};
+use cjc_code::classfile::{ClassTree, FieldTree, MethodTree};
 use cjc_world::{Known, World};
 
 const INT: &[u8] = b"I";

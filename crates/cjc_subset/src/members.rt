@@ -13,8 +13,8 @@ ghost use Rattle.cjc_subset.specs.Members.{is_descriptor, is_imported_constant, 
 ghost use Rattle.cjc_subset.specs.Names.{is_name_missing};
 
 use cjc_bytes::{Desc, is_private, is_protected, is_public, is_static};
-use cjc_classfile::ClassTree;
-use cjc_export::{ExportClass, ExportTree, may_be_constant};
+use cjc_code::classfile::ClassTree;
+use cjc_world::export_file::{ExportClass, ExportTree, may_be_constant};
 use cjc_world::{Found, Known, World};
 
 const CONSTRUCTOR: &[u8] = b"<init>";

@@ -30,7 +30,7 @@ use cjc_bytes::{
     Break, Bytes, Fault, MemberId, RulePlace, answer, broken, file_of, first, is_abstract,
     is_final, is_private, is_static,
 };
-use cjc_classfile::{Catch, ClassTree, Code, ItemKind, MethodTree, PoolItem};
+use cjc_code::classfile::{Catch, ClassTree, Code, ItemKind, MethodTree, PoolItem};
 use cjc_code::{Codes, JInsn, JOp, MethodCode, jvm};
 use cjc_world::{Found, Known, World};
 use std::alloc::Global;

@@ -25,8 +25,8 @@ use cjc_bytes::{
     Break, Bytes, MemberId, NoMemory, RulePlace, broken, first, is_abstract, is_private,
     is_protected, is_public, is_static,
 };
-use cjc_classfile::{ClassTree, MethodTree};
-use cjc_export::{ExportClass, ExportTree};
+use cjc_code::classfile::{ClassTree, MethodTree};
+use cjc_world::export_file::{ExportClass, ExportTree};
 use cjc_world::{Known, World};
 use std::alloc::Global;
 

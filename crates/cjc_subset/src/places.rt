@@ -4,11 +4,11 @@
 ghost use Rattle.std.specs.Prelude.{◌≡◌, ◌<◌, length};
 ghost use Rattle.cjc_bytes.specs.Order.{FilePlace};
 ghost use Rattle.cjc_bytes.specs.Told.{file_place_of, spot_of};
-ghost use Rattle.cjc_classfile.specs.declared.tree.ClassTree.{ClassTree as Tree};
+ghost use Rattle.cjc_code.specs.ClassFile.declared.tree.ClassTree.{ClassTree as Tree};
 ghost use Rattle.cjc_subset.specs.Places.{at_class, at_field, at_method};
 
 use cjc_bytes::{FileRef, Part, PlaceRef, RulePlace};
-use cjc_classfile::{ClassTree, FieldTree, MethodTree};
+use cjc_code::classfile::{ClassTree, FieldTree, MethodTree};
 
 /// A class of the package, of this file.
 pub fn class_spot<'w>(file: FileRef<'w>, class: &'w ClassTree<'_>) -> RulePlace<'w>

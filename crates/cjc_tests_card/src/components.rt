@@ -3,11 +3,11 @@
 
 ghost use Rattle.std.specs.Prelude.{◌≤◌};
 
-use cjc_bytes::{Bytes, NoMemory, Out, Row};
-use cjc_capread::{
+use cjc_card::bytes::{Bytes, NoMemory, Out, Row};
+use cjc_card::capread::{
     ClassInfo, Component, ConstantPool, Descriptor, Method, StaticField, read as read_component,
 };
-use cjc_export::{ExportTree, read as read_export};
+use cjc_card::export_file::{ExportTree, read as read_export};
 use cjc_tests_files::case_files::{LANG, Q};
 use cjc_tests_files::cases::octets;
 use std::alloc::Global;

@@ -1,9 +1,9 @@
 //! The names that the made components lack and a group wants: of classes, methods, fields and cells, written
 //! down for `runs`.
 
-use cjc_bytes::{Bytes, MemberId, NoMemory, Row};
-use cjc_card_frame::parts::CellName;
-use cjc_card_link::{ClassNames, FieldName, MethodName};
+use cjc_card::bytes::{Bytes, MemberId, NoMemory, Row};
+use cjc_card::card_frame::parts::CellName;
+use cjc_card::card_link::{ClassNames, FieldName, MethodName};
 use cjc_tests_files::cases::{cut, number, text};
 use std::alloc::Global;
 

@@ -8,16 +8,16 @@
 use crate::components::{Shared, descriptor, made_once, method};
 use crate::is_short;
 use crate::names::{cell_names, class_names};
-use cjc_bytes::{Bytes, NoMemory, Out, Row};
-use cjc_capread::{Descriptor, Method};
+use cjc_card::bytes::{Bytes, NoMemory, Out, Row};
+use cjc_card::capread::{Descriptor, Method};
+use cjc_card::card_frame::parts::CellName;
+use cjc_card::card_link::{ClassNames, Part};
+use cjc_card::export_file::ExportTree;
 use cjc_card::group::Group;
 use cjc_card::runs::run;
-use cjc_card_frame::parts::CellName;
-use cjc_card_link::{ClassNames, Part};
-use cjc_export::ExportTree;
-use cjc_script::{Report, Script};
-use cjc_script_text::{print, read};
+use cjc_card::script::{Report, Script};
 use cjc_tests_files::cases::{cut, octets, question_and_answer};
+use cjc_tests_files::script_text::{print, read};
 use std::alloc::Global;
 
 /// Lines of a report that a row leaves out: the static cells and their array as they are at first, and the

@@ -1,9 +1,9 @@
 //! Whether Class is short enough to be made ready for a run. Called before that.
 
 ghost use Rattle.std.specs.Prelude.{◌≡◌, ◌+◌, ◌<◌, ◌≤◌, ◌^◌, true, sum_by, IfSome};
-ghost use Rattle.cjc_check_rules.specs.Complete.{class_info_size, class_size, interface_size, map_size};
+ghost use Rattle.cjc_card.specs.CheckRules.Complete.{class_info_size, class_size, interface_size, map_size};
 
-use cjc_capread::{ClassEntry, ClassInfo, ImplementedInterface, InterfaceEntry};
+use cjc_card::capread::{ClassEntry, ClassInfo, ImplementedInterface, InterfaceEntry};
 
 /// What is left of so many bytes behind a list of at most 255 items of one or two bytes each.
 fn behind_items(room: u32, count: usize) -> Option<u32>

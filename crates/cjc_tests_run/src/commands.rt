@@ -2,9 +2,9 @@
 //! export file, the name of a class file, or `+CLASS` for an applet line. Files stand under their name with `.exp` or
 //! `.class`, and the lines of the list in the order of the words.
 
-use cjc_bytes::{Bytes, NoMemory, Out, Row};
+use cjc_run::bytes::{Bytes, NoMemory, Out, Row};
+use cjc_run::shelf::{MemShelf, MemSink};
 use cjc_run::{run, status_line};
-use cjc_shelf::{MemShelf, MemSink};
 use cjc_tests_files::case_files::{FRAMEWORK, LANG, SUM, WALLET};
 use cjc_tests_files::cases::text;
 use std::alloc::Global;

@@ -3,8 +3,8 @@
 //! bytes are printed, and the line at the end.
 
 use crate::commands::{folder, line_of, sink};
-use cjc_bytes::{NoMemory, Row};
-use cjc_shelf::{MemShelf, MemSink};
+use cjc_run::bytes::{NoMemory, Row};
+use cjc_run::shelf::{MemShelf, MemSink};
 use cjc_tests_files::cases::{cut, number, question_and_answer};
 use std::alloc::Global;
 use std::test::*;

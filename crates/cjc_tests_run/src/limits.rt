@@ -2,10 +2,10 @@
 
 use crate::commands::sink;
 use crate::long_files::{Method, make_method, with_constants, with_methods};
-use cjc_bytes::{Bytes, NoMemory, Row};
+use cjc_run::bytes::{Bytes, NoMemory, Row};
 use cjc_run::run;
-use cjc_shelf::MemShelf;
-use cjc_shelf::command::Status;
+use cjc_run::shelf::MemShelf;
+use cjc_run::shelf::command::Status;
 use cjc_tests_files::case_files::LANG;
 use cjc_tests_files::cases::texts;
 use std::alloc::Global;

@@ -1,7 +1,7 @@
 //! What is read of a list.
 
-use cjc_bytes::{AppletLine, FileLine};
-use cjc_list::{List, read_list};
+use cjc_run::bytes::{AppletLine, FileLine};
+use cjc_run::list::{List, read_list};
 use std::alloc::Global;
 use std::test::*;
 

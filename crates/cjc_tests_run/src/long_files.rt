@@ -1,6 +1,6 @@
 //! Class files that are long, made of few words: the class p/T with methods f, or with constants. It knows no rule.
 
-use cjc_bytes::{Bytes, NoMemory, Out};
+use cjc_run::bytes::{Bytes, NoMemory, Out};
 use std::alloc::Global;
 
 /// Bytes, and how often they stand behind one another.

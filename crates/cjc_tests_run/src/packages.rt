@@ -7,8 +7,8 @@
 //! - any other command and ` = ` with the lines that it prints.
 
 use crate::commands::{folder, joined, lines_of, says};
-use cjc_bytes::{NoMemory, Row};
-use cjc_shelf::MemShelf;
+use cjc_run::bytes::{NoMemory, Row};
+use cjc_run::shelf::MemShelf;
 use cjc_tests_files::cases::{cut, octets, question_and_answer};
 use std::alloc::Global;
 use std::test::*;

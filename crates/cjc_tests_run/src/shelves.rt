@@ -1,7 +1,7 @@
 //! What no contract tells: what the system's files hold, and what a stream of the system gets.
 
-use cjc_bytes::NoMemory;
-use cjc_shelf::{
+use cjc_run::bytes::NoMemory;
+use cjc_run::shelf::{
     CleanShelf, DiskShelf, LONGEST, ReadEnd, Shelf, Sink, SinkFailed, StdSink, WriteEnd,
 };
 use cjc_tests_files::cases::{cut, number, question_and_answer};

@@ -1,7 +1,7 @@
 //! What is selected for packages made by hand, byte for byte, and calls of `select` on them. It shows on
 //! examples that the definition of selected code means what it is to.
 ghost use Rattle.std.specs.Prelude.{◌≡◌, ◌∷◌, [], Some, None, codes};
-ghost use Rattle.cjc_ncode.specs.declared.narrow.PoolKey.TheVariants as keys;
+ghost use Rattle.cjc_examples.specs.NCode.declared.narrow.PoolKey.TheVariants as keys;
 ghost use Rattle.cjc_examples.specs.Narrow.Calculating as Calculating;
 ghost use Rattle.cjc_examples.specs.Narrow.Overriding as Overriding;
 ghost use Rattle.cjc_examples.specs.Narrow.Sharing as Sharing;

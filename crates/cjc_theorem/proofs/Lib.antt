@@ -3,3 +3,5 @@ pub mod SoundRuns
 pub mod FairExports
 pub mod FairWriting
 pub mod AlikeLaws
+-- Lemmas of lower crates, for those above.
+pub use Rattle.cjc_judge.proofs as Judge

@@ -8,7 +8,7 @@ ghost use Rattle.cjc_export.specs.declared.tree.ExportTree.{ExportTree};
 ghost use Rattle.cjc_theorem.specs.FairExports.Fair.{ExportsAreFair};
 ghost use Rattle.cjc_theorem.specs.FairExports.Worked.{framework, lang, q};
 ghost use Rattle.cjc_judge.specs.declared.judged.Judged.{Judged};
-ghost use Rattle.cjc_list.specs.Listed.{ListTree};
+ghost use Rattle.cjc_components.specs.List.Listed.{ListTree};
 ghost use Rattle.cjc_shape_proof.specs.Written.Converted.{IsConverted};
 ghost use Rattle.cjc_theorem.specs.Open.{ExportsAreOpen};
 

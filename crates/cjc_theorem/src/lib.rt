@@ -2,6 +2,10 @@
 //! behave alike, and the components are consistent.
 #![tactic(auto)]
 
+// Lower crates, for those above.
+pub use cjc_code as bytecode;
+pub use cjc_script as script;
+
 pub mod alike;
 pub mod fair_exports;
 pub mod fair_writing;

@@ -14,25 +14,25 @@ ghost use Rattle.cjc_components.specs.Package.{Package};
 ghost use Rattle.cjc_judge.specs.Rules.{settings_of};
 ghost use Rattle.cjc_judge.specs.Spelt.{IsRead};
 ghost use Rattle.cjc_judge.specs.declared.judged.Judged.{Judged};
-ghost use Rattle.cjc_list.specs.Listed.{ListTree};
+ghost use Rattle.cjc_components.specs.List.Listed.{ListTree};
 ghost use Rattle.cjc_narrow.specs.Rows.Package.{run as narrow_run};
 ghost use Rattle.cjc_narrow.specs.Rows.Resolved.{constant_named};
 ghost use Rattle.cjc_shape_proof.specs.Whole.{IsWhole};
 ghost use Rattle.cjc_narrow_proof.specs.Runs.Tables.{Tables};
-ghost use Rattle.cjc_shape.specs.Prepared.{IsSound};
-ghost use Rattle.cjc_intervals.specs.Frames.{RangeState};
-ghost use Rattle.cjc_intervals.specs.Tables.{IsLeastRanges, Passes};
+ghost use Rattle.cjc_shape_proof.specs.Shape.Prepared.{IsSound};
+ghost use Rattle.cjc_narrow_proof.specs.Intervals.Frames.{RangeState};
+ghost use Rattle.cjc_narrow_proof.specs.Intervals.Tables.{IsLeastRanges, Passes};
 ghost use Rattle.cjc_script.specs.declared.script.Script.{Script};
 ghost use Rattle.cjc_world_proof.specs.Files.{ExportsAreSound};
-ghost use Rattle.cjc_types.specs.Flow.{body_of};
-ghost use Rattle.cjc_types.specs.Tables.{IsMethodOf, IsTypeTable, rows_of};
-ghost use Rattle.cjc_types.specs.declared.table.TypeTable.{TypeTable};
-ghost use Rattle.cjc_shape.specs.Whole.Conversion.{IsDraft, IsPackageOf};
+ghost use Rattle.cjc_narrow_proof.specs.Types.Flow.{body_of};
+ghost use Rattle.cjc_narrow_proof.specs.Types.Tables.{IsMethodOf, IsTypeTable, rows_of};
+ghost use Rattle.cjc_narrow_proof.specs.Types.declared.table.TypeTable.{TypeTable};
+ghost use Rattle.cjc_shape_proof.specs.Shape.Whole.Conversion.{IsDraft, IsPackageOf};
 ghost use Rattle.cjc_world.specs.Classes.{all_classes};
 ghost use Rattle.cjc_token_proof.specs.WrittenCalls.Standing.{laid_code};
 
 use crate::whole_runs::whole_packages_run_alike;
-use cjc_intervals::range_laws::least_ranges_exist;
+use cjc_narrow_proof::intervals::range_laws::least_ranges_exist;
 
 /// Each number that an instruction takes lies where its rules say, by the least intervals of each method of a
 /// package that breaks no rule.

@@ -4,3 +4,5 @@ pub mod Calls
 pub mod Tables
 pub mod WrittenCalls
 pub mod WrittenSends
+-- Definitions of lower crates, for those above.
+pub use Rattle.cjc_jvm_semantics.specs as JvmSemantics

@@ -10,11 +10,11 @@ ghost use Rattle.cjc_jvm_semantics.specs.Linked.{Method};
 ghost use Rattle.cjc_token_proof.specs.ByToken.Classes.{memories};
 ghost use Rattle.cjc_token_proof.specs.Calls.Reaching as Reaching;
 ghost use Rattle.cjc_card_semantics.specs.Machine.Calls as Calls;
-ghost use Rattle.cjc_code.specs.declared.method_code.MethodCode.{MethodCode};
+ghost use Rattle.cjc_ncode.specs.Bytecode.declared.method_code.MethodCode.{MethodCode};
 ghost use Rattle.cjc_components.specs.Methods.{placed_methods};
 ghost use Rattle.cjc_components.specs.Package.{Package, world};
 ghost use Rattle.cjc_components.specs.Written.{IsPackage};
-ghost use Rattle.cjc_list.specs.Listed.{ListTree};
+ghost use Rattle.cjc_components.specs.List.Listed.{ListTree};
 ghost use Rattle.cjc_ncode.specs.Lowering.Agreement.{IsAmong, IsKnownCall, names};
 ghost use Rattle.cjc_ncode.specs.Lowering.Placed.{Placed, code_of, offset_of};
 ghost use Rattle.cjc_ncode.specs.ByLabel.{Callee, operation};
@@ -35,7 +35,7 @@ ghost use Rattle.cjc_token_proof.specs.WrittenSends.Sends.{ExportsSend, Interfac
 
 use crate::by_token::kinds_are_told;
 use crate::tables::classes_are_told;
-use cjc_layout::layouts_are_laid_out;
+use cjc_components::layout::layouts_are_laid_out;
 use cjc_vtable::{dispatch_laws, token_laws};
 use cjc_world::lookup_laws;
 

@@ -7,3 +7,5 @@ pub mod Tokens
 pub mod Rules
 pub mod Working
 pub mod TokenLaws
+-- Definitions of lower crates, for those above.
+pub use Rattle.cjc_fixpoint.specs as Fixpoint

@@ -25,7 +25,7 @@ use crate::tokens::{ClassTokens, Tokens};
 use cjc_bytes::{
     Break, Fault, NoMemory, Row, RulePlace, Settings, file_of, is_interface, refused_at,
 };
-use cjc_classfile::ClassTree;
+use cjc_world::classfile::ClassTree;
 use cjc_world::{Known, World};
 use std::alloc::Global;
 

@@ -23,7 +23,7 @@ use crate::methods::{
 use crate::slot::{Rows, Slot, is_initialiser, token};
 use crate::tokens::ClassTokens;
 use cjc_bytes::{MemberId, NoMemory, Row};
-use cjc_classfile::{ClassTree, MethodTree};
+use cjc_world::classfile::{ClassTree, MethodTree};
 use cjc_world::{Found, Known, World};
 use std::alloc::Global;
 

@@ -8,8 +8,8 @@ ghost use Rattle.cjc_tokens.specs.Fields.{is_instance, is_open_static, is_refere
 
 use crate::slot::is_exposed;
 use cjc_bytes::{NoMemory, Row, is_static};
-use cjc_classfile::FieldTree;
-use cjc_export::may_be_constant;
+use cjc_world::classfile::FieldTree;
+use cjc_world::export_file::may_be_constant;
 use std::alloc::Global;
 
 const INT: &[u8] = b"I";

@@ -5,7 +5,7 @@ ghost use Rattle.cjc_tokens.specs.Tokens.{imports_of, listed_field_token, listed
 
 use crate::slot::is_initialiser;
 use cjc_bytes::{NoMemory, Row};
-use cjc_export::{ExportClass, ExportField, ExportMethod, ExportTree};
+use cjc_world::export_file::{ExportClass, ExportField, ExportMethod, ExportTree};
 use std::alloc::Global;
 
 fn field_token(field: &ExportField) -> Option<u8>

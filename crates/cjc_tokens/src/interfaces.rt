@@ -16,8 +16,8 @@ ghost use Rattle.cjc_tokens.specs.Working.{above_where, asked, listed_method, si
 
 use crate::slot::{Slot, is_initialiser, put_name};
 use cjc_bytes::NoMemory;
-use cjc_classfile::MethodTree;
-use cjc_export::ExportMethod;
+use cjc_world::classfile::MethodTree;
+use cjc_world::export_file::ExportMethod;
 use cjc_world::{Known, World, lookup_laws};
 use std::alloc::Global;
 

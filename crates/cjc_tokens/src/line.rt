@@ -8,14 +8,14 @@ ghost use Rattle.cjc_world.specs.Supertypes.{supertypes, upwards};
 ghost use Rattle.cjc_world.specs.Working.Known.{class_of};
 ghost use Rattle.cjc_world.specs.Added.{added, named_by};
 ghost use Rattle.cjc_tokens.specs.Lines.{Declared, Imported, Line, line_at, line_in};
-ghost use Rattle.cjc_classfile.specs.declared.tree.ClassTree.{ClassTree as Tree};
+ghost use Rattle.cjc_world.specs.ClassFile.declared.tree.ClassTree.{ClassTree as Tree};
 ghost use Rattle.cjc_tokens.specs.declared.slot.Rows.{Rows as KeptRows};
 ghost use Rattle.cjc_tokens.specs.Working.{AreRowsOf, IsKept, SameRows};
 
 use crate::listed::{rows_of, with_supers};
 use crate::slot::{Rows, offer_added, offer_methods, renewed};
 use cjc_bytes::{MemberId, NoMemory, is_interface};
-use cjc_classfile::ClassTree;
+use cjc_world::classfile::ClassTree;
 use cjc_world::{Known, World, lookup_laws};
 use std::alloc::Global;
 

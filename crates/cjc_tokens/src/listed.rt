@@ -16,8 +16,8 @@ ghost use Rattle.cjc_tokens.specs.Working.{alone, AreRowsOf, methods_in, one, ov
 
 use crate::slot::{Rows, Slot, is_exposed, is_virtual};
 use cjc_bytes::NoMemory;
-use cjc_classfile::MethodTree;
-use cjc_export::ExportMethod;
+use cjc_world::classfile::MethodTree;
+use cjc_world::export_file::ExportMethod;
 use cjc_world::{Found, Known, World, lookup_laws};
 use std::alloc::Global;
 

@@ -12,7 +12,7 @@ ghost use Rattle.cjc_tokens.specs.Working.{member_of, signs};
 
 use crate::slot::{Rows, is_constructor, is_exposed, is_initialiser, is_of_kind, token};
 use cjc_bytes::{MemberId, NoMemory, Row, is_static};
-use cjc_classfile::MethodTree;
+use cjc_world::classfile::MethodTree;
 use std::alloc::Global;
 
 /// Whether a static method or a constructor has a token, where its class is exported.

@@ -14,8 +14,8 @@ ghost use Rattle.cjc_tokens.specs.Working.{is_kind, is_of_kind, member_of, neare
 ghost use Rattle.cjc_tokens.specs.Working.{signs};
 
 use cjc_bytes::{MemberId, NoMemory, is_private, is_protected, is_public, is_static};
-use cjc_classfile::{ClassTree, MethodTree};
 use cjc_world::Found;
+use cjc_world::classfile::{ClassTree, MethodTree};
 use std::alloc::Global;
 
 const CONSTRUCTOR: &[u8] = b"<init>";

@@ -21,3 +21,5 @@ pub mod Typed
 pub mod Upper
 pub mod Wrong
 pub mod TypeLaws
+-- Lemmas of lower crates, for those above.
+pub use Rattle.cjc_fixpoint.proofs as Fixpoint

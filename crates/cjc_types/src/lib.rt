@@ -4,6 +4,12 @@
 //! Nothing here knows what number a word holds, nor what is written for an instruction.
 #![tactic(auto)]
 
+// Lower crates, for those above.
+pub use cjc_classfile as classfile;
+pub use cjc_code as bytecode;
+pub use cjc_fixpoint as fixpoint;
+pub use cjc_world as world;
+
 mod cell;
 mod index;
 mod inference;

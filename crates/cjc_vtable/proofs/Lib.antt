@@ -20,3 +20,8 @@ pub mod Numbers
 pub mod SlotNames
 pub mod MapPlaces
 pub mod SlotLaws
+-- Lemmas of lower crates, for those above.
+pub use Rattle.cjc_subset.proofs.Range as Range
+pub use Rattle.cjc_order.proofs as ClassOrder
+pub use Rattle.cjc_subset.proofs as Subset
+pub use Rattle.cjc_tokens.proofs as Tokens

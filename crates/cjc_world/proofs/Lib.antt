@@ -29,3 +29,5 @@ pub mod Stepping
 pub mod Once
 pub mod Called
 pub mod UpwardLaws
+-- Lemmas of lower crates, for those above.
+pub use Rattle.cjc_export.proofs as ExportFile

@@ -12,3 +12,7 @@ pub mod Rules
 pub mod Laws
 pub mod Order
 pub mod Upwards
+-- Definitions of lower crates, for those above.
+pub use Rattle.cjc_bytes.specs as Bytes
+pub use Rattle.cjc_classfile.specs as ClassFile
+pub use Rattle.cjc_export.specs as ExportFile

@@ -3,6 +3,11 @@
 //! export files list.
 #![tactic(auto)]
 
+// Lower crates, for those above.
+pub use cjc_bytes as bytes;
+pub use cjc_classfile as classfile;
+pub use cjc_export as export_file;
+
 mod added;
 mod circular;
 mod class;

@@ -2,10 +2,10 @@
 //! run ended to standard error, and ends with its status. It knows no command.
 #![tactic(auto)]
 
-use cjc_bytes::{Bytes, Row};
+use cjc_run::bytes::{Bytes, Row};
+use cjc_run::shelf::command::Status;
+use cjc_run::shelf::{DiskShelf, StdSink};
 use cjc_run::{run, status_line};
-use cjc_shelf::command::Status;
-use cjc_shelf::{DiskShelf, StdSink};
 use std::alloc::Global;
 use std::process::ExitCode;
 use std::rt::Env;

@@ -5,15 +5,15 @@ use Rattle.std.specs.Prelude.{◌||◌, not, is_some, option_map, slice_get, fil
 use Rattle.std.specs.List.{list_any}
 use Rattle.std.proofs.lemmas.Option.{slice_get_within}
 use Rattle.std.proofs.lemmas.List.Folds.{list_any-append}
-use Rattle.cjc_bytes.specs.declared.fault.MemberId.{MemberId}
-use Rattle.cjc_classfile.specs.declared.tree.ClassTree.{ClassTree}
-use Rattle.cjc_subset.specs.Types.{is_int_desc}
+use Rattle.cjc_world.specs.Bytes.declared.fault.MemberId.{MemberId}
+use Rattle.cjc_world.specs.ClassFile.declared.tree.ClassTree.{ClassTree}
+use Rattle.cjc_components.specs.Subset.Types.{is_int_desc}
 use Rattle.cjc_world.specs.Files.{Files}
 use Rattle.cjc_world.specs.Classes.{Member, Class, declared, field_of_class, method_of_class, all_classes, class_at}
 use Rattle.cjc_world.specs.declared.class.Known.{Known}
 use Rattle.cjc_world.specs.Working.Known.{class_of}
 use Rattle.cjc_world.specs.Added.{added, added_at, added_to, named_by}
-use Rattle.cjc_vtable.proofs.Numbers.{at-tree}
+use Rattle.cjc_components.proofs.VTable.Numbers.{at-tree}
 use Rattle.cjc_exported.proofs.ExportFile.ByNumber.{of-number}
 use Rattle.cjc_exported.specs.ExportFile.Working.Sources.{is_of_kind}
 use Rattle.cjc_components.specs.Components.{has_int, uses_int}

@@ -4,10 +4,10 @@ use Rattle.std.proofs.Common.{subst, ◌∙◌, arith, inl, inr, Option, Some, N
 use Rattle.std.specs.Prelude.{◌||◌, nat_lt, sum_by, if◌then◌else◌}
 use Rattle.std.proofs.lemmas.List.{length-map}
 use Rattle.std.proofs.lemmas.List.Sums.{sum_by-cons}
-use Rattle.cjc_bytes.specs.Breaks.{Among, Break, IsFirst, at, broken_at, foremost, after, list_spot}
-use Rattle.cjc_bytes.specs.Order.{NotAfter}
-use Rattle.cjc_capwrite.specs.Files.{infos_of, is_too_large, limit_of}
-use Rattle.cjc_ncode.specs.declared.narrow.NMethod.{NMethod}
+use Rattle.cjc_world.specs.Bytes.Breaks.{Among, Break, IsFirst, at, broken_at, foremost, after, list_spot}
+use Rattle.cjc_world.specs.Bytes.Order.{NotAfter}
+use Rattle.cjc_components.specs.CapWrite.Files.{infos_of, is_too_large, limit_of}
+use Rattle.cjc_methods.specs.NCode.declared.narrow.NMethod.{NMethod}
 use Rattle.cjc_components.specs.Components.{components_of}
 use Rattle.cjc_components.specs.Limits.{has_far_types, size_breaks, widest_method}
 use Rattle.cjc_components.specs.Methods.{handler_count}

@@ -1,13 +1,13 @@
 -- Trees of components that are put together.
 use Rattle.std.proofs.Common.{◌≡◌, ℕ, List, map, length, refl, ap, ◌∙◌, Some}
 use Rattle.std.specs.Prelude.{replicate}
-use Rattle.cjc_capread.specs.declared.tree.CapTree.{CapTree}
-use Rattle.cjc_capread.specs.declared.tree.Directory.{Directory}
-use Rattle.cjc_capread.specs.declared.tree.Method.{Method}
-use Rattle.cjc_capread.specs.declared.tree.ReferenceLocation.{ReferenceLocation}
-use Rattle.cjc_capwrite.specs.Size.{info_of}
-use Rattle.cjc_ncode.specs.declared.narrow.PoolKey.{PoolKey}
-use Rattle.cjc_ncode.specs.declared.narrow.PoolKey.TheVariants as keys
+use Rattle.cjc_classes.specs.CapRead.declared.tree.CapTree.{CapTree}
+use Rattle.cjc_classes.specs.CapRead.declared.tree.Directory.{Directory}
+use Rattle.cjc_classes.specs.CapRead.declared.tree.Method.{Method}
+use Rattle.cjc_classes.specs.CapRead.declared.tree.ReferenceLocation.{ReferenceLocation}
+use Rattle.cjc_components.specs.CapWrite.Size.{info_of}
+use Rattle.cjc_methods.specs.NCode.declared.narrow.PoolKey.{PoolKey}
+use Rattle.cjc_methods.specs.NCode.declared.narrow.PoolKey.TheVariants as keys
 use Rattle.cjc_components.specs.Class.{class_info}
 use Rattle.cjc_components.specs.Components.{applet, components_of, components_with, directory_with, header, import}
 use Rattle.cjc_components.specs.Components.{method, reference_location, sizes, tags}
@@ -19,7 +19,7 @@ use Rattle.cjc_components.specs.Statics.{cell_offset, static_field}
 use Rattle.cjc_classes.specs.Entries as entries
 use Rattle.cjc_classes.specs.Descriptor.Keys.{key_cell}
 use Rattle.cjc_captree.specs.Trees.Working.{HasComponents}
-use Rattle.cjc_tokens.proofs.Steps.{map_same}
+use Rattle.cjc_classes.proofs.Tokens.Steps.{map_same}
 
 -- the cells by key
 pub cells_by_key : (p : Package) (ks : List PoolKey) → map (key_cell (cell_offset p.image)) ks

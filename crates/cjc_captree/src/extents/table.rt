@@ -10,11 +10,11 @@ ghost use Rattle.cjc_methods.specs.Layouts.Laid.{AreLaid, laid_methods};
 ghost use Rattle.cjc_captree.specs.Working.Tables.{extent_by_layout, extents_by, found_in, nowhere, table_of};
 
 use crate::extents::rows::{empty_rows, put};
-use cjc_bytes::{NoMemory, Row};
 use cjc_classes::descriptor::Extent;
-use cjc_layout::Layout;
+use cjc_components::layout::Layout;
 use cjc_methods::layouts::{Laid, Methods};
 use cjc_world::World;
+use cjc_world::bytes::{NoMemory, Row};
 use std::alloc::Global;
 
 /// A method by its layout, at an offset and behind so many handlers.

@@ -3,14 +3,14 @@
 
 ghost use Rattle.std.specs.Prelude.{◌≡◌, ◌||◌, false, Some, IfOk};
 ghost use Rattle.std.specs.List.{list_any};
-ghost use Rattle.cjc_subset.specs.Types.{is_int_desc};
+ghost use Rattle.cjc_components.specs.Subset.Types.{is_int_desc};
 ghost use Rattle.cjc_world.specs.Classes.{Class, all_classes, class_at};
 ghost use Rattle.cjc_components.specs.Components.{has_int, uses_int};
 
-use cjc_bytes::{MemberId, NoMemory};
-use cjc_classfile::{FieldTree, MethodTree};
-use cjc_subset::is_int_desc;
+use cjc_components::subset::is_int_desc;
 use cjc_world::World;
+use cjc_world::bytes::{MemberId, NoMemory};
+use cjc_world::classfile::{FieldTree, MethodTree};
 
 fn any_field(fields: &[FieldTree]) -> bool
     ensures { result ≡ list_any (λ f. is_int_desc f.desc) fields.now }

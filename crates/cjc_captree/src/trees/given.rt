@@ -1,11 +1,11 @@
 //! `Given`, what the converter has made of a package before its components are put together: world, tokens,
 //! image, keys and extents. All modules of the crate read it.
 
-use cjc_bytes::Row;
 use cjc_classes::descriptor::Extent;
-use cjc_list::List;
-use cjc_ncode::PoolKey;
-use cjc_tokens::Tokens;
+use cjc_classes::tokens::Tokens;
+use cjc_components::list::List;
+use cjc_methods::ncode::PoolKey;
+use cjc_world::bytes::Row;
 use cjc_world::{StaticImage, World};
 
 /// What is made of a package before its components.

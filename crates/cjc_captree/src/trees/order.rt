@@ -7,9 +7,9 @@ ghost use Rattle.cjc_world.specs.Classes.{all_classes};
 ghost use Rattle.cjc_world.specs.Order.{class_order};
 ghost use Rattle.cjc_classes.specs.TypeInfo.TypeTable.{class_at};
 
-use cjc_bytes::{NoMemory, Row};
-use cjc_order::classes::class_order;
+use cjc_components::class_order::classes::class_order;
 use cjc_world::World;
+use cjc_world::bytes::{NoMemory, Row};
 use std::alloc::Global;
 
 /// Puts numbers at the end.

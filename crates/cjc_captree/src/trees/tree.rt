@@ -2,7 +2,7 @@
 
 ghost use Rattle.std.specs.Prelude.{◌≡◌, Some, length, replicate, IfOk, OnOk};
 ghost use Rattle.cjc_world.specs.Classes.{all_classes};
-ghost use Rattle.cjc_vtable.specs.Tables.{class_tables};
+ghost use Rattle.cjc_components.specs.VTable.Tables.{class_tables};
 ghost use Rattle.cjc_components.specs.Class.{class_info};
 ghost use Rattle.cjc_components.specs.Components.{applet, components_of, directory_with, header, import, method};
 ghost use Rattle.cjc_components.specs.Components.{reference_location};
@@ -20,8 +20,7 @@ use crate::limits::uses_int;
 use crate::trees::given::Given;
 use crate::trees::names::{Names, names_of};
 use crate::trees::sizes::sizes_of;
-use cjc_bytes::{NoMemory, Row};
-use cjc_capread::{
+use cjc_classes::capread::{
     CapTree, ConstantPool, Descriptor, Directory, Export, Header, Method, ReferenceLocation,
 };
 use cjc_classes::class_info::class_info;
@@ -30,6 +29,7 @@ use cjc_classes::directory::{applet, directory, header, import};
 use cjc_classes::pool_entries::pool_entries;
 use cjc_classes::type_info::Types;
 use cjc_exported::export_file::{Offsets, export};
+use cjc_world::bytes::{NoMemory, Row};
 use std::alloc::Global;
 
 const NO_SIZES: [u64; 12] = [0, 0, 0, 0, 0, 0, 0, 0, 0, 0, 0, 0];

@@ -15,11 +15,11 @@ ghost use Rattle.cjc_card.specs.Acts.Acts.{IsPerformed, put_by};
 ghost use Rattle.cjc_card.specs.Acts.States.{StateByToken, TurnByToken};
 
 use crate::acts::fitting::{item_fits, number_fits, shape_of};
-use cjc_bytes::NoMemory;
 use cjc_card_frame::heap::{Class, Element, Heap, HeapObject, Parts, Shape};
+use cjc_card_frame::jvm_step::step::shape_named;
 use cjc_card_frame::parts::LookUps;
 use cjc_jvm::acts::Sort;
-use cjc_jvm_step::step::shape_named;
+use cjc_script::bytes::NoMemory;
 use cjc_script::{Act, Value};
 use std::alloc::Global;
 

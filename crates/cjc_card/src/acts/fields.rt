@@ -5,10 +5,10 @@ ghost use Rattle.cjc_script.specs.Sorts.{Sort, field_sort, sort_by, zero_of};
 ghost use Rattle.cjc_card_frame.specs.Meanings.{letter_of};
 ghost use Rattle.cjc_card_semantics.specs.Machine.ByToken.{letter_of as letter_by};
 
-use cjc_bytes::{Desc, Kind, NoMemory};
+use cjc_card_frame::jvm_step::step::shape_named;
 use cjc_card_frame::opcodes::Letter;
-use cjc_jvm_step::step::shape_named;
 use cjc_script::Value;
+use cjc_script::bytes::{Desc, Kind, NoMemory};
 
 // More bytes than the descriptors of any file have.
 const TOO_LONG: usize = 1 << 32;

@@ -4,18 +4,18 @@
 ghost use Rattle.std.specs.Prelude.{◌≡◌, ℕ, List, Bool, map, option_map};
 ghost use Rattle.cjc_script.specs.declared.value.Value.TheVariants.{Num};
 ghost use Rattle.cjc_script.specs.Sorts.{Shape as ShapeOf, all_fit, fits, result_fits};
-ghost use Rattle.cjc_jvm_step.specs.Heap.Kinds.{elements_of};
-ghost use Rattle.cjc_jvm_step.specs.Step.Names.{shape_meant};
+ghost use Rattle.cjc_card_frame.specs.JvmStep.Heap.Kinds.{elements_of};
+ghost use Rattle.cjc_card_frame.specs.JvmStep.Step.Names.{shape_meant};
 ghost use Rattle.cjc_jvm.specs.Acts.Meant.{sort_meant};
 ghost use Rattle.cjc_card_semantics.specs.Bytecode.Machine.{item_fits, object_fits, shape_of as shape_by_name};
 ghost use Rattle.cjc_card_semantics.specs.Machine.ByToken.{by_token};
 ghost use Rattle.cjc_card_frame.specs.Objects.{class_of, element_of, shape_of};
 
 use cjc_card_frame::heap::{Class, Element, Heap, Shape};
+use cjc_card_frame::jvm_step::heap::Element as NamedElement;
+use cjc_card_frame::jvm_step::step::Shape as NamedShape;
 use cjc_card_frame::parts::LookUps;
 use cjc_jvm::acts::Sort;
-use cjc_jvm_step::heap::Element as NamedElement;
-use cjc_jvm_step::step::Shape as NamedShape;
 use cjc_script::Value;
 
 // The elements of an array of numbers, as the heap keeps them.

@@ -5,7 +5,7 @@ ghost use Rattle.std.specs.Prelude.{◌≡◌};
 ghost use Rattle.cjc_card_semantics.specs.Machine.Classes.{fault_name};
 ghost use Rattle.cjc_card_frame.specs.Frame.Frames.{fault_of};
 
-use cjc_jvm_step::frame::Exception;
+use cjc_card_frame::jvm_step::frame::Exception;
 
 /// The name of the class of an exception.
 pub(crate) fn fault_name(exception: Exception) -> &'static [u8]

@@ -2,16 +2,16 @@
 //! once before the first instruction.
 
 ghost use Rattle.std.specs.Prelude.{◌≡◌, ◌<◌, ◌^◌, true, IfOk, OnOk};
-ghost use Rattle.cjc_check_rules.specs.Complete.{class_info_size};
+ghost use Rattle.cjc_card_calls.specs.CheckRules.Complete.{class_info_size};
 ghost use Rattle.cjc_card_calls.specs.Lines.Handlers.{are_near};
-ghost use Rattle.cjc_card_link.specs.Group.{alone};
+ghost use Rattle.cjc_card_calls.specs.CardLink.Group.{alone};
 
-use cjc_bytes::NoMemory;
-use cjc_capread::Method;
+use cjc_card_calls::card_link::{Part, Tables};
 use cjc_card_calls::files::Files;
 use cjc_card_calls::lines::{Lines, are_near};
-use cjc_card_link::{Part, Tables};
-use cjc_export::ExportTree;
+use cjc_card_semantics::capread::Method;
+use cjc_card_semantics::export_file::ExportTree;
+use cjc_script::bytes::NoMemory;
 use std::alloc::Global;
 use std::marker::Model;
 
@@ -25,7 +25,7 @@ pub struct Group<'a> {
 
 impl<'a> Model for Group<'a> {
     ghost use Rattle.cjc_card_semantics.specs.Machine.Loaded.{Loaded};
-    ghost use Rattle.cjc_card_link.specs.Tables.{loaded_of};
+    ghost use Rattle.cjc_card_calls.specs.CardLink.Tables.{loaded_of};
     ghost use Rattle.cjc_card.specs.Ready.{AreReady};
 
     ghost Value = { Loaded };

@@ -3,17 +3,17 @@
 use crate::group::faults::fault_name;
 use crate::group::group::Group;
 use crate::group::shown::shown_fields;
-use cjc_bytes::{MemberId, NoMemory, Row};
-use cjc_capread::StaticField;
-use cjc_capread::decoder::Insn;
 use cjc_card_calls::calls::{reached, words};
 use cjc_card_calls::lines::{handler, is_of};
 use cjc_card_calls::names::{called, imported, sent, throwable};
 use cjc_card_frame::heap::{Class, Field, Shape, Slot};
+use cjc_card_frame::jvm_step::frame::Exception;
 use cjc_card_frame::opcodes::Mode;
 use cjc_card_frame::parts::{Callee, CellName, Code, LookUps, Reached, Start, StaticCell};
-use cjc_jvm_step::frame::Exception;
+use cjc_card_semantics::capread::StaticField;
+use cjc_card_semantics::capread::decoder::Insn;
 use cjc_script::FieldValue;
+use cjc_script::bytes::{MemberId, NoMemory, Row};
 use std::alloc::Global;
 
 impl LookUps for Group<'_> {

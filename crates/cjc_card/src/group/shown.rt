@@ -9,13 +9,13 @@ ghost use Rattle.cjc_card_semantics.specs.Machine.Classes.{same_field};
 ghost use Rattle.cjc_card_semantics.specs.Machine.ByToken.{shown_field, shown_fields, shown_own, shown_upwards};
 ghost use Rattle.cjc_card_semantics.specs.Machine.ByToken.{value_or};
 ghost use Rattle.cjc_card_frame.specs.Objects.{class_of, slot_by};
-ghost use Rattle.cjc_card_link.specs.Names.{class_names_of, field_name_of};
-ghost use Rattle.cjc_card_link.specs.Tables.{AreKept, loaded_of};
+ghost use Rattle.cjc_card_calls.specs.CardLink.Names.{class_names_of, field_name_of};
+ghost use Rattle.cjc_card_calls.specs.CardLink.Tables.{AreKept, loaded_of};
 
 use crate::acts::{field_letter, zero_of};
-use cjc_bytes::{Bytes, MemberId, NoMemory, Row};
+use cjc_card_calls::card_link::{ClassNames, FieldName, Tables};
 use cjc_card_frame::heap::{Class, Field, Slot, slot_at};
-use cjc_card_link::{ClassNames, FieldName, Tables};
+use cjc_script::bytes::{Bytes, MemberId, NoMemory, Row};
 use cjc_script::{FieldValue, Value};
 use std::alloc::Global;
 

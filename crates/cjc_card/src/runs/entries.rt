@@ -15,11 +15,11 @@ ghost use Rattle.cjc_card.specs.Runs.Starts.{Starts, has_receiver, is_object_fir
 
 use crate::acts::{perform, put_fitting};
 use crate::turns::Machine;
-use cjc_bytes::{MemberId, NoMemory, Row};
 use cjc_card_frame::frames::Frame;
 use cjc_card_frame::heap::Heap;
 use cjc_card_frame::parts::{LookUps, Start};
 use cjc_jvm::acts::{Signature, Sort, signature_of};
+use cjc_script::bytes::{MemberId, NoMemory, Row};
 use cjc_script::{Entry, Outcome, Value};
 use std::alloc::Global;
 

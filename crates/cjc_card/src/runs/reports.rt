@@ -10,10 +10,10 @@ ghost use Rattle.cjc_card_frame.specs.Kinds.{cell_name_of};
 
 use crate::acts::{field_letter, zero_of};
 use crate::turns::{Machine, copy_of, type_name};
-use cjc_bytes::{Bytes, MemberId, NoMemory, Row};
 use cjc_card_frame::heap::{Heap, Parts, Shape};
 use cjc_card_frame::image::Statics;
 use cjc_card_frame::parts::{CellName, LookUps};
+use cjc_script::bytes::{Bytes, MemberId, NoMemory, Row};
 use cjc_script::{FieldValue, Outcome, Report, Thing, Value};
 use std::alloc::Global;
 

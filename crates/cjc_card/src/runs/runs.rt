@@ -16,9 +16,9 @@ use crate::runs::room::has_room;
 use crate::runs::starts::start;
 use crate::runs::steps::step;
 use crate::turns::{After, Machine};
-use cjc_bytes::NoMemory;
 use cjc_card_frame::frames::Frame;
 use cjc_card_frame::parts::LookUps;
+use cjc_script::bytes::NoMemory;
 use cjc_script::{Outcome, Report, Script};
 use std::alloc::Global;
 

@@ -2,7 +2,7 @@
 //! `runs`, which does not look into instructions.
 
 ghost use Rattle.std.specs.Prelude.{◌≡◌, ◌<◌, ◌≤◌, ◌+◌, ◌^◌, ◌∷◌, ℕ, List, IfOk, OnOk};
-ghost use Rattle.cjc_capread.specs.Decoder.Decoded.{IsAtFront, instruction_of};
+ghost use Rattle.cjc_card_semantics.specs.CapRead.Decoder.Decoded.{IsAtFront, instruction_of};
 ghost use Rattle.cjc_card_semantics.specs.Bytecode.Machine.{turn_after_fetch, step};
 ghost use Rattle.cjc_card_semantics.specs.Machine.ByToken.{by_token};
 ghost use Rattle.cjc_card_frame.specs.Kinds.{IsDecoded};
@@ -11,12 +11,12 @@ ghost use Rattle.cjc_card.specs.States.{Leads, objects_at_most, with_frames};
 ghost use Rattle.cjc_card.specs.Runs.Steps.{after_deed, made_by, most_after, most_behind};
 
 use crate::turns::{After, Machine};
-use cjc_bytes::NoMemory;
-use cjc_capread::decoder::Insn;
 use cjc_card_frame::frames::Frame;
 use cjc_card_frame::parts::LookUps;
+use cjc_card_semantics::capread::decoder::Insn;
 use cjc_card_step::effects::Deed;
 use cjc_card_step::steps::{Step, execute};
+use cjc_script::bytes::NoMemory;
 use std::alloc::Global;
 
 // An instruction of a frame, on the heap and the static cells.

@@ -12,11 +12,11 @@ ghost use Rattle.cjc_card.specs.States.{Leads, objects_at_most, with_frames};
 
 use crate::turns::after::After;
 use crate::turns::machine::Machine;
-use cjc_bytes::NoMemory;
 use cjc_card_frame::frames::{Frame, arguments};
+use cjc_card_frame::jvm_step::frame::Exception;
 use cjc_card_frame::parts::{Callee, LookUps, Reached};
-use cjc_jvm_step::frame::Exception;
 use cjc_script::Value;
+use cjc_script::bytes::NoMemory;
 use std::alloc::Global;
 
 // The deepest word, where there is one.

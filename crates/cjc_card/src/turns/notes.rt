@@ -5,8 +5,8 @@ ghost use Rattle.std.specs.Prelude.{◌≡◌, IfOk};
 ghost use Rattle.cjc_script.specs.declared.report.Note.TheVariants.{Event, Thrown};
 ghost use Rattle.cjc_card_frame.specs.Kinds.{method_id};
 
-use cjc_bytes::{Bytes, MemberId, NoMemory, Row};
 use cjc_card_frame::parts::ImportedMethod;
+use cjc_script::bytes::{Bytes, MemberId, NoMemory, Row};
 use cjc_script::{Note, Value};
 use std::alloc::Global;
 

@@ -12,13 +12,13 @@ ghost use Rattle.cjc_card.specs.States.{Leads, handled, heap_of, objects_at_most
 
 use crate::turns::after::After;
 use crate::turns::machine::Machine;
-use cjc_bytes::{Bytes, NoMemory, Row};
 use cjc_card_frame::frames::Frame;
 use cjc_card_frame::heap::{Class, Element, HeapObject, Shape};
+use cjc_card_frame::jvm_step::frame::{Exception, Pile};
+use cjc_card_frame::jvm_step::step::array_of;
 use cjc_card_frame::parts::LookUps;
-use cjc_jvm_step::frame::{Exception, Pile};
-use cjc_jvm_step::step::array_of;
 use cjc_script::Note;
+use cjc_script::bytes::{Bytes, NoMemory, Row};
 use std::alloc::Global;
 
 // The descriptor of an array of numbers.

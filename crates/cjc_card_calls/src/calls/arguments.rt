@@ -2,7 +2,7 @@
 
 ghost use Rattle.std.specs.Prelude.{◌≡◌, ◌+◌, ◌<◌, ◌≤◌, ◌^◌, ℕ, List, map, option_map, if◌then◌else◌, IfOk};
 ghost use Rattle.cjc_card_semantics.specs.Bytecode.Arguments.{width, widths};
-ghost use Rattle.cjc_script.specs.Sorts.{signature_of, sort_by, sort_of};
+ghost use Rattle.cjc_card_semantics.specs.Script.Sorts.{signature_of, sort_by, sort_of};
 ghost use Rattle.cjc_card_semantics.specs.Machine.Calls.{argument_words, words, words_of};
 ghost use Rattle.cjc_card_semantics.specs.Machine.Dispatch.{At};
 ghost use Rattle.cjc_card_frame.specs.Kinds.{callee_of};
@@ -13,9 +13,9 @@ ghost use Rattle.cjc_card_calls.specs.Found.{found_of};
 use crate::calls::dispatch::{dispatched_above, dispatched_on};
 use crate::calls::found::Found;
 use crate::files::Files;
-use cjc_bytes::{Desc, Kind, NoMemory};
 use cjc_card_frame::parts::Callee;
 use cjc_card_link::Tables;
+use cjc_export::bytes::{Desc, Kind, NoMemory};
 
 // More bytes than the descriptors of any file have.
 const TOO_LONG: usize = 1 << 32;

@@ -13,9 +13,9 @@ ghost use Rattle.cjc_card_calls.specs.Found.{found_of};
 
 use crate::calls::found::Found;
 use crate::files::Files;
-use cjc_bytes::{is_private, is_static};
 use cjc_card_frame::parts::ImportedMethod;
 use cjc_card_link::Walk;
+use cjc_export::bytes::{is_private, is_static};
 use cjc_export::{ExportClass, ExportMethod};
 
 // Whether a method is virtual.

@@ -10,8 +10,8 @@ ghost use Rattle.cjc_card_link.specs.Tables.{AreKept, loaded_of};
 use crate::files::file::File;
 use crate::files::named::Named;
 use crate::files::upwards::line;
-use cjc_bytes::{NoMemory, Row};
 use cjc_card_link::Tables;
+use cjc_export::bytes::{NoMemory, Row};
 use cjc_export::{ExportClass, ExportTree};
 use std::alloc::Global;
 

@@ -9,8 +9,8 @@ ghost use Rattle.cjc_card_semantics.specs.Machine.Classes.{or_else};
 ghost use Rattle.cjc_card_calls.specs.Files.Named.{class_under};
 
 use crate::files::steps::super_count;
-use cjc_bytes::NoMemory;
 use cjc_card_link::Name;
+use cjc_export::bytes::NoMemory;
 use cjc_export::{ExportClass, ExportTree};
 use std::alloc::Global;
 use std::collections::HashMap;

@@ -3,7 +3,7 @@
 ghost use Rattle.std.specs.Prelude.{◌≡◌, ◌+◌, IfOk};
 ghost use Rattle.cjc_export.specs.Supers.{classes_of, super_count};
 
-use cjc_bytes::NoMemory;
+use cjc_export::bytes::NoMemory;
 use cjc_export::{ExportClass, ExportTree};
 
 /// No memory is there for 2^64 steps.

@@ -10,10 +10,10 @@ ghost use Rattle.cjc_card_calls.specs.Files.Named.{is_passed, mark_under};
 
 use crate::files::named::Named;
 use crate::files::steps::sum;
-use cjc_bytes::{Bytes, NoMemory, Row};
+use cjc_card_frame::jvm_step::frame::Pile;
 use cjc_card_link::Name;
 use cjc_export::ExportClass;
-use cjc_jvm_step::frame::Pile;
+use cjc_export::bytes::{Bytes, NoMemory, Row};
 use std::alloc::Global;
 use std::collections::HashMap;
 

@@ -7,9 +7,9 @@ ghost use Rattle.cjc_card_frame.specs.Objects.{class_of};
 ghost use Rattle.cjc_card_calls.specs.Lines.Every.{files_classes, own_classes};
 ghost use Rattle.cjc_card_link.specs.Tables.{AreKept, loaded_of};
 
-use cjc_bytes::{NoMemory, Row};
 use cjc_card_frame::heap::Class;
 use cjc_card_link::Tables;
+use cjc_export::bytes::{NoMemory, Row};
 use cjc_export::{ExportClass, ExportTree};
 use std::alloc::Global;
 

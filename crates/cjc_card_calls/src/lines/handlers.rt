@@ -11,10 +11,10 @@ ghost use Rattle.cjc_card_link.specs.Tables.{AreKept, loaded_of};
 
 use crate::lines::kinds::is_of;
 use crate::lines::lines::Lines;
-use cjc_capread::Handler;
 use cjc_card_frame::heap::Shape;
 use cjc_card_frame::parts::Code;
 use cjc_card_link::Tables;
+use cjc_card_semantics::capread::Handler;
 
 // Offsets that 32 bits count are below this one.
 const FAR: u64 = 1 << 32;

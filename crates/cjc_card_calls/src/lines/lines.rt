@@ -11,9 +11,9 @@ ghost use Rattle.cjc_card_calls.specs.Lines.Lines.{AreLines, data_under, line_by
 ghost use Rattle.cjc_card_link.specs.Tables.{AreKept, loaded_of};
 
 use crate::lines::every::every_class;
-use cjc_bytes::{NoMemory, Row};
 use cjc_card_frame::heap::Class;
 use cjc_card_link::{Key, Tables};
+use cjc_export::bytes::{NoMemory, Row};
 use std::alloc::Global;
 use std::collections::HashMap;
 

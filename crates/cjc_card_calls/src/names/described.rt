@@ -3,7 +3,7 @@
 
 ghost use Rattle.std.specs.Prelude.{◌≡◌, map, option_map};
 ghost use Rattle.std.specs.Option.{option_copied};
-ghost use Rattle.cjc_capread.specs.ClassRefs.{is_inside};
+ghost use Rattle.cjc_card_semantics.specs.CapRead.ClassRefs.{is_inside};
 ghost use Rattle.cjc_card_semantics.specs.Machine.Calls.{class_among, declared, described_token, has_no_token};
 ghost use Rattle.cjc_card_semantics.specs.Machine.Classes.{Own};
 ghost use Rattle.cjc_card_frame.specs.Objects.{class_of};
@@ -13,11 +13,11 @@ ghost use Rattle.cjc_card_link.specs.Tables.{AreKept, loaded_of};
 ghost use Rattle.cjc_card_calls.specs.Names.Described.{described_among, described_of};
 
 use crate::names::names::named_among;
-use cjc_bytes::{MemberId, has, is_private, is_static};
-use cjc_capread::{ClassDescriptor, ClassRef, MethodDescriptor};
 use cjc_card_frame::heap::Class;
 use cjc_card_frame::parts::Token;
 use cjc_card_link::{MethodName, Tables};
+use cjc_card_semantics::capread::{ClassDescriptor, ClassRef, MethodDescriptor};
+use cjc_export::bytes::{MemberId, has, is_private, is_static};
 
 // The flag of a constructor in Descriptor.
 const ACC_CONSTRUCTOR: u16 = 0x80;

@@ -8,9 +8,9 @@ ghost use Rattle.cjc_card_semantics.specs.Machine.Calls.{is_named, listed_token,
 ghost use Rattle.cjc_card_semantics.specs.Machine.Calls.{token_in_files};
 ghost use Rattle.cjc_card_link.specs.Names.{method_name_of};
 
-use cjc_bytes::{MemberId, is_private, is_static};
-use cjc_capread::MethodDescriptor;
 use cjc_card_link::MethodName;
+use cjc_card_semantics::capread::MethodDescriptor;
+use cjc_export::bytes::{MemberId, is_private, is_static};
 use cjc_export::{ExportClass, ExportMethod};
 
 // Whether a method has a name and descriptor.

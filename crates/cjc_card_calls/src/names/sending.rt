@@ -17,10 +17,10 @@ use crate::names::interfaces::{
     interface_token, start_on_interface, start_selected, through_above,
 };
 use crate::names::tokens::token_from;
-use cjc_bytes::MemberId;
 use cjc_card_frame::heap::{Class, Shape};
 use cjc_card_frame::parts::{Start, Token};
 use cjc_card_link::Tables;
+use cjc_export::bytes::MemberId;
 
 // A method that is found decides, also where it has no token; else an interface above the named class may have it.
 fn sent_by(

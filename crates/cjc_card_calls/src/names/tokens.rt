@@ -12,10 +12,10 @@ ghost use Rattle.cjc_card_link.specs.Tables.{AreKept, loaded_of};
 use crate::files::Files;
 use crate::names::described::{declared, described_token};
 use crate::names::names::token_in_files;
-use cjc_bytes::MemberId;
 use cjc_card_frame::heap::Class;
 use cjc_card_frame::parts::Token;
 use cjc_card_link::Tables;
+use cjc_export::bytes::MemberId;
 
 // The token of a method of an imported class.
 fn open_token(token: Option<u8>) -> Option<Token>

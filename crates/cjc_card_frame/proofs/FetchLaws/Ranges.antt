@@ -5,12 +5,12 @@ use Rattle.std.specs.Prelude.{slice_get, if◌then◌else◌}
 use Rattle.std.specs.Int.RustNames.{int_le}
 use Rattle.std.proofs.lemmas.Int.{ints}
 use Rattle.std.proofs.lemmas.Option.{same_Some}
-use Rattle.cjc_capread.specs.Opcodes.{Signed2}
-use Rattle.cjc_capread.specs.Decode.{First, operand, signed}
+use Rattle.cjc_card_semantics.specs.CapRead.Opcodes.{Signed2}
+use Rattle.cjc_card_semantics.specs.CapRead.Decode.{First, operand, signed}
 use Rattle.cjc_card_semantics.specs.Bytecode.Effects.{arm_of, with_some}
 use Rattle.cjc_card_semantics.specs.Machine.Operations.{moved, ranged}
-use Rattle.cjc_capread.specs.declared.decoder.table.Matches.TheVariants.{Counted}
-use Rattle.cjc_capread.specs.Decoder.Decoded.{numbers}
+use Rattle.cjc_card_semantics.specs.CapRead.declared.decoder.table.Matches.TheVariants.{Counted}
+use Rattle.cjc_card_semantics.specs.CapRead.Decoder.Decoded.{numbers}
 
 le_true : (a b : ℤ) → a ≤ℤ b → int_le a b ≡ true
 le_true a b h = grind (arith, ints)

@@ -5,10 +5,10 @@ ghost use Rattle.std.specs.Prelude.{◌≡◌, ◌≤◌, ◌+◌, ◌<◌, ◌^
 ghost use Rattle.cjc_card_semantics.specs.Bytecode.Machine.{Fetched};
 ghost use Rattle.cjc_card_semantics.specs.Machine.Loaded.{Loaded, Part};
 ghost use Rattle.cjc_card_semantics.specs.Machine.Methods.{Code as CodeByToken, fetch, fetched_as, methods_begin};
-ghost use Rattle.cjc_capread.specs.Decoder.Decoded.{IsAtFront, instruction_of};
+ghost use Rattle.cjc_card_semantics.specs.CapRead.Decoder.Decoded.{IsAtFront, instruction_of};
 ghost use Rattle.cjc_card_frame.specs.Codes.{bytes_at, insn_at};
 
-use cjc_capread::decoder::{Insn, decode};
+use cjc_card_semantics::capread::decoder::{Insn, decode};
 
 /// Where a method's code stands. Offsets are those of Method's info.
 #[derive(Clone, Copy)]

@@ -7,15 +7,15 @@ ghost use Rattle.cjc_card_semantics.specs.Bytecode.Calculations.{int_literal};
 ghost use Rattle.cjc_card_semantics.specs.Bytecode.Calculations.{literal, numbered, swap_x};
 ghost use Rattle.cjc_card_frame.specs.declared.opcodes.kinds.Calculation.TheVariants.{Literal};
 ghost use Rattle.cjc_card_frame.specs.Meanings.{calculation_of, load_of, store_of};
-ghost use Rattle.cjc_capread.specs.Decoder.Decoded.{values};
+ghost use Rattle.cjc_card_semantics.specs.CapRead.Decoder.Decoded.{values};
 ghost use Rattle.cjc_card_frame.specs.Frame.Frames.{AreOperands, Does, NoLocal};
 
 use crate::frame::cells::Cells;
 use crate::frame::ending::Ending;
 use crate::opcodes::{Calculation, Kind};
-use cjc_bytes::NoMemory;
-use cjc_capread::decoder::Operands;
+use cjc_card_semantics::capread::decoder::Operands;
 use cjc_script::Value;
+use cjc_script::bytes::NoMemory;
 
 /// The number of a local, where there is one operand and it is not negative.
 fn local_of(operands: Operands) -> Option<usize>

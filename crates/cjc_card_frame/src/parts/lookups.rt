@@ -2,7 +2,7 @@
 
 ghost use Rattle.std.specs.Prelude.{◌≡◌, ◌≤◌, ◌+◌, ℕ, List, map, option_map, option_and_then, slice_get, IfOk, IfSome};
 ghost use Rattle.std.specs.Option.{option_copied};
-ghost use Rattle.cjc_capread.specs.Decoder.Decoded.{IsAtFront, instruction_of};
+ghost use Rattle.cjc_card_semantics.specs.CapRead.Decoder.Decoded.{IsAtFront, instruction_of};
 ghost use Rattle.cjc_card_frame.specs.Meanings.{mode_of};
 ghost use Rattle.cjc_card_semantics.specs.Machine.Loaded.{Loaded};
 ghost use Rattle.cjc_card_semantics.specs.Machine.Classes.{is_of, fresh, name_of, class_named, fault_class};
@@ -18,11 +18,11 @@ ghost use Rattle.cjc_card_frame.specs.Kinds.{field_by, cell_by, cells_of, IsDeco
 use crate::heap::{Class, Field, Shape, Slot};
 use crate::opcodes::Mode;
 use crate::parts::kinds::{Callee, CellName, Code, Reached, Start, StaticCell};
-use cjc_bytes::{MemberId, NoMemory, Row};
-use cjc_capread::StaticField;
-use cjc_capread::decoder::Insn;
+use cjc_card_semantics::capread::StaticField;
+use cjc_card_semantics::capread::decoder::Insn;
 use cjc_jvm_step::frame::Exception;
 use cjc_script::FieldValue;
+use cjc_script::bytes::{MemberId, NoMemory, Row};
 use std::alloc::Global;
 
 /// The look-ups. `part` is the number of a package in the group, `index` an operand that is an index into its constant

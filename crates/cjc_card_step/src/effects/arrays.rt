@@ -4,7 +4,7 @@ ghost use Rattle.std.specs.Prelude.{◌≡◌, ℕ, ℤ, pos, length, FitsSigned
 ghost use Rattle.std.specs.Int.{w16};
 ghost use Rattle.cjc_card_semantics.specs.Bytecode.Effects.{Length, Load, Store, item_of, kept, length_in, load_number};
 ghost use Rattle.cjc_card_semantics.specs.Bytecode.Effects.{store_number, thing_of, effect_of_access};
-ghost use Rattle.cjc_range.specs.Words.{low_word};
+ghost use Rattle.cjc_card_semantics.specs.Range.Words.{low_word};
 ghost use Rattle.cjc_card_semantics.specs.Machine.Loaded.{Loaded};
 ghost use Rattle.cjc_card_semantics.specs.Machine.ByToken.{classes};
 ghost use Rattle.cjc_card_frame.specs.Meanings.{letter_of};
@@ -14,14 +14,14 @@ ghost use Rattle.cjc_card_step.specs.Effects.Deeds.{EffectByToken, FollowsOn, fo
 use crate::effects::deed::{Deed, Halt, deed_of};
 use crate::effects::items::{number_item, reference_item};
 use crate::effects::operands::{operand, put_any, put_value, value_and_number};
-use cjc_bytes::NoMemory;
 use cjc_card_frame::frame::Cells;
 use cjc_card_frame::frame::words::low_word;
 use cjc_card_frame::heap::{Class, Heap, Parts, Shape};
+use cjc_card_frame::jvm_step::frame::Exception;
 use cjc_card_frame::opcodes::Letter;
 use cjc_card_frame::parts::LookUps;
-use cjc_jvm_step::frame::Exception;
-use cjc_script::Value;
+use cjc_card_semantics::bytes::NoMemory;
+use cjc_card_semantics::script::Value;
 
 /// aaload.
 fn load_reference<'a>(cells: &mut Cells, heap: &Heap, room: usize) -> Result<Deed<'a>, NoMemory>

@@ -11,11 +11,11 @@ ghost use Rattle.cjc_card_step.specs.Effects.Deeds.{FollowsIn};
 
 use crate::effects::deed::Deed;
 use crate::effects::operands::{operand, put_value};
-use cjc_bytes::NoMemory;
 use cjc_card_frame::frame::Cells;
 use cjc_card_frame::image::Statics;
 use cjc_card_frame::opcodes::Letter;
 use cjc_card_frame::parts::StaticCell;
+use cjc_card_semantics::bytes::NoMemory;
 
 /// What a static cell holds is pushed.
 pub fn get_static<'a>(

@@ -5,8 +5,8 @@ ghost use Rattle.std.specs.Prelude.{◌≡◌, ℕ};
 ghost use Rattle.cjc_card_frame.specs.Frame.Frames.{Words};
 ghost use Rattle.cjc_card_step.specs.Effects.Deeds.{Keeps, MemoryByToken, effect_of, halted};
 
+use cjc_card_frame::jvm_step::frame::Exception;
 use cjc_card_frame::parts::Callee;
-use cjc_jvm_step::frame::Exception;
 
 /// The words of a result; of an int the high one first.
 #[derive(Clone, Copy)]

@@ -11,11 +11,11 @@ ghost use Rattle.cjc_card_step.specs.Effects.Deeds.{FollowsOn};
 use crate::effects::deed::{Deed, deed_of};
 use crate::effects::items::field_item;
 use crate::effects::operands::{operand, put_value, receiver};
-use cjc_bytes::NoMemory;
 use cjc_card_frame::frame::Cells;
 use cjc_card_frame::heap::{Field, Heap};
 use cjc_card_frame::opcodes::Letter;
-use cjc_script::Value;
+use cjc_card_semantics::bytes::NoMemory;
+use cjc_card_semantics::script::Value;
 
 /// Whether both are numbers, or both are references.
 fn same_kind(a: Value, b: Value) -> bool

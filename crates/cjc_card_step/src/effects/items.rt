@@ -1,8 +1,8 @@
 //! What instructions find in the heap: elements of arrays, and the fields of objects.
 
 ghost use Rattle.std.specs.Prelude.{◌≡◌, ℕ, ℤ, List, Some, slice_get, IfOk};
-ghost use Rattle.cjc_script.specs.declared.value.Value.{Value};
-ghost use Rattle.cjc_script.specs.Sorts;
+ghost use Rattle.cjc_card_semantics.specs.Script.declared.value.Value.{Value};
+ghost use Rattle.cjc_card_semantics.specs.Script.Sorts;
 ghost use Rattle.cjc_card_semantics.specs.Bytecode.Calculations.{IndexOutside};
 ghost use Rattle.cjc_card_semantics.specs.Bytecode.Effects.{Numbers, Object, Raise, References, Slot, is_element};
 ghost use Rattle.cjc_card_semantics.specs.Bytecode.Effects.{item_at, with_some};
@@ -15,9 +15,9 @@ ghost use Rattle.cjc_card_step.specs.Effects.Looks.{slots_of};
 
 use crate::effects::deed::Halt;
 use cjc_card_frame::heap::{Class, Element, Field, Heap, Parts, slot_at};
+use cjc_card_frame::jvm_step::frame::Exception;
 use cjc_card_frame::opcodes::Letter;
-use cjc_jvm_step::frame::Exception;
-use cjc_script::Value;
+use cjc_card_semantics::script::Value;
 
 /// An element of an array of references: the array's number and class, the element's place and what it holds.
 #[derive(Clone, Copy)]

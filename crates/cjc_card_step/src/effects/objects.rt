@@ -9,12 +9,12 @@ ghost use Rattle.cjc_card_frame.specs.Objects.{class_of, element_of};
 ghost use Rattle.cjc_card_step.specs.Effects.Deeds.{FollowsOn};
 
 use crate::effects::deed::Deed;
-use cjc_bytes::NoMemory;
 use cjc_card_frame::frame::Cells;
 use cjc_card_frame::heap::{Class, Element, Heap, HeapObject};
+use cjc_card_frame::jvm_step::frame::Exception;
 use cjc_card_frame::parts::LookUps;
-use cjc_jvm_step::frame::Exception;
-use cjc_script::Value;
+use cjc_card_semantics::bytes::NoMemory;
+use cjc_card_semantics::script::Value;
 use std::alloc::Global;
 
 /// A new array or object in the place of so many words on top of the stack, where there is room.

@@ -1,8 +1,8 @@
 //! What instructions take off the stack, and what they put onto it, by the letters of their names.
 
 ghost use Rattle.std.specs.Prelude.{◌≡◌, ◌+◌, ◌≤◌, ◌∷◌, [], ℤ, List, length, drop, true, IfOk, IfSome};
-ghost use Rattle.cjc_script.specs.declared.value.Value.{Value};
-ghost use Rattle.cjc_script.specs.declared.value.Value.TheVariants.{Num};
+ghost use Rattle.cjc_card_semantics.specs.Script.declared.value.Value.{Value};
+ghost use Rattle.cjc_card_semantics.specs.Script.declared.value.Value.TheVariants.{Num};
 ghost use Rattle.cjc_card_semantics.specs.Bytecode.Calculations.{int_words, is_reference, one_number, one_value};
 ghost use Rattle.cjc_card_semantics.specs.Bytecode.Effects.{Stick, one_reference, onward, operand, receiver, with_some};
 ghost use Rattle.cjc_card_semantics.specs.Bytecode.Effects.{word_of, words_of};
@@ -12,11 +12,11 @@ ghost use Rattle.cjc_card_frame.specs.Cells.{Fits};
 ghost use Rattle.cjc_card_step.specs.Effects.Deeds.{EffectByToken, FollowsAlone};
 
 use crate::effects::deed::Deed;
-use cjc_bytes::NoMemory;
 use cjc_card_frame::frame::Cells;
 use cjc_card_frame::frame::words::{low_byte, low_word};
 use cjc_card_frame::opcodes::Letter;
-use cjc_script::Value;
+use cjc_card_semantics::bytes::NoMemory;
+use cjc_card_semantics::script::Value;
 
 /// A word in the place of so many on top of the stack, where there is room.
 pub(crate) fn put_word<'a>(

@@ -11,13 +11,13 @@ ghost use Rattle.cjc_card_frame.specs.Objects.{shape_of};
 ghost use Rattle.cjc_card_step.specs.Effects.Deeds.{FollowsAlone, FollowsOn};
 
 use crate::effects::deed::{Deed, Returned};
-use cjc_bytes::NoMemory;
 use cjc_card_frame::frame::Cells;
 use cjc_card_frame::heap::{Heap, Shape};
+use cjc_card_frame::jvm_step::frame::Exception;
 use cjc_card_frame::opcodes::Letter;
 use cjc_card_frame::parts::LookUps;
-use cjc_jvm_step::frame::Exception;
-use cjc_script::Value;
+use cjc_card_semantics::bytes::NoMemory;
+use cjc_card_semantics::script::Value;
 
 /// Whether the array or object with a number is of a type.
 fn is_of<L: LookUps>(links: &L, heap: &Heap, number: u32, target: Shape) -> Option<bool>

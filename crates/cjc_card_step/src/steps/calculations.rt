@@ -4,17 +4,17 @@
 ghost use Rattle.std.specs.Prelude.{IfOk};
 ghost use Rattle.cjc_card_semantics.specs.Bytecode.Effects.{Do};
 ghost use Rattle.cjc_card_frame.specs.Meanings.{calculation_of};
-ghost use Rattle.cjc_capread.specs.Decoder.Decoded.{values};
+ghost use Rattle.cjc_card_semantics.specs.CapRead.Decoder.Decoded.{values};
 ghost use Rattle.cjc_card_semantics.specs.Machine.Loaded.{Loaded};
 ghost use Rattle.cjc_card_frame.specs.Frame.Frames.{AreOperands};
 ghost use Rattle.cjc_card_step.specs.Effects.Deeds.{FollowsAlone};
 ghost use Rattle.cjc_card_step.specs.Rows.{row_of};
 
 use crate::effects::Deed;
-use cjc_bytes::NoMemory;
-use cjc_capread::decoder::Operands;
 use cjc_card_frame::frame::{Cells, Ending};
 use cjc_card_frame::opcodes::Calculation;
+use cjc_card_semantics::bytes::NoMemory;
+use cjc_card_semantics::capread::decoder::Operands;
 
 /// A calculation with its operands.
 pub(crate) fn calculate<'a>(

@@ -11,12 +11,12 @@ ghost use Rattle.cjc_card_step.specs.Rows.{row_of, used};
 use crate::effects::{
     Deed, get_field, get_static, new_object, new_references, put_field, put_static,
 };
-use cjc_bytes::NoMemory;
 use cjc_card_frame::frame::Cells;
 use cjc_card_frame::heap::Heap;
 use cjc_card_frame::image::Statics;
 use cjc_card_frame::opcodes::{Letter, Mode, Use};
 use cjc_card_frame::parts::{LookUps, entries_are_used};
+use cjc_card_semantics::bytes::NoMemory;
 use std::alloc::Global;
 
 // getfield.

@@ -5,9 +5,9 @@ ghost use Rattle.cjc_card_semantics.specs.Bytecode.Effects.{Touch};
 ghost use Rattle.cjc_card_semantics.specs.Bytecode.Meanings.{Asks, Branches, CallsInterface, Casts, MakesNumbers};
 ghost use Rattle.cjc_card_semantics.specs.Bytecode.Meanings.{Paired, Ranged, Uses};
 ghost use Rattle.cjc_card_frame.specs.Meanings.{access_of, meaning_of, test_of, use_of};
-ghost use Rattle.cjc_capread.specs.Decoder.Decoded.{IsAtFront, instruction_of, numbers_of, values};
-ghost use Rattle.cjc_capread.specs.Decoder.Shapes.{matches_of};
-ghost use Rattle.cjc_capread.specs.declared.decoder.table.Matches.TheVariants.{Counted};
+ghost use Rattle.cjc_card_semantics.specs.CapRead.Decoder.Decoded.{IsAtFront, instruction_of, numbers_of, values};
+ghost use Rattle.cjc_card_semantics.specs.CapRead.Decoder.Shapes.{matches_of};
+ghost use Rattle.cjc_card_semantics.specs.CapRead.declared.decoder.table.Matches.TheVariants.{Counted};
 ghost use Rattle.cjc_card_semantics.specs.Machine.Loaded.{Loaded};
 ghost use Rattle.cjc_card_semantics.specs.Machine.Operations.{operation};
 ghost use Rattle.cjc_card_frame.specs.Objects.{shape_of};
@@ -22,13 +22,13 @@ use crate::steps::calculations::calculate;
 use crate::steps::entries::use_entry;
 use crate::steps::jumps::{branch, switch_pairs, switch_range};
 use crate::steps::types::{element_type, type_by};
-use cjc_bytes::NoMemory;
-use cjc_capread::decoder::{Insn, Operands};
 use cjc_card_frame::frame::Cells;
 use cjc_card_frame::heap::{Heap, Shape};
 use cjc_card_frame::image::Statics;
 use cjc_card_frame::opcodes::{Access, Condition, Meaning, Use, opcode_meaning};
 use cjc_card_frame::parts::{Callee, Code, LookUps};
+use cjc_card_semantics::bytes::NoMemory;
+use cjc_card_semantics::capread::decoder::{Insn, Operands};
 use std::alloc::Global;
 
 /// What an instruction asks of the machine, and the offset where going on leads.

@@ -2,12 +2,12 @@
 //! the run goes on at. Called by `instruction`.
 
 ghost use Rattle.std.specs.Prelude.{◌≡◌, ◌≤◌, ℕ, ℤ, List, length, drop, IfOk, IfSome};
-ghost use Rattle.cjc_script.specs.declared.value.Value.{Value};
+ghost use Rattle.cjc_card_semantics.specs.Script.declared.value.Value.{Value};
 ghost use Rattle.cjc_card_semantics.specs.Bytecode.Effects.{Branch, Pick, Stick, with_some};
 ghost use Rattle.cjc_card_frame.specs.Meanings.{test_of};
-ghost use Rattle.cjc_capread.specs.Decoder.Decoded.{numbers};
-ghost use Rattle.cjc_capread.specs.Decoder.Shapes.{matches_of};
-ghost use Rattle.cjc_capread.specs.declared.decoder.table.Matches.TheVariants.{Counted};
+ghost use Rattle.cjc_card_semantics.specs.CapRead.Decoder.Decoded.{numbers};
+ghost use Rattle.cjc_card_semantics.specs.CapRead.Decoder.Shapes.{matches_of};
+ghost use Rattle.cjc_card_semantics.specs.CapRead.declared.decoder.table.Matches.TheVariants.{Counted};
 ghost use Rattle.cjc_card_semantics.specs.Machine.Loaded.{Loaded};
 ghost use Rattle.cjc_card_semantics.specs.Machine.Operations.{moved, paired, ranged};
 ghost use Rattle.cjc_card_step.specs.Effects.Deeds.{EffectByToken, MemoryByToken};
@@ -15,10 +15,10 @@ ghost use Rattle.cjc_card_step.specs.Rows.{IsStep, picked, row_of};
 
 use crate::effects::Deed;
 use crate::steps::instruction::Step;
-use cjc_bytes::NoMemory;
 use cjc_card_frame::fetch::{arm_of_pairs, arm_of_range, moved};
 use cjc_card_frame::frame::{Cells, Choice};
 use cjc_card_frame::opcodes::Condition;
+use cjc_card_semantics::bytes::NoMemory;
 
 // More than the offsets of any component.
 const TOO_FAR: usize = 1 << 32;

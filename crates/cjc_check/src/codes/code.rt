@@ -2,7 +2,7 @@
 
 ghost use Rattle.std.specs.Prelude.{◌≡◌, IfOk, map};
 
-use cjc_bytes::{NoMemory, Row};
+use cjc_capread::bytes::{NoMemory, Row};
 use cjc_capread::decoder::Insn;
 use std::alloc::Global;
 

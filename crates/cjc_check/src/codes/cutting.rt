@@ -5,8 +5,8 @@ ghost use Rattle.std.specs.Prelude.{◌≡◌, ℕ, ◌+◌, ◌-◌, ◌*◌, �
 ghost use Rattle.cjc_capread.specs.declared.tree.MethodDescriptor.{MethodDescriptor as Described};
 ghost use Rattle.cjc_check.specs.Codes.Bodies.{IsCut, cut_of};
 ghost use Rattle.cjc_check.specs.Codes.Working.Steps.{EndsAt, IsStep, followed};
-ghost use Rattle.cjc_check_index.specs.Lookup.Indexed.{IsIndexed};
-ghost use Rattle.cjc_check_index.specs.Lookup.Parts.{complete_of};
+ghost use Rattle.cjc_check_tables.specs.CheckIndex.Lookup.Indexed.{IsIndexed};
+ghost use Rattle.cjc_check_tables.specs.CheckIndex.Lookup.Parts.{complete_of};
 ghost use Rattle.cjc_check_rules.specs.Codes.{Code, codes_from, cut, instructions, where_cut_ends, with_code};
 ghost use Rattle.cjc_capread.specs.Decoder.Decoded.{header_of};
 ghost use Rattle.cjc_check_rules.specs.Complete.{AreSmall};
@@ -15,11 +15,11 @@ ghost use Rattle.cjc_check_rules.specs.Spots.{first};
 use crate::codes::code::{Body, starts_of};
 use crate::codes::methods::methods_of_all;
 use crate::codes::walk::{Walk, instructions};
-use cjc_bytes::{NoMemory, Row};
 use cjc_capread::MethodDescriptor;
+use cjc_capread::bytes::{NoMemory, Row};
 use cjc_capread::decoder::{Header, method_header};
-use cjc_check_index::lookup::{Names, unless};
 use cjc_check_rules::ComponentPlace;
+use cjc_check_tables::check_index::lookup::{Names, unless};
 use std::alloc::Global;
 
 /// The tag of Method.

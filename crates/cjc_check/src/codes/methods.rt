@@ -3,11 +3,11 @@
 
 ghost use Rattle.std.specs.Prelude.{◌≡◌, ◌++◌, IfOk, OnOk};
 ghost use Rattle.cjc_check.specs.Codes.Working.Steps.{methods_of, methods_of_all};
-ghost use Rattle.cjc_check_index.specs.Lookup.Indexed.{IsIndexed};
+ghost use Rattle.cjc_check_tables.specs.CheckIndex.Lookup.Indexed.{IsIndexed};
 
-use cjc_bytes::{NoMemory, Row};
+use cjc_capread::bytes::{NoMemory, Row};
 use cjc_capread::{ClassDescriptor, MethodDescriptor};
-use cjc_check_index::lookup::{Names, is_own_class};
+use cjc_check_tables::check_index::lookup::{Names, is_own_class};
 use std::alloc::Global;
 
 /// Puts methods at the end.

@@ -6,7 +6,7 @@ ghost use Rattle.cjc_check.specs.Codes.Working.Steps.{IsWalk, walk_of};
 ghost use Rattle.cjc_check_rules.specs.Codes.{instructions};
 
 use crate::codes::code::At;
-use cjc_bytes::{NoMemory, Row};
+use cjc_capread::bytes::{NoMemory, Row};
 use cjc_capread::decoder::decode;
 use std::alloc::Global;
 

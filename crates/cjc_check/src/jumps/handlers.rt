@@ -13,8 +13,8 @@ ghost use Rattle.cjc_check_rules.specs.Spots.{along, first};
 
 use crate::codes::Body;
 use cjc_capread::{Handler, PoolEntry};
-use cjc_check_index::lookup::{Test, earlier, first_along, is_among, unless};
 use cjc_check_rules::ComponentPlace;
+use cjc_check_tables::check_index::lookup::{Test, earlier, first_along, is_among, unless};
 
 /// The tag of Method.
 const METHOD: u8 = 7;

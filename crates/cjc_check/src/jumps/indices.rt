@@ -12,11 +12,11 @@ ghost use Rattle.cjc_check_rules.specs.Instructions.{indices, is_entry_for, is_n
 ghost use Rattle.cjc_check_rules.specs.Spots.{first, lies_between};
 
 use crate::codes::{At, Body};
-use cjc_bytes::{NoMemory, Row};
+use cjc_capread::bytes::{NoMemory, Row};
 use cjc_capread::decoder::{Operands, Shape};
 use cjc_capread::{PoolEntry, card};
-use cjc_check_index::lookup::{earlier, unless};
 use cjc_check_rules::ComponentPlace;
+use cjc_check_tables::check_index::lookup::{earlier, unless};
 use std::alloc::Global;
 
 /// The tag of Method.

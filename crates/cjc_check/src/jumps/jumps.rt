@@ -13,8 +13,8 @@ ghost use Rattle.cjc_check_rules.specs.Spots.{first, in_info, unless};
 use crate::codes::{At, Body};
 use cjc_capread::card;
 use cjc_capread::decoder::{Kind, Operands, Shape, Table, entry_size, operand};
-use cjc_check_index::lookup::{earlier, is_among, unless};
 use cjc_check_rules::ComponentPlace;
+use cjc_check_tables::check_index::lookup::{earlier, is_among, unless};
 
 /// The tag of Method.
 const METHOD: u8 = 7;

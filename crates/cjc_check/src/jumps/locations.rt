@@ -9,10 +9,10 @@ ghost use Rattle.cjc_check_rules.specs.Locations.{are_listed, catch_places, dist
 ghost use Rattle.cjc_check_rules.specs.Spots.{first, in_info, unless};
 
 use crate::jumps::indices::IndexAt;
-use cjc_bytes::{NoMemory, Row};
+use cjc_capread::bytes::{NoMemory, Row};
 use cjc_capread::{Handler, ReferenceLocation};
-use cjc_check_index::lookup::{Comparison, earlier, first_beside, unless};
 use cjc_check_rules::ComponentPlace;
+use cjc_check_tables::check_index::lookup::{Comparison, earlier, first_beside, unless};
 use std::alloc::Global;
 
 /// The tag of ReferenceLocation.

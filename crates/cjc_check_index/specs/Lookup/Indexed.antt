@@ -2,8 +2,8 @@
 -- by token.
 use Rattle.std.specs.Prelude.{◌≡◌, ℕ, ◌+◌, ◌==◌, List, [], ◌∷◌, map, Option, Some, None, if◌then◌else◌, Bool}
 use Rattle.std.specs.List.{range_with_len}
-use Rattle.cjc_capread.specs.declared.tree.ClassInfo.{ClassInfo}
-use Rattle.cjc_capread.specs.declared.tree.ClassRef.{ClassRef}
+use Rattle.cjc_check_rules.specs.CapRead.declared.tree.ClassInfo.{ClassInfo}
+use Rattle.cjc_check_rules.specs.CapRead.declared.tree.ClassRef.{ClassRef}
 use Rattle.cjc_export.specs.declared.tree.ExportClass.{ExportClass}
 use Rattle.cjc_export.specs.declared.tree.ExportTree.{ExportTree}
 use Rattle.cjc_check_index.specs.declared.lookup.names.Names.{Names}

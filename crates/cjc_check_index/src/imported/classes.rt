@@ -7,7 +7,7 @@ ghost use Rattle.cjc_export.specs.Supers.{classes_of};
 ghost use Rattle.cjc_check_index.specs.Imported.Tokens.{file_starts};
 ghost use Rattle.cjc_check_index.specs.Imported.Working.Names.{HasPlace, IsIndex, fed, names-equivalence, same-fed};
 
-use cjc_bytes::{NoMemory, Row};
+use cjc_export::bytes::{NoMemory, Row};
 use cjc_export::{ExportClass, ExportTree};
 use indexmap::IndexMap;
 use std::alloc::Global;

@@ -10,7 +10,7 @@ ghost use Rattle.cjc_check_index.specs.Imported.Working.Names.{IsIndex};
 ghost use Rattle.cjc_export.specs.declared.tree.ExportClass.{ExportClass as Class};
 
 use crate::imported::classes::{ImportedClass, Name, Places, places_of};
-use cjc_bytes::{Bytes, NoMemory, Row};
+use cjc_export::bytes::{Bytes, NoMemory, Row};
 use std::alloc::Global;
 
 /// Puts the place of a name's first class at the end, if it has one.

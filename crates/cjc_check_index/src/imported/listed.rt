@@ -10,7 +10,7 @@ ghost use Rattle.cjc_check_index.specs.Imported.Working.Rows.{is_asked, is_wante
 ghost use Rattle.cjc_check_index.specs.Imported.Working.Rows.{with_answer};
 
 use crate::imported::classes::ImportedClass;
-use cjc_bytes::{NoMemory, Row, is_private, is_static};
+use cjc_export::bytes::{NoMemory, Row, is_private, is_static};
 use cjc_export::{ExportField, ExportMethod};
 use std::alloc::Global;
 

@@ -14,9 +14,9 @@ ghost use Rattle.cjc_check_rules.specs.Members.{supers_have};
 use crate::imported::rows::answer;
 use crate::imported::tokens::Tokens;
 use crate::lookup::{Names, Want};
-use cjc_bytes::Row;
-use cjc_capread::ClassRef;
+use cjc_check_rules::capread::ClassRef;
 use cjc_export::ExportClass;
+use cjc_export::bytes::Row;
 
 /// The place of the first class of a token among those of its file.
 fn place_in_file(classes: &[ExportClass], places: &[Option<usize>], token: u8) -> Option<usize>

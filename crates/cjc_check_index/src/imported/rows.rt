@@ -7,7 +7,7 @@ ghost use Rattle.cjc_check_index.specs.Imported.Working.Graph.{AreBelow, above_o
 ghost use Rattle.cjc_check_index.specs.Imported.Working.Rows.{column, has_or_inherits, inherits, is_any_marked};
 
 use crate::imported::reach::reach;
-use cjc_bytes::{NoMemory, Row};
+use cjc_export::bytes::{NoMemory, Row};
 use std::alloc::Global;
 
 /// The answers of all classes to one token.

@@ -12,8 +12,8 @@ use crate::imported::classes::{Classes, ImportedClass, all_classes};
 use crate::imported::graph::{above_of, below_of};
 use crate::imported::listed::{field_tables, method_tables};
 use crate::imported::rows::{closed_rows, inherited_rows};
-use cjc_bytes::{NoMemory, Row};
 use cjc_export::ExportTree;
+use cjc_export::bytes::{NoMemory, Row};
 use std::alloc::Global;
 
 /// What the classes of all export files have by token. The classes stand one behind the other, file by file.

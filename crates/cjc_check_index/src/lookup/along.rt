@@ -8,8 +8,8 @@ ghost use Rattle.cjc_check_rules.specs.Spots.{along, beside, first, numbered, st
 ghost use Rattle.cjc_check_rules.specs.declared.spot.ComponentPlace.{ComponentPlace as Place};
 
 use crate::lookup::spot::earlier;
-use cjc_bytes::{NoMemory, Row};
 use cjc_check_rules::ComponentPlace;
+use cjc_export::bytes::{NoMemory, Row};
 use std::alloc::Global;
 
 /// An item of a component.

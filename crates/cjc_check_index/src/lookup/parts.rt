@@ -4,7 +4,7 @@ ghost use Rattle.std.specs.Prelude.{◌≡◌, option_map};
 ghost use Rattle.cjc_check_rules.specs.Complete.{complete};
 ghost use Rattle.cjc_check_index.specs.Lookup.Parts.{complete_of};
 
-use cjc_capread::{
+use cjc_check_rules::capread::{
     Applet, CapTree, ClassInfo, ConstantPool, Descriptor, Export, Import, Method,
     ReferenceLocation, StaticField,
 };

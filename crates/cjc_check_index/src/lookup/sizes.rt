@@ -11,7 +11,7 @@ ghost use Rattle.cjc_check_rules.specs.Complete.{statics_size, locations_size, e
 ghost use Rattle.cjc_check_rules.specs.Complete.{size_items, IsSmall};
 
 use crate::lookup::along::{Item, total};
-use cjc_capread::{
+use cjc_check_rules::capread::{
     Applet, AppletEntry, ArrayInit, CapTree, ClassDescriptor, ClassEntry, ClassInfo, ClassRef,
     ConstantPool, Descriptor, Export, ExportedClass, FieldDescriptor, Handler, Header,
     ImplementedInterface, Import, ImportedPackage, InterfaceEntry, Method, MethodDescriptor,

@@ -5,7 +5,7 @@ ghost use Rattle.std.specs.Prelude.{◌≡◌, IfOk, None, Some, get_or, length,
 ghost use Rattle.cjc_check_index.specs.Lookup.Indexed.{places_of};
 ghost use Rattle.cjc_check_index.specs.Lookup.Tokens.{or_else};
 
-use cjc_bytes::{NoMemory, Row};
+use cjc_export::bytes::{NoMemory, Row};
 use cjc_export::{ExportClass, ExportTree};
 use std::alloc::Global;
 

@@ -6,8 +6,8 @@ use Rattle.std.specs.Prelude.{unwrap_or, if◌then◌else◌}
 use Rattle.std.specs.Str.{bytes_eq}
 use Rattle.std.proofs.lemmas.List.{length-map}
 use Rattle.std.proofs.lemmas.List.Quantifiers.{position-Some}
-use Rattle.cjc_export.specs.Supers.{is_one_of}
-use Rattle.cjc_order.specs.Supers.Supers.{each_once}
+use Rattle.cjc_world.specs.ExportFile.Supers.{is_one_of}
+use Rattle.cjc_vtable.specs.ClassOrder.Supers.Supers.{each_once}
 use Rattle.cjc_check_rules.specs.Spots.{placed, begins}
 use Rattle.cjc_check_rules.specs.Complete.{type_size}
 use Rattle.cjc_check_rules.specs.Described.{is_type}

@@ -11,9 +11,9 @@ use Rattle.cjc_ncode.specs.declared.narrow.NInsn.{NInsn}
 use Rattle.cjc_ncode.specs.Lowering.Naming.{Naming}
 use Rattle.cjc_ncode.specs.Lowering.Placed.{bytes_before, first, insn_size, offset_of}
 use Rattle.cjc_ncode.proofs.LoweringLaws.Places.{at_least_one, before_ascends, before_grows, before_over}
-use Rattle.cjc_layout.proofs.Lowered.{before_same}
-use Rattle.cjc_emit.specs.Emitted.{CanBeWritten}
-use Rattle.cjc_emit.specs.Emitted as Emitted
+use Rattle.cjc_components.proofs.Layout.Lowered.{before_same}
+use Rattle.cjc_components.specs.Emit.Emitted.{CanBeWritten}
+use Rattle.cjc_components.specs.Emit.Emitted as Emitted
 use Rattle.cjc_components.specs.Package.{LaidMethod}
 use Rattle.cjc_components.specs.Methods.{bytecode_count, method_size, placed_at}
 use Rattle.cjc_token_proof.proofs.ComponentsLaws.Tests.{same_number}

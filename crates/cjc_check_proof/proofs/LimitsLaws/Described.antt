@@ -16,14 +16,14 @@ use Rattle.cjc_capwrite.specs.Files.{is_wide}
 use Rattle.cjc_capwrite.specs.Fits.{ClassDescriptorFits, ClassFits, DescriptorFits, FieldFits, Fits2}
 use Rattle.cjc_capwrite.specs.Fits.{MethodDescriptorFits, PlaceFits, TypeDescriptorFits, TypeFits}
 use Rattle.cjc_capwrite.proofs.Lengths.{class_descriptor_length, descriptor_length, type_length, types_length}
-use Rattle.cjc_classfile.specs.declared.tree.FieldTree.{FieldTree}
-use Rattle.cjc_clinit.specs.Image.{field_id}
-use Rattle.cjc_export.specs.Supers.{is_one_of}
+use Rattle.cjc_world.specs.ClassFile.declared.tree.FieldTree.{FieldTree}
+use Rattle.cjc_components.specs.Clinit.Image.{field_id}
+use Rattle.cjc_world.specs.ExportFile.Supers.{is_one_of}
 use Rattle.cjc_script.specs.Sorts.{Element, Booleans, Bytes, Shorts, Ints, Shape, OfClass, OfNumbers, OfReferences}
 use Rattle.cjc_script.specs.Sorts.{Sort, Boolean, Byte, Short, Int, Reference, NoValue, Signature, field_sort}
 use Rattle.cjc_script.specs.Sorts.{signature_of}
 use Rattle.cjc_check_rules.specs.Complete.{type_size}
-use Rattle.cjc_order.specs.Supers.Supers.{each_once}
+use Rattle.cjc_vtable.specs.ClassOrder.Supers.Supers.{each_once}
 use Rattle.cjc_tokens.specs.Fields.{is_constant}
 use Rattle.cjc_world.specs.declared.found.Found.{Found}
 use Rattle.cjc_world.specs.Classes.{Class}

@@ -12,10 +12,10 @@ use Rattle.cjc_capread.specs.Opcodes.{widths}
 use Rattle.cjc_capwrite.specs.Fits.{HandlerFits, MethodFits}
 use Rattle.cjc_capwrite.specs.Method.{method_bytes}
 use Rattle.cjc_capwrite.proofs.Lengths.{method_length}
-use Rattle.cjc_narrow.specs.Keys.Index.{index_of}
-use Rattle.cjc_layout.specs.Handlers.{table_order}
-use Rattle.cjc_layout.specs.Sizes as Sizes
-use Rattle.cjc_layout.proofs.Lowered.{before_same}
+use Rattle.cjc_components.specs.Narrow.Keys.Index.{index_of}
+use Rattle.cjc_components.specs.Layout.Handlers.{table_order}
+use Rattle.cjc_components.specs.Layout.Sizes as Sizes
+use Rattle.cjc_components.proofs.Layout.Lowered.{before_same}
 use Rattle.cjc_ncode.specs.Lowering.Handlers.{handlers_of}
 use Rattle.cjc_ncode.specs.Lowering.Laid.{class_index, laid}
 use Rattle.cjc_ncode.proofs.LoweringLaws.Places.{size_same}

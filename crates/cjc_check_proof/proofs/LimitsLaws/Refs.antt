@@ -14,12 +14,12 @@ use Rattle.cjc_capread.specs.declared.tree.ClassEntry.{ClassEntry}
 use Rattle.cjc_capwrite.specs.Class.{interface_bytes, implemented_bytes, class_entry_bytes, class_info_bytes}
 use Rattle.cjc_capwrite.specs.Fits.{ClassFits, StaticFits}
 use Rattle.cjc_capwrite.proofs.Lengths.{interface_length, implemented_length, class_entry_length, class_info_length}
-use Rattle.cjc_card_semantics.specs.Machine.Classes.{Class as CardClass, Own, External, external_from, or_else}
-use Rattle.cjc_card_semantics.specs.Machine.Classes.{token_named}
-use Rattle.cjc_export.specs.declared.tree.ExportClass.{ExportClass}
-use Rattle.cjc_export.specs.declared.tree.ExportTree.{ExportTree}
-use Rattle.cjc_export.specs.Writable.{EachAfter, IsWritable}
-use Rattle.cjc_export.specs.Writable as Writable
+use Rattle.cjc_ncode.specs.CardSemantics.Machine.Classes.{Class as CardClass, Own, External, external_from, or_else}
+use Rattle.cjc_ncode.specs.CardSemantics.Machine.Classes.{token_named}
+use Rattle.cjc_world.specs.ExportFile.declared.tree.ExportClass.{ExportClass}
+use Rattle.cjc_world.specs.ExportFile.declared.tree.ExportTree.{ExportTree}
+use Rattle.cjc_world.specs.ExportFile.Writable.{EachAfter, IsWritable}
+use Rattle.cjc_world.specs.ExportFile.Writable as Writable
 use Rattle.cjc_check_rules.specs.Spots.{placed, starts}
 use Rattle.cjc_check_rules.specs.Complete.{interface_size, class_size, map_size, class_info_size}
 use Rattle.cjc_check_rules.specs.Classes.{first_interface, first_class}

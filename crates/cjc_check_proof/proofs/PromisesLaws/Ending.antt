@@ -5,36 +5,36 @@ use Rattle.std.specs.Prelude.{Option, Some, None, flat_map, slice_get, ◌==◌,
 use Rattle.std.specs.List.{Contains}
 use Rattle.std.proofs.lemmas.Bool.{lt-ltb}
 use Rattle.std.proofs.lemmas.List.Elements.{Contains-append_left}
-use Rattle.cjc_fixpoint.specs.Working.Edges.{contains_head}
+use Rattle.cjc_tokens.specs.Fixpoint.Working.Edges.{contains_head}
 use Rattle.cjc_bytes.specs.declared.fault.MemberId.{MemberId}
-use Rattle.cjc_classfile.specs.Code.{CodeTree}
-use Rattle.cjc_classfile.specs.declared.tree.ClassTree.{ClassTree}
-use Rattle.cjc_classfile.specs.declared.tree.MethodTree.{MethodTree}
+use Rattle.cjc_world.specs.ClassFile.Code.{CodeTree}
+use Rattle.cjc_world.specs.ClassFile.declared.tree.ClassTree.{ClassTree}
+use Rattle.cjc_world.specs.ClassFile.declared.tree.MethodTree.{MethodTree}
 use Rattle.std.proofs.lemmas.List.{length-map}
-use Rattle.cjc_code.specs.Cut.{cut, IsCutFrom}
-use Rattle.cjc_code.specs.Rules.{stopped, with_names}
-use Rattle.cjc_code.proofs.OneCut.{is_cut}
-use Rattle.cjc_code.specs.declared.insn.JInsn.{JInsn}
-use Rattle.cjc_code.specs.declared.insn.JOp.{JOp}
-use Rattle.cjc_code.specs.declared.insn.JOp.TheVariants as jop
-use Rattle.cjc_code.specs.declared.method_code.MethodCode.{MethodCode}
+use Rattle.cjc_ncode.specs.Bytecode.Cut.{cut, IsCutFrom}
+use Rattle.cjc_ncode.specs.Bytecode.Rules.{stopped, with_names}
+use Rattle.cjc_ncode.proofs.Bytecode.OneCut.{is_cut}
+use Rattle.cjc_ncode.specs.Bytecode.declared.insn.JInsn.{JInsn}
+use Rattle.cjc_ncode.specs.Bytecode.declared.insn.JOp.{JOp}
+use Rattle.cjc_ncode.specs.Bytecode.declared.insn.JOp.TheVariants as jop
+use Rattle.cjc_ncode.specs.Bytecode.declared.method_code.MethodCode.{MethodCode}
 use Rattle.cjc_world.specs.Files.{Files}
 use Rattle.cjc_ncode.specs.declared.narrow.NCase.{NCase}
 use Rattle.cjc_ncode.specs.declared.narrow.NInsn.{NInsn}
 use Rattle.cjc_ncode.specs.declared.narrow.NMethod.{NMethod}
 use Rattle.cjc_ncode.specs.Written.{leaving, low_of, pair_cases, place_in, reached, Resolution, switched, table_cases}
 use Rattle.cjc_ncode.specs.Written.{written}
-use Rattle.cjc_narrow.specs.Rows.Resolved.{argument_words, resolution}
-use Rattle.cjc_narrow.specs.Rows.Selected.{selected_code}
-use Rattle.cjc_narrow.specs.Written.Rows.{by_rows_there, has_rows, rows_by}
-use Rattle.cjc_types.specs.declared.state.State.{State}
-use Rattle.cjc_types.specs.Flow.{body_of, next_place, successors}
-use Rattle.cjc_types.specs.Steps.{goes_on}
-use Rattle.cjc_types.specs.Tables.{IsLeastTable, IsMethodOf}
-use Rattle.cjc_types.specs.TypeLaws.Closed.{IsClosedTable}
-use Rattle.cjc_types.proofs.TypeLaws.Lowered.{least_closed}
-use Rattle.cjc_types.proofs.TypeLaws.Standing.{next_there}
-use Rattle.cjc_layout.proofs.Places.{get_inside}
+use Rattle.cjc_components.specs.Narrow.Rows.Resolved.{argument_words, resolution}
+use Rattle.cjc_components.specs.Narrow.Rows.Selected.{selected_code}
+use Rattle.cjc_components.specs.Narrow.Written.Rows.{by_rows_there, has_rows, rows_by}
+use Rattle.cjc_narrow_proof.specs.Types.declared.state.State.{State}
+use Rattle.cjc_narrow_proof.specs.Types.Flow.{body_of, next_place, successors}
+use Rattle.cjc_narrow_proof.specs.Types.Steps.{goes_on}
+use Rattle.cjc_narrow_proof.specs.Types.Tables.{IsLeastTable, IsMethodOf}
+use Rattle.cjc_narrow_proof.specs.Types.TypeLaws.Closed.{IsClosedTable}
+use Rattle.cjc_narrow_proof.proofs.Types.TypeLaws.Lowered.{least_closed}
+use Rattle.cjc_narrow_proof.proofs.Types.TypeLaws.Standing.{next_there}
+use Rattle.cjc_components.proofs.Layout.Places.{get_inside}
 use Rattle.cjc_narrow_proof.proofs.SelectedLaws.Cuts.{decoded, few}
 use Rattle.cjc_check_rules.specs.Instructions.{ends_code}
 use Rattle.cjc_check_proof.specs.Code.Ends.{last_ends}

@@ -6,13 +6,13 @@ use Rattle.cjc_bytes.specs.declared.fault.MemberId.{MemberId}
 use Rattle.cjc_bytes.specs.AccessFlags.{is_private}
 use Rattle.cjc_script.specs.Sorts.{Sort, Boolean, Byte, Short, Int, Reference, NoValue, Shape, OfClass, OfNumbers}
 use Rattle.cjc_script.specs.Sorts.{OfReferences, Booleans, Bytes, Shorts, Ints, field_sort, shape_named}
-use Rattle.cjc_card_semantics.specs.Bytecode.Meanings.{Meaning, Uses, meaning}
-use Rattle.cjc_range.specs.Words.{low_word}
-use Rattle.cjc_code.specs.declared.insn.JInsn.{JInsn}
-use Rattle.cjc_code.specs.declared.insn.JOp.{JOp}
-use Rattle.cjc_code.specs.declared.insn.JOp.TheVariants as jop
+use Rattle.cjc_ncode.specs.CardSemantics.Bytecode.Meanings.{Meaning, Uses, meaning}
+use Rattle.cjc_narrow_proof.specs.Range.Words.{low_word}
+use Rattle.cjc_ncode.specs.Bytecode.declared.insn.JInsn.{JInsn}
+use Rattle.cjc_ncode.specs.Bytecode.declared.insn.JOp.{JOp}
+use Rattle.cjc_ncode.specs.Bytecode.declared.insn.JOp.TheVariants as jop
 use Rattle.cjc_world.specs.Files.{Files}
-use Rattle.cjc_jvm_semantics.specs.OnePackage.{ResolvedMember, is_constructor, of_class}
+use Rattle.cjc_token_proof.specs.JvmSemantics.OnePackage.{ResolvedMember, is_constructor, of_class}
 use Rattle.cjc_ncode.specs.declared.narrow.NCase.{NCase}
 use Rattle.cjc_ncode.specs.declared.narrow.NInsn.{NInsn}
 use Rattle.cjc_ncode.specs.declared.narrow.NInsn.TheVariants.{Op, Push, Local, Words, Named, Interface}
@@ -21,7 +21,7 @@ use Rattle.cjc_ncode.specs.declared.narrow.PoolKey.TheVariants as keys
 use Rattle.cjc_ncode.specs.Written.{call_by, field_access, local, low_of, nargs_of, on_stack, pair_cases, pushed}
 use Rattle.cjc_ncode.specs.Written.{pushed_word, Resolution, static_access, static_by, switched, table_cases, type_test}
 use Rattle.cjc_ncode.specs.Written.{written}
-use Rattle.cjc_narrow.specs.Rows.Resolved.{by_owner, resolution, special_by}
+use Rattle.cjc_components.specs.Narrow.Rows.Resolved.{by_owner, resolution, special_by}
 use Rattle.cjc_check_proof.specs.Code.Kinds.{HasKind, is_for}
 
 AllKind : List NInsn → Type 0

@@ -7,12 +7,13 @@ use Rattle.std.specs.Str.{bytes_eq}
 use Rattle.std.proofs.lemmas.Bool.Decides.{nat_tests}
 use Rattle.cjc_bytes.specs.AccessFlags.{is_interface, is_private, is_static}
 use Rattle.cjc_capread.specs.declared.tree.ClassRef.TheVariants.{Outside}
-use Rattle.cjc_export.specs.declared.tree.ExportClass.{ExportClass}
-use Rattle.cjc_export.specs.declared.tree.ExportMethod.{ExportMethod}
-use Rattle.cjc_export.specs.Supers.{IsAtOrAbove, above, at, classes_of, has_virtual, inherits_virtual, is_one_of}
-use Rattle.cjc_export.specs.Supers.{lists_virtual, upwards}
-use Rattle.cjc_export.specs.Supers as exports
-use Rattle.cjc_export.proofs.Upwards.{all_found, each_own}
+use Rattle.cjc_world.specs.ExportFile.declared.tree.ExportClass.{ExportClass}
+use Rattle.cjc_world.specs.ExportFile.declared.tree.ExportMethod.{ExportMethod}
+use Rattle.cjc_world.specs.ExportFile.Supers.{IsAtOrAbove, above, at, classes_of, has_virtual, inherits_virtual}
+use Rattle.cjc_world.specs.ExportFile.Supers.{is_one_of}
+use Rattle.cjc_world.specs.ExportFile.Supers.{lists_virtual, upwards}
+use Rattle.cjc_world.specs.ExportFile.Supers as exports
+use Rattle.cjc_world.proofs.ExportFile.Upwards.{all_found, each_own}
 use Rattle.cjc_check_rules.specs.Members.{class_has, in_imported}
 use Rattle.cjc_world.specs.declared.found.Found.{Found}
 use Rattle.cjc_world.specs.Classes.{Class, Member, class_named, imported, method_of_export}

@@ -4,8 +4,8 @@ use Rattle.std.specs.Prelude.{is_some, ◌+◌, sum_by}
 use Rattle.std.specs.List.{list_all}
 use Rattle.cjc_bytes.specs.AccessFlags.{is_interface}
 use Rattle.cjc_bytes.specs.declared.settings.AppletLine.{AppletLine}
-use Rattle.cjc_export.specs.declared.tree.ExportClass.{ExportClass}
-use Rattle.cjc_subset.specs.Applets.{is_unfit_applet}
+use Rattle.cjc_world.specs.ExportFile.declared.tree.ExportClass.{ExportClass}
+use Rattle.cjc_vtable.specs.Subset.Applets.{is_unfit_applet}
 use Rattle.cjc_script.specs.Sorts.{Shape, OfClass, OfNumbers, OfReferences, Sort, Boolean, Byte, Short, Int, Reference}
 use Rattle.cjc_script.specs.Sorts.{NoValue, Signature, field_sort, signature_of}
 use Rattle.cjc_check_rules.specs.Complete.{class_info_size}

@@ -9,7 +9,7 @@ ghost use Rattle.cjc_check_rules.specs.Spots.{first, in_info, unless};
 use cjc_capread::{Import, ImportedPackage};
 use cjc_check_index::lookup::{Comparison, earlier, first_beside, unless};
 use cjc_check_rules::ComponentPlace;
-use cjc_export::ExportTree;
+use cjc_check_rules::export_file::ExportTree;
 
 /// The tag of Import.
 const IMPORT: u8 = 4;

@@ -14,7 +14,7 @@ ghost use Rattle.cjc_check_rules.specs.Spots.{along, first, in_info, starts, unl
 ghost use Rattle.cjc_check_index.specs.Lookup.Indexed.{IsIndexed};
 ghost use Rattle.cjc_check_index.specs.Lookup.Parts.{complete_of};
 
-use cjc_bytes::{NoMemory, Row};
+use cjc_capread::bytes::{NoMemory, Row};
 use cjc_capread::{
     ClassDescriptor, ClassRef, Descriptor, FieldDescriptor, FieldType, MethodDescriptor, PoolEntry,
 };

@@ -11,7 +11,7 @@ ghost use Rattle.cjc_check_rules.specs.Complete.{AreSmall, class_size};
 ghost use Rattle.cjc_check_rules.specs.Spots.{along, first};
 ghost use Rattle.cjc_check_rules.specs.Tables.{in_tables, leaves, package_spot, public_spot, table_spots};
 
-use cjc_bytes::{NoMemory, Row};
+use cjc_capread::bytes::{NoMemory, Row};
 use cjc_capread::{ClassEntry, ClassRef};
 use cjc_check_index::lookup::{Methods, Names, Test, earlier, first_along, first_class, unless};
 use cjc_check_rules::ComponentPlace;

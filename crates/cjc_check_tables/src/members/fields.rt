@@ -9,7 +9,7 @@ ghost use Rattle.cjc_check_tables.specs.Members.Working.Fields.{same-fed, same_p
 ghost use Rattle.cjc_check_rules.specs.Members.{all_fields};
 ghost use Rattle.cjc_check_index.specs.Lookup.Parts.{complete_of};
 
-use cjc_bytes::NoMemory;
+use cjc_capread::bytes::NoMemory;
 use cjc_capread::{ClassDescriptor, ClassRef, FieldDescriptor, FieldPlace};
 use cjc_check_index::lookup::Parts;
 use indexmap::IndexSet;

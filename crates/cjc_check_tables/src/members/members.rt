@@ -11,7 +11,7 @@ ghost use Rattle.cjc_check_rules.specs.Tables.{is_long_enough};
 use crate::members::fields::{Fields, Place};
 use crate::members::needs::{Needs, need_in};
 use crate::members::virtuals::{class_at, has_among};
-use cjc_bytes::Row;
+use cjc_capread::bytes::Row;
 use cjc_capread::{ClassRef, FieldPlace, PoolEntry, StaticRef};
 use cjc_check_index::imported::Tokens;
 use cjc_check_index::lookup::Methods;

@@ -6,7 +6,7 @@ ghost use Rattle.std.specs.Prelude.{◌≡◌, IfOk, OnOk};
 ghost use Rattle.cjc_check_tables.specs.Members.Working.Needs.{AreNeeds, HasClass, HasNeed, greater, need_in};
 ghost use Rattle.cjc_check_tables.specs.Members.Working.Needs.{need_of_method, need_of_methods};
 
-use cjc_bytes::NoMemory;
+use cjc_capread::bytes::NoMemory;
 use cjc_capread::{ClassDescriptor, ClassRef, MethodDescriptor};
 use indexmap::IndexMap;
 use std::alloc::Global;

@@ -15,7 +15,7 @@ use crate::members::maps::map_spot;
 use crate::members::members::Members;
 use crate::members::needs::needs_of;
 use crate::members::virtuals::above_of;
-use cjc_bytes::{NoMemory, Row};
+use cjc_capread::bytes::{NoMemory, Row};
 use cjc_check_index::imported::{Tokens, imported_tokens};
 use cjc_check_index::lookup::Methods;
 use cjc_check_rules::ComponentPlace;

@@ -9,7 +9,7 @@ ghost use Rattle.cjc_check_tables.specs.Members.Working.Above.{AreAbove, class_a
 ghost use Rattle.cjc_check_rules.specs.Classes.{classes_at};
 ghost use Rattle.cjc_check_rules.specs.Spots.{item_at};
 
-use cjc_bytes::{NoMemory, Row};
+use cjc_capread::bytes::{NoMemory, Row};
 use cjc_capread::{ClassEntry, ClassRef};
 use cjc_check_index::imported::Tokens;
 use cjc_check_index::lookup::Names;

@@ -6,7 +6,7 @@ use Rattle.std.specs.Str.{bytes_eq}
 use Rattle.std.proofs.Math.Seq.{drop-cons}
 use Rattle.cjc_capread.specs.declared.tree.ClassRef.{ClassRef}
 use Rattle.cjc_capread.specs.declared.tree.ClassRef.TheVariants.{Inside, Outside}
-use Rattle.cjc_card_semantics.specs.Machine.Classes.{Class, External, or_else}
+use Rattle.cjc_components.specs.CardSemantics.Machine.Classes.{Class, External, or_else}
 use Rattle.cjc_components.specs.Names.{ref_to}
 use Rattle.cjc_world.proofs.Settled.{bytes-true}
 use Rattle.cjc_classes.specs.ClassInfo.Infos.{end_of, spot_in}

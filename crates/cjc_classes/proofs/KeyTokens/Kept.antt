@@ -5,8 +5,8 @@ use Rattle.std.specs.Prelude.{slice_get, option_map, option_and_then, if◌then�
 use Rattle.std.proofs.lemmas.List.{length-map}
 use Rattle.std.proofs.lemmas.Option.{slice_get-map}
 use Rattle.cjc_bytes.specs.AccessFlags.{is_interface}
-use Rattle.cjc_classfile.specs.declared.tree.ClassTree.{ClassTree}
-use Rattle.cjc_classfile.specs.declared.tree.FieldTree.{FieldTree}
+use Rattle.cjc_world.specs.ClassFile.declared.tree.ClassTree.{ClassTree}
+use Rattle.cjc_world.specs.ClassFile.declared.tree.FieldTree.{FieldTree}
 use Rattle.cjc_world.specs.Files.{Files}
 use Rattle.cjc_world.specs.Classes.{Class, Member, all_classes, declared, field_of_class}
 use Rattle.cjc_world.specs.Added.{added}
@@ -21,7 +21,7 @@ use Rattle.cjc_tokens.specs.Slots.{Slots, hidden_slots, slots, token}
 use Rattle.cjc_tokens.specs.Tokens.{OfClass, assigned, classes_from, joined, method_tokens, of_class, one_more}
 use Rattle.cjc_tokens.specs.Tokens.{token_of_member}
 use Rattle.cjc_tokens.proofs.Held.{at_front}
-use Rattle.cjc_vtable.proofs.SlotNames.{get-behind}
+use Rattle.cjc_components.proofs.VTable.SlotNames.{get-behind}
 
 class_row : (w : List Class) (applets : Bool) (b m : ℕ) (cs : List ClassTree) (n : ℕ) (c : ClassTree)
     → slice_get cs n ≡ Some c → (a : ℕ) × (slice_get (classes_from w applets b m cs) n

@@ -8,7 +8,7 @@ use Rattle.cjc_tokens.specs.Members.{Signature, chosen, has, is_hidden, is_shown
 use Rattle.cjc_tokens.specs.Methods.{with_high_bit}
 use Rattle.cjc_tokens.specs.Slots.{Slots, hidden_slots, holds, new_in, slots, token, with_new}
 use Rattle.cjc_tokens.proofs.Held.{new-offered, token-cons, token-nil}
-use Rattle.cjc_vtable.specs.Calls.{any_method, finds_hidden, passes}
+use Rattle.cjc_components.specs.VTable.Calls.{any_method, finds_hidden, passes}
 use Rattle.cjc_classes.specs.Walks.{TellsHidden, hidden_token}
 
 -- ---- slots behind others

@@ -7,21 +7,21 @@ use Rattle.std.specs.Str.{bytes_eq}
 use Rattle.std.proofs.lemmas.List.{map-append}
 use Rattle.cjc_bytes.specs.declared.fault.MemberId.{MemberId}
 use Rattle.cjc_capread.specs.declared.tree.ClassRef.{ClassRef}
-use Rattle.cjc_classfile.specs.declared.tree.ClassTree.{ClassTree}
-use Rattle.cjc_classfile.specs.declared.tree.MethodTree.{MethodTree}
+use Rattle.cjc_world.specs.ClassFile.declared.tree.ClassTree.{ClassTree}
+use Rattle.cjc_world.specs.ClassFile.declared.tree.MethodTree.{MethodTree}
 use Rattle.cjc_world.specs.Files.{Files}
 use Rattle.cjc_world.specs.Classes.{Class, Member, all_classes, declared, method_of_class}
 use Rattle.cjc_world.specs.Added.{added, added_at, added_to, named_by, without_initialiser}
 use Rattle.cjc_world.specs.Order.{class_order}
-use Rattle.cjc_ncode.specs.declared.narrow.PoolKey.{PoolKey}
-use Rattle.cjc_order.specs.Supers.Supers.{each_once}
-use Rattle.cjc_order.specs.Supers.Working.Walk.{with_all}
-use Rattle.cjc_order.proofs.SupersLaws.Sets.{all_append, all_once}
+use Rattle.cjc_components.specs.NCode.declared.narrow.PoolKey.{PoolKey}
+use Rattle.cjc_components.specs.ClassOrder.Supers.Supers.{each_once}
+use Rattle.cjc_components.specs.ClassOrder.Supers.Working.Walk.{with_all}
+use Rattle.cjc_components.proofs.ClassOrder.SupersLaws.Sets.{all_append, all_once}
 use Rattle.cjc_components.specs.Class.{fields_in}
 use Rattle.cjc_components.specs.Package.{Package, pool, world}
 use Rattle.cjc_components.specs.Names.{class_ref}
-use Rattle.cjc_check_rules.specs.Spots.{starts}
-use Rattle.cjc_check_rules.specs.Complete.{type_size}
+use Rattle.cjc_components.specs.CheckRules.Spots.{starts}
+use Rattle.cjc_components.specs.CheckRules.Complete.{type_size}
 use Rattle.cjc_components.specs.Types.{all_descs, desc_of_field, desc_of_key, descs_of_class, nibbles_of}
 use Rattle.cjc_components.specs.Types.{type_descriptor, type_starts, types_of}
 use Rattle.cjc_classes.specs.TypeInfo.TypeTable.{AreOf, class_at, type_table}

@@ -1,7 +1,8 @@
 -- What the code's types of values stand for.
-use Rattle.cjc_script.specs.Sorts.{Booleans, Bytes, Shorts, Ints, OfClass, OfNumbers, OfReferences, Boolean, Byte}
-use Rattle.cjc_script.specs.Sorts.{Short, Int, Reference, NoValue}
-use Rattle.cjc_script.specs.Sorts
+use Rattle.cjc_components.specs.Script.Sorts.{Booleans, Bytes, Shorts, Ints, OfClass, OfNumbers, OfReferences, Boolean}
+use Rattle.cjc_components.specs.Script.Sorts.{Byte}
+use Rattle.cjc_components.specs.Script.Sorts.{Short, Int, Reference, NoValue}
+use Rattle.cjc_components.specs.Script.Sorts
 use Rattle.cjc_classes.specs.declared.type_info.sort.Sort.{Sort}
 use Rattle.cjc_classes.specs.declared.type_info.sort.Sort.TheVariants as sorts
 

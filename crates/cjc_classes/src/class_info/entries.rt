@@ -14,8 +14,8 @@ use crate::class_info::flags::info_flags;
 use crate::class_info::refs::ClassRefs;
 use cjc_bytes::{Bytes, NoMemory, Row};
 use cjc_capread::{ClassEntry, ClassRef, ImplementedInterface, InterfaceEntry};
-use cjc_classfile::ClassTree;
-use cjc_vtable::{ClassTable, InterfaceMap};
+use cjc_components::vtable::{ClassTable, InterfaceMap};
+use cjc_world::classfile::ClassTree;
 use cjc_world::{Found, Known, World};
 use std::alloc::Global;
 

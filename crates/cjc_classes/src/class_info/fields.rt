@@ -7,7 +7,7 @@ ghost use Rattle.cjc_components.specs.Class.{first_reference_token, is_reference
 
 use crate::class_info::sizes::plus;
 use cjc_bytes::{NoMemory, is_protected, is_public, is_static};
-use cjc_classfile::FieldTree;
+use cjc_world::classfile::FieldTree;
 
 const INT: &[u8] = b"I";
 

@@ -10,7 +10,7 @@ ghost use Rattle.cjc_world.specs.Working.Known.{class_of};
 ghost use Rattle.cjc_components.specs.Class.{acc_interface, acc_shareable, info_flags, is_shareable};
 
 use cjc_bytes::{Bytes, NoMemory};
-use cjc_order::supers::interfaces;
+use cjc_components::class_order::supers::interfaces;
 use cjc_world::{Known, World};
 use std::alloc::Global;
 

@@ -7,7 +7,7 @@ ghost use Rattle.cjc_world.specs.Working.Places.{at_places};
 ghost use Rattle.cjc_classes.specs.ClassInfo.Infos.{interface_bytes, map_bytes, table_bytes};
 
 use cjc_bytes::NoMemory;
-use cjc_vtable::{ClassTable, InterfaceMap};
+use cjc_components::vtable::{ClassTable, InterfaceMap};
 use cjc_world::{Known, World};
 use std::alloc::Global;
 

@@ -3,8 +3,8 @@
 
 ghost use Rattle.std.specs.Prelude.{◌≡◌, ◌+◌, [], map, IfOk, OnOk};
 ghost use Rattle.std.specs.Cmp.{partial_equiv_from_equiv};
-ghost use Rattle.cjc_ncode.specs.PoolOrder.{same_member};
-ghost use Rattle.cjc_clinit.specs.Image.{field_id};
+ghost use Rattle.cjc_components.specs.NCode.PoolOrder.{same_member};
+ghost use Rattle.cjc_components.specs.Clinit.Image.{field_id};
 ghost use Rattle.cjc_components.specs.Statics.{cell_offset};
 ghost use Rattle.cjc_classes.specs.Descriptor.Keys.{key_cell};
 ghost use Rattle.cjc_classes.specs.Descriptor.Working.Cells.{HasCell, HasOffset, StandBehind, fed, member-equivalence};
@@ -12,8 +12,8 @@ ghost use Rattle.cjc_classes.specs.Descriptor.Working.Cells.{offset_of, same-fed
 
 use crate::descriptor::statics::{size_of_field, sum};
 use cjc_bytes::{MemberId, NoMemory, Row};
-use cjc_classfile::{ClassTree, FieldTree};
-use cjc_ncode::PoolKey;
+use cjc_components::ncode::PoolKey;
+use cjc_world::classfile::{ClassTree, FieldTree};
 use cjc_world::{ArrayCell, StaticImage, ValueCell};
 use indexmap::IndexMap;
 use std::alloc::Global;

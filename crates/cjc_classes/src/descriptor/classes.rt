@@ -20,8 +20,8 @@ use crate::descriptor::methods::methods_of;
 use crate::descriptor::parts::Parts;
 use cjc_bytes::{MemberId, NoMemory, Row};
 use cjc_capread::{ClassDescriptor, ClassRef, Descriptor};
-use cjc_classfile::ClassTree;
-use cjc_ncode::PoolKey;
+use cjc_components::ncode::PoolKey;
+use cjc_world::classfile::ClassTree;
 use cjc_world::{Known, World};
 use std::alloc::Global;
 

@@ -9,7 +9,7 @@ use crate::descriptor::flags::method_flags;
 use crate::descriptor::parts::{Parts, extent_of, token_of};
 use cjc_bytes::{ACC_ABSTRACT, ACC_PUBLIC, MemberId, NoMemory, Row};
 use cjc_capread::MethodDescriptor;
-use cjc_classfile::{ClassTree, MethodTree};
+use cjc_world::classfile::{ClassTree, MethodTree};
 use std::alloc::Global;
 
 const INITIALISER: &[u8] = b"<clinit>";

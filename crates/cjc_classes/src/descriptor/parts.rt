@@ -8,7 +8,7 @@ ghost use Rattle.cjc_classes.specs.Descriptor.Working.Described.{extent_in, numb
 use crate::class_info::ClassRefs;
 use crate::type_info::Types;
 use cjc_bytes::Row;
-use cjc_ncode::PoolKey;
+use cjc_components::ncode::PoolKey;
 use cjc_tokens::Tokens;
 use cjc_world::{Found, World};
 

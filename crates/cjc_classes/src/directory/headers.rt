@@ -8,7 +8,7 @@ ghost use Rattle.cjc_components.specs.Exports.{export};
 
 use cjc_bytes::{Bytes, NoMemory};
 use cjc_capread::{Export, Header};
-use cjc_list::List;
+use cjc_components::list::List;
 use std::alloc::Global;
 
 const ACC_INT: u8 = 1;

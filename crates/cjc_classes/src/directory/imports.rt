@@ -7,8 +7,8 @@ ghost use Rattle.cjc_components.specs.Components.{import, imported_package};
 
 use cjc_bytes::{Bytes, NoMemory, Row};
 use cjc_capread::{Import, ImportedPackage};
-use cjc_export::ExportTree;
 use cjc_world::World;
+use cjc_world::export_file::ExportTree;
 use std::alloc::Global;
 
 /// A package by its export file.

@@ -2,7 +2,7 @@
 //! crate is called for.
 
 ghost use Rattle.std.specs.Prelude.{◌≡◌, ◌<◌, Bool, Some, length, map, slice_get, IfOk};
-ghost use Rattle.cjc_classfile.specs.declared.tree.ClassTree.{ClassTree as Tree};
+ghost use Rattle.cjc_world.specs.ClassFile.declared.tree.ClassTree.{ClassTree as Tree};
 ghost use Rattle.cjc_world.specs.Classes.{all_classes, declared};
 ghost use Rattle.cjc_tokens.specs.Lines.{line_at, line_of};
 ghost use Rattle.cjc_tokens.specs.Tokens.{assigned};
@@ -15,7 +15,7 @@ use crate::key_tokens::hidden::hidden_token;
 use crate::key_tokens::imported::imported_token;
 use crate::key_tokens::shown::shown_token;
 use cjc_bytes::{MemberId, NoMemory, Row};
-use cjc_ncode::PoolKey;
+use cjc_components::ncode::PoolKey;
 use cjc_tokens::Tokens;
 use cjc_world::{Known, World, lookup_laws};
 use std::alloc::Global;

@@ -6,9 +6,9 @@ ghost use Rattle.cjc_bytes.specs.AccessFlags.{is_interface};
 ghost use Rattle.cjc_tokens.specs.Tokens.{token_of_member};
 
 use cjc_bytes::{NoMemory, is_interface};
-use cjc_classfile::ClassTree;
 use cjc_tokens::Tokens;
 use cjc_world::Found;
+use cjc_world::classfile::ClassTree;
 
 /// How many members of a class one list has, of which a class has no more than 32 bits count.
 const MOST: usize = 0x3FFF_FFFF;

@@ -9,8 +9,8 @@ ghost use Rattle.cjc_tokens.specs.Members.{is_exposed, is_shown, is_virtual_by};
 ghost use Rattle.cjc_tokens.specs.Working.{member_of};
 
 use cjc_bytes::MemberId;
-use cjc_classfile::MethodTree;
 use cjc_tokens::{is_exposed, is_virtual};
+use cjc_world::classfile::MethodTree;
 
 /// Whether a method is virtual and package-visible.
 pub(crate) fn is_hidden(method: &MethodTree<'_>) -> bool

@@ -1,12 +1,12 @@
 //! What holds of the answers to all that is read. It has no code that runs.
 
 ghost use Rattle.std.specs.Prelude.{◌≡◌, List, ℕ, Ok, Err};
-ghost use Rattle.cjc_bytes.specs.declared.fault.Refusal.{Refusal};
-ghost use Rattle.cjc_shelf.specs.declared.command.status.Todo.{Todo};
+ghost use Rattle.cjc_judge.specs.Bytes.declared.fault.Refusal.{Refusal};
+ghost use Rattle.cjc_cmd_jvm.specs.Shelf.declared.command.status.Todo.{Todo};
 ghost use Rattle.cjc_cmd_card.specs.Report.Runs.{Runs};
 ghost use Rattle.cjc_cmd_card.specs.declared.running.input.Input.{Input};
 
-use cjc_check_rules::consistent_where_unbroken;
+use cjc_card::check_rules::consistent_where_unbroken;
 
 /// What was read decides one answer: one refusal, or one report, and not both.
 pub fn one_answer()

@@ -1,16 +1,16 @@
 //! The components of a package with names, as they are run. Called by reporting.rt.
 
 ghost use Rattle.std.specs.Prelude.{◌≡◌, List as Items};
-ghost use Rattle.cjc_card_link.specs.Group.{alone};
+ghost use Rattle.cjc_pairing.specs.CardLink.Group.{alone};
 ghost use Rattle.cjc_cmd_card.specs.Report.Working.{alone_with};
-ghost use Rattle.cjc_export.specs.declared.tree.ExportTree.{ExportTree as Tree};
-ghost use Rattle.cjc_check_index.specs.Lookup.Parts.{complete_of};
-ghost use Rattle.cjc_components.specs.Paired.Naming.{exported_in};
+ghost use Rattle.cjc_card.specs.ExportFile.declared.tree.ExportTree.{ExportTree as Tree};
+ghost use Rattle.cjc_card.specs.CheckIndex.Lookup.Parts.{complete_of};
+ghost use Rattle.cjc_pairing.specs.Components.Paired.Naming.{exported_in};
 
-use cjc_capread::{Export, ExportedClass};
-use cjc_card_frame::parts::CellName;
-use cjc_card_link::{ClassNames, Part};
-use cjc_check_index::lookup::Parts;
+use cjc_card::card_frame::parts::CellName;
+use cjc_card::check_index::lookup::Parts;
+use cjc_cmd_check::capread::{Export, ExportedClass};
+use cjc_pairing::card_link::{ClassNames, Part};
 
 // The classes that Export lists; none where it is absent.
 fn exports_of(export: &Option<Export>) -> &[ExportedClass]

@@ -15,7 +15,7 @@ use crate::folder::folder::{Folder, Parts};
 use crate::folder::names::{export_names, file_name};
 use cjc_bytes::{Bytes, Fault, Row};
 use cjc_capread::{CapTree, Component, Directory, Header, read};
-use cjc_export::ExportTree;
+use cjc_check::export_file::ExportTree;
 use std::alloc::Global;
 
 /// What the export files of a list and the components of a folder say.
@@ -38,7 +38,7 @@ fn export_files(alloc: Global, names: &[Bytes], files: &[Bytes]) -> Result<Row<E
 {
     let mut trees = Row::new(alloc);
     for (at, bytes) in files.iter().enumerate() {
-        trees.push(cjc_export::read(alloc, names[at].items(), bytes.items())?)?;
+        trees.push(cjc_check::export_file::read(alloc, names[at].items(), bytes.items())?)?;
     }
     Ok(trees)
 }

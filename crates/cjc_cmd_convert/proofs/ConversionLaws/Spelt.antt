@@ -1,13 +1,13 @@
 -- A package of a list and its files is of what the files spell.
 use Rattle.std.proofs.Common.{◌≡◌, ℕ, List, sym, ap, subst, ◌∙◌}
-use Rattle.cjc_components.specs.Package.{Package}
-use Rattle.cjc_judge.proofs.Firsts.{one_spelling}
-use Rattle.cjc_judge.specs.Rules.{files_spelt}
-use Rattle.cjc_judge.specs.Spelt.{FileTree, SpellTrees, exports_of}
-use Rattle.cjc_list.specs.Listed.{ListTree}
-use Rattle.cjc_shape.specs.Whole.Conversion.{IsPackageOf}
+use Rattle.cjc_theorem.specs.Components.Package.{Package}
+use Rattle.cjc_theorem.proofs.Judge.Firsts.{one_spelling}
+use Rattle.cjc_theorem.specs.Judge.Rules.{files_spelt}
+use Rattle.cjc_theorem.specs.Judge.Spelt.{FileTree, SpellTrees, exports_of}
+use Rattle.cjc_convert.specs.List.Listed.{ListTree}
+use Rattle.cjc_convert.specs.Shape.Whole.Conversion.{IsPackageOf}
 use Rattle.cjc_theorem.specs.FairExports.Fair.{ExportsAreFair}
-use Rattle.cjc_world.specs.Files.{Files as World}
+use Rattle.cjc_theorem.specs.World.Files.{Files as World}
 
 module _ (list : ListTree) (files : List (List ℕ)) (trees : List FileTree) (spell : SpellTrees list.lines files trees)
     (p : Package) (of : IsPackageOf list files p) where

@@ -3,20 +3,20 @@
 //! Laws alone: nothing here runs.
 
 ghost use Rattle.std.specs.Prelude.{◌≡◌, ℕ, List as Items};
-ghost use Rattle.cjc_capread.specs.declared.tree.CapTree.{CapTree};
-ghost use Rattle.cjc_capwrite.specs.Writable.{IsSpelt};
-ghost use Rattle.cjc_components.specs.Components.{components_of};
-ghost use Rattle.cjc_components.specs.Package.{Package};
+ghost use Rattle.cjc_convert.specs.CapRead.declared.tree.CapTree.{CapTree};
+ghost use Rattle.cjc_convert.specs.CapWrite.Writable.{IsSpelt};
+ghost use Rattle.cjc_theorem.specs.Components.Components.{components_of};
+ghost use Rattle.cjc_theorem.specs.Components.Package.{Package};
 ghost use Rattle.cjc_convert.specs.Conversion.{IsConverted};
 ghost use Rattle.cjc_convert.specs.declared.conversion.Converted.{Converted as Written};
-ghost use Rattle.cjc_judge.specs.Rules.{files_spelt};
-ghost use Rattle.cjc_judge.specs.Spelt.{FileTree, IsRead, SpellTrees, exports_of};
-ghost use Rattle.cjc_list.specs.Listed.{ListTree};
-ghost use Rattle.cjc_shape.specs.Whole.Conversion.{IsPackageOf};
+ghost use Rattle.cjc_theorem.specs.Judge.Rules.{files_spelt};
+ghost use Rattle.cjc_theorem.specs.Judge.Spelt.{FileTree, IsRead, SpellTrees, exports_of};
+ghost use Rattle.cjc_convert.specs.List.Listed.{ListTree};
+ghost use Rattle.cjc_convert.specs.Shape.Whole.Conversion.{IsPackageOf};
 ghost use Rattle.cjc_theorem.specs.Alike.Halves.{CodeBehavesAlike, ComponentsRunAsCode, HasFewestBytes};
 ghost use Rattle.cjc_theorem.specs.FairExports.Fair.{ExportsAreFair};
 
-use cjc_capread::readings;
+use cjc_convert::capread::readings;
 use cjc_theorem::alike::{
     components_run_as_selected_code, selected_code_behaves_alike, written_code_has_fewest_bytes,
 };

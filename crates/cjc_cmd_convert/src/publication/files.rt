@@ -4,8 +4,8 @@ ghost use Rattle.std.specs.Prelude.{◌≡◌, ◌++◌, ◌∷◌, [], codes, I
 ghost use Rattle.cjc_cmd_convert.specs.Publication.{last_part, files_made, named, where_there, file_line, publication};
 ghost use Rattle.cjc_cmd_convert.specs.Publication.{with_files};
 
-use cjc_bytes::{Bytes, NoMemory, Out, Row};
-use cjc_capwrite::CapFiles;
+use cjc_convert::capwrite::CapFiles;
+use cjc_shelf::bytes::{Bytes, NoMemory, Out, Row};
 use cjc_shelf::command::{File, Todo};
 use itoa::Buffer;
 use std::alloc::Global;

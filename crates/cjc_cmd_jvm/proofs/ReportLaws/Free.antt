@@ -3,17 +3,17 @@ use Rattle.std.proofs.Common.{◌≡◌, ◌⊎◌, inl, inr, ◌<◌, ◌+◌, 
 use Rattle.std.proofs.Common.{◌∙◌, arith, Err}
 use Rattle.std.proofs.lemmas.List.{length-map}
 use Rattle.std.specs.List.{sum_by}
-use Rattle.cjc_bytes.specs.Breaks.{Break, foremost}
-use Rattle.cjc_bytes.specs.declared.settings.FileLine.{FileLine}
-use Rattle.cjc_bytes.specs.declared.fault.Fault.{Fault}
-use Rattle.cjc_bytes.specs.declared.fault.Fault.TheVariants as faults
-use Rattle.cjc_jvm_semantics.specs.ByName.{linked}
-use Rattle.cjc_jvm_semantics.specs.Machine.{start}
-use Rattle.cjc_jvm_semantics.specs.OnePackage.{static_array}
-use Rattle.cjc_clinit.specs.Rules.{BreaksImage}
+use Rattle.cjc_shelf.specs.Bytes.Breaks.{Break, foremost}
+use Rattle.cjc_shelf.specs.Bytes.declared.settings.FileLine.{FileLine}
+use Rattle.cjc_shelf.specs.Bytes.declared.fault.Fault.{Fault}
+use Rattle.cjc_shelf.specs.Bytes.declared.fault.Fault.TheVariants as faults
+use Rattle.cjc_jvm.specs.JvmSemantics.ByName.{linked}
+use Rattle.cjc_jvm.specs.JvmSemantics.Machine.{start}
+use Rattle.cjc_jvm.specs.JvmSemantics.OnePackage.{static_array}
+use Rattle.cjc_judge.specs.Clinit.Rules.{BreaksImage}
 use Rattle.cjc_shelf.specs.Command.Gather.{Judged as IsGiven, status_of_fault}
 use Rattle.cjc_shelf.specs.declared.command.status.Todo.{Todo}
-use Rattle.cjc_code.specs.PackageCodes.{all_codes}
+use Rattle.cjc_judge.specs.Bytecode.PackageCodes.{all_codes}
 use Rattle.cjc_judge.specs.Judged.{IsJudged}
 use Rattle.cjc_judge.specs.Rules.{IsFirstFault}
 use Rattle.cjc_judge.specs.Rules.{Breach, of_world, of_group, files_spelt, world_files}
@@ -21,15 +21,15 @@ use Rattle.cjc_judge.specs.Spelt.{FileTree, of_class, of_export, SpellsTree, Spe
 use Rattle.cjc_judge.specs.Trees.{FileIs, AllSpelt}
 use Rattle.cjc_judge.specs.declared.groups.Group.TheVariants as groups
 use Rattle.cjc_judge.specs.declared.judged.Judged.{Judged}
-use Rattle.cjc_list.specs.Listed.{ListTree}
+use Rattle.cjc_script_text.specs.List.Listed.{ListTree}
 use Rattle.cjc_cmd_jvm.specs.Running.Ready.{tested, Breaks}
 use Rattle.cjc_cmd_jvm.specs.declared.running.input.Input.{Input}
-use Rattle.cjc_script.specs.declared.script.Script.{Script}
+use Rattle.cjc_script_text.specs.Script.declared.script.Script.{Script}
 use Rattle.cjc_jvm.specs.States.{objects_at_most}
-use Rattle.cjc_world.specs.declared.image.StaticImage.{StaticImage}
+use Rattle.cjc_jvm_link.specs.World.declared.image.StaticImage.{StaticImage}
 use Rattle.cjc_cmd_jvm.specs.Runs.{Runs}
-use Rattle.cjc_world.specs.Files.{Files}
-use Rattle.cjc_world.specs.Rules.{breaks}
+use Rattle.cjc_jvm_link.specs.World.Files.{Files}
+use Rattle.cjc_jvm_link.specs.World.Rules.{breaks}
 
 spells : (line : FileLine) (bytes : List ℕ) (t : FileTree) → FileIs line bytes t → SpellsTree line bytes t
 spells line bytes (of_class t) p = (p.0, p.1)
@@ -42,7 +42,7 @@ all_spell (l ∷ ls) [] ts p = absurd p
 all_spell (l ∷ ls) (b ∷ bs) [] p = absurd p
 all_spell (l ∷ ls) (b ∷ bs) (t ∷ ts) p = (spells l b t p.0, all_spell ls bs ts p.1)
 
-none_of : (bs : List Break) → ((b : Break) → Rattle.cjc_bytes.specs.Breaks.Among b bs → ⊥) → bs ≡ []
+none_of : (bs : List Break) → ((b : Break) → Rattle.cjc_shelf.specs.Bytes.Breaks.Among b bs → ⊥) → bs ≡ []
 none_of [] h = refl
 none_of (b ∷ bs) h = absurd (h b foremost)
 

@@ -2,20 +2,20 @@
 
 ghost use Rattle.std.specs.Prelude.{◌≡◌, ◌<◌, ◌+◌, ◌^◌, length, true, IfOk};
 ghost use Rattle.std.specs.List.{sum_by};
-ghost use Rattle.cjc_bytes.specs.Breaks.{Break as Broken};
-ghost use Rattle.cjc_jvm_semantics.specs.ByName.{run as run_by_name};
-ghost use Rattle.cjc_clinit.specs.Rules.{BreaksImage};
-ghost use Rattle.cjc_code.specs.PackageCodes.{all_codes};
+ghost use Rattle.cjc_shelf.specs.Bytes.Breaks.{Break as Broken};
+ghost use Rattle.cjc_jvm.specs.JvmSemantics.ByName.{run as run_by_name};
+ghost use Rattle.cjc_judge.specs.Clinit.Rules.{BreaksImage};
+ghost use Rattle.cjc_judge.specs.Bytecode.PackageCodes.{all_codes};
 ghost use Rattle.cjc_cmd_jvm.specs.Runs.{IsReport};
 
 use crate::report::room::{behind_answers, behind_entries};
 use crate::running::Ready;
-use cjc_bytes::NoMemory;
 use cjc_judge::image_of;
 use cjc_jvm::runs::run;
+use cjc_jvm_link::world::StaticImage;
 use cjc_jvm_link::{Links, indices_of};
-use cjc_script::{Report, Script};
-use cjc_world::StaticImage;
+use cjc_script_text::script::{Report, Script};
+use cjc_shelf::bytes::NoMemory;
 use std::alloc::Global;
 
 /// Whether n instructions, the acts of a script and the arrays of an image are together fewer than 32 bits count.

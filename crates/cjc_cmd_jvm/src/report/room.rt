@@ -3,7 +3,7 @@
 ghost use Rattle.std.specs.Prelude.{◌≡◌, ◌+◌, length, IfSome};
 ghost use Rattle.std.specs.List.{sum_by};
 
-use cjc_script::{Answer, Entry};
+use cjc_script_text::script::{Answer, Entry};
 
 /// What is left of a number when so many are taken from it.
 fn left_behind(left: u32, count: usize) -> Option<u32>

@@ -8,8 +8,8 @@ ghost use Rattle.cjc_cmd_jvm.specs.Runs.{Runs, IsRun, plan_of_jvm};
 
 use crate::report::reporting::report_of;
 use crate::running::{Input, Ready, gather_input, make_ready, report_todo};
-use cjc_bytes::NoMemory;
 use cjc_shelf::Shelf;
+use cjc_shelf::bytes::NoMemory;
 use cjc_shelf::command::{Status, Todo};
 use std::alloc::Global;
 

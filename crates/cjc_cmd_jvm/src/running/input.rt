@@ -1,7 +1,7 @@
 //! What was read of a list, its files and a script. It knows no shelf.
 
-use cjc_bytes::{Bytes, Row};
-use cjc_list::List;
+use cjc_script_text::list::List;
+use cjc_shelf::bytes::{Bytes, Row};
 
 /// A list, its files and a script.
 #[derive(Drop)]

@@ -4,9 +4,9 @@
 ghost use Rattle.std.specs.Prelude.{◌≡◌, ◌∷◌, [], IfOk};
 ghost use Rattle.cjc_script_text.specs.Printed.{report_text};
 
-use cjc_bytes::{NoMemory, Row};
-use cjc_script::Report;
 use cjc_script_text::print;
+use cjc_script_text::script::Report;
+use cjc_shelf::bytes::{NoMemory, Row};
 use cjc_shelf::command::Todo;
 use std::alloc::Global;
 

@@ -6,9 +6,9 @@ ghost use Rattle.cjc_judge.specs.Spelt.{IsRead};
 ghost use Rattle.cjc_cmd_jvm.specs.Running.Reads.{IsInput, names_of, plan_behind_list, plan_behind_text, plan_of_run};
 
 use crate::running::input::Input;
-use cjc_bytes::{Bytes, Fault, FileLine, NoMemory, Row};
-use cjc_list::{List, read_list};
+use cjc_script_text::list::{List, read_list};
 use cjc_shelf::Shelf;
+use cjc_shelf::bytes::{Bytes, Fault, FileLine, NoMemory, Row};
 use cjc_shelf::command::{Status, fetch, fetch_each};
 use std::alloc::Global;
 

@@ -6,11 +6,11 @@ ghost use Rattle.cjc_judge.specs.Rules.{IsFirstFault};
 ghost use Rattle.cjc_judge.specs.Spelt.{IsRead, AreFiles};
 ghost use Rattle.cjc_cmd_jvm.specs.Running.Ready.{Breaks, IsReady};
 
-use cjc_bytes::{Bytes, Fault, Row};
 use cjc_judge::{Group, Judged, files_first, judge, test_files};
-use cjc_list::List;
-use cjc_script::Script;
+use cjc_script_text::list::List;
 use cjc_script_text::read;
+use cjc_script_text::script::Script;
+use cjc_shelf::bytes::{Bytes, Fault, Row};
 use std::alloc::Global;
 
 /// A package that breaks no rule of the first three hundreds, and a script.

@@ -9,13 +9,13 @@ use Rattle.cjc_shelf.specs.declared.command.status.Status.{Status}
 use Rattle.cjc_shelf.specs.declared.command.status.Status.TheVariants as status
 use Rattle.cjc_shelf.specs.declared.command.status.Todo.{Todo}
 use Rattle.cjc_cmd_convert.specs.Conversion.Conversion.{Conversion, IsConverted}
-use Rattle.cjc_judge.specs.Rules.{IsFirstFault}
+use Rattle.cjc_cmd_card.specs.Judge.Rules.{IsFirstFault}
 use Rattle.cjc_cmd_make.specs.Report.Package.{list_name, made_files, script_name}
 use Rattle.cjc_cmd_make.specs.Report.Runs.{Makes, Refuses, of_list, of_package, of_script, reads_end}
 use Rattle.cjc_cmd_make.specs.Report.Working.{IsConversionFault, IsListFault, IsMakeFault, fault_of}
-use Rattle.cjc_cmd_jvm.specs.Running.Reads.{plan_of_run}
-use Rattle.cjc_cmd_jvm.specs.Running.Ready.{Breaks}
-use Rattle.cjc_cmd_jvm.specs.declared.running.input.Input.{Input}
+use Rattle.cjc_cmd_card.specs.CmdJvm.Running.Reads.{plan_of_run}
+use Rattle.cjc_cmd_card.specs.CmdJvm.Running.Ready.{Breaks}
+use Rattle.cjc_cmd_card.specs.CmdJvm.declared.running.input.Input.{Input}
 use Rattle.cjc_shelf.specs.Memory.{clean_shelved, files_of, told_files}
 use Rattle.cjc_shelf.specs.Shelf.{Files, Shelved}
 use Rattle.cjc_shelf.specs.declared.memory.CleanShelf.{CleanShelf}

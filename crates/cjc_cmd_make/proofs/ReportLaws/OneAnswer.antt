@@ -4,12 +4,12 @@ use Rattle.cjc_bytes.specs.declared.fault.Refusal.{Refusal}
 use Rattle.cjc_shelf.specs.Command.Plan.{Verdict, complete, refused}
 use Rattle.cjc_shelf.specs.declared.command.status.Todo.{Todo}
 use Rattle.cjc_cmd_convert.specs.Conversion.Conversion.{Conversion, IsConverted, IsRefused}
-use Rattle.cjc_judge.specs.Rules.{IsFirstRefused}
-use Rattle.cjc_cmd_jvm.proofs.ReportLaws.OneAnswer.{one_refusal_of_runs, never_both as never_run_and_refused}
-use Rattle.cjc_list.specs.Listed.{ListTree}
-use Rattle.cjc_cmd_jvm.specs.Running.Ready.{Breaks}
-use Rattle.cjc_cmd_jvm.specs.declared.running.input.Input.{Input}
-use Rattle.cjc_script_text.specs.Printed.{report_text}
+use Rattle.cjc_cmd_card.specs.Judge.Rules.{IsFirstRefused}
+use Rattle.cjc_cmd_card.proofs.CmdJvm.ReportLaws.OneAnswer.{one_refusal_of_runs, never_both as never_run_and_refused}
+use Rattle.cjc_cmd_convert.specs.List.Listed.{ListTree}
+use Rattle.cjc_cmd_card.specs.CmdJvm.Running.Ready.{Breaks}
+use Rattle.cjc_cmd_card.specs.CmdJvm.declared.running.input.Input.{Input}
+use Rattle.cjc_cmd_card.specs.ScriptText.Printed.{report_text}
 use Rattle.cjc_cmd_make.specs.Report.Package.{made_files, script_name}
 use Rattle.cjc_cmd_make.specs.Report.Runs.{IsMade, Refuses, of_list, of_package, of_script, reads_end}
 

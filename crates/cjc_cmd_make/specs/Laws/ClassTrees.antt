@@ -2,9 +2,9 @@
 use Rattle.std.specs.Prelude.{ℕ, ◌%◌, ◌^◌, List, [], ◌∷◌, ◌++◌, Some, codes}
 use Rattle.std.specs.Int.{w16, to_be_bytes}
 use Rattle.cjc_bytes.specs.declared.fault.MemberId.{MemberId}
-use Rattle.cjc_classfile.specs.declared.tree.ClassTree.{ClassTree}
-use Rattle.cjc_classfile.specs.declared.tree.MethodTree.{MethodTree}
-use Rattle.cjc_classfile.specs.PoolItem.{PoolItem, Class, Method, Other}
+use Rattle.cjc_cmd_convert.specs.ClassFile.declared.tree.ClassTree.{ClassTree}
+use Rattle.cjc_cmd_convert.specs.ClassFile.declared.tree.MethodTree.{MethodTree}
+use Rattle.cjc_cmd_convert.specs.ClassFile.PoolItem.{PoolItem, Class, Method, Other}
 
 -- a method by its class, name and descriptor
 abbrev pub member : (class name desc : List ℕ) → MemberId

@@ -12,14 +12,14 @@ use Rattle.cjc_shelf.specs.Command.Publish.{written_files}
 use Rattle.cjc_shelf.specs.declared.command.status.Todo.{Todo}
 use Rattle.cjc_cmd_convert.specs.Conversion.Promise.{KeepsPromise}
 use Rattle.cjc_cmd_convert.specs.Conversion.Conversion.{Conversion, IsConverted, IsRefused}
-use Rattle.cjc_judge.specs.Rules.{IsFirstRefused}
-use Rattle.cjc_cmd_jvm.specs.Runs.{IsReport}
+use Rattle.cjc_cmd_card.specs.Judge.Rules.{IsFirstRefused}
+use Rattle.cjc_cmd_card.specs.CmdJvm.Runs.{IsReport}
 use Rattle.cjc_cmd_convert.specs.Publication.{below, files_made}
-use Rattle.cjc_cmd_jvm.specs.Running.Reads.{plan_of_run}
-use Rattle.cjc_cmd_jvm.specs.Running.Ready.{Breaks, IsReady}
-use Rattle.cjc_cmd_jvm.specs.declared.running.input.Input.{Input}
-use Rattle.cjc_cmd_jvm.specs.declared.running.ready.Ready.{Ready}
-use Rattle.cjc_script.specs.declared.report.Report.{Report}
+use Rattle.cjc_cmd_card.specs.CmdJvm.Running.Reads.{plan_of_run}
+use Rattle.cjc_cmd_card.specs.CmdJvm.Running.Ready.{Breaks, IsReady}
+use Rattle.cjc_cmd_card.specs.CmdJvm.declared.running.input.Input.{Input}
+use Rattle.cjc_cmd_card.specs.CmdJvm.declared.running.ready.Ready.{Ready}
+use Rattle.cjc_cmd_convert.specs.Script.declared.report.Report.{Report}
 use Rattle.cjc_shelf.specs.Shelf.{Files}
 use Rattle.cjc_cmd_make.specs.Report.Package.{folder, list_name, made_files, script_name}
 use Rattle.cjc_cmd_make.specs.Report.Summary.{size_item, summary_lines}

@@ -6,7 +6,7 @@ use Rattle.cjc_bytes.specs.declared.fault.Refusal.{Refusal}
 use Rattle.cjc_shelf.specs.Command.Plan.{refused}
 use Rattle.cjc_shelf.specs.declared.command.status.Status.{Status}
 use Rattle.cjc_shelf.specs.declared.command.status.Status.TheVariants as status
-use Rattle.cjc_cmd_jvm.specs.declared.running.input.Input.{Input}
+use Rattle.cjc_cmd_card.specs.CmdJvm.declared.running.input.Input.{Input}
 use Rattle.cjc_shelf.specs.Shelf.{Files}
 use Rattle.cjc_cmd_convert.specs.Conversion.Conversion.{IsRefused}
 use Rattle.cjc_cmd_make.specs.Report.Runs.{Refuses, reads_end}

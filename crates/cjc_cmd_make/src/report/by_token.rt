@@ -12,7 +12,7 @@ ghost use Rattle.cjc_cmd_make.specs.Report.Runs.{IsComponentsReport, IsReportByT
 use cjc_bytes::{Fault, NoMemory};
 use cjc_cmd_card::report::report_of;
 use cjc_cmd_card::running::{Input, gather_input, make_ready};
-use cjc_script::Report;
+use cjc_cmd_convert::script::Report;
 use cjc_shelf::CleanShelf;
 use std::alloc::Global;
 

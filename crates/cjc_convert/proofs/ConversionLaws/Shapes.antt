@@ -1,18 +1,18 @@
 -- A package that is laid out, by what the code has of it.
 use Rattle.std.proofs.Common.{◌≡◌, List, sym, subst}
-use Rattle.cjc_components.specs.Package.{codes, tokens}
-use Rattle.cjc_judge.specs.Spelt.{IsRead}
-use Rattle.cjc_judge.specs.declared.judged.Judged.{Judged}
-use Rattle.cjc_methods.proofs.LayoutsLaws.Kept.{codes_of}
-use Rattle.cjc_ncode.specs.declared.narrow.NMethod.{NMethod}
-use Rattle.cjc_pool.specs.Pool.{IsPool, PoolView}
-use Rattle.cjc_shape.proofs.WholeLaws.Second.{package_is_draft}
-use Rattle.cjc_shape.specs.Prepared.{BreaksNothing}
-use Rattle.cjc_shape.specs.Whole.Conversion.{IsDraft}
-use Rattle.cjc_shape.specs.Whole.Working.Shaped.{IsShaped, package_of}
-use Rattle.cjc_shape.specs.declared.whole.shaping.Shaped.{Shaped}
+use Rattle.cjc_captree.specs.Components.Package.{codes, tokens}
+use Rattle.cjc_shape_proof.specs.Judge.Spelt.{IsRead}
+use Rattle.cjc_shape_proof.specs.Judge.declared.judged.Judged.{Judged}
+use Rattle.cjc_captree.proofs.Methods.LayoutsLaws.Kept.{codes_of}
+use Rattle.cjc_shape_proof.specs.NCode.declared.narrow.NMethod.{NMethod}
+use Rattle.cjc_captree.specs.Pool.Pool.{IsPool, PoolView}
+use Rattle.cjc_shape_proof.proofs.Shape.WholeLaws.Second.{package_is_draft}
+use Rattle.cjc_shape_proof.specs.Shape.Prepared.{BreaksNothing}
+use Rattle.cjc_shape_proof.specs.Shape.Whole.Conversion.{IsDraft}
+use Rattle.cjc_shape_proof.specs.Shape.Whole.Working.Shaped.{IsShaped, package_of}
+use Rattle.cjc_shape_proof.specs.Shape.declared.whole.shaping.Shaped.{Shaped}
 use Rattle.cjc_shape_proof.specs.Written.LaidOut.{AidsAreShort, IsLaidOut}
-use Rattle.cjc_tokens.specs.Tokens.{Assigned}
+use Rattle.cjc_shape_proof.specs.Tokens.Tokens.{Assigned}
 
 module _ (j : Judged) (s : Shaped) (h : IsShaped j s) where
   pub its_draft : IsDraft j.list.now j.files.now (package_of j s)

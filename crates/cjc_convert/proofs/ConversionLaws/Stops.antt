@@ -1,21 +1,23 @@
 -- Which rule is answered for a list and its files.
 use Rattle.std.proofs.Common.{◌≡◌, ◌∙◌, ℕ, List, [], ◌∷◌, refl, sym, ap, subst, inl, inr}
-use Rattle.cjc_bytes.specs.Breaks.{Among, Break, IsFirst, IsFirstRefusal}
-use Rattle.cjc_bytes.specs.Order.{NotAfter}
-use Rattle.cjc_bytes.specs.declared.fault.Fault.{Fault}
-use Rattle.cjc_bytes.specs.declared.fault.Refusal.{Refusal}
-use Rattle.cjc_components.specs.Limits.{else_of, form_breaks, limit_breaks, of_methods, size_breaks, word_breaks}
-use Rattle.cjc_components.specs.Package.{Package}
-use Rattle.cjc_judge.specs.Judged.{IsStopped}
-use Rattle.cjc_judge.specs.Rules.{Breach, IsFirstBroken, IsFirstOf, OnLevels, on_first, on_second}
-use Rattle.cjc_judge.specs.declared.judged.Judged.{Judged}
-use Rattle.cjc_list.specs.Listed.{ListTree}
-use Rattle.cjc_shape.specs.Prepared.{IsSound, tested}
-use Rattle.cjc_shape.specs.Whole.Conversion.{BreaksWritten, IsDraft, IsPackageOf, IsRefused, of_form, of_size}
-use Rattle.cjc_shape.specs.Whole.Working.Shaped.{Stopped}
-use Rattle.cjc_shape.proofs.WholeLaws.Drafts.{narrow_codes}
-use Rattle.cjc_shape.proofs.WholeLaws.One.{one_package}
-use Rattle.cjc_shape.proofs.WholeLaws.Second.{forms_are, fs, is_base, package_is_draft, words_are}
+use Rattle.cjc_shape_proof.specs.Bytes.Breaks.{Among, Break, IsFirst, IsFirstRefusal}
+use Rattle.cjc_shape_proof.specs.Bytes.Order.{NotAfter}
+use Rattle.cjc_shape_proof.specs.Bytes.declared.fault.Fault.{Fault}
+use Rattle.cjc_shape_proof.specs.Bytes.declared.fault.Refusal.{Refusal}
+use Rattle.cjc_captree.specs.Components.Limits.{else_of, form_breaks, limit_breaks, of_methods, size_breaks}
+use Rattle.cjc_captree.specs.Components.Limits.{word_breaks}
+use Rattle.cjc_captree.specs.Components.Package.{Package}
+use Rattle.cjc_shape_proof.specs.Judge.Judged.{IsStopped}
+use Rattle.cjc_shape_proof.specs.Judge.Rules.{Breach, IsFirstBroken, IsFirstOf, OnLevels, on_first, on_second}
+use Rattle.cjc_shape_proof.specs.Judge.declared.judged.Judged.{Judged}
+use Rattle.cjc_captree.specs.List.Listed.{ListTree}
+use Rattle.cjc_shape_proof.specs.Shape.Prepared.{IsSound, tested}
+use Rattle.cjc_shape_proof.specs.Shape.Whole.Conversion.{BreaksWritten, IsDraft, IsPackageOf, IsRefused, of_form}
+use Rattle.cjc_shape_proof.specs.Shape.Whole.Conversion.{of_size}
+use Rattle.cjc_shape_proof.specs.Shape.Whole.Working.Shaped.{Stopped}
+use Rattle.cjc_shape_proof.proofs.Shape.WholeLaws.Drafts.{narrow_codes}
+use Rattle.cjc_shape_proof.proofs.Shape.WholeLaws.One.{one_package}
+use Rattle.cjc_shape_proof.proofs.Shape.WholeLaws.Second.{forms_are, fs, is_base, package_is_draft, words_are}
 
 no_among : (b : Break) → Among b [] → ⊥
 no_among b among = elim among [ ]

@@ -5,8 +5,8 @@ use Rattle.std.specs.Prelude.{slice_get, ◌&&◌, if◌then◌else◌}
 use Rattle.std.proofs.lemmas.Bool.{cases_lt}
 use Rattle.cjc_capread.specs.Opcodes.{Form, Fields, Table, Lookup, Operand, Byte, Signed1, Signed2, Signed4, Index1}
 use Rattle.cjc_capread.specs.Opcodes.{Index2, form, forms}
-use Rattle.cjc_card_semantics.specs.Bytecode.Meanings.{Meaning, Branches, Ranged, Paired, meanings, meaning}
-use Rattle.cjc_card_semantics.specs.Bytecode.Meanings.{known_meaning}
+use Rattle.cjc_ncode.specs.CardSemantics.Bytecode.Meanings.{Meaning, Branches, Ranged, Paired, meanings, meaning}
+use Rattle.cjc_ncode.specs.CardSemantics.Bytecode.Meanings.{known_meaning}
 use Rattle.cjc_ncode.specs.Lowering.Laid.{wide_jump}
 
 -- ---- meanings

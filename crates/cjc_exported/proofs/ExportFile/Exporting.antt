@@ -3,17 +3,17 @@ use Rattle.std.proofs.Common.{◌≡◌, ℕ, ◌+◌, ◌≤◌, ◌<◌, refl,
 use Rattle.std.proofs.Common.{◌++◌, length, map}
 use Rattle.std.specs.Prelude.{Option, Some, None, if◌then◌else◌, option_and_then, option_map, slice_get, unwrap_or}
 use Rattle.std.proofs.lemmas.Option.{slice_get-map}
-use Rattle.cjc_capread.specs.declared.tree.ClassRef.{ClassRef}
-use Rattle.cjc_capread.specs.declared.tree.ExportedClass.{ExportedClass}
-use Rattle.cjc_classfile.specs.declared.tree.ClassTree.{ClassTree}
+use Rattle.cjc_components.specs.CapRead.declared.tree.ClassRef.{ClassRef}
+use Rattle.cjc_components.specs.CapRead.declared.tree.ExportedClass.{ExportedClass}
+use Rattle.cjc_world.specs.ClassFile.declared.tree.ClassTree.{ClassTree}
 use Rattle.cjc_export.specs.declared.tree.ExportTree.{ExportTree}
 use Rattle.cjc_world.specs.declared.found.Found.{Found}
 use Rattle.cjc_world.specs.Classes.{Member, Class, class_at}
 use Rattle.cjc_world.specs.Lookup.{member_at}
 use Rattle.cjc_tokens.specs.Methods.{is_open_bound}
-use Rattle.cjc_card_semantics.specs.Machine.Classes.{Own, External, external_from, or_else, token_named}
-use Rattle.cjc_clinit.specs.Image.{field_id}
-use Rattle.cjc_vtable.proofs.Numbers.{at-tree}
+use Rattle.cjc_components.specs.CardSemantics.Machine.Classes.{Own, External, external_from, or_else, token_named}
+use Rattle.cjc_components.specs.Clinit.Image.{field_id}
+use Rattle.cjc_components.proofs.VTable.Numbers.{at-tree}
 use Rattle.cjc_components.specs.Package.{Package, world}
 use Rattle.cjc_components.specs.Class.{fields_in}
 use Rattle.cjc_components.specs.Exports.{export, export_with, exported_class, exported_classes, open_methods}

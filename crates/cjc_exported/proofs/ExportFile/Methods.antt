@@ -5,8 +5,8 @@ use Rattle.std.specs.Prelude.{Option, Some, None, if◌then◌else◌, filter, i
 use Rattle.std.specs.Prelude.{option_map, unwrap_or, ◌||◌}
 use Rattle.std.proofs.Math.ListN.{drop_of_length-le}
 use Rattle.std.proofs.lemmas.Option.{slice_get_past, slice_get-map}
-use Rattle.cjc_classfile.specs.declared.tree.ClassTree.{ClassTree}
-use Rattle.cjc_bytes.specs.AccessFlags.{is_interface}
+use Rattle.cjc_world.specs.ClassFile.declared.tree.ClassTree.{ClassTree}
+use Rattle.cjc_export.specs.Bytes.AccessFlags.{is_interface}
 use Rattle.cjc_world.specs.Files.{Files}
 use Rattle.cjc_world.specs.Classes.{Member, Class, all_classes, class_at, declared}
 use Rattle.cjc_world.specs.Added.{added, added_at, added_to, named_by}
@@ -23,7 +23,7 @@ use Rattle.cjc_tokens.specs.Tokens.{classes_from, of_class, one_more, assigned, 
 use Rattle.cjc_tokens.specs.declared.slot.Slot.{Slot}
 use Rattle.cjc_tokens.specs.Working.{signature_in, signs}
 use Rattle.cjc_tokens.proofs.Facts.{position-cons}
-use Rattle.cjc_vtable.proofs.Numbers.{at-kind, at-tree}
+use Rattle.cjc_components.proofs.VTable.Numbers.{at-kind, at-tree}
 use Rattle.cjc_components.specs.Package.{Package}
 use Rattle.cjc_components.specs.Descriptor.{as_added, methods_with_added, no_member}
 use Rattle.cjc_components.specs.ExportFile.{added_from, method_entry, supers_from}

@@ -4,8 +4,8 @@ use Rattle.std.proofs.Common.{[], ◌∷◌, ◌++◌, drop, length}
 use Rattle.std.specs.Prelude.{Option, Some, None, if◌then◌else◌, filter, option_and_then, option_map, slice_get}
 use Rattle.std.specs.Prelude.{unwrap_or}
 use Rattle.std.proofs.lemmas.Option.{slice_get-map, slice_get_within}
-use Rattle.cjc_bytes.specs.declared.settings.FileLine.{FileLine}
-use Rattle.cjc_classfile.specs.declared.tree.ClassTree.{ClassTree}
+use Rattle.cjc_export.specs.Bytes.declared.settings.FileLine.{FileLine}
+use Rattle.cjc_world.specs.ClassFile.declared.tree.ClassTree.{ClassTree}
 use Rattle.cjc_export.specs.declared.tree.ExportClass.{ExportClass}
 use Rattle.cjc_export.specs.declared.tree.ExportTree.{ExportTree}
 use Rattle.cjc_world.specs.Classes.{Class, declared, size, of_class_file, of_export_file, classes_from, all_classes}

@@ -14,7 +14,7 @@ use Rattle.cjc_export.specs.Supers.{is_one_of}
 use Rattle.cjc_export.specs.Written.{class_needs, class_tree_needs, constants, field_needs, method_needs, needs}
 use Rattle.cjc_export.proofs.Numbering.{Has, all_back, all_front, all_in}
 use Rattle.cjc_export.proofs.Worth.{total, worth_at_most}
-use Rattle.cjc_order.specs.Supers.Supers.{each_once}
+use Rattle.cjc_components.specs.ClassOrder.Supers.Supers.{each_once}
 
 -- ---- names of their own
 

@@ -3,7 +3,7 @@
 
 ghost use Rattle.std.specs.Prelude.{◌≡◌, ◌+◌, ◌≤◌, ◌<◌, ◌∷◌, ◌++◌, ℕ, [], filter, false, if◌then◌else◌, length, map};
 ghost use Rattle.std.specs.Prelude.{slice_get, unwrap_or, IfOk, OnOk, Some};
-ghost use Rattle.cjc_classfile.specs.declared.tree.FieldTree.{FieldTree as Field};
+ghost use Rattle.cjc_world.specs.ClassFile.declared.tree.FieldTree.{FieldTree as Field};
 ghost use Rattle.cjc_world.specs.declared.found.Found.{Found as Place};
 ghost use Rattle.cjc_world.specs.Classes.{all_classes, class_at};
 ghost use Rattle.cjc_world.specs.Exported.{is_exported};
@@ -21,11 +21,11 @@ ghost use Rattle.cjc_exported.specs.ExportFile.Working.Sources.{method_of};
 use crate::export_file::method::{Method, is_exposed, is_initialiser, own_method};
 use crate::export_file::numbered::classes_of_kind;
 use crate::export_file::source::place_after;
-use cjc_bytes::{NoMemory, Row, is_static};
-use cjc_capread::{ClassRef, Export, ExportedClass};
-use cjc_classfile::{ClassTree, FieldTree};
+use cjc_components::capread::{ClassRef, Export, ExportedClass};
+use cjc_components::list::List;
+use cjc_export::bytes::{NoMemory, Row, is_static};
 use cjc_export::may_be_constant;
-use cjc_list::List;
+use cjc_world::classfile::{ClassTree, FieldTree};
 use cjc_world::{Known, World};
 use std::alloc::Global;
 

@@ -10,8 +10,8 @@ ghost use Rattle.cjc_exported.specs.ExportFile.Working.Sources.{AreSources, give
 
 use crate::export_file::method::{given, is_listed, own_method, put_method};
 use crate::export_file::source::{Source, place_after};
-use cjc_bytes::{MemberId, NoMemory, Row};
 use cjc_export::ExportMethod;
+use cjc_export::bytes::{MemberId, NoMemory, Row};
 use cjc_world::Known;
 use std::alloc::Global;
 

@@ -3,8 +3,8 @@ use Rattle.std.proofs.Common.{◌≡◌, ◌⊎◌, ◌≤◌, ◌<◌, ◌+◌,
 use Rattle.std.proofs.Common.{refl, sym, ◌∙◌, ap, subst, add-zero, zero-add, arith, ℤ}
 use Rattle.std.proofs.lemmas.List.{drop_more}
 use Rattle.std.proofs.lemmas.Option.{slice_get_within, get_or_from_slice_get}
-use Rattle.cjc_bytes.specs.declared.fault.MemberId.{MemberId}
-use Rattle.cjc_code.specs.declared.insn.JInsn.{JInsn}
+use Rattle.cjc_fixpoint.specs.Bytes.declared.fault.MemberId.{MemberId}
+use Rattle.cjc_types.specs.Bytecode.declared.insn.JInsn.{JInsn}
 use Rattle.cjc_types.specs.declared.state.State.{State}
 use Rattle.cjc_types.specs.declared.table.TypeTable.{TypeTable}
 use Rattle.cjc_types.specs.Flow.{Body}

@@ -1,11 +1,11 @@
 //! The first number of a method that may not lie where its instruction needs it.
 
 ghost use Rattle.std.specs.Prelude.{◌≡◌, ◌<◌, Option, ℤ, List, length, option_map, IfOk, IfSome};
-ghost use Rattle.cjc_bytes.specs.declared.fault.MemberId.{MemberId as Field};
-ghost use Rattle.cjc_classfile.specs.Code.{CodeTree};
-ghost use Rattle.cjc_classfile.specs.declared.tree.ClassTree.{ClassTree as ClassFile};
-ghost use Rattle.cjc_classfile.specs.declared.tree.MethodTree.{MethodTree as ClassMethod};
-ghost use Rattle.cjc_world.specs.Classes.{Class, all_classes};
+ghost use Rattle.cjc_fixpoint.specs.Bytes.declared.fault.MemberId.{MemberId as Field};
+ghost use Rattle.cjc_types.specs.ClassFile.Code.{CodeTree};
+ghost use Rattle.cjc_types.specs.ClassFile.declared.tree.ClassTree.{ClassTree as ClassFile};
+ghost use Rattle.cjc_types.specs.ClassFile.declared.tree.MethodTree.{MethodTree as ClassMethod};
+ghost use Rattle.cjc_types.specs.World.Classes.{Class, all_classes};
 ghost use Rattle.cjc_types.specs.Flow.{Body, body_of};
 ghost use Rattle.cjc_types.specs.Tables.{IsMethodOf, IsOfPackage, IsTypeTable, rows_of, state_of};
 ghost use Rattle.cjc_flow.specs.Constants.{AreNumbers, values_of};
@@ -15,10 +15,10 @@ ghost use Rattle.cjc_flow.specs.Tests.Working.Search.{first_from, row_rule};
 
 use crate::tests::rules::lowest_rule;
 use crate::{RangeTable, Ranges, Ranging};
-use cjc_bytes::{BrokenAt, NoMemory};
-use cjc_code::{JInsn, MethodCode};
+use cjc_fixpoint::bytes::{BrokenAt, NoMemory};
+use cjc_types::bytecode::{JInsn, MethodCode};
+use cjc_types::world::World;
 use cjc_types::{Frame, Method, TypeTable, TypeWalk};
-use cjc_world::World;
 use std::alloc::Global;
 
 /// The first broken rule of a method.

@@ -15,9 +15,9 @@ ghost use Rattle.cjc_flow.specs.Tests.Working.Search.{arguments_rule, arithmetic
 ghost use Rattle.cjc_flow.specs.Tests.Working.Search.{kind_rule, lower, lowest_rule, part_rule, put_rule, tested};
 
 use crate::Ranges;
-use cjc_bytes::{Kind, MemberId};
-use cjc_code::{JOp, jvm};
+use cjc_fixpoint::bytes::{Kind, MemberId};
 use cjc_range::Interval;
+use cjc_types::bytecode::{JOp, jvm};
 use cjc_types::{Cell, Name, Operands, parsed};
 
 /// The rule, where the interval does not lie from `low` to `high`.

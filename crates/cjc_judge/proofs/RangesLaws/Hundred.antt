@@ -4,10 +4,12 @@ use Rattle.std.specs.Prelude.{◌/◌}
 use Rattle.cjc_bytes.specs.Descriptor.{Part}
 use Rattle.cjc_bytes.specs.declared.breaks.BrokenAt.{BrokenAt}
 use Rattle.cjc_code.specs.declared.insn.JOp.{JOp}
-use Rattle.cjc_range.specs.Span.{Span}
-use Rattle.cjc_intervals.specs.Bounds.{Bounds, IsBoundOf, a_short, a_byte, a_boolean, a_comparison, a_division, a_shift}
-use Rattle.cjc_intervals.specs.Bounds.{a_table, a_lookup, a_count, a_reference_count, a_load, a_store, a_static_field}
-use Rattle.cjc_intervals.specs.Bounds.{a_field, an_argument, a_result, a_boolean_element}
+use Rattle.cjc_code.specs.Range.Span.{Span}
+use Rattle.cjc_flow.specs.Intervals.Bounds.{Bounds, IsBoundOf, a_short, a_byte, a_boolean, a_comparison, a_division}
+use Rattle.cjc_flow.specs.Intervals.Bounds.{a_shift}
+use Rattle.cjc_flow.specs.Intervals.Bounds.{a_table, a_lookup, a_count, a_reference_count, a_load, a_store}
+use Rattle.cjc_flow.specs.Intervals.Bounds.{a_static_field}
+use Rattle.cjc_flow.specs.Intervals.Bounds.{a_field, an_argument, a_result, a_boolean_element}
 use Rattle.cjc_types.specs.declared.cell.Cell.{Cell}
 use Rattle.cjc_types.specs.Flow.{Body}
 use Rattle.cjc_world.specs.Files.{Files}

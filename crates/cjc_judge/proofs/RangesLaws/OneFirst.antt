@@ -9,8 +9,8 @@ use Rattle.cjc_types.specs.declared.table.TypeTable.{TypeTable}
 use Rattle.cjc_types.specs.Flow.{Body}
 use Rattle.cjc_types.specs.Tables.{IsTypeTable, rows_of}
 use Rattle.cjc_types.proofs.Least.{one_least}
-use Rattle.cjc_intervals.specs.Frames.{RangeState}
-use Rattle.cjc_intervals.specs.Tables.{IsLeastRanges}
+use Rattle.cjc_flow.specs.Intervals.Frames.{RangeState}
+use Rattle.cjc_flow.specs.Intervals.Tables.{IsLeastRanges}
 use Rattle.cjc_flow.specs.Tables.{IsRangeTable, ranges_of}
 use Rattle.cjc_flow.specs.Tests.Answers.{IsFirstBroken, IsFound}
 use Rattle.cjc_world.specs.Classes.{all_classes}

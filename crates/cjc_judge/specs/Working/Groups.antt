@@ -3,10 +3,10 @@ use Rattle.std.specs.Prelude.{◌≡◌, ◌⊎◌, true, List, [], ◌∷◌, �
 use Rattle.std.specs.List.{list_any}
 use Rattle.cjc_code.specs.declared.method_code.MethodCode.{MethodCode}
 use Rattle.cjc_list.specs.Listed.{ListTree}
-use Rattle.cjc_subset.specs.Checks.{check_breaks}
+use Rattle.cjc_vtable.specs.Subset.Checks.{check_breaks}
 use Rattle.cjc_clinit.specs.Rules.{BreaksImage}
 use Rattle.cjc_types.specs.declared.table.TypeTable.{TypeTable}
-use Rattle.cjc_tokens.specs.Rules.{tested_breaks}
+use Rattle.cjc_vtable.specs.Tokens.Rules.{tested_breaks}
 use Rattle.cjc_world.specs.Files.{Files}
 use Rattle.cjc_bytes.specs.Breaks.{Break, Among}
 use Rattle.cjc_judge.specs.declared.groups.Group.{Group}

@@ -2,7 +2,7 @@
 use Rattle.std.proofs.Common.{◌≡◌, ℕ, ◌<◌, List, [], ◌∷◌, length, take, reverse, refl, sym, ap, ◌∙◌, false, arith}
 use Rattle.std.proofs.lemmas.List.{length-reverse, length-take}
 use Rattle.std.specs.Prelude.{◌≢◌, Option, Some, None, option_map}
-use Rattle.cjc_bytes.specs.declared.fault.MemberId.{MemberId}
+use Rattle.cjc_script.specs.Bytes.declared.fault.MemberId.{MemberId}
 use Rattle.cjc_script.specs.declared.value.Value.{Value}
 use Rattle.cjc_script.specs.declared.report.Thing.{Thing}
 use Rattle.cjc_script.specs.Sorts.{Sort}

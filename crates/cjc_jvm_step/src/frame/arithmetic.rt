@@ -1,7 +1,7 @@
 //! Arithmetic, shifts and logic on int, i2b and i2s (Java Virtual Machine Specification, 6.5).
 
 ghost use Rattle.std.specs.Prelude.{◌≡◌, ◌<◌, length, IfOk};
-ghost use Rattle.cjc_code.specs.Jvm as jvm;
+ghost use Rattle.cjc_jvm_semantics.specs.Bytecode.Jvm as jvm;
 ghost use Rattle.cjc_jvm_semantics.specs.Arithmetic.{operation};
 ghost use Rattle.cjc_jvm_semantics.specs.Effects.{after_operation, after_arithmetic, after_narrowing};
 ghost use Rattle.cjc_jvm_step.specs.Frame.Deeds.{Follows};
@@ -10,9 +10,9 @@ use crate::frame::activation::Activation;
 use crate::frame::calculation::{Calculation, calculate};
 use crate::frame::deed::{Deed, Exception};
 use crate::frame::number::{byte_of, negation_of, short_of};
-use cjc_bytes::NoMemory;
-use cjc_code::jvm;
+use cjc_jvm_semantics::bytecode::jvm;
 use cjc_script::Value;
+use cjc_script::bytes::NoMemory;
 
 impl<'a> Activation<'a> {
     // An instruction of two numbers.

@@ -1,13 +1,13 @@
 //! ireturn, areturn, return and athrow (Java Virtual Machine Specification, 6.5).
 
 ghost use Rattle.std.specs.Prelude.{◌≡◌};
-ghost use Rattle.cjc_code.specs.Jvm as jvm;
+ghost use Rattle.cjc_jvm_semantics.specs.Bytecode.Jvm as jvm;
 ghost use Rattle.cjc_jvm_semantics.specs.Effects.{one_value, at_return, on_throw};
 ghost use Rattle.cjc_jvm_step.specs.Frame.Deeds.{Follows};
 
 use crate::frame::activation::{Activation, is_kind};
 use crate::frame::deed::{Deed, Exception};
-use cjc_code::jvm;
+use cjc_jvm_semantics::bytecode::jvm;
 use cjc_script::Value;
 
 impl<'a> Activation<'a> {

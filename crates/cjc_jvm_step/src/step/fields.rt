@@ -1,7 +1,7 @@
 //! getfield and putfield of a field that is found (Java Virtual Machine Specification, 6.5).
 
 ghost use Rattle.std.specs.Prelude.{◌≡◌, ◌<◌, length, Some, IfOk, option_map};
-ghost use Rattle.cjc_code.specs.declared.insn.JOp.TheVariants as jop;
+ghost use Rattle.cjc_jvm_semantics.specs.Bytecode.declared.insn.JOp.TheVariants as jop;
 ghost use Rattle.cjc_jvm_semantics.specs.Linked.{Instance};
 ghost use Rattle.cjc_jvm_semantics.specs.Effects.{field_get, field_put, effect};
 ghost use Rattle.cjc_jvm_semantics.specs.OnePackage.{of_class};
@@ -13,7 +13,7 @@ use crate::frame::{Activation, Deed};
 use crate::heap::Heap;
 use crate::step::deeds::deed_of;
 use crate::step::lookups::{LookUps, ResolvedField};
-use cjc_bytes::{MemberId, NoMemory};
+use cjc_script::bytes::{MemberId, NoMemory};
 
 // getfield, by the class that declares the field.
 fn get_field_of<'a>(

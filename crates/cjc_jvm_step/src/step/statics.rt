@@ -2,7 +2,7 @@
 //! read or written. Called by `instruction`.
 
 ghost use Rattle.std.specs.Prelude.{◌≡◌, ◌<◌, length, List, Some, IfOk, option_map};
-ghost use Rattle.cjc_code.specs.declared.insn.JOp.TheVariants as jop;
+ghost use Rattle.cjc_jvm_semantics.specs.Bytecode.declared.insn.JOp.TheVariants as jop;
 ghost use Rattle.cjc_script.specs.declared.report.Thing.{Thing};
 ghost use Rattle.cjc_jvm_semantics.specs.Linked.{Static};
 ghost use Rattle.cjc_jvm_semantics.specs.OnePackage.{of_class};
@@ -14,8 +14,8 @@ ghost use Rattle.cjc_jvm_step.specs.Step.Rows.{FollowsIn, store_of};
 use crate::frame::{Activation, Deed};
 use crate::heap::Statics;
 use crate::step::lookups::{LookUps, ResolvedField};
-use cjc_bytes::{MemberId, NoMemory};
 use cjc_script::Value;
+use cjc_script::bytes::{MemberId, NoMemory};
 
 // getstatic of a cell, by the class that declares its field.
 fn get_cell<'a>(

@@ -3,8 +3,8 @@ use Rattle.std.proofs.Common.{◌≡◌, ℕ, suc, ◌+◌, ◌-◌, ◌/◌, �
 use Rattle.std.proofs.Common.{replicate, refl, sym, ap, ◌∙◌, arith, append_assoc, append-nil}
 use Rattle.std.proofs.lemmas.List.{drop_all, drop_more}
 use Rattle.std.proofs.lemmas.Option.{same_Some, slice_get-get_or}
-use Rattle.cjc_capread.specs.declared.tree.Handler.{Handler}
-use Rattle.cjc_check_rules.specs.Locations.{catch_places, distance, distances}
+use Rattle.cjc_ncode.specs.CapRead.declared.tree.Handler.{Handler}
+use Rattle.cjc_components.specs.CheckRules.Locations.{catch_places, distance, distances}
 use Rattle.cjc_methods.specs.Component.Working.Parts.{catch_place}
 
 -- at the item of a number and behind it

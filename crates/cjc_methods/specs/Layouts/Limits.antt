@@ -1,6 +1,6 @@
 -- What of a package its methods, its list and its export file are known by, where rules 311, 414 and 415 are tested.
 use Rattle.std.specs.Prelude.{◌≡◌, ℕ, List, length, map}
-use Rattle.cjc_export.specs.Written.{constants}
+use Rattle.cjc_world.specs.ExportFile.Written.{constants}
 use Rattle.cjc_world.specs.declared.found.Found.{Found}
 use Rattle.cjc_world.specs.Files.{Files}
 use Rattle.cjc_ncode.specs.declared.narrow.NMethod.{NMethod}

@@ -1,10 +1,10 @@
 -- Which of the codes of a package each method has.
 use Rattle.std.specs.Prelude.{◌≡◌, ℕ, ◌+◌, List, [], ◌∷◌, slice_get, Option, None, Some, option_and_then}
-use Rattle.cjc_classfile.specs.Code.{CodeTree}
-use Rattle.cjc_classfile.specs.declared.tree.ClassTree.{ClassTree}
-use Rattle.cjc_classfile.specs.declared.tree.MethodTree.{MethodTree}
-use Rattle.cjc_code.specs.declared.method_code.MethodCode.{MethodCode}
-use Rattle.cjc_tokens.specs.Tokens.{joined}
+use Rattle.cjc_world.specs.ClassFile.Code.{CodeTree}
+use Rattle.cjc_world.specs.ClassFile.declared.tree.ClassTree.{ClassTree}
+use Rattle.cjc_world.specs.ClassFile.declared.tree.MethodTree.{MethodTree}
+use Rattle.cjc_types.specs.Bytecode.declared.method_code.MethodCode.{MethodCode}
+use Rattle.cjc_components.specs.Tokens.Tokens.{joined}
 use Rattle.cjc_types.specs.Tables.{IsMethodOf}
 use Rattle.cjc_world.specs.Files.{Files}
 

@@ -15,7 +15,7 @@ ghost use Rattle.cjc_methods.specs.Component.Working.Parts.{flagged};
 use crate::component::places::put_places;
 use crate::layouts::Methods;
 use cjc_bytes::{Bytes, NoMemory, Row};
-use cjc_emit::{MethodBytes, emit};
+use cjc_components::emit::{MethodBytes, emit};
 use cjc_pool::Pool;
 use std::alloc::Global;
 

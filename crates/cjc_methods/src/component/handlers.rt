@@ -1,11 +1,11 @@
 //! The handlers of all methods in one table (Java Card Virtual Machine Specification 2.2.2, section 6.9.1).
 
 ghost use Rattle.std.specs.Prelude.{◌≡◌, ◌+◌, ◌++◌, ◌<◌, ◌^◌, length, map, IfOk, OnOk};
-ghost use Rattle.cjc_emit.specs.Emitted.{header_bytes};
+ghost use Rattle.cjc_components.specs.Emit.Emitted.{header_bytes};
 ghost use Rattle.cjc_ncode.specs.Lowering.Laid.{class_index};
 ghost use Rattle.cjc_ncode.specs.Lowering.Naming.{Naming};
 ghost use Rattle.cjc_ncode.specs.Lowering.Package.{all_handlers};
-ghost use Rattle.cjc_layout.specs.OnCard.{handler_on_card};
+ghost use Rattle.cjc_components.specs.Layout.OnCard.{handler_on_card};
 ghost use Rattle.cjc_components.specs.Methods.{placed_methods};
 ghost use Rattle.cjc_components.specs.Names.{names};
 ghost use Rattle.cjc_components.specs.Package.{Package};
@@ -15,9 +15,9 @@ ghost use Rattle.cjc_methods.specs.Component.Working.Parts.{IsIndexed};
 
 use crate::layouts::{Methods, header_size};
 use cjc_bytes::{Bytes, NoMemory, Row};
-use cjc_capread::Handler;
-use cjc_emit::PoolLookup;
+use cjc_components::emit::PoolLookup;
 use cjc_ncode::NMethod;
+use cjc_ncode::capread::Handler;
 use cjc_pool::Pool;
 use std::alloc::Global;
 
@@ -35,7 +35,7 @@ fn catch_index(pool: &Pool, class: &Option<Bytes>) -> u16
 }
 
 /// A handler of a method whose code begins at an offset.
-fn on_card(pool: &Pool, first: u64, handler: &cjc_layout::Handler) -> Handler
+fn on_card(pool: &Pool, first: u64, handler: &cjc_components::layout::Handler) -> Handler
     requires { first < 2 ^ 33 }
     ensures { (n : Naming) → IsIndexed pool.now.keys n → result ≡ handler_on_card n first handler.now }
 {
@@ -53,7 +53,7 @@ fn put_handlers(
     out: &mut Row<Handler>,
     pool: &Pool,
     first: u64,
-    handlers: &[cjc_layout::Handler],
+    handlers: &[cjc_components::layout::Handler],
 ) -> Result<(), NoMemory>
     requires { first < 2 ^ 33 }
     ensures { (n : Naming) → IsIndexed pool.now.keys n → OnOk result (out.new ≡ out.old

@@ -1,7 +1,7 @@
 //! Methods with their layouts. Whoever writes components reads them.
 
 use cjc_bytes::Row;
-use cjc_layout::Layout;
+use cjc_components::layout::Layout;
 use cjc_ncode::NMethod;
 use cjc_world::Found;
 

@@ -4,7 +4,7 @@ ghost use Rattle.std.specs.Prelude.{◌≡◌, [], All, length, IfOk, IfErr, OnO
 ghost use Rattle.cjc_bytes.specs.Breaks.{IsFirstOf, IsFirstRefusal, each};
 ghost use Rattle.cjc_bytes.specs.Told.{break_of};
 ghost use Rattle.cjc_ncode.specs.declared.narrow.NMethod.{NMethod as Narrow};
-ghost use Rattle.cjc_layout.specs.Layouts.{IsWhole};
+ghost use Rattle.cjc_components.specs.Layout.Layouts.{IsWhole};
 ghost use Rattle.cjc_components.specs.Limits.{form_breaks};
 ghost use Rattle.cjc_components.specs.Package.{Package};
 ghost use Rattle.cjc_methods.specs.Ready.{IsOwn};

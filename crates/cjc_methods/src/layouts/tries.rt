@@ -3,12 +3,12 @@
 
 ghost use Rattle.std.specs.Prelude.{◌≡◌, IfOk};
 ghost use Rattle.cjc_ncode.specs.declared.narrow.NMethod.{NMethod as Narrow};
-ghost use Rattle.cjc_layout.specs.Layouts.{IsWhole};
+ghost use Rattle.cjc_components.specs.Layout.Layouts.{IsWhole};
 ghost use Rattle.cjc_components.specs.Written.{is_abstract_at};
 ghost use Rattle.cjc_methods.specs.Layouts.Working.Tries.{IsTry, overtaken, refused};
 
 use cjc_bytes::{Bytes, Fault, MemberId, NoMemory, Refusal};
-use cjc_layout::{Layout, lay};
+use cjc_components::layout::{Layout, lay};
 use cjc_ncode::NMethod;
 use cjc_world::{Found, World};
 use std::alloc::Global;

@@ -4,8 +4,8 @@ use Rattle.std.proofs.Common.{length, get_or, drop, add-one}
 use Rattle.std.specs.Prelude.{slice_get}
 use Rattle.std.specs.List.{flat_map}
 use Rattle.std.proofs.Math.Seq.{drop-cons}
-use Rattle.cjc_export.specs.declared.tree.ExportClass.{ExportClass}
-use Rattle.cjc_export.specs.declared.tree.ExportTree.{ExportTree}
+use Rattle.cjc_ncode.specs.ExportFile.declared.tree.ExportClass.{ExportClass}
+use Rattle.cjc_ncode.specs.ExportFile.declared.tree.ExportTree.{ExportTree}
 
 -- the classes of all export files
 abbrev pub imports : List ExportTree → List ExportClass

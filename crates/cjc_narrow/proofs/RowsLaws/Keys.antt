@@ -2,12 +2,12 @@
 use Rattle.std.proofs.Common.{◌≡◌, ℕ, suc, ◌+◌, refl, sym, ap, ◌∙◌, Bool, true, false, List, [], ◌∷◌, ◌++◌, length}
 use Rattle.std.specs.Prelude.{Option, Some, None, map, filter, flat_map, nat_lt, if◌then◌else◌, ℤ, pos, ◌+ℤ◌}
 use Rattle.cjc_bytes.specs.declared.fault.MemberId.{MemberId}
-use Rattle.cjc_classfile.specs.declared.tree.Catch.{Catch}
-use Rattle.cjc_code.specs.declared.insn.JInsn.{JInsn}
-use Rattle.cjc_code.specs.declared.insn.JCase.{JCase}
-use Rattle.cjc_code.specs.declared.insn.JOp.{JOp}
-use Rattle.cjc_code.specs.declared.insn.JOp.TheVariants as jop
-use Rattle.cjc_card_semantics.specs.Bytecode.Numbers.{is_word}
+use Rattle.cjc_ncode.specs.ClassFile.declared.tree.Catch.{Catch}
+use Rattle.cjc_ncode.specs.Bytecode.declared.insn.JInsn.{JInsn}
+use Rattle.cjc_ncode.specs.Bytecode.declared.insn.JCase.{JCase}
+use Rattle.cjc_ncode.specs.Bytecode.declared.insn.JOp.{JOp}
+use Rattle.cjc_ncode.specs.Bytecode.declared.insn.JOp.TheVariants as jop
+use Rattle.cjc_ncode.specs.CardSemantics.Bytecode.Numbers.{is_word}
 use Rattle.cjc_ncode.specs.declared.narrow.NCase.{NCase}
 use Rattle.cjc_ncode.specs.declared.narrow.NInsn.{NInsn}
 use Rattle.cjc_ncode.specs.declared.narrow.PoolKey.{PoolKey}

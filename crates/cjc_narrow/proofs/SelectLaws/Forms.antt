@@ -3,8 +3,8 @@ use Rattle.std.proofs.Common.{◌≡◌, refl, sym, ap, ◌∙◌, List, [], ◌
 use Rattle.std.specs.Prelude.{map}
 use Rattle.std.specs.List.{flat_map, list_any}
 use Rattle.cjc_bytes.specs.declared.fault.MemberId.{MemberId}
-use Rattle.cjc_world.specs.Classes.{all_classes}
-use Rattle.cjc_world.specs.Files.{Files}
+use Rattle.cjc_jvm_semantics.specs.World.Classes.{all_classes}
+use Rattle.cjc_jvm_semantics.specs.World.Files.{Files}
 use Rattle.cjc_ncode.specs.PoolOrder.{class_key, has_catch_type, insn_keys, is_some, method_keys, pool_order}
 use Rattle.cjc_ncode.specs.Written.{catches_at, narrow_code, place_in, reached}
 use Rattle.cjc_narrow.proofs.KeysLaws.Indices.{same_pool}

@@ -3,8 +3,8 @@ use Rattle.std.proofs.Common.{◌≡◌, ℕ, ◌+◌, ◌<◌, ◌≤◌, ◌-�
 use Rattle.std.proofs.Common.{◌++◌, length, get_or, drop, append_assoc, append-nil}
 use Rattle.std.proofs.lemmas.List.{drop_all, length-append}
 use Rattle.std.proofs.lemmas.List.Concat.{flat_map-cons}
-use Rattle.cjc_code.specs.declared.insn.JInsn.{JInsn}
-use Rattle.cjc_code.specs.declared.insn.JOp.{JOp}
+use Rattle.cjc_ncode.specs.Bytecode.declared.insn.JInsn.{JInsn}
+use Rattle.cjc_ncode.specs.Bytecode.declared.insn.JOp.{JOp}
 use Rattle.cjc_ncode.specs.declared.narrow.NInsn.{NInsn}
 use Rattle.cjc_ncode.specs.Written.{Resolution, reached, sources, written}
 use Rattle.cjc_narrow.specs.Written.Rows.{rows_by}

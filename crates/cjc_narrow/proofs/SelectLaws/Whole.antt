@@ -1,11 +1,11 @@
 -- A method of its parts.
 use Rattle.std.proofs.Common.{◌≡◌, ℕ, ap, subst, ◌∙◌, Bool, List}
 use Rattle.cjc_bytes.specs.declared.fault.MemberId.{MemberId}
-use Rattle.cjc_classfile.specs.Code.{CodeTree}
-use Rattle.cjc_classfile.specs.declared.tree.ClassTree.{ClassTree}
-use Rattle.cjc_classfile.specs.declared.tree.MethodTree.{MethodTree}
-use Rattle.cjc_code.specs.declared.insn.JInsn.{JInsn}
-use Rattle.cjc_world.specs.Files.{Files}
+use Rattle.cjc_ncode.specs.ClassFile.Code.{CodeTree}
+use Rattle.cjc_ncode.specs.ClassFile.declared.tree.ClassTree.{ClassTree}
+use Rattle.cjc_ncode.specs.ClassFile.declared.tree.MethodTree.{MethodTree}
+use Rattle.cjc_ncode.specs.Bytecode.declared.insn.JInsn.{JInsn}
+use Rattle.cjc_jvm_semantics.specs.World.Files.{Files}
 use Rattle.cjc_ncode.specs.declared.narrow.NMethod.{NMethod}
 use Rattle.cjc_narrow.specs.Rows.Resolved.{argument_words, resolution}
 use Rattle.cjc_narrow.specs.Rows.Selected.{selected_code}

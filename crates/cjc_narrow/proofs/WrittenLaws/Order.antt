@@ -8,12 +8,12 @@ use Rattle.std.proofs.lemmas.Option.{slice_get-get_or}
 use Rattle.std.proofs.lemmas.List.{drop_all}
 use Rattle.cjc_bytes.specs.declared.fault.MemberId.{MemberId}
 use Rattle.cjc_bytes.specs.Descriptor.{Part}
-use Rattle.cjc_script.specs.Sorts.{sort_of}
-use Rattle.cjc_card_semantics.specs.Bytecode.Arguments.{width, widths}
-use Rattle.cjc_classfile.specs.declared.tree.Catch.{Catch}
-use Rattle.cjc_code.specs.declared.insn.JInsn.{JInsn}
-use Rattle.cjc_code.specs.declared.insn.JOp.{JOp}
-use Rattle.cjc_code.specs.declared.insn.JOp.TheVariants as jop
+use Rattle.cjc_ncode.specs.Script.Sorts.{sort_of}
+use Rattle.cjc_ncode.specs.CardSemantics.Bytecode.Arguments.{width, widths}
+use Rattle.cjc_ncode.specs.ClassFile.declared.tree.Catch.{Catch}
+use Rattle.cjc_ncode.specs.Bytecode.declared.insn.JInsn.{JInsn}
+use Rattle.cjc_ncode.specs.Bytecode.declared.insn.JOp.{JOp}
+use Rattle.cjc_ncode.specs.Bytecode.declared.insn.JOp.TheVariants as jop
 use Rattle.cjc_ncode.specs.declared.narrow.NCatch.{NCatch}
 use Rattle.cjc_ncode.specs.Written.{Resolution, catch_at, catches_at, low_of, place_in, reached, static_by, table_cases}
 use Rattle.cjc_ncode.specs.Written.{widest_sum, written}

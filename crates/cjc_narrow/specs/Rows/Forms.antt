@@ -2,8 +2,8 @@
 -- keys that it names.
 use Rattle.std.specs.Prelude.{◌≡◌, ℕ, List, flat_map, Bool}
 use Rattle.cjc_bytes.specs.declared.fault.MemberId.{MemberId}
-use Rattle.cjc_classfile.specs.declared.tree.Catch.{Catch}
-use Rattle.cjc_code.specs.declared.insn.JInsn.{JInsn}
+use Rattle.cjc_ncode.specs.ClassFile.declared.tree.Catch.{Catch}
+use Rattle.cjc_ncode.specs.Bytecode.declared.insn.JInsn.{JInsn}
 use Rattle.cjc_ncode.specs.PoolOrder.{insn_keys}
 use Rattle.cjc_ncode.specs.Written.{Resolution, place_in, narrow_code, catches_at}
 

@@ -4,11 +4,11 @@ use Rattle.std.specs.Prelude.{ℕ, ◌+◌, List, Option, Some, None, option_and
 use Rattle.std.specs.List.{list_any}
 use Rattle.cjc_bytes.specs.declared.fault.MemberId.{MemberId}
 use Rattle.cjc_bytes.specs.AccessFlags.{is_private, is_static}
-use Rattle.cjc_script.specs.Sorts.{Signature, signature_of}
-use Rattle.cjc_card_semantics.specs.Bytecode.Arguments.{widths}
-use Rattle.cjc_world.specs.Files.{Files}
-use Rattle.cjc_world.specs.Classes.{Class, all_classes, class_named}
-use Rattle.cjc_world.specs.Lookup.{find_field, find_method}
+use Rattle.cjc_ncode.specs.Script.Sorts.{Signature, signature_of}
+use Rattle.cjc_ncode.specs.CardSemantics.Bytecode.Arguments.{widths}
+use Rattle.cjc_jvm_semantics.specs.World.Files.{Files}
+use Rattle.cjc_jvm_semantics.specs.World.Classes.{Class, all_classes, class_named}
+use Rattle.cjc_jvm_semantics.specs.World.Lookup.{find_field, find_method}
 use Rattle.cjc_ncode.specs.declared.narrow.PoolKey.{PoolKey}
 use Rattle.cjc_ncode.specs.declared.narrow.PoolKey.TheVariants as keys
 use Rattle.cjc_ncode.specs.PoolOrder.{same_member}

@@ -2,7 +2,7 @@
 //! code.
 
 ghost use Rattle.std.specs.Prelude.{◌≡◌, ◌+◌, ◌<◌, ◌≤◌, ◌^◌, ◌++◌, ℕ, length, replicate, slice_get, Some, true, OnOk};
-ghost use Rattle.cjc_code.specs.declared.insn.JInsn.{JInsn as Insn};
+ghost use Rattle.cjc_ncode.specs.Bytecode.declared.insn.JInsn.{JInsn as Insn};
 ghost use Rattle.cjc_ncode.specs.Written.{sources, written};
 ghost use Rattle.cjc_narrow.specs.Written.Labels.{place_of};
 ghost use Rattle.cjc_narrow.specs.Written.Operands.{CanBeSaid};
@@ -13,8 +13,8 @@ ghost use Rattle.cjc_narrow.specs.Select.Working.Names.{resolution_of};
 use crate::select::names::{Names, put_call, put_field, put_static};
 use crate::written::{Places, put_plain};
 use cjc_bytes::{NoMemory, Row};
-use cjc_code::{JInsn, JOp};
 use cjc_ncode::NInsn;
+use cjc_ncode::bytecode::{JInsn, JOp};
 use std::alloc::Global;
 
 /// Puts what is written for an instruction at the end.

@@ -7,8 +7,8 @@ ghost use Rattle.cjc_narrow.specs.Written.Labels.{place_of};
 
 use crate::written::places::Places;
 use cjc_bytes::{Bytes, NoMemory, Row};
-use cjc_classfile::Catch;
 use cjc_ncode::NCatch;
+use cjc_ncode::classfile::Catch;
 use std::alloc::Global;
 
 fn class_of(alloc: Global, class: &Option<Bytes>) -> Result<Option<Bytes>, NoMemory>

@@ -1,11 +1,11 @@
 //! Numbers that are pushed. Knows no instruction of class files.
 
 ghost use Rattle.std.specs.Prelude.{◌≡◌, ◌∷◌, []};
-ghost use Rattle.cjc_range.specs.Words.{low_word};
+ghost use Rattle.cjc_ncode.specs.Range.Words.{low_word};
 ghost use Rattle.cjc_ncode.specs.Written.{pushed, pushed_word};
 
-use cjc_capread::card;
 use cjc_ncode::NInsn;
+use cjc_ncode::capread::card;
 
 /// The low word of a number, with its sign.
 fn low_word(z: i32) -> i32

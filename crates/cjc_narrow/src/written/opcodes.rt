@@ -4,9 +4,9 @@ ghost use Rattle.std.specs.Prelude.{◌≡◌, ◌<◌};
 ghost use Rattle.cjc_ncode.specs.Written.{arithmetic, array_load, array_store, condition, element_number, leaving};
 ghost use Rattle.cjc_ncode.specs.Written.{on_stack};
 
-use cjc_capread::card;
-use cjc_code::jvm;
 use cjc_ncode::NInsn;
+use cjc_ncode::bytecode::jvm;
+use cjc_ncode::capread::card;
 
 /// aaload, baload and saload.
 pub(crate) fn array_load(op: u8) -> u8

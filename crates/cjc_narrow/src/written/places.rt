@@ -2,7 +2,7 @@
 
 ghost use Rattle.std.specs.Prelude.{◌≡◌, ◌+◌, ◌<◌, ◌≤◌, ℕ, length, if◌then◌else◌, nat_lt, IfOk};
 ghost use Rattle.std.specs.List.{prefix_len};
-ghost use Rattle.cjc_script.specs.Sorts.{shape_named};
+ghost use Rattle.cjc_ncode.specs.Script.Sorts.{shape_named};
 ghost use Rattle.cjc_ncode.specs.Written.{Resolution, place_in, reached, type_test};
 ghost use Rattle.cjc_narrow.specs.Written.Labels.{place_of};
 ghost use Rattle.cjc_narrow.specs.Written.Operands.{IsAscending};
@@ -12,7 +12,7 @@ ghost use Rattle.cjc_narrow.specs.Written.Working.Places.{count, count_if, start
 use crate::written::switches::{has_pair, has_word};
 use crate::written::type_tests::tested;
 use cjc_bytes::{NoMemory, Row};
-use cjc_code::{JInsn, JOp, jvm};
+use cjc_ncode::bytecode::{JInsn, JOp, jvm};
 use std::alloc::Global;
 use std::marker::Model;
 

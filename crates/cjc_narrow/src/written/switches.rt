@@ -1,17 +1,17 @@
 //! Switches: the cases within 16 bits. Called by whoever writes instructions.
 
 ghost use Rattle.std.specs.Prelude.{◌≡◌, ◌++◌, pos, IfOk, OnOk};
-ghost use Rattle.cjc_capread.specs.Card as card;
+ghost use Rattle.cjc_ncode.specs.CapRead.Card as card;
 ghost use Rattle.std.specs.List.{list_any};
-ghost use Rattle.cjc_card_semantics.specs.Bytecode.Numbers.{is_word};
+ghost use Rattle.cjc_ncode.specs.CardSemantics.Bytecode.Numbers.{is_word};
 ghost use Rattle.cjc_ncode.specs.Written.{low_of, pair_cases, switched, table_cases};
 ghost use Rattle.cjc_narrow.specs.Written.Working.Switches.{any_word, case_if, next_value};
 ghost use Rattle.cjc_narrow.specs.Written.Labels.{place_of};
 
 use crate::written::places::Places;
 use cjc_bytes::{NoMemory, Row};
-use cjc_capread::card;
-use cjc_code::JCase;
+use cjc_ncode::bytecode::JCase;
+use cjc_ncode::capread::card;
 use cjc_ncode::{NCase, NInsn};
 use std::alloc::Global;
 

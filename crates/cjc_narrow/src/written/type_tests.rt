@@ -3,7 +3,7 @@
 ghost use Rattle.std.specs.Prelude.{◌≡◌, ◌∷◌, ℕ, []};
 ghost use Rattle.std.specs.Prelude.{IfOk, OnOk, ◌++◌};
 ghost use Rattle.cjc_bytes.specs.Spots.{part_of};
-ghost use Rattle.cjc_script.specs.Sorts.{array_by, shape_named};
+ghost use Rattle.cjc_ncode.specs.Script.Sorts.{array_by, shape_named};
 ghost use Rattle.cjc_ncode.specs.Written.{type_test};
 ghost use Rattle.cjc_narrow.specs.Written.Working.Tests.{test_by};
 

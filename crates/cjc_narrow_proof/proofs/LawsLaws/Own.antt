@@ -11,13 +11,13 @@ use Rattle.cjc_bytes.specs.declared.fault.MemberId.{MemberId}
 use Rattle.cjc_bytes.specs.declared.order.FileKey.{FileKey}
 use Rattle.cjc_bytes.specs.declared.order.FileKey.TheVariants as keys
 use Rattle.cjc_bytes.specs.declared.settings.FileLine.{FileLine}
-use Rattle.cjc_classfile.specs.declared.tree.ClassTree.{ClassTree}
-use Rattle.cjc_classfile.specs.declared.tree.MethodTree.{MethodTree}
-use Rattle.cjc_order.specs.Classes.Numbers.{class_count}
+use Rattle.cjc_code.specs.ClassFile.declared.tree.ClassTree.{ClassTree}
+use Rattle.cjc_code.specs.ClassFile.declared.tree.MethodTree.{MethodTree}
+use Rattle.cjc_vtable.specs.ClassOrder.Classes.Numbers.{class_count}
 use Rattle.cjc_jvm_semantics.specs.OnePackage.{method_hit}
 use Rattle.cjc_narrow.specs.Rows.Package.{flags_of}
 use Rattle.cjc_narrow.specs.Rows.Resolved.{method_found}
-use Rattle.cjc_tokens.proofs.Facts.{position-cons}
+use Rattle.cjc_vtable.proofs.Tokens.Facts.{position-cons}
 use Rattle.cjc_vtable.proofs.Filed.{at-number}
 use Rattle.cjc_vtable.proofs.Numbers.{class_count-cons, own_listed}
 use Rattle.cjc_world.specs.declared.found.Found.{Found}

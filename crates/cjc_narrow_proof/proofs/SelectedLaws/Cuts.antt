@@ -6,10 +6,10 @@ use Rattle.std.proofs.lemmas.Bool.{leb-true}
 use Rattle.std.proofs.lemmas.Option.{same_Some, slice_get-map}
 use Rattle.std.proofs.lemmas.List.{length-append, length-map}
 use Rattle.cjc_bytes.specs.Format.{Spells}
-use Rattle.cjc_classfile.specs.Code.{CodeTree}
-use Rattle.cjc_classfile.specs.declared.tree.ClassTree.{ClassTree}
-use Rattle.cjc_classfile.specs.declared.tree.MethodTree.{MethodTree}
-use Rattle.cjc_classfile.specs.PoolItem.{PoolItem}
+use Rattle.cjc_code.specs.ClassFile.Code.{CodeTree}
+use Rattle.cjc_code.specs.ClassFile.declared.tree.ClassTree.{ClassTree}
+use Rattle.cjc_code.specs.ClassFile.declared.tree.MethodTree.{MethodTree}
+use Rattle.cjc_code.specs.ClassFile.PoolItem.{PoolItem}
 use Rattle.cjc_code.specs.declared.insn.JInsn.{JInsn}
 use Rattle.cjc_code.specs.declared.insn.JOp.TheVariants as jop
 use Rattle.cjc_code.specs.declared.method_code.MethodCode.{MethodCode}
@@ -131,11 +131,13 @@ all_stack = (
                                                                 (
                                                                   -- of int, long, float and double: add, sub, mul, div,
                                                                   -- rem, neg
-                                                                  λ k pool at opcode zs n e. absurd (arith_or_unsupported (k % 4 == 0)
+                                                                  λ k pool at opcode zs n e. absurd
+                                                                      (arith_or_unsupported (k % 4 == 0)
                                                                       pool at opcode zs n e),
                                                                   (
                                                                     -- of int and long: shl, shr, ushr, and, or, xor
-                                                                    λ k pool at opcode zs n e. absurd (arith_or_unsupported (k % 2 == 0)
+                                                                    λ k pool at opcode zs n e. absurd
+                                                                        (arith_or_unsupported (k % 2 == 0)
                                                                         pool at opcode zs n e),
                                                                     (
                                                                       λ k pool at opcode zs n e. absurd cc,  -- iinc
@@ -165,10 +167,16 @@ all_stack = (
                                                                                         λ k pool at opcode zs n e. absurd cc,  -- ret
                                                                                         (
                                                                                           -- tableswitch
-                                                                                          λ k pool at opcode zs n e. absurd (table pool at opcode zs n e),
+                                                                                          λ k pool at opcode zs n e.
+                                                                                              absurd
+                                                                                              (table pool at opcode zs n
+                                                                                              e),
                                                                                           (
                                                                                             -- lookupswitch
-                                                                                            λ k pool at opcode zs n e. absurd (lookup pool at opcode zs n e),
+                                                                                            λ k pool at opcode zs n e.
+                                                                                                absurd
+                                                                                                (lookup pool at opcode
+                                                                                                zs n e),
                                                                                             (
                                                                                               λ k pool at opcode zs n e. absurd cc,  -- ireturn
                                                                                               (

@@ -9,11 +9,11 @@ use Rattle.std.specs.Prelude.{if◌then◌else◌}
 use Rattle.std.proofs.lemmas.Bool.{ltb-true}
 use Rattle.std.proofs.lemmas.Int.{ints}
 use Rattle.std.proofs.lemmas.Option.{same_Some, slice_get-map, slice_get_within, get_or_from_slice_get}
-use Rattle.cjc_capread.specs.Decode.{IsWithin, negative, positive}
-use Rattle.cjc_classfile.specs.Code.{CodeTree}
-use Rattle.cjc_classfile.specs.declared.tree.ClassTree.{ClassTree}
-use Rattle.cjc_classfile.specs.declared.tree.MethodTree.{MethodTree}
-use Rattle.cjc_classfile.specs.PoolItem.{PoolItem}
+use Rattle.cjc_card_semantics.specs.CapRead.Decode.{IsWithin, negative, positive}
+use Rattle.cjc_code.specs.ClassFile.Code.{CodeTree}
+use Rattle.cjc_code.specs.ClassFile.declared.tree.ClassTree.{ClassTree}
+use Rattle.cjc_code.specs.ClassFile.declared.tree.MethodTree.{MethodTree}
+use Rattle.cjc_code.specs.ClassFile.PoolItem.{PoolItem}
 use Rattle.cjc_code.specs.Cut.{cut}
 use Rattle.cjc_code.specs.Named.{cases, op_of}
 use Rattle.cjc_code.specs.Numbers.{i16_of, second}
@@ -193,11 +193,13 @@ all_in_order = (
                                                                 (
                                                                   -- of int, long, float and double: add, sub, mul, div,
                                                                   -- rem, neg
-                                                                  λ k pool at opcode zs e. arith_or_unsupported (k % 4 == 0) pool at
+                                                                  λ k pool at opcode zs e. arith_or_unsupported
+                                                                      (k % 4 == 0) pool at
                                                                       opcode zs,
                                                                   (
                                                                     -- of int and long: shl, shr, ushr, and, or, xor
-                                                                    λ k pool at opcode zs e. arith_or_unsupported (k % 2 == 0) pool at
+                                                                    λ k pool at opcode zs e. arith_or_unsupported
+                                                                        (k % 2 == 0) pool at
                                                                         opcode zs,
                                                                     (
                                                                       λ k pool at opcode zs e. two_bytes (second zs),  -- iinc

@@ -9,7 +9,7 @@ use Rattle.cjc_bytes.specs.declared.fault.MemberId.{MemberId}
 use Rattle.cjc_script.specs.Sorts.{Sort, Boolean, Byte as ByteSort, Short, Int, Reference, NoValue, Shape, OfClass}
 use Rattle.cjc_script.specs.Sorts.{OfNumbers, OfReferences, Booleans, Bytes, Shorts, Ints, field_sort, shape_named}
 use Rattle.cjc_range.specs.Words.{low_word}
-use Rattle.cjc_capread.specs.Opcodes.{Fields, Index1, Index2, form, forms}
+use Rattle.cjc_card_semantics.specs.CapRead.Opcodes.{Fields, Index1, Index2, form, forms}
 use Rattle.cjc_code.specs.declared.insn.JInsn.{JInsn}
 use Rattle.cjc_code.specs.declared.insn.JOp.{JOp}
 use Rattle.cjc_code.specs.declared.insn.JOp.TheVariants as jop

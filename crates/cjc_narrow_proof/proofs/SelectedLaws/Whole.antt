@@ -6,13 +6,13 @@ use Rattle.std.specs.List.{Contains}
 use Rattle.std.proofs.lemmas.Bool.{ltb-true, lt-ltb, le-leb}
 use Rattle.std.proofs.lemmas.List.Elements.{Contains-append_left, Contains-append_right}
 use Rattle.std.proofs.lemmas.Option.{slice_get_within}
-use Rattle.cjc_fixpoint.specs.Tables.{HasRow}
-use Rattle.cjc_fixpoint.specs.Working.Edges.{contains_head, contains_tail}
+use Rattle.cjc_types.specs.Fixpoint.Tables.{HasRow}
+use Rattle.cjc_types.specs.Fixpoint.Working.Edges.{contains_head, contains_tail}
 use Rattle.cjc_bytes.specs.declared.fault.MemberId.{MemberId}
-use Rattle.cjc_classfile.specs.Code.{CodeTree}
-use Rattle.cjc_classfile.specs.declared.tree.Catch.{Catch}
-use Rattle.cjc_classfile.specs.declared.tree.ClassTree.{ClassTree}
-use Rattle.cjc_classfile.specs.declared.tree.MethodTree.{MethodTree}
+use Rattle.cjc_code.specs.ClassFile.Code.{CodeTree}
+use Rattle.cjc_code.specs.ClassFile.declared.tree.Catch.{Catch}
+use Rattle.cjc_code.specs.ClassFile.declared.tree.ClassTree.{ClassTree}
+use Rattle.cjc_code.specs.ClassFile.declared.tree.MethodTree.{MethodTree}
 use Rattle.cjc_code.specs.declared.insn.JInsn.{JInsn}
 use Rattle.cjc_code.specs.declared.method_code.MethodCode.{MethodCode}
 use Rattle.cjc_world.specs.Files.{Files}
@@ -30,10 +30,10 @@ use Rattle.cjc_types.specs.TypeLaws.Closed.{IsClosedTable, Reaches}
 use Rattle.cjc_types.specs.TypeLaws.Places.{HasPlace}
 use Rattle.cjc_types.proofs.TypeLaws.Lowered.{least_closed}
 use Rattle.cjc_types.proofs.TypeLaws.Standing.{handler_placed, next_there, target_placed}
-use Rattle.cjc_layout.specs.Handlers.{AllLie}
-use Rattle.cjc_layout.specs.Layouts.{IsWhole}
-use Rattle.cjc_layout.specs.Sizes.{AllLead}
-use Rattle.cjc_layout.proofs.Places.{get_inside}
+use Rattle.cjc_emit.specs.Layout.Handlers.{AllLie}
+use Rattle.cjc_emit.specs.Layout.Layouts.{IsWhole}
+use Rattle.cjc_emit.specs.Layout.Sizes.{AllLead}
+use Rattle.cjc_emit.proofs.Layout.Places.{get_inside}
 use Rattle.cjc_narrow_proof.proofs.SelectedLaws.Cuts.{few, stack_opcode}
 use Rattle.cjc_narrow_proof.proofs.SelectedLaws.Places.{all_sizes, between, place_below, place_low, place_up}
 use Rattle.cjc_narrow_proof.proofs.SelectedLaws.Places.{reached_at, reached_from, size, sizes}

@@ -10,7 +10,7 @@ use Rattle.cjc_bytes.specs.Descriptor.{Part}
 use Rattle.cjc_range.specs.Span.{Span, IsWord, full}
 use Rattle.cjc_code.specs.declared.insn.JInsn.{JInsn}
 use Rattle.cjc_code.specs.declared.insn.JOp.TheVariants as jop
-use Rattle.cjc_fixpoint.specs.Tables.{HasRow}
+use Rattle.cjc_types.specs.Fixpoint.Tables.{HasRow}
 use Rattle.cjc_script.specs.Sorts.{OfClass}
 use Rattle.cjc_world.specs.Classes.{Class}
 use Rattle.cjc_types.specs.declared.cell.Cell.{Cell}

@@ -8,7 +8,7 @@ use Rattle.cjc_bytes.specs.declared.fault.MemberId.{MemberId}
 use Rattle.cjc_range.specs.Span.{Span, Holds, Within, short_range, full}
 use Rattle.cjc_code.specs.declared.insn.JOp.{JOp}
 use Rattle.cjc_code.specs.declared.insn.JOp.TheVariants as jop
-use Rattle.cjc_fixpoint.specs.Tables.{HasRow}
+use Rattle.cjc_types.specs.Fixpoint.Tables.{HasRow}
 use Rattle.cjc_script.specs.Sorts.{Shape, OfClass, OfNumbers, OfReferences, Element, Booleans, Bytes, Shorts, Ints}
 use Rattle.cjc_script.specs.Sorts.{Sort, array_name, shape_name, shape_named, sort_of, sort_or_none, field_sort}
 use Rattle.cjc_world.specs.Classes.{Class}

@@ -6,7 +6,7 @@ use Rattle.cjc_bytes.specs.declared.descriptor.Kind.{Kind as PartKind}
 use Rattle.cjc_bytes.specs.declared.descriptor.Kind.TheVariants as kinds
 use Rattle.cjc_range.specs.Span.{Span, Within}
 use Rattle.cjc_code.specs.declared.insn.JOp.TheVariants as jop
-use Rattle.cjc_fixpoint.specs.Tables.{HasRow}
+use Rattle.cjc_types.specs.Fixpoint.Tables.{HasRow}
 use Rattle.cjc_world.specs.Classes.{Class}
 use Rattle.cjc_types.specs.declared.cell.Cell.{Cell}
 use Rattle.cjc_types.specs.declared.cell.Cell.TheVariants.{Number, Refs, Unusable}

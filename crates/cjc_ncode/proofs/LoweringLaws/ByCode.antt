@@ -1,7 +1,7 @@
 -- Narrow code of placed methods runs as by code alone.
 use Rattle.std.proofs.Common.{◌≡◌, ℕ, refl, ap, sym, ◌∙◌, List, [], ◌∷◌, map}
 use Rattle.std.specs.Prelude.{Option, Some, None}
-use Rattle.cjc_bytes.specs.declared.fault.MemberId.{MemberId}
+use Rattle.cjc_code.specs.Bytes.declared.fault.MemberId.{MemberId}
 use Rattle.cjc_script.specs.Sorts.{Shape, OfClass, OfNumbers, OfReferences}
 use Rattle.cjc_card_semantics.specs.Bytecode.Effects.{Arm, Do, Branch, Pick, Touch, Get, Put, GetStatic, PutStatic}
 use Rattle.cjc_card_semantics.specs.Bytecode.Effects.{Call, New, NewNumbers, NewReferences, Cast, Ask, Undone}

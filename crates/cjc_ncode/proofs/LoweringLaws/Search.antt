@@ -4,8 +4,8 @@ use Rattle.std.proofs.Common.{List, [], ◌∷◌, ◌++◌}
 use Rattle.std.specs.Prelude.{Option, Some, None, nat_le, nat_lt, slice_get, if◌then◌else◌, not, ◌&&◌, ◌||◌}
 use Rattle.std.proofs.lemmas.Bool.{cases_lt}
 use Rattle.std.proofs.lemmas.Bool.Decides.{nat_tests}
-use Rattle.cjc_capread.specs.declared.tree.Handler.{Handler}
-use Rattle.cjc_capread.specs.declared.tree.PoolEntry.{PoolEntry}
+use Rattle.cjc_card_semantics.specs.CapRead.declared.tree.Handler.{Handler}
+use Rattle.cjc_card_semantics.specs.CapRead.declared.tree.PoolEntry.{PoolEntry}
 use Rattle.cjc_script.specs.Sorts.{Shape, OfClass}
 use Rattle.cjc_card_semantics.specs.Bytecode.Renaming.{option_as, shape_as}
 use Rattle.cjc_card_semantics.specs.Machine.Loaded.{Loaded}

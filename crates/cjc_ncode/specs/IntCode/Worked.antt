@@ -1,6 +1,6 @@
 -- Methods made by hand, with what is written for them in int mode.
 use Rattle.std.specs.Prelude.{ℕ, List, [], ◌∷◌, Some, None, Bool, true, false, pos, codes}
-use Rattle.cjc_classfile.specs.Code.{CodeTree}
+use Rattle.cjc_code.specs.ClassFile.Code.{CodeTree}
 use Rattle.cjc_code.specs.declared.insn.JOp.{JOp}
 use Rattle.cjc_code.specs.declared.insn.JOp.TheVariants as jop
 use Rattle.cjc_script.specs.Sorts.{Sort, Byte, Short, Int, Reference, OfNumbers, Bytes}

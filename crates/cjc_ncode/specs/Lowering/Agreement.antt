@@ -1,7 +1,7 @@
 -- What is left to the tables of classes, tokens, static cells and names, for narrow code and components to run alike:
 -- the code is not among it.
 use Rattle.std.specs.Prelude.{◌≡◌, ℕ, List, [], map, Option, Some, Bool, true, slice_get}
-use Rattle.cjc_bytes.specs.declared.fault.MemberId.{MemberId}
+use Rattle.cjc_code.specs.Bytes.declared.fault.MemberId.{MemberId}
 use Rattle.cjc_script.specs.Sorts.{Shape}
 use Rattle.cjc_card_semantics.specs.Bytecode.Calculations.{Fault}
 use Rattle.cjc_card_semantics.specs.Bytecode.Effects.{Letter, Slot, HeapObject, Object, shape}

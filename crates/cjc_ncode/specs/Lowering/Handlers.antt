@@ -2,7 +2,7 @@
 -- Specification 2.2.2, section 6.9.2).
 use Rattle.std.specs.Prelude.{◌≡◌, ℕ, suc, ◌+◌, ◌-◌, ◌<◌, ◌≤◌, List, [], ◌∷◌, Option, Some, None, Bool, true, false}
 use Rattle.std.specs.Prelude.{not, nat_lt, ◌&&◌, ◌||◌, codes}
-use Rattle.cjc_capread.specs.declared.tree.Handler.{Handler}
+use Rattle.cjc_card_semantics.specs.CapRead.declared.tree.Handler.{Handler}
 use Rattle.cjc_script.specs.Sorts.{Shape, OfClass}
 use Rattle.cjc_card_semantics.specs.Bytecode.Renaming.{shape_as}
 use Rattle.cjc_card_semantics.specs.Machine.Classes.{is_of}

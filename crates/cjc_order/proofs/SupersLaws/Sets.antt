@@ -10,7 +10,7 @@ use Rattle.std.proofs.lemmas.List.Concat.{flat_map-cons}
 use Rattle.std.proofs.lemmas.List.Folds.{list_any-append}
 use Rattle.std.proofs.lemmas.Slice.Eq.{bytes_eq-Decides}
 use Rattle.indexmap.specs.IndexSet.{insert_key}
-use Rattle.cjc_export.specs.Supers.{is_one_of}
+use Rattle.cjc_world.specs.ExportFile.Supers.{is_one_of}
 use Rattle.cjc_world.specs.Interfaces.{Interface, is_among}
 use Rattle.cjc_world.specs.Interfaces
 use Rattle.cjc_order.specs.Supers.Supers.{each_once, name_of}

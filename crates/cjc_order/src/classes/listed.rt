@@ -7,8 +7,8 @@ ghost use Rattle.cjc_world.specs.Order.{is_of_kind};
 ghost use Rattle.cjc_world.specs.Working.Known.{class_of};
 ghost use Rattle.cjc_order.specs.Classes.Numbers.{class_count, listed_numbers, own_number, own_numbers};
 
-use cjc_bytes::{Bytes, NoMemory, Row};
-use cjc_classfile::ClassTree;
+use cjc_world::bytes::{Bytes, NoMemory, Row};
+use cjc_world::classfile::ClassTree;
 use cjc_world::{Known, World};
 use std::alloc::Global;
 

@@ -9,8 +9,8 @@ ghost use Rattle.cjc_order.specs.Classes.Numbers.{declared_at, IsOfKind};
 use crate::classes::listed::{listed_classes, numbers_of_all};
 use crate::classes::queue::{count_out, counts_of, ready_of};
 use crate::classes::subs::subs_of;
-use cjc_bytes::{NoMemory, Row};
 use cjc_world::World;
+use cjc_world::bytes::{NoMemory, Row};
 use std::alloc::Global;
 
 /// The numbers of the interfaces of a package, or of its classes that are no interfaces, in their order.

@@ -5,9 +5,9 @@ ghost use Rattle.cjc_order.specs.Classes.Queue.{has, is_kind_at, IsQueue};
 
 use crate::classes::listed::is_of_kind;
 use crate::classes::ready::Ready;
-use cjc_bytes::{NoMemory, Row};
-use cjc_classfile::ClassTree;
 use cjc_world::Known;
+use cjc_world::bytes::{NoMemory, Row};
+use cjc_world::classfile::ClassTree;
 use std::alloc::Global;
 
 /// How many classes each lists.

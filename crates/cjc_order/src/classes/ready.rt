@@ -3,7 +3,7 @@
 ghost use Rattle.std.specs.Prelude.{◌≡◌, ◌≤◌, ◌==◌, ◌&&◌, ℕ, true, false, cond, IfNone, IfSome, OnOk};
 ghost use Rattle.cjc_order.specs.Classes.Queue.{has};
 
-use cjc_bytes::NoMemory;
+use cjc_world::bytes::NoMemory;
 use std::alloc::Global;
 use std::collections::BTreeSet;
 

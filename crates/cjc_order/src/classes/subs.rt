@@ -4,7 +4,7 @@ ghost use Rattle.std.specs.Prelude.{◌≡◌, ◌<◌, ◌^◌, [], length, map
 ghost use Rattle.std.specs.List.{fold};
 ghost use Rattle.cjc_order.specs.Classes.Queue.{AreSubs, with_sub};
 
-use cjc_bytes::{NoMemory, Row};
+use cjc_world::bytes::{NoMemory, Row};
 use std::alloc::Global;
 
 /// As many empty rows as there are rows.

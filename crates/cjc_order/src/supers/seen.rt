@@ -5,7 +5,7 @@ ghost use Rattle.std.specs.Str.{bytes_eq};
 ghost use Rattle.std.specs.Cmp.{partial_equiv_from_equiv};
 ghost use Rattle.cjc_order.specs.Supers.Working.Walk.{fed, finish, is_done, names-equivalence, nothing, put, same-fed};
 
-use cjc_bytes::{Bytes, NoMemory, Row};
+use cjc_world::bytes::{Bytes, NoMemory, Row};
 use indexmap::IndexSet;
 use std::alloc::Global;
 use std::hash::{Hash, Hasher};

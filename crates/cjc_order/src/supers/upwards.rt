@@ -10,7 +10,7 @@ ghost use Rattle.cjc_order.specs.Supers.Working.Walk.{AreDone, interfaces_from, 
 ghost use Rattle.cjc_order.specs.Supers.Working.Walk.{with_all};
 
 use crate::supers::seen::Seen;
-use cjc_bytes::{Bytes, NoMemory, Row};
+use cjc_world::bytes::{Bytes, NoMemory, Row};
 use cjc_world::{Known, World};
 use std::alloc::Global;
 

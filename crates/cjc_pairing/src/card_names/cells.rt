@@ -3,18 +3,18 @@
 
 ghost use Rattle.std.specs.Prelude.{◌≡◌, ◌++◌, map, IfOk, OnOk};
 ghost use Rattle.std.specs.List.{flat_map};
-ghost use Rattle.cjc_clinit.specs.Fields.{is_cell};
-ghost use Rattle.cjc_clinit.specs.Image.{field_id};
-ghost use Rattle.cjc_card_frame.specs.Kinds.{cell_name_of};
-ghost use Rattle.cjc_components.specs.Paired.Naming.{cells_in};
+ghost use Rattle.cjc_classes.specs.Clinit.Fields.{is_cell};
+ghost use Rattle.cjc_classes.specs.Clinit.Image.{field_id};
+ghost use Rattle.cjc_card_link.specs.CardFrame.Kinds.{cell_name_of};
+ghost use Rattle.cjc_classes.specs.Components.Paired.Naming.{cells_in};
 ghost use Rattle.cjc_pairing.specs.CardNames.Working.Cells.{beside, cell_where, cells_by};
 
-use cjc_bytes::{Bytes, MemberId, NoMemory, Row, is_static};
-use cjc_card_frame::parts::CellName;
+use cjc_card_link::card_frame::parts::CellName;
+use cjc_card_link::classfile::{ClassTree, FieldTree};
+use cjc_card_link::export_file::may_be_constant;
+use cjc_classes::bytes::{Bytes, MemberId, NoMemory, Row, is_static};
 use cjc_classes::descriptor::cell_offsets;
-use cjc_classfile::{ClassTree, FieldTree};
-use cjc_export::may_be_constant;
-use cjc_world::{StaticImage, World};
+use cjc_classes::world::{StaticImage, World};
 use std::alloc::Global;
 
 /// Whether a field is static and no constant.

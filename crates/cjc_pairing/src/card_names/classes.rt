@@ -3,20 +3,20 @@
 
 ghost use Rattle.std.specs.Prelude.{◌≡◌, ◌++◌, map, IfOk, OnOk};
 ghost use Rattle.std.specs.List.{flat_map};
-ghost use Rattle.cjc_world.specs.Classes.{all_classes};
-ghost use Rattle.cjc_world.specs.Order.{class_order};
+ghost use Rattle.cjc_classes.specs.World.Classes.{all_classes};
+ghost use Rattle.cjc_classes.specs.World.Order.{class_order};
 ghost use Rattle.cjc_card_link.specs.Names.{class_names_of};
-ghost use Rattle.cjc_components.specs.Paired.Naming.{class_names};
+ghost use Rattle.cjc_classes.specs.Components.Paired.Naming.{class_names};
 ghost use Rattle.cjc_pairing.specs.CardNames.Working.Classes.{names_at, names_of};
 
 use crate::card_names::fields::field_names;
 use crate::card_names::methods::{interface_names, method_names};
-use cjc_bytes::{Bytes, NoMemory, Row};
 use cjc_card_link::ClassNames;
-use cjc_classfile::ClassTree;
-use cjc_order::classes::class_order;
-use cjc_tokens::Tokens;
-use cjc_world::World;
+use cjc_card_link::classfile::ClassTree;
+use cjc_classes::bytes::{Bytes, NoMemory, Row};
+use cjc_classes::class_order::classes::class_order;
+use cjc_classes::tokens::Tokens;
+use cjc_classes::world::World;
 use std::alloc::Global;
 
 /// The names of the class of a number.

@@ -2,15 +2,15 @@
 //! section 4.3.7.5). Called by `classes`.
 
 ghost use Rattle.std.specs.Prelude.{◌≡◌, ◌++◌, map, IfOk, OnOk};
-ghost use Rattle.cjc_tokens.specs.Fields.{is_instance};
+ghost use Rattle.cjc_classes.specs.Tokens.Fields.{is_instance};
 ghost use Rattle.cjc_card_link.specs.Names.{field_name_of};
 ghost use Rattle.cjc_pairing.specs.CardNames.Working.Classes.{each_from, field_at, field_where};
 
-use cjc_bytes::{Bytes, NoMemory, Row, is_static};
 use cjc_card_link::FieldName;
-use cjc_classfile::{ClassTree, FieldTree};
-use cjc_tokens::Tokens;
-use cjc_world::Found;
+use cjc_card_link::classfile::{ClassTree, FieldTree};
+use cjc_classes::bytes::{Bytes, NoMemory, Row, is_static};
+use cjc_classes::tokens::Tokens;
+use cjc_classes::world::Found;
 use std::alloc::Global;
 
 fn is_instance(field: &FieldTree) -> bool

@@ -3,17 +3,17 @@
 
 ghost use Rattle.std.specs.Prelude.{◌≡◌, ◌++◌, map, option_map, IfOk, OnOk};
 ghost use Rattle.std.specs.List.{flat_map};
-ghost use Rattle.cjc_world.specs.Classes.{all_classes, declared};
-ghost use Rattle.cjc_tokens.specs.Working.{signature_in, signs};
+ghost use Rattle.cjc_classes.specs.World.Classes.{all_classes, declared};
+ghost use Rattle.cjc_classes.specs.Tokens.Working.{signature_in, signs};
 ghost use Rattle.cjc_card_link.specs.Names.{method_name_of};
-ghost use Rattle.cjc_components.specs.Paired.Naming.{interface_names};
+ghost use Rattle.cjc_classes.specs.Components.Paired.Naming.{interface_names};
 ghost use Rattle.cjc_pairing.specs.CardNames.Working.Classes.{name_in, name_where};
 
-use cjc_bytes::{Bytes, NoMemory, Row, is_interface};
 use cjc_card_link::MethodName;
-use cjc_classfile::{ClassTree, MethodTree};
-use cjc_tokens::{Slot, interface_methods};
-use cjc_world::{Known, World};
+use cjc_card_link::classfile::{ClassTree, MethodTree};
+use cjc_classes::bytes::{Bytes, NoMemory, Row, is_interface};
+use cjc_classes::tokens::{Slot, interface_methods};
+use cjc_classes::world::{Known, World};
 use std::alloc::Global;
 
 const INITIALISER: &[u8] = b"<clinit>";

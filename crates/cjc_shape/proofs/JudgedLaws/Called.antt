@@ -4,32 +4,34 @@ use Rattle.std.proofs.Common.{List, [], ◌∷◌, ◌++◌, length}
 use Rattle.std.specs.Prelude.{◌-◌, ◌+◌, ◌<◌, ◌==◌, Option, Some, None, IsSome, option_and_then, option_map, slice_get}
 use Rattle.std.specs.Prelude.{if◌then◌else◌}
 use Rattle.std.specs.List.{list_any}
-use Rattle.cjc_bytes.specs.AccessFlags.{is_interface}
-use Rattle.cjc_bytes.specs.Breaks.{Break, each_from}
-use Rattle.cjc_bytes.specs.Order.{FilePlace, file_of}
-use Rattle.cjc_bytes.specs.declared.fault.MemberId.{MemberId}
-use Rattle.cjc_classfile.specs.Code.{CodeTree}
-use Rattle.cjc_classfile.specs.declared.tree.ClassTree.{ClassTree}
-use Rattle.cjc_classfile.specs.declared.tree.MethodTree.{MethodTree}
-use Rattle.cjc_code.specs.declared.insn.JInsn.{JInsn}
-use Rattle.cjc_code.specs.declared.insn.JOp.TheVariants as jop
-use Rattle.cjc_code.specs.declared.method_code.MethodCode.{MethodCode}
-use Rattle.cjc_export.specs.Writable.{IsWritable}
-use Rattle.cjc_export.specs.declared.tree.ExportTree.{ExportTree}
-use Rattle.cjc_jvm_semantics.specs.OnePackage.{method_hit}
-use Rattle.cjc_narrow.specs.Rows.Resolved.{by_owner, resolved_method}
-use Rattle.cjc_pool.specs.Pool.{token_of}
+use Rattle.cjc_world.specs.Bytes.AccessFlags.{is_interface}
+use Rattle.cjc_world.specs.Bytes.Breaks.{Break, each_from}
+use Rattle.cjc_world.specs.Bytes.Order.{FilePlace, file_of}
+use Rattle.cjc_world.specs.Bytes.declared.fault.MemberId.{MemberId}
+use Rattle.cjc_world.specs.ClassFile.Code.{CodeTree}
+use Rattle.cjc_world.specs.ClassFile.declared.tree.ClassTree.{ClassTree}
+use Rattle.cjc_world.specs.ClassFile.declared.tree.MethodTree.{MethodTree}
+use Rattle.cjc_narrow_proof.specs.Bytecode.declared.insn.JInsn.{JInsn}
+use Rattle.cjc_narrow_proof.specs.Bytecode.declared.insn.JOp.TheVariants as jop
+use Rattle.cjc_narrow_proof.specs.Bytecode.declared.method_code.MethodCode.{MethodCode}
+use Rattle.cjc_world.specs.ExportFile.Writable.{IsWritable}
+use Rattle.cjc_world.specs.ExportFile.declared.tree.ExportTree.{ExportTree}
+use Rattle.cjc_narrow_proof.specs.JvmSemantics.OnePackage.{method_hit}
+use Rattle.cjc_narrow_proof.specs.Narrow.Rows.Resolved.{by_owner, resolved_method}
+use Rattle.cjc_methods.specs.Pool.Pool.{token_of}
 use Rattle.cjc_narrow_proof.proofs.SelectedLaws.Limits.{each_at, none_left, none_right, not_broken}
-use Rattle.cjc_subset.specs.Members.{ResolvedMember, hit, hit_of, is_array, is_constructor, is_initialiser}
-use Rattle.cjc_subset.proofs.Callees.{method_unfound}
-use Rattle.cjc_subset.specs.Names.{code_breaks, insn_breaks, is_hidden, is_member_missing, is_name_missing}
-use Rattle.cjc_subset.specs.Names.{is_not_found, is_unfit_call, is_unfit_class, is_unfit_interface, is_unfit_method}
-use Rattle.cjc_subset.specs.Names.{method_breaks, name_breaks, names_missing, names_unfit, names_unfound, is_other_kind}
-use Rattle.cjc_subset.specs.Places.{of_class, of_method}
-use Rattle.cjc_tokens.specs.Rules.{token_breaks}
-use Rattle.cjc_tokens.specs.Tokens.{assigned, token_of_member}
-use Rattle.cjc_types.specs.Tables.{IsMethodOf}
-use Rattle.cjc_vtable.proofs.Filed.{at-number}
+use Rattle.cjc_narrow_proof.specs.Subset.Members.{ResolvedMember, hit, hit_of, is_array, is_constructor, is_initialiser}
+use Rattle.cjc_narrow_proof.proofs.Subset.Callees.{method_unfound}
+use Rattle.cjc_narrow_proof.specs.Subset.Names.{code_breaks, insn_breaks, is_hidden, is_member_missing, is_name_missing}
+use Rattle.cjc_narrow_proof.specs.Subset.Names.{is_not_found, is_unfit_call, is_unfit_class, is_unfit_interface}
+use Rattle.cjc_narrow_proof.specs.Subset.Names.{is_unfit_method}
+use Rattle.cjc_narrow_proof.specs.Subset.Names.{method_breaks, name_breaks, names_missing, names_unfit, names_unfound}
+use Rattle.cjc_narrow_proof.specs.Subset.Names.{is_other_kind}
+use Rattle.cjc_narrow_proof.specs.Subset.Places.{of_class, of_method}
+use Rattle.cjc_exported.specs.Tokens.Rules.{token_breaks}
+use Rattle.cjc_exported.specs.Tokens.Tokens.{assigned, token_of_member}
+use Rattle.cjc_methods.specs.Types.Tables.{IsMethodOf}
+use Rattle.cjc_narrow_proof.proofs.VTable.Filed.{at-number}
 use Rattle.cjc_world.specs.Classes.{Class, all_classes, class_at, class_named}
 use Rattle.cjc_world.specs.Files.{Files}
 use Rattle.cjc_world.specs.Supertypes.{IsAcyclic}

@@ -4,37 +4,38 @@ use Rattle.std.proofs.Common.{List, [], ◌∷◌, length}
 use Rattle.std.specs.Prelude.{Option, Some, None, IsSome, map, position, slice_get, unwrap_or, if◌then◌else◌}
 use Rattle.std.specs.List.{list_any}
 use Rattle.std.proofs.lemmas.Option.{slice_get-map}
-use Rattle.cjc_bytes.specs.declared.fault.MemberId.{MemberId}
-use Rattle.cjc_capread.specs.Opcodes.{form}
-use Rattle.cjc_classfile.specs.Code.{CodeTree}
-use Rattle.cjc_classfile.specs.declared.tree.ClassTree.{ClassTree}
-use Rattle.cjc_classfile.specs.declared.tree.MethodTree.{MethodTree}
-use Rattle.cjc_code.specs.declared.insn.JInsn.{JInsn}
-use Rattle.cjc_code.specs.declared.method_code.MethodCode.{MethodCode}
-use Rattle.cjc_emit.specs.Emitted.{CanBeWritten, HasIndex, HasNames, HasToken, IsEmittable, IsNamedBy, placed_at}
-use Rattle.cjc_emit.specs.Said.{CanBeSaid}
+use Rattle.cjc_world.specs.Bytes.declared.fault.MemberId.{MemberId}
+use Rattle.cjc_methods.specs.CapRead.Opcodes.{form}
+use Rattle.cjc_world.specs.ClassFile.Code.{CodeTree}
+use Rattle.cjc_world.specs.ClassFile.declared.tree.ClassTree.{ClassTree}
+use Rattle.cjc_world.specs.ClassFile.declared.tree.MethodTree.{MethodTree}
+use Rattle.cjc_narrow_proof.specs.Bytecode.declared.insn.JInsn.{JInsn}
+use Rattle.cjc_narrow_proof.specs.Bytecode.declared.method_code.MethodCode.{MethodCode}
+use Rattle.cjc_narrow_proof.specs.Emit.Emitted.{CanBeWritten, HasIndex, HasNames, HasToken, IsEmittable, IsNamedBy}
+use Rattle.cjc_narrow_proof.specs.Emit.Emitted.{placed_at}
+use Rattle.cjc_narrow_proof.specs.Emit.Said.{CanBeSaid}
 use Rattle.cjc_judge.specs.declared.judged.Judged.{Judged}
-use Rattle.cjc_narrow.specs.Keys.Index.{index_of}
-use Rattle.cjc_narrow.specs.Keys.Working.Same.{same_member-Decides}
-use Rattle.cjc_layout.proofs.Places.{all_wide}
-use Rattle.cjc_layout.specs.Forms.{HasForm}
-use Rattle.cjc_layout.specs.Layouts.{IsLayout, IsWhole}
-use Rattle.cjc_layout.specs.Sizes.{code_size}
-use Rattle.cjc_layout.specs.declared.layout.Layout.{Layout}
-use Rattle.cjc_list.specs.Listed.{ListTree}
-use Rattle.cjc_ncode.specs.Lowering.Naming.{Naming}
-use Rattle.cjc_narrow.specs.Rows.Resolved.{resolution}
-use Rattle.cjc_narrow.specs.Rows.Selected.{near_fields, selected_code}
-use Rattle.cjc_ncode.specs.PoolOrder.{same_key, same_member}
-use Rattle.cjc_ncode.specs.Written.{Resolution, place_in, reached, widest_sum}
-use Rattle.cjc_ncode.specs.declared.narrow.NInsn.{NInsn}
-use Rattle.cjc_ncode.specs.declared.narrow.NInsn.TheVariants as insns
-use Rattle.cjc_ncode.specs.declared.narrow.NMethod.{NMethod}
-use Rattle.cjc_ncode.specs.declared.narrow.PoolKey.{PoolKey}
-use Rattle.cjc_ncode.specs.declared.narrow.PoolKey.TheVariants as keys
-use Rattle.cjc_pool.specs.Pool.{IsPool, PoolView, calls, is_called, token_in, token_of}
-use Rattle.cjc_pool.proofs.PoolLaws.Keys.{names_there}
-use Rattle.cjc_pool.specs.Named.{CallsHaveTokens, IsAmong}
+use Rattle.cjc_narrow_proof.specs.Narrow.Keys.Index.{index_of}
+use Rattle.cjc_narrow_proof.specs.Narrow.Keys.Working.Same.{same_member-Decides}
+use Rattle.cjc_methods.proofs.Layout.Places.{all_wide}
+use Rattle.cjc_methods.specs.Layout.Forms.{HasForm}
+use Rattle.cjc_methods.specs.Layout.Layouts.{IsLayout, IsWhole}
+use Rattle.cjc_methods.specs.Layout.Sizes.{code_size}
+use Rattle.cjc_methods.specs.Layout.declared.layout.Layout.{Layout}
+use Rattle.cjc_judge.specs.List.Listed.{ListTree}
+use Rattle.cjc_methods.specs.NCode.Lowering.Naming.{Naming}
+use Rattle.cjc_narrow_proof.specs.Narrow.Rows.Resolved.{resolution}
+use Rattle.cjc_narrow_proof.specs.Narrow.Rows.Selected.{near_fields, selected_code}
+use Rattle.cjc_methods.specs.NCode.PoolOrder.{same_key, same_member}
+use Rattle.cjc_methods.specs.NCode.Written.{Resolution, place_in, reached, widest_sum}
+use Rattle.cjc_methods.specs.NCode.declared.narrow.NInsn.{NInsn}
+use Rattle.cjc_methods.specs.NCode.declared.narrow.NInsn.TheVariants as insns
+use Rattle.cjc_methods.specs.NCode.declared.narrow.NMethod.{NMethod}
+use Rattle.cjc_methods.specs.NCode.declared.narrow.PoolKey.{PoolKey}
+use Rattle.cjc_methods.specs.NCode.declared.narrow.PoolKey.TheVariants as keys
+use Rattle.cjc_methods.specs.Pool.Pool.{IsPool, PoolView, calls, is_called, token_in, token_of}
+use Rattle.cjc_methods.proofs.Pool.PoolLaws.Keys.{names_there}
+use Rattle.cjc_methods.specs.Pool.Named.{CallsHaveTokens, IsAmong}
 use Rattle.cjc_narrow_proof.proofs.SelectedLaws.Calls.{called_from}
 use Rattle.cjc_narrow_proof.proofs.SelectedLaws.Decoded.{one_of_all, operands_fit}
 use Rattle.cjc_narrow_proof.proofs.SelectedLaws.Formed.{all_have_forms}
@@ -42,12 +43,12 @@ use Rattle.cjc_narrow_proof.proofs.SelectedLaws.Numbers.{all_fit}
 use Rattle.cjc_narrow_proof.proofs.SelectedLaws.Places.{reached_from}
 use Rattle.cjc_narrow_proof.proofs.SelectedLaws.Said.{all_said}
 use Rattle.cjc_narrow_proof.specs.Selected.Operands.{IndexFits, IsSmall, NumbersFit, OperandsFit}
-use Rattle.cjc_subset.specs.Names.{names_missing, names_unfit, names_unfound}
-use Rattle.cjc_tokens.specs.Tokens.{assigned}
-use Rattle.cjc_types.specs.declared.table.TypeTable.{TypeTable}
+use Rattle.cjc_narrow_proof.specs.Subset.Names.{names_missing, names_unfit, names_unfound}
+use Rattle.cjc_exported.specs.Tokens.Tokens.{assigned}
+use Rattle.cjc_methods.specs.Types.declared.table.TypeTable.{TypeTable}
 use Rattle.cjc_world.specs.Classes.{all_classes}
-use Rattle.cjc_narrow.specs.Written.Operands.{CanBeSaid as IsSaid}
-use Rattle.cjc_narrow.specs.Written.Rows.{has_rows, row_if, rows_by}
+use Rattle.cjc_narrow_proof.specs.Narrow.Written.Operands.{CanBeSaid as IsSaid}
+use Rattle.cjc_narrow_proof.specs.Narrow.Written.Rows.{has_rows, row_if, rows_by}
 use Rattle.cjc_shape.specs.Judged.Pooled.{ArePooled, IsSelected}
 use Rattle.cjc_shape.specs.Judged.Tested.{IsOne, IsTested, states}
 use Rattle.cjc_shape.proofs.JudgedLaws.Called.{IsDeclared, is_fit, is_found, is_there, resolved_declared}

@@ -6,10 +6,10 @@ use Rattle.std.specs.Str.{bytes_eq}
 use Rattle.std.proofs.lemmas.List.Quantifiers.{position-Some}
 use Rattle.std.proofs.lemmas.Option.{slice_get-get_or}
 use Rattle.std.proofs.lemmas.Slice.Eq.{bytes_eq-Decides}
-use Rattle.cjc_jvm_semantics.specs.OnePackage.{ResolvedMember, method_hit}
-use Rattle.cjc_vtable.proofs.Asked.{Among, at_head, further}
-use Rattle.cjc_vtable.proofs.Filed.{at-number}
-use Rattle.cjc_vtable.proofs.Stood.{gathered-named, upwards-named}
+use Rattle.cjc_narrow_proof.specs.JvmSemantics.OnePackage.{ResolvedMember, method_hit}
+use Rattle.cjc_narrow_proof.proofs.VTable.Asked.{Among, at_head, further}
+use Rattle.cjc_narrow_proof.proofs.VTable.Filed.{at-number}
+use Rattle.cjc_narrow_proof.proofs.VTable.Stood.{gathered-named, upwards-named}
 use Rattle.cjc_world.proofs.Settled.{supertypes-AreSupertypes, supertypes-known}
 use Rattle.cjc_world.specs.Classes.{Class, Member, all_classes, class_at, class_named}
 use Rattle.cjc_world.specs.Files.{Files}

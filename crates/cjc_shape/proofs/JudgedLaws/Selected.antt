@@ -1,42 +1,42 @@
 -- The methods of a package that was tested keep the rules that selection rests on.
 use Rattle.std.proofs.Common.{◌≡◌, ℕ, zero, suc, refl, sym, ap, subst, ◌∙◌, List, [], ◌∷◌, slice_get, Some}
 use Rattle.std.proofs.lemmas.Option.{get_or_from_slice_get, slice_get_within}
-use Rattle.cjc_bytes.specs.Breaks.{Among, Break, foremost}
-use Rattle.cjc_bytes.specs.Format.{FileSpells}
-use Rattle.cjc_bytes.specs.declared.fault.MemberId.{MemberId}
-use Rattle.cjc_bytes.specs.declared.settings.FileLine.{FileLine}
-use Rattle.cjc_classfile.specs.ClassFile.{class_file}
-use Rattle.cjc_classfile.specs.Code.{CodeTree}
-use Rattle.cjc_classfile.specs.declared.tree.ClassTree.{ClassTree}
-use Rattle.cjc_classfile.specs.declared.tree.MethodTree.{MethodTree}
-use Rattle.cjc_code.specs.PackageCodes.{all_codes}
-use Rattle.cjc_code.specs.declared.method_code.MethodCode.{MethodCode}
+use Rattle.cjc_world.specs.Bytes.Breaks.{Among, Break, foremost}
+use Rattle.cjc_world.specs.Bytes.Format.{FileSpells}
+use Rattle.cjc_world.specs.Bytes.declared.fault.MemberId.{MemberId}
+use Rattle.cjc_world.specs.Bytes.declared.settings.FileLine.{FileLine}
+use Rattle.cjc_world.specs.ClassFile.ClassFile.{class_file}
+use Rattle.cjc_world.specs.ClassFile.Code.{CodeTree}
+use Rattle.cjc_world.specs.ClassFile.declared.tree.ClassTree.{ClassTree}
+use Rattle.cjc_world.specs.ClassFile.declared.tree.MethodTree.{MethodTree}
+use Rattle.cjc_narrow_proof.specs.Bytecode.PackageCodes.{all_codes}
+use Rattle.cjc_narrow_proof.specs.Bytecode.declared.method_code.MethodCode.{MethodCode}
 use Rattle.cjc_judge.specs.declared.groups.Group.TheVariants as groups
 use Rattle.cjc_judge.specs.declared.judged.Judged.{Judged}
-use Rattle.cjc_export.specs.Writable.{IsWritable}
-use Rattle.cjc_export.specs.declared.tree.ExportTree.{ExportTree}
+use Rattle.cjc_world.specs.ExportFile.Writable.{IsWritable}
+use Rattle.cjc_world.specs.ExportFile.declared.tree.ExportTree.{ExportTree}
 use Rattle.cjc_judge.specs.Rules.{AreWorld, files_spelt, of_group, of_names, of_world, settings_of, world_files}
 use Rattle.cjc_judge.specs.Spelt.{FileTree, SpellTrees, classes_of, exports_of, of_class, of_export}
 use Rattle.cjc_judge.specs.Trees.{AllSpelt}
 use Rattle.cjc_judge.specs.Types.{AreTables, IsTableOf}
-use Rattle.cjc_layout.specs.Layouts.{IsWhole}
-use Rattle.cjc_list.specs.Listed.{ListTree}
-use Rattle.cjc_narrow.specs.Rows.Selected.{selected_code}
-use Rattle.cjc_narrow.specs.Select.Select.{IsSelectable}
+use Rattle.cjc_methods.specs.Layout.Layouts.{IsWhole}
+use Rattle.cjc_judge.specs.List.Listed.{ListTree}
+use Rattle.cjc_narrow_proof.specs.Narrow.Rows.Selected.{selected_code}
+use Rattle.cjc_narrow_proof.specs.Narrow.Select.Select.{IsSelectable}
 use Rattle.cjc_narrow_proof.specs.Selected.Keeps.{KeepsRules}
 use Rattle.cjc_narrow_proof.proofs.SelectedLaws.Selectable.{selectable}
 use Rattle.cjc_narrow_proof.proofs.SelectedLaws.Whole.{selected_whole}
-use Rattle.cjc_subset.specs.Checks.{check_breaks}
-use Rattle.cjc_subset.specs.Names.{name_breaks}
-use Rattle.cjc_types.specs.declared.table.TypeTable.{TypeTable}
-use Rattle.cjc_types.specs.Flow.{body_of}
-use Rattle.cjc_types.specs.Tables.{IsLeastTable, IsTypeTable}
+use Rattle.cjc_narrow_proof.specs.Subset.Checks.{check_breaks}
+use Rattle.cjc_narrow_proof.specs.Subset.Names.{name_breaks}
+use Rattle.cjc_methods.specs.Types.declared.table.TypeTable.{TypeTable}
+use Rattle.cjc_methods.specs.Types.Flow.{body_of}
+use Rattle.cjc_methods.specs.Types.Tables.{IsLeastTable, IsTypeTable}
 use Rattle.cjc_world.specs.Classes.{all_classes}
 use Rattle.cjc_world.specs.Files.{Files}
 use Rattle.cjc_world.specs.Supertypes.{IsAcyclic}
 use Rattle.cjc_world.specs.Rules.{breaks}
 use Rattle.cjc_world.proofs.Unbroken.{unbroken_is_acyclic}
-use Rattle.cjc_narrow.specs.Written.Rows.{has_rows, rows_by}
+use Rattle.cjc_narrow_proof.specs.Narrow.Written.Rows.{has_rows, rows_by}
 use Rattle.cjc_shape.specs.Judged.Tested.{IsOne, IsTested, states}
 
 -- ---- lists

@@ -9,31 +9,32 @@ use Rattle.std.proofs.lemmas.List.{length-map, map-append}
 use Rattle.std.proofs.lemmas.List.Elements.{Contains-append_right}
 use Rattle.std.proofs.lemmas.List.Quantifiers.{position-Some}
 use Rattle.std.proofs.lemmas.Option.{slice_get-map, slice_get_within}
-use Rattle.cjc_bytes.specs.AccessFlags.{is_interface}
-use Rattle.cjc_bytes.specs.Breaks.{Break}
-use Rattle.cjc_bytes.specs.Order.{file_of}
-use Rattle.cjc_bytes.specs.declared.settings.FileLine.{FileLine}
-use Rattle.cjc_classfile.specs.declared.tree.ClassTree.{ClassTree}
-use Rattle.cjc_classfile.specs.declared.tree.FieldTree.{FieldTree}
-use Rattle.cjc_export.specs.Writable.{ClassFits, EachAfter, IsWritable, MethodFits, MethodStands}
-use Rattle.cjc_export.specs.declared.tree.ExportClass.{ExportClass}
-use Rattle.cjc_export.specs.declared.tree.ExportField.{ExportField}
-use Rattle.cjc_export.specs.declared.tree.ExportMethod.{ExportMethod}
-use Rattle.cjc_export.specs.declared.tree.ExportTree.{ExportTree}
-use Rattle.cjc_subset.specs.Members.{imports}
-use Rattle.cjc_tokens.proofs.TokenLaws.Meant.{has_token}
-use Rattle.cjc_tokens.proofs.Facts.{position-cons, same-refl}
-use Rattle.cjc_tokens.proofs.Means.{kept-at}
-use Rattle.cjc_tokens.specs.Fields.{field_tokens, is_open_static}
-use Rattle.cjc_tokens.specs.Lines.{line_at}
-use Rattle.cjc_tokens.specs.Members.{Signature, is_initialiser, same, signature_of}
-use Rattle.cjc_tokens.specs.Methods.{class_method_tokens, interface_methods, interface_token, is_open_bound}
-use Rattle.cjc_tokens.specs.Rules.{at_class, breaks_from, breaks_where, has_high_method, has_high_token, token_breaks}
-use Rattle.cjc_tokens.specs.Slots.{hidden_slots, slots, token}
-use Rattle.cjc_tokens.specs.Tokens.{assigned, imports_of, joined, listed_field_token, listed_method_token}
-use Rattle.cjc_tokens.specs.Tokens.{method_tokens, of_class, of_import, token_of_member}
-use Rattle.cjc_vtable.proofs.Filed.{Has, IsFiled, at_front, behind, filed, get-has, has-get, in_class_file}
-use Rattle.cjc_vtable.proofs.Filed.{in_export_file, of-imports}
+use Rattle.cjc_world.specs.Bytes.AccessFlags.{is_interface}
+use Rattle.cjc_world.specs.Bytes.Breaks.{Break}
+use Rattle.cjc_world.specs.Bytes.Order.{file_of}
+use Rattle.cjc_world.specs.Bytes.declared.settings.FileLine.{FileLine}
+use Rattle.cjc_world.specs.ClassFile.declared.tree.ClassTree.{ClassTree}
+use Rattle.cjc_world.specs.ClassFile.declared.tree.FieldTree.{FieldTree}
+use Rattle.cjc_world.specs.ExportFile.Writable.{ClassFits, EachAfter, IsWritable, MethodFits, MethodStands}
+use Rattle.cjc_world.specs.ExportFile.declared.tree.ExportClass.{ExportClass}
+use Rattle.cjc_world.specs.ExportFile.declared.tree.ExportField.{ExportField}
+use Rattle.cjc_world.specs.ExportFile.declared.tree.ExportMethod.{ExportMethod}
+use Rattle.cjc_world.specs.ExportFile.declared.tree.ExportTree.{ExportTree}
+use Rattle.cjc_narrow_proof.specs.Subset.Members.{imports}
+use Rattle.cjc_exported.proofs.Tokens.TokenLaws.Meant.{has_token}
+use Rattle.cjc_exported.proofs.Tokens.Facts.{position-cons, same-refl}
+use Rattle.cjc_exported.proofs.Tokens.Means.{kept-at}
+use Rattle.cjc_exported.specs.Tokens.Fields.{field_tokens, is_open_static}
+use Rattle.cjc_exported.specs.Tokens.Lines.{line_at}
+use Rattle.cjc_exported.specs.Tokens.Members.{Signature, is_initialiser, same, signature_of}
+use Rattle.cjc_exported.specs.Tokens.Methods.{class_method_tokens, interface_methods, interface_token, is_open_bound}
+use Rattle.cjc_exported.specs.Tokens.Rules.{at_class, breaks_from, breaks_where, has_high_method, has_high_token}
+use Rattle.cjc_exported.specs.Tokens.Rules.{token_breaks}
+use Rattle.cjc_exported.specs.Tokens.Slots.{hidden_slots, slots, token}
+use Rattle.cjc_exported.specs.Tokens.Tokens.{assigned, imports_of, joined, listed_field_token, listed_method_token}
+use Rattle.cjc_exported.specs.Tokens.Tokens.{method_tokens, of_class, of_import, token_of_member}
+use Rattle.cjc_narrow_proof.proofs.VTable.Filed.{Has, IsFiled, at_front, behind, filed, get-has, has-get, in_class_file}
+use Rattle.cjc_narrow_proof.proofs.VTable.Filed.{in_export_file, of-imports}
 use Rattle.cjc_world.specs.Added.{added, asked_by, own_methods, without_initialiser, by_token, with_token}
 use Rattle.cjc_world.specs.Classes.{Class, Member, all_classes, class_named, declared, field_of_class, field_of_export}
 use Rattle.cjc_world.specs.Classes.{imported, method_of_export}
@@ -41,7 +42,7 @@ use Rattle.cjc_world.specs.Exported.{is_exported}
 use Rattle.cjc_world.specs.Files.{Files}
 use Rattle.cjc_world.specs.Supertypes.{supertypes}
 use Rattle.cjc_world.specs.declared.found.Found.{Found}
-use Rattle.cjc_fixpoint.specs.Working.Edges.{contains_head, contains_tail}
+use Rattle.cjc_methods.specs.Fixpoint.Working.Edges.{contains_head, contains_tail}
 use Rattle.cjc_shape.proofs.JudgedLaws.Owners.{IsOwn}
 
 -- ---- lists

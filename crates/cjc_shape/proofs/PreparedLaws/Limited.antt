@@ -6,16 +6,16 @@ use Rattle.std.specs.Prelude.{Some, nat_le, nat_lt, slice_get, if◌then◌else�
 use Rattle.std.specs.List.{list_all}
 use Rattle.std.proofs.lemmas.Bool.Decides.{nat_tests}
 use Rattle.std.proofs.lemmas.Option.{slice_get-get_or}
-use Rattle.cjc_bytes.specs.Breaks.{Break, each_from}
-use Rattle.cjc_bytes.specs.Order.{file_of}
-use Rattle.cjc_bytes.specs.declared.settings.Settings.{Settings}
-use Rattle.cjc_classfile.specs.declared.tree.ClassTree.{ClassTree}
-use Rattle.cjc_code.specs.declared.method_code.MethodCode.{MethodCode}
+use Rattle.cjc_world.specs.Bytes.Breaks.{Break, each_from}
+use Rattle.cjc_world.specs.Bytes.Order.{file_of}
+use Rattle.cjc_world.specs.Bytes.declared.settings.Settings.{Settings}
+use Rattle.cjc_world.specs.ClassFile.declared.tree.ClassTree.{ClassTree}
+use Rattle.cjc_narrow_proof.specs.Bytecode.declared.method_code.MethodCode.{MethodCode}
 use Rattle.cjc_narrow_proof.proofs.SelectedLaws.Limits.{each_at, none_left, none_right, not_broken}
-use Rattle.cjc_subset.specs.Checks.{check_breaks, class_breaks, code_breaks, list_breaks, own_breaks}
-use Rattle.cjc_subset.specs.Limits.{has_many_exported}
-use Rattle.cjc_tokens.specs.Rules.{FewCells, FewExported, HasFewCells, has_few_cells, has_few_exported, is_few}
-use Rattle.cjc_tokens.specs.Rules.{tested_breaks, token_breaks}
+use Rattle.cjc_narrow_proof.specs.Subset.Checks.{check_breaks, class_breaks, code_breaks, list_breaks, own_breaks}
+use Rattle.cjc_narrow_proof.specs.Subset.Limits.{has_many_exported}
+use Rattle.cjc_exported.specs.Tokens.Rules.{FewCells, FewExported, HasFewCells, has_few_cells, has_few_exported, is_few}
+use Rattle.cjc_exported.specs.Tokens.Rules.{tested_breaks, token_breaks}
 use Rattle.cjc_world.specs.Files.{Files}
 use Rattle.cjc_shape.proofs.PreparedLaws.Few.{few-cells, few-exported}
 

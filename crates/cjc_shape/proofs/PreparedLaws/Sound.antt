@@ -2,17 +2,17 @@
 use Rattle.std.proofs.Common.{◌≡◌, ℕ, suc, ◌≤◌, refl, sym, ap, subst, ◌∙◌, arith, Bool, true, false, List, [], ◌∷◌}
 use Rattle.std.proofs.Common.{length}
 use Rattle.std.specs.Prelude.{Some, Err, cond, slice_get}
-use Rattle.cjc_bytes.specs.Breaks.{Break, broken_at}
-use Rattle.cjc_bytes.specs.Order.{FilePlace, file_of}
-use Rattle.cjc_bytes.specs.declared.settings.FileLine.{FileLine}
-use Rattle.cjc_classfile.specs.Code.{CodeTree}
-use Rattle.cjc_classfile.specs.declared.tree.ClassTree.{ClassTree}
-use Rattle.cjc_classfile.specs.declared.tree.MethodTree.{MethodTree}
-use Rattle.cjc_order.specs.Classes.Numbers.{class_count}
-use Rattle.cjc_clinit.specs.Rules.{BreaksImage}
-use Rattle.cjc_code.specs.Decoded.{of_code}
-use Rattle.cjc_code.specs.PackageCodes.{all_codes}
-use Rattle.cjc_code.specs.declared.method_code.MethodCode.{MethodCode}
+use Rattle.cjc_world.specs.Bytes.Breaks.{Break, broken_at}
+use Rattle.cjc_world.specs.Bytes.Order.{FilePlace, file_of}
+use Rattle.cjc_world.specs.Bytes.declared.settings.FileLine.{FileLine}
+use Rattle.cjc_world.specs.ClassFile.Code.{CodeTree}
+use Rattle.cjc_world.specs.ClassFile.declared.tree.ClassTree.{ClassTree}
+use Rattle.cjc_world.specs.ClassFile.declared.tree.MethodTree.{MethodTree}
+use Rattle.cjc_methods.specs.ClassOrder.Classes.Numbers.{class_count}
+use Rattle.cjc_judge.specs.Clinit.Rules.{BreaksImage}
+use Rattle.cjc_narrow_proof.specs.Bytecode.Decoded.{of_code}
+use Rattle.cjc_narrow_proof.specs.Bytecode.PackageCodes.{all_codes}
+use Rattle.cjc_narrow_proof.specs.Bytecode.declared.method_code.MethodCode.{MethodCode}
 use Rattle.cjc_judge.specs.declared.groups.Group.TheVariants as groups
 use Rattle.cjc_judge.specs.declared.judged.Judged.{Judged}
 use Rattle.cjc_judge.specs.Codes.{all_unsupported_insns}
@@ -25,15 +25,15 @@ use Rattle.cjc_judge.specs.Types.{AreTables}
 use Rattle.cjc_shape.specs.Judged.Tested.{IsOne, IsTested}
 use Rattle.cjc_shape.proofs.JudgedLaws.Selected.{is_world, judged_checks, judged_names, judged_selectable, judged_whole}
 use Rattle.cjc_shape.proofs.JudgedLaws.Selected.{none_among, same_codes, same_world, spells, types}
-use Rattle.cjc_list.specs.Listed.{ListTree}
+use Rattle.cjc_judge.specs.List.Listed.{ListTree}
 use Rattle.cjc_methods.specs.Ready.{AreReady, IsDecoded}
 use Rattle.cjc_narrow_proof.specs.Laws.Unbroken.{IsUnbroken}
 use Rattle.cjc_narrow_proof.proofs.LawsLaws.Own.{flags_by_name}
 use Rattle.cjc_narrow_proof.proofs.SelectedLaws.Limits.{each_at}
-use Rattle.cjc_subset.specs.Places.{at_method, of_class, of_method}
-use Rattle.cjc_tokens.specs.Rules.{FewCells, FewExported, tested_breaks, token_breaks}
-use Rattle.cjc_types.specs.declared.table.TypeTable.{TypeTable}
-use Rattle.cjc_vtable.proofs.Numbers.{class_count-cons}
+use Rattle.cjc_narrow_proof.specs.Subset.Places.{at_method, of_class, of_method}
+use Rattle.cjc_exported.specs.Tokens.Rules.{FewCells, FewExported, tested_breaks, token_breaks}
+use Rattle.cjc_methods.specs.Types.declared.table.TypeTable.{TypeTable}
+use Rattle.cjc_narrow_proof.proofs.VTable.Numbers.{class_count-cons}
 use Rattle.cjc_world.specs.Files.{Files}
 use Rattle.cjc_world.specs.Rules.{breaks}
 use Rattle.cjc_shape.specs.Prepared.{IsSound, tested}

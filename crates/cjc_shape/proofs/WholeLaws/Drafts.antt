@@ -5,37 +5,37 @@ use Rattle.std.specs.Prelude.{All, Option, Some, None, map, slice_get}
 use Rattle.std.specs.List.{Contains}
 use Rattle.std.proofs.lemmas.List.{length-map}
 use Rattle.std.proofs.lemmas.Option.{get_or_from_slice_get, slice_get-get_or, slice_get_within}
-use Rattle.cjc_bytes.specs.declared.fault.MemberId.{MemberId}
-use Rattle.cjc_jvm_semantics.specs.Linked.{Method}
-use Rattle.cjc_jvm_semantics.specs.OnePackage.{method_by}
-use Rattle.cjc_classfile.specs.Code.{CodeTree}
-use Rattle.cjc_classfile.specs.declared.tree.ClassTree.{ClassTree}
-use Rattle.cjc_classfile.specs.declared.tree.MethodTree.{MethodTree}
-use Rattle.cjc_code.specs.PackageCodes.{all_codes}
-use Rattle.cjc_code.specs.declared.method_code.MethodCode.{MethodCode}
-use Rattle.cjc_components.specs.Package.{LaidMethod, Package, codes, pool}
-use Rattle.cjc_components.specs.Written.{code_at, is_abstract_at}
+use Rattle.cjc_world.specs.Bytes.declared.fault.MemberId.{MemberId}
+use Rattle.cjc_narrow_proof.specs.JvmSemantics.Linked.{Method}
+use Rattle.cjc_narrow_proof.specs.JvmSemantics.OnePackage.{method_by}
+use Rattle.cjc_world.specs.ClassFile.Code.{CodeTree}
+use Rattle.cjc_world.specs.ClassFile.declared.tree.ClassTree.{ClassTree}
+use Rattle.cjc_world.specs.ClassFile.declared.tree.MethodTree.{MethodTree}
+use Rattle.cjc_narrow_proof.specs.Bytecode.PackageCodes.{all_codes}
+use Rattle.cjc_narrow_proof.specs.Bytecode.declared.method_code.MethodCode.{MethodCode}
+use Rattle.cjc_methods.specs.Components.Package.{LaidMethod, Package, codes, pool}
+use Rattle.cjc_methods.specs.Components.Written.{code_at, is_abstract_at}
 use Rattle.cjc_judge.specs.declared.judged.Judged.{Judged}
 use Rattle.cjc_judge.specs.Rules.{files_spelt}
 use Rattle.cjc_judge.specs.Spelt.{FileTree}
 use Rattle.cjc_judge.proofs.Firsts.{one_spelling}
 use Rattle.cjc_shape.proofs.JudgedLaws.Selected.{is_world, same_world}
-use Rattle.cjc_list.specs.Listed.{ListTree}
+use Rattle.cjc_judge.specs.List.Listed.{ListTree}
 use Rattle.cjc_methods.specs.Ready.{AreReady, AreRows, IsOwn, states}
 use Rattle.cjc_methods.proofs.Again.{by_own_pool, same_pools}
 use Rattle.cjc_methods.proofs.Alike.{all_alike}
-use Rattle.cjc_narrow.specs.Rows.Selected.{near_fields}
-use Rattle.cjc_ncode.specs.PoolOrder.{pool_order}
-use Rattle.cjc_ncode.specs.declared.narrow.NMethod.{NMethod}
-use Rattle.cjc_ncode.specs.declared.narrow.PoolKey.{PoolKey}
+use Rattle.cjc_narrow_proof.specs.Narrow.Rows.Selected.{near_fields}
+use Rattle.cjc_methods.specs.NCode.PoolOrder.{pool_order}
+use Rattle.cjc_methods.specs.NCode.declared.narrow.NMethod.{NMethod}
+use Rattle.cjc_methods.specs.NCode.declared.narrow.PoolKey.{PoolKey}
 use Rattle.cjc_shape.specs.Prepared.{IsSound}
 use Rattle.cjc_shape.proofs.PreparedLaws.Rows.{are_rows, rows_in}
 use Rattle.cjc_shape.proofs.PreparedLaws.Sound.{are_ready, is_tested, is_unbroken}
-use Rattle.cjc_types.specs.declared.state.State.{State}
-use Rattle.cjc_types.specs.declared.table.TypeTable.{TypeTable}
-use Rattle.cjc_types.specs.Flow.{body_of}
-use Rattle.cjc_types.specs.Tables.{IsLeastTable, IsMethodOf, rows_of}
-use Rattle.cjc_types.proofs.Least.{one_least}
+use Rattle.cjc_methods.specs.Types.declared.state.State.{State}
+use Rattle.cjc_methods.specs.Types.declared.table.TypeTable.{TypeTable}
+use Rattle.cjc_methods.specs.Types.Flow.{body_of}
+use Rattle.cjc_methods.specs.Types.Tables.{IsLeastTable, IsMethodOf, rows_of}
+use Rattle.cjc_methods.proofs.Types.Least.{one_least}
 use Rattle.cjc_world.specs.declared.found.Found.{Found}
 use Rattle.cjc_world.specs.declared.image.StaticImage.{StaticImage}
 use Rattle.cjc_world.specs.Classes.{all_classes}

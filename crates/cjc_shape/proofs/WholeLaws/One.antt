@@ -2,16 +2,16 @@
 use Rattle.std.proofs.Common.{◌≡◌, ℕ, zero, suc, ◌+◌, ◌<◌, refl, sym, ap, subst, ◌∙◌, arith, Bool, true, false, List}
 use Rattle.std.proofs.Common.{[], ◌∷◌, length}
 use Rattle.std.specs.Prelude.{Option, Some, None, map, slice_get}
-use Rattle.cjc_code.specs.PackageCodes.{all_codes}
-use Rattle.cjc_clinit.specs.Image.{IsImage}
-use Rattle.cjc_clinit.proofs.OneImage.{one-image}
-use Rattle.cjc_components.specs.Package.{LaidMethod, Package, codes}
-use Rattle.cjc_components.specs.Written.{is_abstract_at}
+use Rattle.cjc_narrow_proof.specs.Bytecode.PackageCodes.{all_codes}
+use Rattle.cjc_judge.specs.Clinit.Image.{IsImage}
+use Rattle.cjc_judge.proofs.Clinit.OneImage.{one-image}
+use Rattle.cjc_methods.specs.Components.Package.{LaidMethod, Package, codes}
+use Rattle.cjc_methods.specs.Components.Written.{is_abstract_at}
 use Rattle.cjc_judge.specs.declared.judged.Judged.{Judged}
-use Rattle.cjc_layout.specs.Legal.{IsLeast, IsWithin}
-use Rattle.cjc_list.specs.Listed.{ListTree}
-use Rattle.cjc_ncode.specs.declared.narrow.NInsn.{NInsn}
-use Rattle.cjc_ncode.specs.declared.narrow.NMethod.{NMethod}
+use Rattle.cjc_methods.specs.Layout.Legal.{IsLeast, IsWithin}
+use Rattle.cjc_judge.specs.List.Listed.{ListTree}
+use Rattle.cjc_methods.specs.NCode.declared.narrow.NInsn.{NInsn}
+use Rattle.cjc_methods.specs.NCode.declared.narrow.NMethod.{NMethod}
 use Rattle.cjc_shape.specs.Prepared.{IsSound}
 use Rattle.cjc_world.specs.declared.found.Found.{Found}
 use Rattle.cjc_world.specs.declared.image.StaticImage.{StaticImage}

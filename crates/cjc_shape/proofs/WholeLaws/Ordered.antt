@@ -3,12 +3,12 @@ use Rattle.std.proofs.Common.{◌≡◌, ℕ, zero, suc, ◌<◌, ◌≤◌, ref
 use Rattle.std.proofs.Common.{length}
 use Rattle.std.specs.Prelude.{All, Option, Some, None, map, option_map, slice_get}
 use Rattle.std.proofs.lemmas.Option.{slice_get_within}
-use Rattle.cjc_classfile.specs.declared.tree.ClassTree.{ClassTree}
-use Rattle.cjc_order.specs.Classes.Numbers.{class_count, declared_at}
-use Rattle.cjc_order.proofs.ClassesLaws.Declared.{order_declared}
+use Rattle.cjc_world.specs.ClassFile.declared.tree.ClassTree.{ClassTree}
+use Rattle.cjc_methods.specs.ClassOrder.Classes.Numbers.{class_count, declared_at}
+use Rattle.cjc_methods.proofs.ClassOrder.ClassesLaws.Declared.{order_declared}
 use Rattle.cjc_methods.specs.Ready.{AreOrdered, IsOwn}
 use Rattle.cjc_methods.proofs.Ownership.{ordered_own}
-use Rattle.cjc_vtable.proofs.Numbers.{own_listed}
+use Rattle.cjc_narrow_proof.proofs.VTable.Numbers.{own_listed}
 use Rattle.cjc_world.specs.Classes.{Class, all_classes, class_at, declared}
 use Rattle.cjc_world.specs.Files.{Files}
 use Rattle.cjc_world.specs.Order.{in_order, method_order}

@@ -5,22 +5,22 @@ use Rattle.std.proofs.Common.{◌++◌, length, nat_lt}
 use Rattle.std.specs.Prelude.{Option, Some, None, map}
 use Rattle.std.specs.List.{flat_map}
 use Rattle.std.proofs.lemmas.List.Concat.{flat_map-cons}
-use Rattle.cjc_bytes.specs.Breaks.{Among, Break, IsFirst, IsFirstRefusal, at}
-use Rattle.cjc_bytes.specs.Order.{NotAfter}
-use Rattle.cjc_bytes.specs.declared.fault.Fault.{Fault}
-use Rattle.cjc_bytes.specs.declared.fault.Fault.TheVariants as faults
-use Rattle.cjc_bytes.specs.declared.fault.Refusal.{Refusal}
-use Rattle.cjc_components.specs.ExportFile.{export_of}
-use Rattle.cjc_components.specs.Limits.{else_of, form_breaks, in_class, layout_breaks, of_methods, size_breaks}
-use Rattle.cjc_components.specs.Limits.{spot_of_list, word_breaks}
-use Rattle.cjc_components.specs.Package.{LaidMethod, Package, codes, pool, world}
-use Rattle.cjc_export.specs.Written.{constants}
-use Rattle.cjc_export.specs.declared.tree.ExportTree.{ExportTree}
+use Rattle.cjc_world.specs.Bytes.Breaks.{Among, Break, IsFirst, IsFirstRefusal, at}
+use Rattle.cjc_world.specs.Bytes.Order.{NotAfter}
+use Rattle.cjc_world.specs.Bytes.declared.fault.Fault.{Fault}
+use Rattle.cjc_world.specs.Bytes.declared.fault.Fault.TheVariants as faults
+use Rattle.cjc_world.specs.Bytes.declared.fault.Refusal.{Refusal}
+use Rattle.cjc_methods.specs.Components.ExportFile.{export_of}
+use Rattle.cjc_methods.specs.Components.Limits.{else_of, form_breaks, in_class, layout_breaks, of_methods, size_breaks}
+use Rattle.cjc_methods.specs.Components.Limits.{spot_of_list, word_breaks}
+use Rattle.cjc_methods.specs.Components.Package.{LaidMethod, Package, codes, pool, world}
+use Rattle.cjc_world.specs.ExportFile.Written.{constants}
+use Rattle.cjc_world.specs.ExportFile.declared.tree.ExportTree.{ExportTree}
 use Rattle.cjc_judge.specs.declared.judged.Judged.{Judged}
 use Rattle.cjc_judge.specs.Rules.{Breach, IsFirstOf, IsFirstRefused, OnLevels, on_first, on_second}
-use Rattle.cjc_list.specs.Listed.{ListTree}
-use Rattle.cjc_ncode.specs.PoolOrder.{pool_order}
-use Rattle.cjc_ncode.specs.declared.narrow.NMethod.{NMethod}
+use Rattle.cjc_judge.specs.List.Listed.{ListTree}
+use Rattle.cjc_methods.specs.NCode.PoolOrder.{pool_order}
+use Rattle.cjc_methods.specs.NCode.declared.narrow.NMethod.{NMethod}
 use Rattle.cjc_shape.specs.Prepared.{IsSound, tested}
 use Rattle.cjc_world.specs.declared.found.Found.{Found}
 use Rattle.cjc_world.specs.declared.image.StaticImage.{StaticImage}

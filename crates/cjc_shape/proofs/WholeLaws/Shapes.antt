@@ -1,27 +1,27 @@
 -- A package that breaks no rule of its files, with its methods laid out.
 use Rattle.std.proofs.Common.{◌≡◌, ◌⊎◌, ℕ, refl, sym, ap, subst, ◌∙◌, inl, inr, List, [], ◌∷◌, ◌++◌, length}
 use Rattle.std.specs.Prelude.{All, Option, Some, None, map}
-use Rattle.cjc_bytes.specs.Breaks.{Among, Break, IsFirst, IsFirstRefusal}
-use Rattle.cjc_bytes.specs.declared.fault.Fault.{Fault}
-use Rattle.cjc_clinit.specs.Image.{IsImage}
-use Rattle.cjc_code.specs.PackageCodes.{all_codes}
-use Rattle.cjc_components.specs.ExportFile.{export_of}
-use Rattle.cjc_components.specs.Limits.{else_of, form_breaks, of_methods, word_breaks}
-use Rattle.cjc_components.specs.Package.{LaidMethod, Package, codes}
-use Rattle.cjc_components.specs.Written.{code_at}
-use Rattle.cjc_export.specs.Written.{constants}
-use Rattle.cjc_export.specs.declared.tree.ExportTree.{ExportTree}
+use Rattle.cjc_world.specs.Bytes.Breaks.{Among, Break, IsFirst, IsFirstRefusal}
+use Rattle.cjc_world.specs.Bytes.declared.fault.Fault.{Fault}
+use Rattle.cjc_judge.specs.Clinit.Image.{IsImage}
+use Rattle.cjc_narrow_proof.specs.Bytecode.PackageCodes.{all_codes}
+use Rattle.cjc_methods.specs.Components.ExportFile.{export_of}
+use Rattle.cjc_methods.specs.Components.Limits.{else_of, form_breaks, of_methods, word_breaks}
+use Rattle.cjc_methods.specs.Components.Package.{LaidMethod, Package, codes}
+use Rattle.cjc_methods.specs.Components.Written.{code_at}
+use Rattle.cjc_world.specs.ExportFile.Written.{constants}
+use Rattle.cjc_world.specs.ExportFile.declared.tree.ExportTree.{ExportTree}
 use Rattle.cjc_judge.specs.Rules.{has_applets}
 use Rattle.cjc_judge.specs.declared.judged.Judged.{Judged}
 use Rattle.cjc_methods.specs.Layouts.Laid.{AreOf, laid_methods}
 use Rattle.cjc_methods.specs.Layouts.Limits.{IsTold}
 use Rattle.cjc_methods.proofs.LayoutsLaws.Kept.{codes_of, is_package, members_of}
-use Rattle.cjc_list.specs.Listed.{ListTree}
-use Rattle.cjc_narrow.specs.Rows.Selected.{near_fields}
-use Rattle.cjc_ncode.specs.PoolOrder.{pool_order}
-use Rattle.cjc_ncode.specs.declared.narrow.NMethod.{NMethod}
+use Rattle.cjc_judge.specs.List.Listed.{ListTree}
+use Rattle.cjc_narrow_proof.specs.Narrow.Rows.Selected.{near_fields}
+use Rattle.cjc_methods.specs.NCode.PoolOrder.{pool_order}
+use Rattle.cjc_methods.specs.NCode.declared.narrow.NMethod.{NMethod}
 use Rattle.cjc_shape.specs.Prepared.{BreaksNothing, IsSound}
-use Rattle.cjc_tokens.specs.Tokens.{assigned}
+use Rattle.cjc_exported.specs.Tokens.Tokens.{assigned}
 use Rattle.cjc_world.specs.declared.found.Found.{Found}
 use Rattle.cjc_shape.specs.Whole.Conversion.{IsDraft, IsPackageOf}
 use Rattle.cjc_shape.specs.Whole.Working.Shaped.{IsShaped, Stopped, package_of}

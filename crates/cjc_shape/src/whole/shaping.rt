@@ -7,16 +7,16 @@ ghost use Rattle.cjc_shape.specs.Whole.Working.Shaped.{IsShaped, Stopped};
 ghost use Rattle.cjc_world.specs.Classes.{all_classes};
 ghost use Rattle.cjc_world.specs.Order.{method_order};
 
-use cjc_bytes::{Fault, NoMemory, Row};
-use cjc_export::{ExportTree, pool_size};
 use cjc_exported::export_file::export_of;
+use cjc_exported::tokens::Tokens;
 use cjc_judge::{Judged, image_of, tokens_of};
+use cjc_methods::class_order::classes::class_order;
 use cjc_methods::layouts::{Methods, lay_out, methods_are_of_a_package};
 use cjc_methods::{
     method_order, methods_are_own, methods_can_be_laid_out, narrow_codes, test_words,
 };
-use cjc_order::classes::class_order;
-use cjc_tokens::Tokens;
+use cjc_world::bytes::{Fault, NoMemory, Row};
+use cjc_world::export_file::{ExportTree, pool_size};
 use cjc_world::{Found, StaticImage, World};
 use std::alloc::Global;
 

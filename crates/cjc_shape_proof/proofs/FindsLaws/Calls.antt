@@ -10,8 +10,9 @@ use Rattle.cjc_bytes.specs.Descriptor.{Parts}
 use Rattle.cjc_bytes.specs.Spots.{desc_of}
 use Rattle.cjc_bytes.specs.declared.fault.MemberId.{MemberId}
 use Rattle.cjc_bytes.specs.declared.settings.Settings.{Settings}
-use Rattle.cjc_jvm_semantics.specs.OnePackage.{ResolvedMember, callee_at, interface_callee, is_constructor}
-use Rattle.cjc_jvm_semantics.specs.OnePackage.{is_initialiser, method_hit, first_super, select_in, selected_from}
+use Rattle.cjc_world_proof.specs.JvmSemantics.OnePackage.{ResolvedMember, callee_at, interface_callee, is_constructor}
+use Rattle.cjc_world_proof.specs.JvmSemantics.OnePackage.{is_initialiser, method_hit, first_super, select_in}
+use Rattle.cjc_world_proof.specs.JvmSemantics.OnePackage.{selected_from}
 use Rattle.cjc_world_proof.specs.Calls.Solid.{HasCode, IsSolid}
 use Rattle.cjc_world_proof.specs.Calls.Targets.{IsReceiver}
 use Rattle.cjc_world_proof.proofs.CallsLaws.Own.{IsAt, hit_is, own_at}
@@ -19,8 +20,8 @@ use Rattle.cjc_world_proof.proofs.CallsLaws.Selects.{is_selected, on_interface, 
 use Rattle.cjc_world_proof.proofs.CallsLaws.Specials.{above_callee, itself_callee}
 use Rattle.cjc_world_proof.proofs.CallsLaws.Types.{below_type, type_below}
 use Rattle.cjc_classfile.specs.declared.tree.ClassTree.{ClassTree}
-use Rattle.cjc_code.specs.declared.insn.JOp.TheVariants as jop
-use Rattle.cjc_code.specs.declared.method_code.MethodCode.{MethodCode}
+use Rattle.cjc_subset.specs.Bytecode.declared.insn.JOp.TheVariants as jop
+use Rattle.cjc_subset.specs.Bytecode.declared.method_code.MethodCode.{MethodCode}
 use Rattle.cjc_shape_proof.specs.Whole.{Accepts, AreTabled}
 use Rattle.cjc_shape_proof.proofs.FindsLaws.Begun.{chosen, reached}
 use Rattle.cjc_shape_proof.proofs.FindsLaws.Callees.{result_there}
@@ -37,16 +38,17 @@ use Rattle.cjc_narrow_proof.specs.Runs.Calls.{IsCallee, IsReceiverOn, IsStaticOn
 use Rattle.cjc_narrow_proof.specs.Runs.Calls.{on_class}
 use Rattle.cjc_narrow_proof.specs.Runs.Tables.{Tables, look_ups}
 use Rattle.cjc_ncode.specs.ByLabel.{Named}
-use Rattle.cjc_script.specs.Sorts.{Shape, shape_name}
+use Rattle.cjc_ncode.specs.Script.Sorts.{Shape, shape_name}
 use Rattle.cjc_narrow_proof.specs.Selection.Relation.{IsMadeOf}
 use Rattle.cjc_world_proof.specs.Files.{AreReadFiles}
 use Rattle.cjc_subset.specs.Names.{is_bodiless, is_hidden, is_name_missing, is_unfit_call, is_unfit_class}
 use Rattle.cjc_subset.specs.Names.{is_unfit_method, is_unfit_super, is_unfit_virtual, names_missing, names_unfit}
 use Rattle.cjc_subset.specs.Members as subset
 use Rattle.cjc_narrow_proof.specs.Tables.Kinds.{is_one_of}
-use Rattle.cjc_types.specs.declared.cell.Cell.{Cell}
-use Rattle.cjc_types.specs.Flow.{Body}
-use Rattle.cjc_types.specs.Rules.{is_found_private, is_private_in, names_private, no_member, receiver_class}
+use Rattle.cjc_narrow_proof.specs.Types.declared.cell.Cell.{Cell}
+use Rattle.cjc_narrow_proof.specs.Types.Flow.{Body}
+use Rattle.cjc_narrow_proof.specs.Types.Rules.{is_found_private, is_private_in, names_private, no_member}
+use Rattle.cjc_narrow_proof.specs.Types.Rules.{receiver_class}
 use Rattle.cjc_world.specs.Upwards.{Below}
 use Rattle.cjc_world.proofs.UpwardLaws.Lines.{below_abroad, below_on, method_found_above, own_found}
 use Rattle.cjc_world.specs.declared.found.Found.{Found}

@@ -13,9 +13,10 @@ use Rattle.cjc_bytes.specs.declared.fault.MemberId.{MemberId}
 use Rattle.cjc_bytes.specs.declared.settings.Settings.{Settings}
 use Rattle.cjc_bytes.proofs.DescriptorTypes.{desc_spelt}
 use Rattle.cjc_bytes.proofs.Inverse.{all_at}
-use Rattle.cjc_jvm_semantics.specs.Linked.{Instance, Method, Static}
-use Rattle.cjc_jvm_semantics.specs.OnePackage.{constant_at, constant_in, exported_constant, field_by, field_hit}
-use Rattle.cjc_jvm_semantics.specs.OnePackage.{field_named, member_of, object_fields, of_class}
+use Rattle.cjc_world_proof.specs.JvmSemantics.Linked.{Instance, Method, Static}
+use Rattle.cjc_world_proof.specs.JvmSemantics.OnePackage.{constant_at, constant_in, exported_constant, field_by}
+use Rattle.cjc_world_proof.specs.JvmSemantics.OnePackage.{field_hit}
+use Rattle.cjc_world_proof.specs.JvmSemantics.OnePackage.{field_named, member_of, object_fields, of_class}
 use Rattle.cjc_world_proof.specs.Calls.Solid.{IsSolid}
 use Rattle.cjc_world_proof.specs.Calls.Targets.{IsReceiver}
 use Rattle.cjc_world_proof.proofs.CallsLaws.Fields.{object_has}
@@ -26,8 +27,8 @@ use Rattle.cjc_classfile.proofs.Fitting.{spelt_fits}
 use Rattle.cjc_classfile.specs.Fits as fits
 use Rattle.cjc_classfile.specs.declared.tree.ClassTree.{ClassTree}
 use Rattle.cjc_classfile.specs.declared.tree.FieldTree.{FieldTree}
-use Rattle.cjc_code.specs.declared.insn.JOp.TheVariants as jop
-use Rattle.cjc_code.specs.declared.method_code.MethodCode.{MethodCode}
+use Rattle.cjc_subset.specs.Bytecode.declared.insn.JOp.TheVariants as jop
+use Rattle.cjc_subset.specs.Bytecode.declared.method_code.MethodCode.{MethodCode}
 use Rattle.cjc_export.specs.Members.{is_constant_type, may_be_constant}
 use Rattle.cjc_shape_proof.proofs.FindsLaws.Descs.{read_of}
 use Rattle.cjc_shape_proof.proofs.FindsLaws.Receivers.{made_class, named_of, plain_class, receiver_of}
@@ -36,11 +37,12 @@ use Rattle.cjc_narrow_proof.proofs.LawsLaws.Instructions.{field_there, op_fit, o
 use Rattle.cjc_narrow_proof.proofs.LawsLaws.WordTypes.{type_word}
 use Rattle.cjc_narrow_proof.specs.Runs.Names.{IsFieldOf, IsWordField}
 use Rattle.cjc_narrow_proof.specs.Runs.Tables.{Tables, look_ups}
-use Rattle.cjc_narrow.specs.Rows.Package.{named}
+use Rattle.cjc_components.specs.Narrow.Rows.Package.{named}
 use Rattle.cjc_ncode.specs.ByLabel.{Named}
 use Rattle.cjc_ncode.specs.PoolOrder.{same_member}
-use Rattle.cjc_script.specs.Sorts.{Booleans, Bytes, Ints, Shorts, OfClass, OfNumbers, OfReferences, Shape, shape_name}
-use Rattle.cjc_script.specs.Sorts.{sort_of, sort_or_none}
+use Rattle.cjc_ncode.specs.Script.Sorts.{Booleans, Bytes, Ints, Shorts, OfClass, OfNumbers, OfReferences, Shape}
+use Rattle.cjc_ncode.specs.Script.Sorts.{shape_name}
+use Rattle.cjc_ncode.specs.Script.Sorts.{sort_of, sort_or_none}
 use Rattle.cjc_narrow_proof.proofs.SelectedLaws.Limits.{insn_fine}
 use Rattle.cjc_narrow_proof.specs.Selection.Relation.{HasObjects, IsMadeOf, bare, made}
 use Rattle.cjc_narrow_proof.specs.Selection.Rows.{HasField, is_word_sort, lists}
@@ -53,9 +55,9 @@ use Rattle.cjc_subset.specs.Names.{is_constant_found, is_hidden, is_other_kind, 
 use Rattle.cjc_subset.specs.Types.{is_any_unsupported, is_any_int, is_unsupported_desc, is_unsupported_name}
 use Rattle.cjc_subset.specs.Types.{is_unsupported_part, is_int_desc, is_int_name, is_int_part, names_unsupported}
 use Rattle.cjc_subset.specs.Types.{names_int}
-use Rattle.cjc_types.specs.declared.cell.Cell.{Cell}
-use Rattle.cjc_types.specs.declared.cell.Cell.TheVariants.{Refs}
-use Rattle.cjc_types.specs.Types.{no_parts, parts, parts_or_none}
+use Rattle.cjc_narrow_proof.specs.Types.declared.cell.Cell.{Cell}
+use Rattle.cjc_narrow_proof.specs.Types.declared.cell.Cell.TheVariants.{Refs}
+use Rattle.cjc_narrow_proof.specs.Types.Types.{no_parts, parts, parts_or_none}
 use Rattle.cjc_world.specs.Upwards.{Below, Has, OnLine}
 use Rattle.cjc_world.specs.Upwards as upward
 use Rattle.cjc_world.proofs.UpwardLaws.Lines.{below_abroad, below_on, field_found_above, on_line}

@@ -7,9 +7,10 @@ use Rattle.std.specs.Str.{bytes_eq}
 use Rattle.cjc_bytes.specs.declared.fault.MemberId.{MemberId}
 use Rattle.cjc_bytes.specs.declared.settings.Settings.{Settings}
 use Rattle.cjc_bytes.proofs.Inverse.{all_at}
-use Rattle.cjc_jvm_semantics.specs.Linked.{Method}
-use Rattle.cjc_jvm_semantics.specs.OnePackage.{entry_in, entry_named, is_constructor, is_initialiser, is_sendable}
-use Rattle.cjc_jvm_semantics.specs.OnePackage.{method_at, method_hit, select_in, sent_by, sent_named}
+use Rattle.cjc_world_proof.specs.JvmSemantics.Linked.{Method}
+use Rattle.cjc_world_proof.specs.JvmSemantics.OnePackage.{entry_in, entry_named, is_constructor, is_initialiser}
+use Rattle.cjc_world_proof.specs.JvmSemantics.OnePackage.{is_sendable}
+use Rattle.cjc_world_proof.specs.JvmSemantics.OnePackage.{method_at, method_hit, select_in, sent_by, sent_named}
 use Rattle.cjc_world_proof.specs.Calls.Solid.{IsSolid}
 use Rattle.cjc_world_proof.specs.Calls.Targets.{IsReceiver, IsSentTo}
 use Rattle.cjc_world_proof.proofs.CallsLaws.Own.{own_at}
@@ -20,7 +21,7 @@ use Rattle.cjc_classfile.proofs.Fitting.{spelt_fits}
 use Rattle.cjc_classfile.specs.Fits as fits
 use Rattle.cjc_classfile.specs.declared.tree.ClassTree.{ClassTree}
 use Rattle.cjc_classfile.specs.declared.tree.MethodTree.{MethodTree}
-use Rattle.cjc_code.specs.declared.method_code.MethodCode.{MethodCode}
+use Rattle.cjc_subset.specs.Bytecode.declared.method_code.MethodCode.{MethodCode}
 use Rattle.cjc_shape_proof.specs.Whole.{AreTabled}
 use Rattle.cjc_shape_proof.proofs.FindsLaws.Begun.{begun, declarer}
 use Rattle.cjc_shape_proof.proofs.FindsLaws.Callees.{params_there}
@@ -34,7 +35,7 @@ use Rattle.cjc_narrow_proof.specs.Runs.Converted.{IsFound, IsMember, a_member, n
 use Rattle.cjc_narrow_proof.specs.Runs.Tables.{Tables, look_ups}
 use Rattle.cjc_narrow_proof.specs.Runs.Types.{IsThere}
 use Rattle.cjc_ncode.specs.ByLabel.{Named}
-use Rattle.cjc_script.specs.Sorts.{Reference, Shape, shape_name}
+use Rattle.cjc_ncode.specs.Script.Sorts.{Reference, Shape, shape_name}
 use Rattle.cjc_narrow_proof.specs.Selection.Relation.{IsMadeOf}
 use Rattle.cjc_world_proof.specs.Files.{AreReadFiles}
 use Rattle.cjc_narrow_proof.specs.Tables.Calls.{IsWordDesc, types_of}

@@ -14,20 +14,20 @@ use Rattle.cjc_classfile.specs.Fits as fits
 use Rattle.cjc_classfile.specs.declared.tree.ClassTree.{ClassTree}
 use Rattle.cjc_clinit.specs.Image.{IsImage}
 use Rattle.cjc_world_proof.specs.Initialisers.Values.{StandOnce}
-use Rattle.cjc_code.specs.PackageCodes.{all_codes}
+use Rattle.cjc_subset.specs.Bytecode.PackageCodes.{all_codes}
 use Rattle.cjc_components.specs.Package.{Package, world}
-use Rattle.cjc_judge.specs.Rules.{settings_of}
-use Rattle.cjc_judge.specs.Spelt.{FileTree, classes_of, exports_of}
-use Rattle.cjc_judge.specs.Spelt as spelt_files
-use Rattle.cjc_judge.specs.Trees.{AllSpelt}
-use Rattle.cjc_judge.specs.declared.judged.Judged.{Judged}
+use Rattle.cjc_shape.specs.Judge.Rules.{settings_of}
+use Rattle.cjc_shape.specs.Judge.Spelt.{FileTree, classes_of, exports_of}
+use Rattle.cjc_shape.specs.Judge.Spelt as spelt_files
+use Rattle.cjc_shape.specs.Judge.Trees.{AllSpelt}
+use Rattle.cjc_shape.specs.Judge.declared.judged.Judged.{Judged}
 use Rattle.cjc_shape.proofs.JudgedLaws.Selected.{judged_writable}
 use Rattle.cjc_shape.specs.Judged.Tested.{AreFiles, IsTested}
-use Rattle.cjc_list.specs.Listed.{ListTree}
+use Rattle.cjc_components.specs.List.Listed.{ListTree}
 use Rattle.cjc_narrow_proof.specs.Laws.Unbroken.{AreSpelt, IsUnbroken}
 use Rattle.cjc_shape.proofs.PreparedLaws.Sound.{is_tested, is_unbroken}
-use Rattle.cjc_code.proofs.ReadLaws.Members.{read_class}
-use Rattle.cjc_code.specs.ReadLaws.Members.{IsReadClass}
+use Rattle.cjc_subset.proofs.Bytecode.ReadLaws.Members.{read_class}
+use Rattle.cjc_subset.specs.Bytecode.ReadLaws.Members.{IsReadClass}
 use Rattle.cjc_world_proof.specs.Files.{AreReadFiles}
 use Rattle.cjc_subset.specs.Checks.{check_breaks}
 use Rattle.cjc_narrow_proof.proofs.TablesLaws.Spelt.{class_read}

@@ -1,36 +1,38 @@
 -- The run of a package's components is the run of its narrow code, from the first entry on.
 use Rattle.std.proofs.Common.{◌≡◌, ℕ, refl, sym, ap, subst, ◌∙◌, Bool, true, List, [], ◌∷◌, map}
 use Rattle.std.specs.Prelude.{◌≢◌, Option, Some, None}
-use Rattle.cjc_card_semantics.specs.Bytecode.Alike.{IsFound, KnownKind, KnownState, no_frames, reached_as, start_as}
-use Rattle.cjc_card_semantics.specs.Bytecode.Alike.{state_as}
-use Rattle.cjc_card_semantics.specs.Bytecode.Effects.{HeapObject, Memory, Numbers, Object, References, shape}
-use Rattle.cjc_card_semantics.specs.Bytecode.Machine.{Reached, Start, State, Within}
-use Rattle.cjc_card_semantics.specs.Bytecode.Machine as machine
-use Rattle.cjc_card_semantics.specs.Bytecode.Renaming.{KnownHeap, heap_object_as, memory_as, no_things, numbers_known}
-use Rattle.cjc_card_semantics.specs.Bytecode.Renaming.{one_thing, option_as, shape_as}
+use Rattle.cjc_ncode.specs.CardSemantics.Bytecode.Alike.{IsFound, KnownKind, KnownState, no_frames, reached_as}
+use Rattle.cjc_ncode.specs.CardSemantics.Bytecode.Alike.{start_as}
+use Rattle.cjc_ncode.specs.CardSemantics.Bytecode.Alike.{state_as}
+use Rattle.cjc_ncode.specs.CardSemantics.Bytecode.Effects.{HeapObject, Memory, Numbers, Object, References, shape}
+use Rattle.cjc_ncode.specs.CardSemantics.Bytecode.Machine.{Reached, Start, State, Within}
+use Rattle.cjc_ncode.specs.CardSemantics.Bytecode.Machine as machine
+use Rattle.cjc_ncode.specs.CardSemantics.Bytecode.Renaming.{KnownHeap, heap_object_as, memory_as, no_things}
+use Rattle.cjc_ncode.specs.CardSemantics.Bytecode.Renaming.{numbers_known}
+use Rattle.cjc_ncode.specs.CardSemantics.Bytecode.Renaming.{one_thing, option_as, shape_as}
 use Rattle.cjc_token_proof.specs.ByToken.Classes.{memories, tests}
 use Rattle.cjc_token_proof.specs.ByToken.Objects.{slots_of}
 use Rattle.cjc_token_proof.specs.ByToken.Cells.{image_of}
 use Rattle.cjc_bytes.specs.declared.fault.MemberId.{MemberId}
 use Rattle.cjc_token_proof.specs.Calls.Reaching as reaching
-use Rattle.cjc_card_semantics.specs.Machine.ByToken as card
-use Rattle.cjc_card_semantics.specs.Machine.Calls
-use Rattle.cjc_card_semantics.specs.Machine.ByToken.{by_token}
-use Rattle.cjc_card_semantics.specs.Machine.Statics.{first_memory as first_on_card}
+use Rattle.cjc_ncode.specs.CardSemantics.Machine.ByToken as card
+use Rattle.cjc_ncode.specs.CardSemantics.Machine.Calls
+use Rattle.cjc_ncode.specs.CardSemantics.Machine.ByToken.{by_token}
+use Rattle.cjc_ncode.specs.CardSemantics.Machine.Statics.{first_memory as first_on_card}
 use Rattle.cjc_components.specs.Methods.{placed_methods}
 use Rattle.cjc_components.specs.Names.{class_at}
 use Rattle.cjc_components.specs.Package.{Package, world}
 use Rattle.cjc_ncode.specs.Lowering.Agreement.{Cells, IsAmong, IsKnownCall, code_alone, known_by, names}
 use Rattle.cjc_ncode.specs.Lowering.Naming.{callee}
 use Rattle.cjc_ncode.specs.Lowering.Placed.{Placed, code_of, offset_of}
-use Rattle.cjc_narrow.specs.Rows.Package.{first_memory, named}
-use Rattle.cjc_narrow.specs.Rows.Package as narrow
+use Rattle.cjc_components.specs.Narrow.Rows.Package.{first_memory, named}
+use Rattle.cjc_components.specs.Narrow.Rows.Package as narrow
 use Rattle.cjc_ncode.specs.ByLabel.{Callee, by_label}
 use Rattle.cjc_ncode.specs.ByLabel as labels
-use Rattle.cjc_script.specs.Sorts.{Shape, shape_name}
-use Rattle.cjc_script.specs.declared.report.Outcome.TheVariants.{Stuck}
-use Rattle.cjc_script.specs.declared.report.Report.{Report}
-use Rattle.cjc_script.specs.declared.script.Script.{Script}
+use Rattle.cjc_ncode.specs.Script.Sorts.{Shape, shape_name}
+use Rattle.cjc_ncode.specs.Script.declared.report.Outcome.TheVariants.{Stuck}
+use Rattle.cjc_ncode.specs.Script.declared.report.Report.{Report}
+use Rattle.cjc_ncode.specs.Script.declared.script.Script.{Script}
 use Rattle.cjc_token_proof.specs.Tables.Known.{known_names, order_of}
 use Rattle.cjc_token_proof.specs.Tables.Loading.{loaded, naming}
 use Rattle.cjc_token_proof.specs.Tables.Tables.{CallTablesAgree}

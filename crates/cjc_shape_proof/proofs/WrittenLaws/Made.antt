@@ -12,37 +12,37 @@ use Rattle.std.proofs.lemmas.Option.{get_or_from_slice_get, slice_get-map, slice
 use Rattle.cjc_bytes.proofs.Inverse.{all_at}
 use Rattle.cjc_bytes.specs.Breaks.{at}
 use Rattle.cjc_bytes.specs.declared.fault.MemberId.{MemberId}
-use Rattle.cjc_jvm_semantics.specs.Linked.{Method}
-use Rattle.cjc_jvm_semantics.specs.OnePackage.{method_at, method_by, method_in}
+use Rattle.cjc_world_proof.specs.JvmSemantics.Linked.{Method}
+use Rattle.cjc_world_proof.specs.JvmSemantics.OnePackage.{method_at, method_by, method_in}
 use Rattle.cjc_classfile.proofs.Fitting.{spelt_fits}
 use Rattle.cjc_classfile.specs.Code.{CodeTree}
 use Rattle.cjc_classfile.specs.Fits as fits
 use Rattle.cjc_classfile.specs.declared.tree.ClassTree.{ClassTree}
 use Rattle.cjc_classfile.specs.declared.tree.MethodTree.{MethodTree}
-use Rattle.cjc_code.specs.Decoded.{of_code, of_method}
-use Rattle.cjc_code.specs.PackageCodes.{all_codes}
-use Rattle.cjc_code.specs.declared.method_code.MethodCode.{MethodCode}
+use Rattle.cjc_subset.specs.Bytecode.Decoded.{of_code, of_method}
+use Rattle.cjc_subset.specs.Bytecode.PackageCodes.{all_codes}
+use Rattle.cjc_subset.specs.Bytecode.declared.method_code.MethodCode.{MethodCode}
 use Rattle.cjc_check_proof.specs.Made.{AllAreMade, IsMade}
 use Rattle.cjc_components.specs.Limits.{in_class, is_too_long, layout_breaks, of_methods, widest_method}
 use Rattle.cjc_components.specs.Methods.{method_size}
 use Rattle.cjc_components.specs.Package.{LaidMethod, Package, codes, pool, world}
 use Rattle.cjc_components.specs.Written.{IsWritten, code_at}
-use Rattle.cjc_emit.specs.Emitted.{CanBeWritten, placed_at}
+use Rattle.cjc_components.specs.Emit.Emitted.{CanBeWritten, placed_at}
 use Rattle.cjc_check_proof.proofs.LimitsLaws.Limits.{method_counted}
 use Rattle.cjc_check_proof.proofs.LimitsLaws.Offsets.{header_few}
-use Rattle.cjc_judge.specs.declared.judged.Judged.{Judged}
-use Rattle.cjc_layout.proofs.Places.{all_wide}
-use Rattle.cjc_layout.specs.Layouts.{IsWhole}
-use Rattle.cjc_list.specs.Listed.{ListTree}
+use Rattle.cjc_shape.specs.Judge.declared.judged.Judged.{Judged}
+use Rattle.cjc_components.proofs.Layout.Places.{all_wide}
+use Rattle.cjc_components.specs.Layout.Layouts.{IsWhole}
+use Rattle.cjc_components.specs.List.Listed.{ListTree}
 use Rattle.cjc_ncode.specs.Lowering.Naming.{Naming}
-use Rattle.cjc_methods.specs.Ready.{AreReady, AreRows, IsOwn}
-use Rattle.cjc_narrow.specs.Rows.Selected.{near_fields}
+use Rattle.cjc_shape.specs.Methods.Ready.{AreReady, AreRows, IsOwn}
+use Rattle.cjc_components.specs.Narrow.Rows.Selected.{near_fields}
 use Rattle.cjc_shape.proofs.PreparedLaws.Sound.{are_ready}
 use Rattle.cjc_narrow_proof.specs.Selected.Keeps.{FindsItself}
-use Rattle.cjc_types.specs.declared.state.State.{State}
-use Rattle.cjc_types.specs.Flow.{body_of}
-use Rattle.cjc_types.specs.Tables.{IsLeastTable, IsMethodOf}
-use Rattle.cjc_types.specs.declared.table.TypeTable.{TypeTable}
+use Rattle.cjc_narrow_proof.specs.Types.declared.state.State.{State}
+use Rattle.cjc_narrow_proof.specs.Types.Flow.{body_of}
+use Rattle.cjc_narrow_proof.specs.Types.Tables.{IsLeastTable, IsMethodOf}
+use Rattle.cjc_narrow_proof.specs.Types.declared.table.TypeTable.{TypeTable}
 use Rattle.cjc_vtable.proofs.Numbers.{at-tree}
 use Rattle.cjc_shape.proofs.WholeLaws.Drafts.{rows_agree}
 use Rattle.cjc_shape.proofs.WholeLaws.Ordered.{all_own}

@@ -2,42 +2,44 @@
 -- class file, where 311 is not broken.
 use Rattle.std.proofs.Common.{◌≡◌, ℕ, suc, ◌+◌, refl, ap, sym, subst, ◌∙◌, Bool, true, false, List, [], ◌∷◌, map}
 use Rattle.std.specs.Prelude.{◌≢◌, Option, Some, None, nat_lt, option_map, slice_get, if◌then◌else◌}
-use Rattle.cjc_card_semantics.proofs.BytecodeLaws.Together.{runs_agree}
-use Rattle.cjc_card_semantics.specs.Bytecode.Alike.{KnownState, Names, SettingsAlike, no_frames, reached_as, start_as}
-use Rattle.cjc_card_semantics.specs.Bytecode.Effects.{Memory}
-use Rattle.cjc_card_semantics.specs.Bytecode.Machine.{Nowhere, State, Within}
-use Rattle.cjc_card_semantics.specs.Bytecode.Machine as machine
-use Rattle.cjc_card_semantics.specs.Bytecode.Renaming.{AreAlike, KnownHeap, no_things, numbers_known, object_known}
-use Rattle.cjc_card_semantics.specs.Bytecode.Renaming.{one_thing, option_as, shape_as}
+use Rattle.cjc_ncode.proofs.CardSemantics.BytecodeLaws.Together.{runs_agree}
+use Rattle.cjc_ncode.specs.CardSemantics.Bytecode.Alike.{KnownState, Names, SettingsAlike, no_frames, reached_as}
+use Rattle.cjc_ncode.specs.CardSemantics.Bytecode.Alike.{start_as}
+use Rattle.cjc_ncode.specs.CardSemantics.Bytecode.Effects.{Memory}
+use Rattle.cjc_ncode.specs.CardSemantics.Bytecode.Machine.{Nowhere, State, Within}
+use Rattle.cjc_ncode.specs.CardSemantics.Bytecode.Machine as machine
+use Rattle.cjc_ncode.specs.CardSemantics.Bytecode.Renaming.{AreAlike, KnownHeap, no_things, numbers_known, object_known}
+use Rattle.cjc_ncode.specs.CardSemantics.Bytecode.Renaming.{one_thing, option_as, shape_as}
 use Rattle.cjc_bytes.specs.Breaks.{RulePlace}
 use Rattle.cjc_bytes.specs.declared.fault.MemberId.{MemberId}
-use Rattle.cjc_jvm_semantics.specs.Linked.{Method}
-use Rattle.cjc_jvm_semantics.specs.Linked as linked
-use Rattle.cjc_jvm_semantics.specs.OnePackage.{method_at}
+use Rattle.cjc_world_proof.specs.JvmSemantics.Linked.{Method}
+use Rattle.cjc_world_proof.specs.JvmSemantics.Linked as linked
+use Rattle.cjc_world_proof.specs.JvmSemantics.OnePackage.{method_at}
 use Rattle.cjc_components.specs.Limits.{order_breaks}
 use Rattle.cjc_components.specs.Methods.{in_table_order, method_size}
 use Rattle.cjc_classfile.specs.declared.tree.Catch.{Catch}
-use Rattle.cjc_code.specs.declared.insn.JInsn.{JInsn}
+use Rattle.cjc_subset.specs.Bytecode.declared.insn.JInsn.{JInsn}
 use Rattle.cjc_components.specs.Package.{LaidMethod, Package, pool}
-use Rattle.cjc_layout.specs.Handlers.{table_order}
-use Rattle.cjc_layout.specs.Refusals.{least, overtaking}
+use Rattle.cjc_components.specs.Layout.Handlers.{table_order}
+use Rattle.cjc_components.specs.Layout.Refusals.{least, overtaking}
 use Rattle.cjc_ncode.specs.Lowering.Agreement.{Cells, IsKnownCall, everything, known_by}
 use Rattle.cjc_ncode.proofs.LoweringLaws.ByCode.{kind_stays, operation_known, operation_stays, option_stays}
 use Rattle.cjc_ncode.proofs.LoweringLaws.ByCode.{shape_stays}
-use Rattle.cjc_narrow.specs.Rows.Package.{code_of, first_memory, named, named_by, on_class, reached, reached_by}
-use Rattle.cjc_narrow.specs.Rows.Package.{selected_on, start_of}
-use Rattle.cjc_narrow.specs.Rows.Package as narrow
-use Rattle.cjc_narrow.specs.Rows.Resolved.{resolution}
-use Rattle.cjc_narrow.specs.Rows.Selected.{near_fields}
+use Rattle.cjc_components.specs.Narrow.Rows.Package.{code_of, first_memory, named, named_by, on_class, reached}
+use Rattle.cjc_components.specs.Narrow.Rows.Package.{reached_by}
+use Rattle.cjc_components.specs.Narrow.Rows.Package.{selected_on, start_of}
+use Rattle.cjc_components.specs.Narrow.Rows.Package as narrow
+use Rattle.cjc_components.specs.Narrow.Rows.Resolved.{resolution}
+use Rattle.cjc_components.specs.Narrow.Rows.Selected.{near_fields}
 use Rattle.cjc_ncode.specs.ByLabel.{Callee, Named, by_label, classes, handler}
 use Rattle.cjc_ncode.specs.ByLabel
 use Rattle.cjc_ncode.specs.Written.{catch_at, catches_at, place_in}
 use Rattle.cjc_ncode.specs.Written.{reached as reached_by_rows}
 use Rattle.cjc_ncode.specs.declared.narrow.NCatch.{NCatch}
 use Rattle.cjc_ncode.specs.declared.narrow.NMethod.{NMethod}
-use Rattle.cjc_script.specs.Sorts.{Shape, shape_name}
-use Rattle.cjc_script.specs.declared.report.Outcome.TheVariants.{Stuck}
-use Rattle.cjc_script.specs.declared.script.Script.{Script}
+use Rattle.cjc_ncode.specs.Script.Sorts.{Shape, shape_name}
+use Rattle.cjc_ncode.specs.Script.declared.report.Outcome.TheVariants.{Stuck}
+use Rattle.cjc_ncode.specs.Script.declared.script.Script.{Script}
 use Rattle.cjc_world.specs.Classes.{Class, all_classes}
 use Rattle.cjc_world.specs.Files.{Files}
 use Rattle.cjc_world.specs.Subtype.{is_subtype}
@@ -237,11 +239,13 @@ module _ (files : Files) (image : StaticImage) (before after : Method → NMetho
     imported_known = λ name c e. object_known refl refl;
     throwable = λ name. sym (option_stays (l.throwable name));
     throwable_known = λ name c e. object_known refl refl;
-    called = λ id. named_sorted (Rattle.cjc_jvm_semantics.specs.OnePackage.entry_named files w id);
-    called_known = λ id start e. named_fine (Rattle.cjc_jvm_semantics.specs.OnePackage.entry_named files w id) start e;
+    called = λ id. named_sorted (Rattle.cjc_world_proof.specs.JvmSemantics.OnePackage.entry_named files w id);
+    called_known = λ id start e. named_fine (Rattle.cjc_world_proof.specs.JvmSemantics.OnePackage.entry_named files w
+        id) start e;
     sent = λ kind id is_known. ap (λ x. l'.sent x id) (shape_stays kind)
-        ∙ named_sorted (Rattle.cjc_jvm_semantics.specs.OnePackage.sent_named files w (shape_name kind) id);
-    sent_known = λ kind id start is_known e. named_fine (Rattle.cjc_jvm_semantics.specs.OnePackage.sent_named files w
+        ∙ named_sorted (Rattle.cjc_world_proof.specs.JvmSemantics.OnePackage.sent_named files w (shape_name kind) id);
+    sent_known = λ kind id start is_known e. named_fine (Rattle.cjc_world_proof.specs.JvmSemantics.OnePackage.sent_named
+        files w
         (shape_name kind) id) start e;
     name = λ c is_known. refl;
     fields = λ c slots is_known. refl;

@@ -6,9 +6,9 @@ use Rattle.std.proofs.lemmas.Bool.{eqb-true}
 use Rattle.std.proofs.lemmas.List.Splits.{join_with_byte-slice_split, length-slice_split}
 use Rattle.cjc_bytes.specs.Descriptor.{IsClassName, IsName, inside, last, more, simple}
 use Rattle.cjc_bytes.specs.Descriptor as descriptors
-use Rattle.cjc_judge.specs.Spelt.{IsRead}
-use Rattle.cjc_list.specs.Grammar.{is_name, is_name_byte, is_name_part}
-use Rattle.cjc_list.specs.Listed.{ListTree}
+use Rattle.cjc_shape.specs.Judge.Spelt.{IsRead}
+use Rattle.cjc_components.specs.List.Grammar.{is_name, is_name_byte, is_name_part}
+use Rattle.cjc_components.specs.List.Listed.{ListTree}
 use Rattle.cjc_world.proofs.Trees.{all-back, all-front}
 
 -- a letter, a digit, _ or $ is a byte of a name: the four that are none are no such byte

@@ -5,9 +5,9 @@ use Rattle.cjc_bytes.specs.declared.breaks.BrokenAt.{BrokenAt}
 use Rattle.cjc_classfile.specs.Code.{CodeTree}
 use Rattle.cjc_classfile.specs.declared.tree.ClassTree.{ClassTree}
 use Rattle.cjc_classfile.specs.declared.tree.MethodTree.{MethodTree}
-use Rattle.cjc_code.specs.Decoded.{decoding}
-use Rattle.cjc_code.specs.PackageCodes.{code_with, of_classes, of_methods, where_code}
-use Rattle.cjc_code.specs.declared.insn.JInsn.{JInsn}
+use Rattle.cjc_subset.specs.Bytecode.Decoded.{decoding}
+use Rattle.cjc_subset.specs.Bytecode.PackageCodes.{code_with, of_classes, of_methods, where_code}
+use Rattle.cjc_subset.specs.Bytecode.declared.insn.JInsn.{JInsn}
 
 -- ---- each method with code is there
 

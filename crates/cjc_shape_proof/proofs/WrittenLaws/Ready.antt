@@ -6,10 +6,10 @@ use Rattle.std.proofs.lemmas.Bool.{ltb-true}
 use Rattle.cjc_check_proof.proofs.CodeLaws.Methods.{spelt}
 use Rattle.cjc_components.specs.Methods.{placed_at}
 use Rattle.cjc_components.specs.Package.{LaidMethod}
-use Rattle.cjc_emit.specs.Emitted.{CanBeWritten}
-use Rattle.cjc_emit.specs.Emitted as Emitted
-use Rattle.cjc_layout.specs.Handlers.{by_target, has_range, inserted, table_order}
-use Rattle.cjc_layout.specs.Handlers as layouts
+use Rattle.cjc_components.specs.Emit.Emitted.{CanBeWritten}
+use Rattle.cjc_components.specs.Emit.Emitted as Emitted
+use Rattle.cjc_components.specs.Layout.Handlers.{by_target, has_range, inserted, table_order}
+use Rattle.cjc_components.specs.Layout.Handlers as layouts
 use Rattle.cjc_ncode.specs.Lowering.Handlers.{AllLie, Catches, more, none}
 use Rattle.cjc_ncode.specs.Lowering.Naming.{Naming}
 use Rattle.cjc_ncode.specs.declared.narrow.NCatch.{NCatch}

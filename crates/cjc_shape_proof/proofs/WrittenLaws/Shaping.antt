@@ -12,21 +12,21 @@ use Rattle.cjc_bytes.specs.Breaks.{Break, at}
 use Rattle.cjc_bytes.specs.declared.fault.MemberId.{MemberId}
 use Rattle.cjc_components.specs.Limits.{form_breaks, in_class, is_too_long, layout_breaks, of_methods}
 use Rattle.cjc_components.specs.Package.{LaidMethod, Package, world}
-use Rattle.cjc_judge.specs.declared.judged.Judged.{Judged}
-use Rattle.cjc_narrow.specs.Keys.Working.Same.{same_member-Decides}
-use Rattle.cjc_layout.specs.Handlers.{handlers_of, table_order}
-use Rattle.cjc_layout.specs.Layouts.{IsLayout}
-use Rattle.cjc_layout.specs.Legal.{IsLeast}
-use Rattle.cjc_layout.specs.Sizes.{bytes_before, code_size}
-use Rattle.cjc_layout.specs.declared.layout.Layout.{Layout}
-use Rattle.cjc_methods.specs.Ready.{IsOwn}
-use Rattle.cjc_list.specs.Listed.{ListTree}
+use Rattle.cjc_shape.specs.Judge.declared.judged.Judged.{Judged}
+use Rattle.cjc_components.specs.Narrow.Keys.Working.Same.{same_member-Decides}
+use Rattle.cjc_components.specs.Layout.Handlers.{handlers_of, table_order}
+use Rattle.cjc_components.specs.Layout.Layouts.{IsLayout}
+use Rattle.cjc_components.specs.Layout.Legal.{IsLeast}
+use Rattle.cjc_components.specs.Layout.Sizes.{bytes_before, code_size}
+use Rattle.cjc_components.specs.Layout.declared.layout.Layout.{Layout}
+use Rattle.cjc_shape.specs.Methods.Ready.{IsOwn}
+use Rattle.cjc_components.specs.List.Listed.{ListTree}
 use Rattle.cjc_ncode.specs.PoolOrder.{pool_order, same_key, same_member}
 use Rattle.cjc_ncode.specs.declared.narrow.NInsn.{NInsn}
 use Rattle.cjc_ncode.specs.declared.narrow.NInsn.TheVariants as insns
 use Rattle.cjc_ncode.specs.declared.narrow.NMethod.{NMethod}
 use Rattle.cjc_ncode.specs.declared.narrow.PoolKey.TheVariants as keys
-use Rattle.cjc_pool.specs.Pool.{IsPool, PoolView, calls, is_called, token_of}
+use Rattle.cjc_check_proof.specs.Pool.Pool.{IsPool, PoolView, calls, is_called, token_of}
 use Rattle.cjc_tokens.proofs.Facts.{position-cons}
 use Rattle.cjc_tokens.specs.Tokens.{Assigned, joined}
 use Rattle.cjc_shape.proofs.PreparedLaws.Sound.{is_unbroken}

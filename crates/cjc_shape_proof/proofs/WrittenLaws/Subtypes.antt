@@ -8,7 +8,8 @@ use Rattle.std.specs.Str.{bytes_eq}
 use Rattle.cjc_bytes.specs.AccessFlags.{is_interface}
 use Rattle.cjc_world_proof.proofs.CallsLaws.Selects.{receiver_plain}
 use Rattle.cjc_world_proof.proofs.CallsLaws.Types.{below_type, type_below}
-use Rattle.cjc_script.specs.Sorts.{Booleans, Bytes, Element, Ints, OfNumbers, OfReferences, Shape, Shorts, shape_name}
+use Rattle.cjc_ncode.specs.Script.Sorts.{Booleans, Bytes, Element, Ints, OfNumbers, OfReferences, Shape, Shorts}
+use Rattle.cjc_ncode.specs.Script.Sorts.{shape_name}
 use Rattle.cjc_tokens.specs.Methods.{interfaces_at}
 use Rattle.cjc_world.proofs.UpwardLaws.Lines.{gathered_has, line_below, on_line}
 use Rattle.cjc_world.specs.Upwards.{Below, Has, IsOrdered, OnLine, after, foremost, here, up}

@@ -4,19 +4,19 @@ use Rattle.std.proofs.Common.{◌≡◌, ℕ, refl, sym, ap, ◌∙◌, Bool, tr
 use Rattle.std.specs.Prelude.{◌&&◌, ◌||◌, not, Some, is_some, slice_get}
 use Rattle.cjc_bytes.specs.AccessFlags.{is_abstract, is_interface, is_static}
 use Rattle.cjc_bytes.specs.declared.settings.Settings.{Settings}
-use Rattle.cjc_jvm_semantics.specs.OnePackage.{is_constructor, is_initialiser}
+use Rattle.cjc_world_proof.specs.JvmSemantics.OnePackage.{is_constructor, is_initialiser}
 use Rattle.cjc_world_proof.proofs.CallsLaws.Own.{mapped_at}
 use Rattle.cjc_world_proof.specs.Calls.Solid.{IsOwn, IsSolid}
 use Rattle.cjc_classfile.specs.declared.tree.ClassTree.{ClassTree}
 use Rattle.cjc_classfile.specs.declared.tree.MethodTree.{MethodTree}
-use Rattle.cjc_code.specs.declared.method_code.MethodCode.{MethodCode}
+use Rattle.cjc_subset.specs.Bytecode.declared.method_code.MethodCode.{MethodCode}
 use Rattle.cjc_components.specs.Package.{Package, world}
-use Rattle.cjc_judge.specs.Rules.{has_applets, settings_of}
-use Rattle.cjc_judge.specs.declared.judged.Judged.{Judged}
-use Rattle.cjc_list.specs.Listed.{ListTree}
+use Rattle.cjc_shape.specs.Judge.Rules.{has_applets, settings_of}
+use Rattle.cjc_shape.specs.Judge.declared.judged.Judged.{Judged}
+use Rattle.cjc_components.specs.List.Listed.{ListTree}
 use Rattle.cjc_narrow_proof.proofs.LawsLaws.ClassNames.{each_name}
 use Rattle.cjc_shape.proofs.PreparedLaws.Sound.{has_tokens}
-use Rattle.cjc_script.specs.Sorts.{Shape, shape_name}
+use Rattle.cjc_ncode.specs.Script.Sorts.{Shape, shape_name}
 use Rattle.cjc_world_proof.proofs.SelectionLaws.Rules.{method_kept}
 use Rattle.cjc_world_proof.proofs.SelectionLaws.Solid.{solid as solid_of}
 use Rattle.cjc_world_proof.specs.Files.{IsClean}

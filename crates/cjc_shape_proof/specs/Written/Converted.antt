@@ -1,14 +1,14 @@
 -- Packages that are converted, and what is asked of the export files beside them.
 use Rattle.std.specs.Prelude.{◌≡◌, ℕ, List, [], Some, true, false, slice_get}
-use Rattle.cjc_jvm_semantics.specs.OnePackage.{is_initialiser}
+use Rattle.cjc_world_proof.specs.JvmSemantics.OnePackage.{is_initialiser}
 use Rattle.cjc_bytes.specs.AccessFlags.{is_interface, is_private, is_static}
 use Rattle.cjc_components.specs.Limits.{form_breaks, of_methods, size_breaks, word_breaks}
 use Rattle.cjc_components.specs.Package.{Package, world}
 use Rattle.cjc_export.specs.declared.tree.ExportClass.{ExportClass}
 use Rattle.cjc_export.specs.declared.tree.ExportMethod.{ExportMethod}
-use Rattle.cjc_judge.specs.declared.judged.Judged.{Judged}
-use Rattle.cjc_judge.specs.Spelt.{IsRead}
-use Rattle.cjc_list.specs.Listed.{ListTree}
+use Rattle.cjc_shape.specs.Judge.declared.judged.Judged.{Judged}
+use Rattle.cjc_shape.specs.Judge.Spelt.{IsRead}
+use Rattle.cjc_components.specs.List.Listed.{ListTree}
 use Rattle.cjc_shape.specs.Prepared.{IsSound}
 use Rattle.cjc_world_proof.specs.Files.{ExportsAreSound}
 use Rattle.cjc_subset.specs.Members.{imports}

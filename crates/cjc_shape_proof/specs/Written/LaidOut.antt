@@ -9,9 +9,9 @@ use Rattle.cjc_components.specs.Limits.{form_breaks, of_methods, word_breaks}
 use Rattle.cjc_components.specs.Package.{Package}
 use Rattle.cjc_export.specs.ExportFile.{method_count}
 use Rattle.cjc_export.specs.Writable.{EachAfter, MethodStands}
-use Rattle.cjc_judge.specs.Spelt.{IsRead}
-use Rattle.cjc_judge.specs.declared.judged.Judged.{Judged}
-use Rattle.cjc_list.specs.Listed.{ListTree}
+use Rattle.cjc_shape.specs.Judge.Spelt.{IsRead}
+use Rattle.cjc_shape.specs.Judge.declared.judged.Judged.{Judged}
+use Rattle.cjc_components.specs.List.Listed.{ListTree}
 use Rattle.cjc_shape.specs.Prepared.{IsSound}
 use Rattle.cjc_shape.specs.Whole.Conversion.{IsPackageOf}
 use Rattle.cjc_world.specs.Classes.{Class}

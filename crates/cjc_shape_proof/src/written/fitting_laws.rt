@@ -3,9 +3,9 @@
 //! package. It has laws alone; nothing here runs.
 
 ghost use Rattle.std.specs.Prelude.{◌≡◌, ◌≤◌, [], length, List, None, ℕ};
-ghost use Rattle.cjc_capwrite.specs.Files.{limit_of, part};
-ghost use Rattle.cjc_capwrite.specs.Method.{method_bytes};
-ghost use Rattle.cjc_capwrite.specs.Writable.{IsWritable};
+ghost use Rattle.cjc_components.specs.CapWrite.Files.{limit_of, part};
+ghost use Rattle.cjc_components.specs.CapWrite.Method.{method_bytes};
+ghost use Rattle.cjc_components.specs.CapWrite.Writable.{IsWritable};
 ghost use Rattle.cjc_check_proof.specs.Classes.Premises.{HasNearTypes, HasShortMethods, HasShortRefs, HaveInstalls};
 ghost use Rattle.cjc_check_proof.specs.Classes.Premises.{InterfacesAreUnbound};
 ghost use Rattle.cjc_components.specs.Components.{components_of};
@@ -15,14 +15,14 @@ ghost use Rattle.cjc_components.specs.Package.{Package};
 ghost use Rattle.cjc_classes.specs.Descriptor.Fits.{AreFit};
 ghost use Rattle.cjc_export.specs.Writable.{IsWritable as CanBeExported};
 ghost use Rattle.cjc_check_proof.specs.Limits.Premises.{IsLimited};
-ghost use Rattle.cjc_judge.specs.declared.judged.Judged.{Judged};
-ghost use Rattle.cjc_list.specs.Listed.{ListTree};
+ghost use Rattle.cjc_shape.specs.Judge.declared.judged.Judged.{Judged};
+ghost use Rattle.cjc_components.specs.List.Listed.{ListTree};
 ghost use Rattle.cjc_shape_proof.specs.Written.LaidOut.{ExportedInterfacesStand, ExportedMethodsStand, IsLaidOut};
 
 use cjc_check_proof::classes::limits_are_kept;
 use cjc_check_proof::limits::components_fit;
-use cjc_exported::export_file::few_classes;
-use cjc_exported::export_laws::export_file_fits;
+use cjc_shape::exported::export_file::few_classes;
+use cjc_shape::exported::export_laws::export_file_fits;
 
 /// The components of a package that breaks no rule are small enough for all that is said of their sizes, so
 /// that they can be written: where neither 411 nor 416 is broken, and where Method has at most 65,535 bytes at

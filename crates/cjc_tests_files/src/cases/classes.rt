@@ -3,8 +3,8 @@
 //! apart. Knows no world.
 
 use crate::cases::words::{cut, flags, number, small_number, text, texts};
-use cjc_bytes::{Bytes, NoMemory, Row};
-use cjc_classfile::{
+use cjc_capwrite::bytes::{Bytes, NoMemory, Row};
+use cjc_world::classfile::{
     Catch, ClassTree, Code, FieldTree, ItemKind, MemberText, MethodTree, PoolItem,
 };
 use std::alloc::Global;

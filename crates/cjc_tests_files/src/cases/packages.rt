@@ -2,10 +2,10 @@
 
 use crate::cases::classes::class;
 use crate::cases::words::{cut, text, texts};
-use cjc_bytes::{Bytes, Fault, FileLine, NoMemory, Row};
-use cjc_classfile::ClassTree;
-use cjc_export::{ExportClass, ExportMethod, ExportTree};
+use cjc_capwrite::bytes::{Bytes, Fault, FileLine, NoMemory, Row};
 use cjc_world::World;
+use cjc_world::classfile::ClassTree;
+use cjc_world::export_file::{ExportClass, ExportMethod, ExportTree};
 use std::alloc::Global;
 
 /// The classes of java/lang that the rules of a world ask for, each with its supers.

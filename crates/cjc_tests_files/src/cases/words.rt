@@ -3,7 +3,7 @@
 
 ghost use Rattle.std.specs.Prelude.{◌≤◌};
 
-use cjc_bytes::{Bytes, NoMemory, Row};
+use cjc_capwrite::bytes::{Bytes, NoMemory, Row};
 use std::alloc::Global;
 
 /// The text before the first such mark, and that behind it: all of it and nothing where there is none.

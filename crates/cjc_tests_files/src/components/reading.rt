@@ -4,8 +4,8 @@ use crate::components::bytes::{
     CLASS, DESCRIPTOR, DIRECTORY, EXPORT, HEADER, IMPORT, LOCATIONS, MAPPED_CLASS, METHOD, POOL,
     STATICS,
 };
-use cjc_bytes::{Fault, Rule};
-use cjc_capread::read;
+use cjc_capwrite::bytes::{Fault, Rule};
+use cjc_capwrite::capread::read;
 
 // The same components cut at each length, their sizes made to fit: the offset of the refusal, 255 where the
 // bytes before the cut are a whole component.

@@ -5,8 +5,8 @@ ghost use Rattle.std.specs.Prelude.{◌<◌, ◌≤◌, ◌^◌, length};
 use crate::components::bytes::{
     CLASS, DESCRIPTOR, DIRECTORY, EXPORT, HEADER, IMPORT, LOCATIONS, METHOD, POOL, STATICS,
 };
-use cjc_bytes::{Bytes, NoMemory, Row};
-use cjc_capread::{
+use cjc_capwrite::bytes::{Bytes, NoMemory, Row};
+use cjc_capwrite::capread::{
     CapTree, ClassEntry, ClassInfo, ClassRef, Component, ConstantPool, Descriptor, Directory,
     Export, Header, ImplementedInterface, Import, Method, ReferenceLocation, StaticField,
     TypeDescriptor, read,

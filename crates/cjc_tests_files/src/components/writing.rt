@@ -7,8 +7,8 @@ use crate::components::bytes::{
 use crate::components::trees::{
     classes_of, first_tree, locations_of, read_tree, statics_of, types_of,
 };
-use cjc_bytes::{Fault, Rule};
-use cjc_capread::CapTree;
+use cjc_capwrite::bytes::{Fault, Rule};
+use cjc_capwrite::capread::CapTree;
 use cjc_capwrite::{CapFiles, broken_limit, files_of, size, write};
 use std::alloc::Global;
 use std::process::Abort;

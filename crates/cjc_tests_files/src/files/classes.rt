@@ -1,8 +1,8 @@
 //! A class file written down byte by byte, and what reading gives: the tree, and the refusal of each prefix.
 
 use crate::case_files::SUM;
-use cjc_bytes::{Fault, Rule};
-use cjc_classfile::{ClassTree, MethodTree, read};
+use cjc_capwrite::bytes::{Fault, Rule};
+use cjc_world::classfile::{ClassTree, MethodTree, read};
 use std::test::*;
 
 /// Where its fields begin.

@@ -1,8 +1,8 @@
 //! Export files from outside, and what reading and writing them gives.
 
 use crate::case_files::{FRAMEWORK, LANG, Q};
-use cjc_bytes::{Bytes, Fault, Rule};
-use cjc_export::{ExportClass, ExportTree, read, write};
+use cjc_capwrite::bytes::{Bytes, Fault, Rule};
+use cjc_world::export_file::{ExportClass, ExportTree, read, write};
 use std::test::*;
 
 /// A package p with a public class p/T and its static method f(S)S.

@@ -1,8 +1,8 @@
 //! A report with every kind of note and thing, and the text that is printed of it.
 
-use cjc_bytes::{Bytes, MemberId, NoMemory, Row};
-use cjc_script::{FieldValue, Note, Outcome, Report, Thing, Value};
+use cjc_capwrite::bytes::{Bytes, MemberId, NoMemory, Row};
 use cjc_script_text::print;
+use cjc_script_text::script::{FieldValue, Note, Outcome, Report, Thing, Value};
 use std::alloc::Global;
 use std::test::*;
 

@@ -1,7 +1,7 @@
 //! The script of the wallet, and the tree that is read of it.
 
-use cjc_script::{Act, Reply, Script, Value};
 use cjc_script_text::read;
+use cjc_script_text::script::{Act, Reply, Script, Value};
 use std::test::*;
 
 /// The script of the wallet: it is installed, gets 50, gives 20, and refuses to give 100.

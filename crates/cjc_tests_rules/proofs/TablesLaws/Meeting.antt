@@ -2,14 +2,14 @@
 use Rattle.std.proofs.Common.{◌≡◌, ◌<◌, ◌+◌, ◌⊎◌, ℕ, suc, nat_lt, Bool, true, false, cond, List, [], ◌∷◌, Option, Some}
 use Rattle.std.proofs.Common.{None, slice_get, length, map, filter, Contains, refl, sym, ◌∙◌, subst, inl, inr, arith}
 use Rattle.std.proofs.lemmas.Bool.{ltb-true, cases_lt}
-use Rattle.cjc_fixpoint.specs.declared.flow.Edge.{Edge}
-use Rattle.cjc_fixpoint.specs.Working.Edges.{contains_cons}
-use Rattle.cjc_fixpoint.specs.Working.HandedLaws.{some_injective}
-use Rattle.cjc_fixpoint.specs.Kept.{MeetsAt}
-use Rattle.cjc_fixpoint.specs.Marked.{marks_in}
+use Rattle.cjc_types.specs.Fixpoint.declared.flow.Edge.{Edge}
+use Rattle.cjc_types.specs.Fixpoint.Working.Edges.{contains_cons}
+use Rattle.cjc_types.specs.Fixpoint.Working.HandedLaws.{some_injective}
+use Rattle.cjc_types.specs.Fixpoint.Kept.{MeetsAt}
+use Rattle.cjc_types.specs.Fixpoint.Marked.{marks_in}
 use Rattle.cjc_tests_rules.specs.Tables.Names.{union, edge, place_edges, name_flow, Goes, AllGo}
-use Rattle.cjc_fixpoint.specs.Working.SegmentLaws.{contains_none}
-use Rattle.cjc_fixpoint.proofs.Marked.{marks_have}
+use Rattle.cjc_types.specs.Fixpoint.Working.SegmentLaws.{contains_none}
+use Rattle.cjc_types.proofs.Fixpoint.Marked.{marks_have}
 
 abbrev On : List Bool → (at to : ℕ) → Type 0
 On marked at to = (to ≡ suc at) ⊎ Contains (marks_in marked) to

@@ -3,8 +3,8 @@
 use Rattle.std.specs.Prelude.{◌≡◌, ◌<◌, ◌⊎◌, ℕ, suc, ◌==◌, ◌||◌, nat_lt, Bool, true, false, get_or, IsTrue, List, []}
 use Rattle.std.specs.Prelude.{◌∷◌, Option, Some, None, slice_get, length, filter, map}
 use Rattle.std.specs.List.{list_any}
-use Rattle.cjc_fixpoint.specs.declared.flow.Edge.{Edge}
-use Rattle.cjc_fixpoint.specs.Dataflow.{Dataflow}
+use Rattle.cjc_types.specs.Fixpoint.declared.flow.Edge.{Edge}
+use Rattle.cjc_types.specs.Fixpoint.Dataflow.{Dataflow}
 
 -- whether the set has the name n
 abbrev pub has : List ℕ → ℕ → Bool

@@ -1,10 +1,10 @@
 //! What an initialiser leaves in static fields.
 
-use cjc_bytes::{Bytes, Kind, MemberId, NoMemory, Row};
 use cjc_clinit::{first_broken, image};
-use cjc_code::{Codes, JInsn, JOp, MethodCode};
 use cjc_tests_files::cases::package;
-use cjc_world::{ArrayCell, StaticImage, ValueCell};
+use cjc_types::bytecode::{Codes, JInsn, JOp, MethodCode};
+use cjc_vtable::bytes::{Bytes, Kind, MemberId, NoMemory, Row};
+use cjc_vtable::world::{ArrayCell, StaticImage, ValueCell};
 use std::alloc::Global;
 use std::test::*;
 

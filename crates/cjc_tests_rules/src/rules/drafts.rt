@@ -9,11 +9,11 @@
 //! of a field behind it in a class file. Flags are hexadecimal, lists have commas, and `-` is an empty one. A case is
 //! such lines with ` ; ` between them, then ` = ` and what is answered, then maybe ` # ` and why.
 
-use cjc_bytes::{AppletLine, Bytes, Fault, FileLine, MemberId, NoMemory, Row};
-use cjc_classfile::ClassTree;
-use cjc_export::{ExportClass, ExportField, ExportMethod, ExportTree};
 use cjc_tests_files::cases::{class, cut, flags, line, number, text, texts};
-use cjc_world::World;
+use cjc_types::classfile::ClassTree;
+use cjc_vtable::bytes::{AppletLine, Bytes, Fault, FileLine, MemberId, NoMemory, Row};
+use cjc_vtable::export_file::{ExportClass, ExportField, ExportMethod, ExportTree};
+use cjc_vtable::world::World;
 use std::alloc::Global;
 use std::mem::replace;
 

@@ -1,7 +1,7 @@
 //! What is found of a member, written down as `own CLASS PLACE` or `imported CLASS PLACE`, or `none`.
 
 use cjc_tests_files::cases::{cut, is_number};
-use cjc_world::Found;
+use cjc_vtable::world::Found;
 
 fn is_place(found: Found, words: &str) -> bool {
     let (kind, words) = cut(words, " ");

@@ -1,9 +1,9 @@
 //! A package whose code uses ints, which no list allows yet: with the setting that allows them nothing is refused.
 
 use crate::rules::drafts::TestPackage;
-use cjc_bytes::{Fault, NoMemory, Row, Settings};
-use cjc_code::{Codes, JInsn, JOp, MethodCode};
-use cjc_subset::{check, names};
+use cjc_types::bytecode::{Codes, JInsn, JOp, MethodCode};
+use cjc_vtable::bytes::{Fault, NoMemory, Row, Settings};
+use cjc_vtable::subset::{check, names};
 use std::alloc::Global;
 use std::test::*;
 

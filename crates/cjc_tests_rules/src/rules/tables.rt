@@ -7,10 +7,10 @@
 use crate::rules::drafts::{list_of, world_of};
 use crate::rules::found::is_found;
 use crate::rules::tokens::{ASKING, COMMON, HIDING, OVERRIDING, tokens_of};
-use cjc_bytes::{Fault, Row, Settings};
 use cjc_tests_files::cases::{cut, is_number};
+use cjc_vtable::bytes::{Fault, Row, Settings};
+use cjc_vtable::world::Found;
 use cjc_vtable::{ClassTable, ClassTables, InterfaceMap, tables};
-use cjc_world::Found;
 use std::alloc::Global;
 use std::test::*;
 

@@ -1,14 +1,14 @@
 //! The tokens of small packages, and look-up in them both ways.
 
 ghost use Rattle.std.specs.Prelude.{◌≡◌, length, nat_lt, IfOk};
-ghost use Rattle.cjc_tokens.specs.Tokens.{assigned};
+ghost use Rattle.cjc_vtable.specs.Tokens.Tokens.{assigned};
 
 use crate::rules::drafts::{TestPackage, token};
 use crate::rules::found::is_found;
-use cjc_bytes::{Fault, Settings};
 use cjc_tests_files::cases::{cut, is_number, number, question_and_answer};
-use cjc_tokens::{Tokens, assign, few};
-use cjc_world::{Found, World};
+use cjc_vtable::bytes::{Fault, Settings};
+use cjc_vtable::tokens::{Tokens, assign, few};
+use cjc_vtable::world::{Found, World};
 use std::alloc::Global;
 use std::test::*;
 

@@ -2,9 +2,9 @@
 
 use crate::rules::drafts::{list_of, member_id, world_of};
 use crate::rules::found::is_found;
-use cjc_bytes::NoMemory;
 use cjc_tests_files::cases::{cut, number, question_and_answer};
-use cjc_world::{Found, World};
+use cjc_vtable::bytes::NoMemory;
+use cjc_vtable::world::{Found, World};
 use std::alloc::Global;
 use std::test::*;
 

@@ -2,8 +2,8 @@
 //! outside 0 to 31. The expected ends were worked out from the rows by another program. A line has the operation, the
 //! ends of the left operand, those of the right one (where the operation has one) and those of the result.
 
-use cjc_range::Interval;
 use cjc_tests_files::cases::cut;
+use cjc_vtable::range::Interval;
 use std::test::*;
 
 const ROWS: &str = "\

@@ -5,14 +5,14 @@
 ghost use Rattle.std.specs.Prelude.{IfOk};
 ghost use Rattle.cjc_types.specs.Tables.{IsOfPackage};
 
-use cjc_bytes::{Fault, FileLine, NoMemory, Row};
-use cjc_classfile::{ClassTree, MethodTree};
-use cjc_code::{MethodCode, decode};
 use cjc_tests_files::cases::{
     class, code, cut, is_number, language, line, number, octets, pool, question_and_answer, text,
 };
+use cjc_types::bytecode::{MethodCode, decode};
+use cjc_types::classfile::{ClassTree, MethodTree};
 use cjc_types::{Cell, Frame, Method, TypeTable, TypeWalk, infer};
-use cjc_world::World;
+use cjc_vtable::bytes::{Fault, FileLine, NoMemory, Row};
+use cjc_vtable::world::World;
 use std::alloc::Global;
 use std::test::*;
 

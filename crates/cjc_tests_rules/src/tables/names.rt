@@ -3,11 +3,13 @@
 ghost use Rattle.std.specs.Prelude.{◌≡◌, ◌<◌, ◌^◌, [], ◌∷◌, true, false, get_or, length, map, filter, nat_lt, IsTrue};
 ghost use Rattle.std.specs.Prelude.{IfOk, IfSome};
 ghost use Rattle.cjc_tests_rules.specs.Tables.Names.{name_flow, union, edge, Goes, AllGo};
-ghost use Rattle.cjc_fixpoint.specs.Kept.{StandsForLeast};
+ghost use Rattle.cjc_types.specs.Fixpoint.Kept.{StandsForLeast};
 
-use cjc_bytes::{NoMemory, Row};
-use cjc_fixpoint::{Edge, Flow, Repeating, Table, Walk, all_marks, marks_of, moved_on, solve};
 use cjc_tests_files::cases::{cut, number};
+use cjc_types::fixpoint::{
+    Edge, Flow, Repeating, Table, Walk, all_marks, marks_of, moved_on, solve,
+};
+use cjc_vtable::bytes::{NoMemory, Row};
 use std::alloc::Global;
 use std::test::*;
 
@@ -105,7 +107,7 @@ impl Flow for NameFlow<'_> {
 
 impl Repeating for NameFlow<'_> {
     ghost use Rattle.cjc_tests_rules.specs.Tables.Names.{name_flow};
-    ghost use Rattle.cjc_fixpoint.specs.Working.ShortenedLaws.{never};
+    ghost use Rattle.cjc_types.specs.Fixpoint.Working.ShortenedLaws.{never};
 
     ghost again = { λ _ _. false };
 

@@ -3,11 +3,11 @@ use Rattle.std.proofs.Common.{◌≡◌, ◌⊎◌, ℕ, zero, suc, ◌+◌, ◌
 use Rattle.std.proofs.Common.{List, length, get_or, slice_get, Some}
 use Rattle.std.proofs.lemmas.Bool.{cases_lt}
 use Rattle.std.proofs.lemmas.Option.{get_or_from_slice_get, slice_get_within}
-use Rattle.cjc_code.specs.declared.insn.JInsn.{JInsn}
-use Rattle.cjc_script.specs.Sorts.{Signature, signature_of}
-use Rattle.cjc_narrow.specs.Rows.Resolved.{argument_words, parameter_words}
-use Rattle.cjc_ncode.specs.Written.{words_by}
-use Rattle.cjc_narrow.specs.Written.Operands.{CanBeSaid, IsAscending}
+use Rattle.cjc_examples.specs.Bytecode.declared.insn.JInsn.{JInsn}
+use Rattle.cjc_examples.specs.Script.Sorts.{Signature, signature_of}
+use Rattle.cjc_examples.specs.LowerNarrow.Rows.Resolved.{argument_words, parameter_words}
+use Rattle.cjc_examples.specs.NCode.Written.{words_by}
+use Rattle.cjc_examples.specs.LowerNarrow.Written.Operands.{CanBeSaid, IsAscending}
 
 -- what is said of the instructions below a place
 abbrev pub AreSaid : List JInsn → (n : ℕ) → Type 0

@@ -1,14 +1,14 @@
 -- A class whose methods read a field: its index is one byte, behind that of the class of any exception where a catch
 -- type is written.
 use Rattle.std.specs.Prelude.{ℕ, List, [], ◌∷◌, Option, Some, None, codes}
-use Rattle.cjc_bytes.specs.declared.fault.MemberId.{MemberId}
-use Rattle.cjc_classfile.specs.declared.tree.Catch.{Catch}
-use Rattle.cjc_classfile.specs.declared.tree.ClassTree.{ClassTree}
-use Rattle.cjc_classfile.specs.declared.tree.MethodTree.{MethodTree}
-use Rattle.cjc_classfile.specs.PoolItem as items
-use Rattle.cjc_world.specs.Files.{Files}
-use Rattle.cjc_jvm_semantics.specs.Worked.{class, field, method}
-use Rattle.cjc_card_semantics.specs.Machine.Worked.{id, object}
+use Rattle.cjc_examples.specs.Bytes.declared.fault.MemberId.{MemberId}
+use Rattle.cjc_examples.specs.ClassFile.declared.tree.Catch.{Catch}
+use Rattle.cjc_examples.specs.ClassFile.declared.tree.ClassTree.{ClassTree}
+use Rattle.cjc_examples.specs.ClassFile.declared.tree.MethodTree.{MethodTree}
+use Rattle.cjc_examples.specs.ClassFile.PoolItem as items
+use Rattle.cjc_examples.specs.World.Files.{Files}
+use Rattle.cjc_examples.specs.JvmSemantics.Worked.{class, field, method}
+use Rattle.cjc_examples.specs.CardSemantics.Machine.Worked.{id, object}
 use Rattle.cjc_examples.specs.Narrow.Both.{over}
 
 -- short s of p/T

@@ -1,20 +1,20 @@
 -- What is selected for packages made by hand, all of whose instructions are reached, and its bytes.
 use Rattle.std.specs.Prelude.{ℕ, List, [], ◌∷◌, map, flat_map, Option, Some, None, Bool, true}
-use Rattle.cjc_bytes.specs.declared.fault.MemberId.{MemberId}
-use Rattle.cjc_classfile.specs.Code.{CodeTree}
-use Rattle.cjc_classfile.specs.declared.tree.ClassTree.{ClassTree}
-use Rattle.cjc_classfile.specs.declared.tree.MethodTree.{MethodTree}
-use Rattle.cjc_code.specs.declared.insn.JInsn.{JInsn}
-use Rattle.cjc_code.specs.Decoded.{decoded}
-use Rattle.cjc_world.specs.Files.{Files}
-use Rattle.cjc_capread.specs.declared.tree.Handler.{Handler}
-use Rattle.cjc_card_semantics.specs.Machine.Loaded.{Loaded}
-use Rattle.cjc_ncode.specs.declared.narrow.NMethod.{NMethod}
-use Rattle.cjc_ncode.specs.declared.narrow.PoolKey.{PoolKey}
-use Rattle.cjc_ncode.specs.PoolOrder.{pool_order}
-use Rattle.cjc_ncode.specs.Lowering.Package.{all_bytes, all_handlers}
-use Rattle.cjc_narrow.specs.Rows.Selected.{near_fields, selected_code}
-use Rattle.cjc_narrow.specs.Written.Rows.{rows_by}
+use Rattle.cjc_examples.specs.Bytes.declared.fault.MemberId.{MemberId}
+use Rattle.cjc_examples.specs.ClassFile.Code.{CodeTree}
+use Rattle.cjc_examples.specs.ClassFile.declared.tree.ClassTree.{ClassTree}
+use Rattle.cjc_examples.specs.ClassFile.declared.tree.MethodTree.{MethodTree}
+use Rattle.cjc_examples.specs.Bytecode.declared.insn.JInsn.{JInsn}
+use Rattle.cjc_examples.specs.Bytecode.Decoded.{decoded}
+use Rattle.cjc_examples.specs.World.Files.{Files}
+use Rattle.cjc_examples.specs.CapRead.declared.tree.Handler.{Handler}
+use Rattle.cjc_examples.specs.CardSemantics.Machine.Loaded.{Loaded}
+use Rattle.cjc_examples.specs.NCode.declared.narrow.NMethod.{NMethod}
+use Rattle.cjc_examples.specs.NCode.declared.narrow.PoolKey.{PoolKey}
+use Rattle.cjc_examples.specs.NCode.PoolOrder.{pool_order}
+use Rattle.cjc_examples.specs.NCode.Lowering.Package.{all_bytes, all_handlers}
+use Rattle.cjc_examples.specs.LowerNarrow.Rows.Selected.{near_fields, selected_code}
+use Rattle.cjc_examples.specs.LowerNarrow.Written.Rows.{rows_by}
 use Rattle.cjc_examples.specs.Narrow.Laid.{naming, placed_from}
 
 -- each instruction is reached

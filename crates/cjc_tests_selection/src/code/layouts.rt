@@ -2,14 +2,14 @@
 //! that names nothing in the pool.
 
 ghost use Rattle.std.specs.Prelude.{IfOk};
-ghost use Rattle.cjc_layout.specs.Layouts.{IsLayout};
+ghost use Rattle.cjc_examples.specs.Layout.Layouts.{IsLayout};
 
 use crate::code::pool::NoEntries;
 use crate::code::whole::is_whole;
-use cjc_bytes::{Bytes, Fault, MemberId};
-use cjc_emit::{MethodBytes, emit};
-use cjc_layout::{Layout, lay};
-use cjc_ncode::NMethod;
+use cjc_examples::bytes::{Bytes, Fault, MemberId};
+use cjc_examples::emit::{MethodBytes, emit};
+use cjc_examples::layout::{Layout, lay};
+use cjc_examples::ncode::NMethod;
 use std::alloc::Global;
 
 /// A layout and what is emitted at it.

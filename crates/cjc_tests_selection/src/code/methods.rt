@@ -1,9 +1,9 @@
 //! Narrow methods made by hand for the tests: long ones with far jumps, and one with handlers.
 
 #[cfg(test)]
-use cjc_bytes::Bytes;
-use cjc_bytes::{NoMemory, Row};
-use cjc_ncode::{NCatch, NInsn, NMethod};
+use cjc_examples::bytes::Bytes;
+use cjc_examples::bytes::{NoMemory, Row};
+use cjc_examples::ncode::{NCatch, NInsn, NMethod};
 use std::alloc::Global;
 
 /// A method of these instructions and handlers with one argument.

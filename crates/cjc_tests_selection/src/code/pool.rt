@@ -3,9 +3,9 @@
 
 ghost use Rattle.std.specs.Prelude.{[], None};
 
-use cjc_bytes::MemberId;
-use cjc_emit::PoolLookup;
-use cjc_ncode::PoolKey;
+use cjc_examples::bytes::MemberId;
+use cjc_examples::emit::PoolLookup;
+use cjc_examples::ncode::PoolKey;
 
 /// A pool without entries.
 pub(crate) struct NoEntries;

@@ -2,9 +2,9 @@
 
 use crate::code::layouts::{LaidOut, written};
 use crate::code::methods::{Far, divides, long_method};
-use cjc_bytes::NoMemory;
-use cjc_layout::Handler;
-use cjc_ncode::NMethod;
+use cjc_examples::bytes::NoMemory;
+use cjc_examples::layout::Handler;
+use cjc_examples::ncode::NMethod;
 use std::alloc::Global;
 use std::process::Abort;
 

@@ -1,14 +1,14 @@
 //! Whether a method can be laid out. Called before a method that was built here is laid out.
 
 ghost use Rattle.std.specs.Prelude.{◌≡◌, ◌+◌, ◌≤◌, true, IfSome};
-ghost use Rattle.cjc_capread.specs.Opcodes.{form, op_info};
-ghost use Rattle.cjc_layout.specs.Sizes.{AllLead, CasesLead, Leads, insn_size, size_by, widest_size};
-ghost use Rattle.cjc_layout.specs.Handlers.{AllLie, Lies};
-ghost use Rattle.cjc_layout.specs.Layouts.{IsWhole};
-ghost use Rattle.cjc_layout.specs.Working.{length_by};
+ghost use Rattle.cjc_examples.specs.CapRead.Opcodes.{form, op_info};
+ghost use Rattle.cjc_examples.specs.Layout.Sizes.{AllLead, CasesLead, Leads, insn_size, size_by, widest_size};
+ghost use Rattle.cjc_examples.specs.Layout.Handlers.{AllLie, Lies};
+ghost use Rattle.cjc_examples.specs.Layout.Layouts.{IsWhole};
+ghost use Rattle.cjc_examples.specs.Layout.Working.{length_by};
 
-use cjc_capread::op;
-use cjc_ncode::{NCase, NCatch, NInsn, NMethod};
+use cjc_examples::capread::op;
+use cjc_examples::ncode::{NCase, NCatch, NInsn, NMethod};
 
 fn cases_lead(count: usize, cases: &[NCase]) -> bool
     ensures { result ≡ true → CasesLead count cases.now }

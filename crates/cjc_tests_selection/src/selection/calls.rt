@@ -8,14 +8,14 @@
 //! each is, and the index of its class or -1. All is hexadecimal but the numbers of the class file.
 
 use crate::selection::fits::can_be_selected;
-use cjc_bytes::{Bytes, NoMemory, Row};
-use cjc_classfile::{ClassTree, Code, MethodTree};
-use cjc_code::decode_method;
-use cjc_narrow::keys::{Key, Numbers, number};
-use cjc_narrow::select::select;
-use cjc_ncode::{NCatch, NInsn, NMethod, PoolKey};
+use cjc_examples::bytecode::decode_method;
+use cjc_examples::bytes::{Bytes, NoMemory, Row};
+use cjc_examples::classfile::{ClassTree, Code, MethodTree};
+use cjc_examples::lower_narrow::keys::{Key, Numbers, number};
+use cjc_examples::lower_narrow::select::select;
+use cjc_examples::ncode::{NCatch, NInsn, NMethod, PoolKey};
+use cjc_examples::world::World;
 use cjc_tests_files::cases::{code, cut, flags, octets, package, pool, question_and_answer, text};
-use cjc_world::World;
 use std::alloc::Global;
 use std::test::*;
 

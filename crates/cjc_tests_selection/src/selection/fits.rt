@@ -1,15 +1,15 @@
 //! Tells whether a method can be selected. Called by tests. Knows no rule of a package.
 
 ghost use Rattle.std.specs.Prelude.{◌≡◌, ℕ, true, Some, slice_get, IfOk};
-ghost use Rattle.cjc_code.specs.declared.insn.JInsn.{JInsn as Insn};
-ghost use Rattle.cjc_ncode.specs.Written.{nargs_of};
-ghost use Rattle.cjc_narrow.specs.Written.Operands.{CanBeSaid, IsAscending, IsByte};
-ghost use Rattle.cjc_narrow.specs.Select.Select.{IsSelectable};
+ghost use Rattle.cjc_examples.specs.Bytecode.declared.insn.JInsn.{JInsn as Insn};
+ghost use Rattle.cjc_examples.specs.NCode.Written.{nargs_of};
+ghost use Rattle.cjc_examples.specs.LowerNarrow.Written.Operands.{CanBeSaid, IsAscending, IsByte};
+ghost use Rattle.cjc_examples.specs.LowerNarrow.Select.Select.{IsSelectable};
 
-use cjc_bytes::{MemberId, NoMemory};
-use cjc_classfile::{Code, MethodTree};
-use cjc_code::{JInsn, JOp};
-use cjc_narrow::written::words_by;
+use cjc_examples::bytecode::{JInsn, JOp};
+use cjc_examples::bytes::{MemberId, NoMemory};
+use cjc_examples::classfile::{Code, MethodTree};
+use cjc_examples::lower_narrow::written::words_by;
 
 /// One byte can say the words that a method takes.
 fn is_called(method: &MemberId) -> Result<bool, NoMemory>

@@ -6,14 +6,14 @@ use Rattle.cjc_components.specs.Package.{Package, world}
 use Rattle.cjc_theorem.specs.FairExports.Fair.{ExportsAreFair}
 use Rattle.cjc_judge.specs.Spelt.{IsRead}
 use Rattle.cjc_judge.specs.declared.judged.Judged.{Judged}
-use Rattle.cjc_list.specs.Listed.{ListTree}
-use Rattle.cjc_shape.specs.Prepared.{IsSound}
+use Rattle.cjc_components.specs.List.Listed.{ListTree}
+use Rattle.cjc_shape_proof.specs.Shape.Prepared.{IsSound}
 use Rattle.cjc_world_proof.specs.Files.{ExportsAreSound}
 use Rattle.cjc_theorem.proofs.SoundRuns.Placed.{sound_package}
 use Rattle.cjc_token_proof.specs.Tables.Sound.{IsSound as IsSoundPackage}
 use Rattle.cjc_vtable.specs.Kept.{ExportsAgree}
-use Rattle.cjc_shape.proofs.WholeLaws.Drafts.{same_spelt}
-use Rattle.cjc_shape.specs.Whole.Conversion.{IsPackageOf}
+use Rattle.cjc_shape_proof.proofs.Shape.WholeLaws.Drafts.{same_spelt}
+use Rattle.cjc_shape_proof.specs.Shape.Whole.Conversion.{IsPackageOf}
 use Rattle.cjc_world.specs.Files.{Files}
 use Rattle.cjc_shape_proof.specs.Written.Converted.{ExportsArePlain, IsConverted}
 

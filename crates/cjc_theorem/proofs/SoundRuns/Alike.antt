@@ -19,12 +19,12 @@ use Rattle.cjc_clinit.specs.Image.{IsImage}
 use Rattle.cjc_clinit.specs.Rules.{BreaksImage}
 use Rattle.cjc_code.specs.PackageCodes.{all_codes}
 use Rattle.cjc_components.specs.Package.{LaidMethod, Package, pool}
-use Rattle.cjc_fixpoint.specs.Tables.{HasRow}
+use Rattle.cjc_tokens.specs.Fixpoint.Tables.{HasRow}
 use Rattle.cjc_judge.specs.Rules.{settings_of}
 use Rattle.cjc_judge.specs.Spelt.{IsRead}
 use Rattle.cjc_judge.specs.declared.judged.Judged.{Judged}
-use Rattle.cjc_list.specs.Listed.{ListTree}
-use Rattle.cjc_methods.specs.Ready.{AreReady}
+use Rattle.cjc_components.specs.List.Listed.{ListTree}
+use Rattle.cjc_shape_proof.specs.Methods.Ready.{AreReady}
 use Rattle.cjc_narrow.specs.Rows.Package.{code_of, flags_of, run as narrow_run, tree_of}
 use Rattle.cjc_narrow.specs.Rows.Resolved.{argument_words, method_found, resolution}
 use Rattle.cjc_narrow.specs.Rows.Selected.{near_fields}
@@ -36,10 +36,10 @@ use Rattle.cjc_ncode.specs.ByLabel as labels
 use Rattle.cjc_ncode.specs.ByLabel.{Named}
 use Rattle.cjc_ncode.specs.Written.{narrow_method}
 use Rattle.cjc_ncode.specs.declared.narrow.NMethod.{NMethod}
-use Rattle.cjc_shape.proofs.PreparedLaws.Sound.{are_ready, is_unbroken, no_image_break}
-use Rattle.cjc_shape.specs.Prepared.{IsSound}
-use Rattle.cjc_intervals.specs.Frames.{RangeState}
-use Rattle.cjc_intervals.specs.Tables.{IsLeastRanges}
+use Rattle.cjc_shape_proof.proofs.Shape.PreparedLaws.Sound.{are_ready, is_unbroken, no_image_break}
+use Rattle.cjc_shape_proof.specs.Shape.Prepared.{IsSound}
+use Rattle.cjc_narrow_proof.specs.Intervals.Frames.{RangeState}
+use Rattle.cjc_narrow_proof.specs.Intervals.Tables.{IsLeastRanges}
 use Rattle.cjc_script.specs.declared.script.Script.{Script}
 use Rattle.cjc_world_proof.specs.Files.{ExportsAreSound}
 use Rattle.cjc_theorem.proofs.SoundRuns.Begins.{begins}
@@ -50,10 +50,10 @@ use Rattle.cjc_theorem.proofs.SoundRuns.Placed.{plain_in_order, stands}
 use Rattle.cjc_theorem.proofs.SoundRuns.Ranges.{ranges_pass}
 use Rattle.cjc_theorem.proofs.SoundRuns.Read.{read_files, whole_is}
 use Rattle.cjc_theorem.proofs.SoundRuns.Tabled.{has_least, no_first, only_coded, tabled_code, tables, types_are}
-use Rattle.cjc_types.specs.declared.state.State.{State}
-use Rattle.cjc_types.specs.Flow.{Body}
-use Rattle.cjc_shape.proofs.WholeLaws.Drafts.{rows, rows_agree, rows_are, same_members, same_spelt}
-use Rattle.cjc_shape.specs.Whole.Conversion.{IsDraft, IsSelected}
+use Rattle.cjc_narrow_proof.specs.Types.declared.state.State.{State}
+use Rattle.cjc_narrow_proof.specs.Types.Flow.{Body}
+use Rattle.cjc_shape_proof.proofs.Shape.WholeLaws.Drafts.{rows, rows_agree, rows_are, same_members, same_spelt}
+use Rattle.cjc_shape_proof.specs.Shape.Whole.Conversion.{IsDraft, IsSelected}
 use Rattle.cjc_world.specs.Classes.{all_classes}
 use Rattle.cjc_world.specs.Files.{Files}
 use Rattle.cjc_world.specs.Order.{method_order}

@@ -9,7 +9,7 @@ use Rattle.cjc_code.specs.Rules.{stopped, with_names}
 use Rattle.cjc_code.specs.declared.method_code.MethodCode.{MethodCode}
 use Rattle.cjc_code.proofs.OneCut.{is_cut}
 use Rattle.cjc_narrow_proof.proofs.SelectedLaws.Cuts.{decoded}
-use Rattle.cjc_types.specs.Tables.{IsMethodOf}
+use Rattle.cjc_narrow_proof.specs.Types.Tables.{IsMethodOf}
 use Rattle.cjc_world.specs.Files.{Files}
 
 pub begins : (files : Files) (code : MethodCode) (class : ClassTree) (method : MethodTree) (tree : CodeTree)

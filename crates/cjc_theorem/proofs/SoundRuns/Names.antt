@@ -5,7 +5,7 @@ use Rattle.std.specs.List.{list_all, slice_split, onto_first}
 use Rattle.std.proofs.lemmas.Bool.{eqb-true}
 use Rattle.cjc_bytes.specs.Descriptor.{IsClassName, inside, last, more, simple}
 use Rattle.cjc_bytes.specs.Descriptor as descriptor
-use Rattle.cjc_list.specs.Grammar.{is_name, is_name_byte, is_name_part}
+use Rattle.cjc_components.specs.List.Grammar.{is_name, is_name_byte, is_name_part}
 
 both_front : (a b : Bool) → (a && b) ≡ true → a ≡ true
 both_front true b e = refl

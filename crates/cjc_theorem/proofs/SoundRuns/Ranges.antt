@@ -12,20 +12,20 @@ use Rattle.cjc_judge.specs.declared.groups.Group.TheVariants as groups
 use Rattle.cjc_judge.specs.declared.judged.Judged.{Judged}
 use Rattle.cjc_judge.specs.Rules.{BreaksAnyRange, files_spelt, method_break, of_group}
 use Rattle.cjc_judge.specs.Spelt.{FileTree, classes_of}
-use Rattle.cjc_shape.proofs.JudgedLaws.Selected.{is_world, same_codes, same_world}
-use Rattle.cjc_list.specs.Listed.{ListTree}
+use Rattle.cjc_shape_proof.proofs.Shape.JudgedLaws.Selected.{is_world, same_codes, same_world}
+use Rattle.cjc_components.specs.List.Listed.{ListTree}
 use Rattle.cjc_narrow.specs.Rows.Resolved.{constant_named}
-use Rattle.cjc_flow.specs.Tests.Answers.{IsFirstBroken}
-use Rattle.cjc_flow.specs.Tests.Working.Search.{first_from}
-use Rattle.cjc_flow.proofs.TestsLaws.First.{first_broken, nothing_broken}
-use Rattle.cjc_shape.specs.Judged.Tested.{IsTested}
-use Rattle.cjc_shape.specs.Prepared.{IsSound, tested}
-use Rattle.cjc_intervals.specs.Frames.{RangeState}
-use Rattle.cjc_intervals.specs.Tables.{IsLeastRanges, Passes}
-use Rattle.cjc_types.specs.declared.state.State.{State}
-use Rattle.cjc_types.specs.declared.table.TypeTable.{TypeTable}
-use Rattle.cjc_types.specs.Flow.{Body, body_of}
-use Rattle.cjc_types.specs.Tables.{IsMethodOf, IsTypeTable, rows_of}
+use Rattle.cjc_judge.specs.Flow.Tests.Answers.{IsFirstBroken}
+use Rattle.cjc_judge.specs.Flow.Tests.Working.Search.{first_from}
+use Rattle.cjc_judge.proofs.Flow.TestsLaws.First.{first_broken, nothing_broken}
+use Rattle.cjc_shape_proof.specs.Shape.Judged.Tested.{IsTested}
+use Rattle.cjc_shape_proof.specs.Shape.Prepared.{IsSound, tested}
+use Rattle.cjc_narrow_proof.specs.Intervals.Frames.{RangeState}
+use Rattle.cjc_narrow_proof.specs.Intervals.Tables.{IsLeastRanges, Passes}
+use Rattle.cjc_narrow_proof.specs.Types.declared.state.State.{State}
+use Rattle.cjc_narrow_proof.specs.Types.declared.table.TypeTable.{TypeTable}
+use Rattle.cjc_narrow_proof.specs.Types.Flow.{Body, body_of}
+use Rattle.cjc_narrow_proof.specs.Types.Tables.{IsMethodOf, IsTypeTable, rows_of}
 use Rattle.cjc_world.specs.Classes.{all_classes}
 
 module _ (list : ListTree) (files : List (List ℕ)) (judged : Judged) (is : IsSound list files judged) where

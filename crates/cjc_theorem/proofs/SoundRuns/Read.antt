@@ -11,13 +11,13 @@ use Rattle.cjc_judge.specs.declared.judged.Judged.{Judged}
 use Rattle.cjc_judge.specs.Rules.{settings_of}
 use Rattle.cjc_judge.specs.Spelt.{FileTree, IsRead, classes_of, of_class, of_export}
 use Rattle.cjc_judge.specs.Trees.{AllSpelt}
-use Rattle.cjc_shape.specs.Judged.Tested.{AreFiles}
-use Rattle.cjc_list.specs.Listed.{ListTree}
+use Rattle.cjc_shape_proof.specs.Shape.Judged.Tested.{AreFiles}
+use Rattle.cjc_components.specs.List.Listed.{ListTree}
 use Rattle.cjc_shape_proof.specs.Whole.{AreTabled, IsWhole}
 use Rattle.cjc_narrow_proof.specs.Runs.Tables.{Tables}
-use Rattle.cjc_shape.specs.Prepared.{IsSound}
-use Rattle.cjc_shape.proofs.JudgedLaws.Selected.{judged_writable}
-use Rattle.cjc_shape.proofs.PreparedLaws.Sound.{is_tested, is_unbroken}
+use Rattle.cjc_shape_proof.specs.Shape.Prepared.{IsSound}
+use Rattle.cjc_shape_proof.proofs.Shape.JudgedLaws.Selected.{judged_writable}
+use Rattle.cjc_shape_proof.proofs.Shape.PreparedLaws.Sound.{is_tested, is_unbroken}
 use Rattle.cjc_world_proof.specs.Files.{AreReadFiles, ExportsAreSound}
 use Rattle.cjc_theorem.proofs.SoundRuns.Names.{class_name}
 use Rattle.cjc_world.specs.Files.{Files}

@@ -44,7 +44,7 @@ use Rattle.cjc_narrow.specs.Rows.Package.{element_of_kind, first_array, first_ce
 use Rattle.cjc_narrow_proof.specs.Runs.Converted.{IsFirst, IsFirstArray}
 use Rattle.cjc_narrow_proof.specs.Runs.Tables.{Tables, look_ups}
 use Rattle.cjc_ncode.specs.ByLabel.{Named}
-use Rattle.cjc_range.specs.Span.{Holds}
+use Rattle.cjc_code.specs.Range.Span.{Holds}
 use Rattle.cjc_script.specs.declared.value.Value.{Value}
 use Rattle.cjc_script.specs.declared.value.Value.TheVariants.{Num, Obj}
 use Rattle.cjc_script.specs.Sorts.{Boolean, Booleans, Byte, Bytes, Element, Int, Ints, NoValue, OfNumbers, Reference}

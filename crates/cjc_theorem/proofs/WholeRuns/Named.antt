@@ -13,7 +13,7 @@ use Rattle.cjc_code.specs.declared.insn.JInsn.{JInsn}
 use Rattle.cjc_code.specs.declared.insn.JOp.{JOp}
 use Rattle.cjc_code.specs.declared.insn.JOp.TheVariants as jop
 use Rattle.cjc_code.specs.declared.method_code.MethodCode.{MethodCode}
-use Rattle.cjc_fixpoint.specs.Tables.{HasRow}
+use Rattle.cjc_tokens.specs.Fixpoint.Tables.{HasRow}
 use Rattle.cjc_shape_proof.specs.Whole.{Accepts, HoldsFor, IsWhole}
 use Rattle.cjc_shape_proof.proofs.FindsLaws.Descs.{read_of}
 use Rattle.cjc_shape_proof.proofs.FindsLaws.Whole.{converted_is, fields_are, interface_is, is_solid, special_is}
@@ -36,14 +36,14 @@ use Rattle.cjc_subset.specs.Types.{is_unsupported_number, names_unsupported, nam
 use Rattle.cjc_narrow_proof.specs.Tables.Arrays.{arraylength}
 use Rattle.cjc_narrow_proof.specs.Tables.Calls.{count_of}
 use Rattle.cjc_narrow_proof.specs.Tables.Supported as plain
-use Rattle.cjc_types.proofs.Typed.{are_frames, are_typed}
-use Rattle.cjc_types.specs.declared.cell.Cell.{Cell}
-use Rattle.cjc_types.specs.declared.state.State.{State}
-use Rattle.cjc_types.specs.Flow.{Body, body_of}
-use Rattle.cjc_types.specs.Rules.{accepts, is_of, receiver_class}
-use Rattle.cjc_types.specs.Search.{cells_of}
-use Rattle.cjc_types.specs.Steps.{operand, receivers, takes}
-use Rattle.cjc_types.specs.Tables.{IsMethodOf, rows_of}
+use Rattle.cjc_narrow_proof.proofs.Types.Typed.{are_frames, are_typed}
+use Rattle.cjc_narrow_proof.specs.Types.declared.cell.Cell.{Cell}
+use Rattle.cjc_narrow_proof.specs.Types.declared.state.State.{State}
+use Rattle.cjc_narrow_proof.specs.Types.Flow.{Body, body_of}
+use Rattle.cjc_narrow_proof.specs.Types.Rules.{accepts, is_of, receiver_class}
+use Rattle.cjc_narrow_proof.specs.Types.Search.{cells_of}
+use Rattle.cjc_narrow_proof.specs.Types.Steps.{operand, receivers, takes}
+use Rattle.cjc_narrow_proof.specs.Types.Tables.{IsMethodOf, rows_of}
 use Rattle.cjc_theorem.proofs.WholeRuns.Objects.{objects_have_words}
 use Rattle.cjc_theorem.proofs.WholeRuns.Operations.{arith_plain, if_plain, load_is, narrow_plain, one_of, return_is}
 use Rattle.cjc_theorem.proofs.WholeRuns.Operations.{stack_plain, store_is}

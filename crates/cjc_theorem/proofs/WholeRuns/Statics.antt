@@ -34,7 +34,7 @@ use Rattle.cjc_narrow_proof.specs.Laws.Unbroken.{IsInsnOf, IsUnbroken}
 use Rattle.cjc_narrow_proof.proofs.LawsLaws.Instructions.{op_fit, op_there, static_there}
 use Rattle.cjc_narrow_proof.specs.Runs.Names.{IsNamed, IsWordField, a_constant, a_static}
 use Rattle.cjc_narrow_proof.specs.Runs.Tables.{Tables}
-use Rattle.cjc_range.specs.Span.{Holds, full}
+use Rattle.cjc_code.specs.Range.Span.{Holds, full}
 use Rattle.cjc_code.proofs.ReadLaws.Entries.{fit32}
 use Rattle.cjc_script.specs.declared.report.FieldValue.{FieldValue}
 use Rattle.cjc_narrow_proof.specs.Selection.Rows.{lists}
@@ -45,9 +45,9 @@ use Rattle.cjc_subset.specs.Members.{declared_field}
 use Rattle.cjc_subset.specs.Members as subset
 use Rattle.cjc_subset.proofs.Fits.{field_fits}
 use Rattle.cjc_subset.specs.Names.{is_constant_found, is_hidden, is_other_kind, is_unfit_field, names_unfit}
-use Rattle.cjc_types.specs.declared.cell.Cell.{Cell}
-use Rattle.cjc_types.specs.declared.cell.Cell.TheVariants.{Number}
-use Rattle.cjc_types.specs.Types.{no_parts, parts, parts_or_none, result_of}
+use Rattle.cjc_narrow_proof.specs.Types.declared.cell.Cell.{Cell}
+use Rattle.cjc_narrow_proof.specs.Types.declared.cell.Cell.TheVariants.{Number}
+use Rattle.cjc_narrow_proof.specs.Types.Types.{no_parts, parts, parts_or_none, result_of}
 use Rattle.cjc_world.specs.Upwards.{Has, after, foremost}
 use Rattle.cjc_world.proofs.UpwardLaws.Lines.{field_found_above, has-back, has-front}
 use Rattle.cjc_vtable.proofs.Filed.{IsFiled, filed, get-has, has-get, in_class_file, in_export_file, of-imports}

@@ -5,16 +5,16 @@
 use Rattle.std.specs.Prelude.{◌≡◌, ℕ, Some}
 use Rattle.cjc_card_semantics.specs.Bytecode.Runs.{Agree}
 use Rattle.cjc_jvm_semantics.specs.ByName.{run as run_by_name}
-use Rattle.cjc_capread.specs.declared.tree.CapTree.{CapTree}
+use Rattle.cjc_card_semantics.specs.CapRead.declared.tree.CapTree.{CapTree}
 use Rattle.cjc_card_semantics.specs.Machine.ByToken.{run as run_by_token}
 use Rattle.cjc_clinit.specs.Image.{IsImage}
 use Rattle.cjc_code.specs.PackageCodes.{all_codes}
 use Rattle.cjc_judge.specs.Rules.{has_applets}
-use Rattle.cjc_list.specs.Listed.{ListTree}
+use Rattle.cjc_components.specs.List.Listed.{ListTree}
 use Rattle.cjc_components.specs.Paired.Naming.{loaded_of}
 use Rattle.cjc_script.specs.declared.report.Report.{Report}
 use Rattle.cjc_script.specs.declared.script.Script.{Script}
-use Rattle.cjc_check_rules.specs.Complete.{Complete, complete}
+use Rattle.cjc_components.specs.CheckRules.Complete.{Complete, complete}
 use Rattle.cjc_world.specs.Files.{Files}
 use Rattle.cjc_world.specs.declared.image.StaticImage.{StaticImage}
 

@@ -6,13 +6,13 @@ ghost use Rattle.cjc_token_proof.specs.Components.Whole.{exports_of};
 ghost use Rattle.cjc_components.specs.Components.{components_of};
 ghost use Rattle.cjc_components.specs.Package.{Package};
 ghost use Rattle.cjc_judge.specs.declared.judged.Judged.{Judged};
-ghost use Rattle.cjc_list.specs.Listed.{ListTree};
-ghost use Rattle.cjc_check_rules.specs.Consistent.{Consistent};
+ghost use Rattle.cjc_components.specs.List.Listed.{ListTree};
+ghost use Rattle.cjc_components.specs.CheckRules.Consistent.{Consistent};
 ghost use Rattle.cjc_shape_proof.specs.Written.Converted.{IsConverted};
 ghost use Rattle.cjc_theorem.specs.Alike.Met.{NamesAreMet};
 
-use cjc_check_proof::consistent::components_are_consistent;
-use cjc_check_proof::flags::methods_keep_flags;
+use cjc_shape_proof::check_proof::consistent::components_are_consistent;
+use cjc_shape_proof::check_proof::flags::methods_keep_flags;
 use cjc_shape_proof::written::{
     converted_classes_keep_rules, converted_files_are_sound, converted_methods_are_consistent,
 };

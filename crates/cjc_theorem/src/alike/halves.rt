@@ -8,19 +8,19 @@ ghost use Rattle.cjc_components.specs.Limits.{limit_breaks};
 ghost use Rattle.cjc_components.specs.Package.{Package};
 ghost use Rattle.cjc_judge.specs.Spelt.{IsRead};
 ghost use Rattle.cjc_judge.specs.declared.judged.Judged.{Judged};
-ghost use Rattle.cjc_layout.specs.Legal.{IsLeast, IsLegal};
-ghost use Rattle.cjc_layout.specs.Sizes.{code_size};
-ghost use Rattle.cjc_list.specs.Listed.{ListTree};
+ghost use Rattle.cjc_components.specs.Layout.Legal.{IsLeast, IsLegal};
+ghost use Rattle.cjc_components.specs.Layout.Sizes.{code_size};
+ghost use Rattle.cjc_components.specs.List.Listed.{ListTree};
 ghost use Rattle.cjc_ncode.specs.declared.narrow.NInsn.{NInsn};
-ghost use Rattle.cjc_shape.specs.Prepared.{IsSound};
-ghost use Rattle.cjc_shape.specs.Whole.Conversion.{IsPackageOf};
+ghost use Rattle.cjc_shape_proof.specs.Shape.Prepared.{IsSound};
+ghost use Rattle.cjc_shape_proof.specs.Shape.Whole.Conversion.{IsPackageOf};
 ghost use Rattle.cjc_theorem.specs.Alike.Halves.{CodeBehavesAlike, ComponentsRunAsCode, HasFewestBytes};
 ghost use Rattle.cjc_theorem.specs.FairExports.Fair.{ExportsAreFair};
 
 use crate::alike::converted_components_run_by_token;
 use crate::fair_exports::fair_exports_are_sound;
 use crate::sound_runs::sound_packages_run_alike;
-use cjc_intervals::range_laws::least_ranges_exist;
+use cjc_narrow_proof::intervals::range_laws::least_ranges_exist;
 
 /// Of a list that was read, and files that break no rule that is tested before a package is written, with export files
 /// that are fair: the narrow code that Method has is what is selected, and it behaves as the class files do.

@@ -7,7 +7,7 @@ ghost use Rattle.cjc_card_semantics.specs.Machine.ByToken.{run as run_by_token};
 ghost use Rattle.cjc_components.specs.Package.{Package};
 ghost use Rattle.cjc_theorem.specs.Alike.Left.{AreLeft};
 ghost use Rattle.cjc_judge.specs.declared.judged.Judged.{Judged};
-ghost use Rattle.cjc_list.specs.Listed.{ListTree};
+ghost use Rattle.cjc_components.specs.List.Listed.{ListTree};
 ghost use Rattle.cjc_narrow.specs.Rows.Package.{run as run_by_label};
 ghost use Rattle.cjc_script.specs.declared.report.Outcome.TheVariants.{Stuck};
 ghost use Rattle.cjc_script.specs.declared.script.Script.{Script};
@@ -21,6 +21,7 @@ use crate::alike::{
     calls_are_named, calls_have_opcodes, export_files_are_kept, first_cells_are_typed,
     instructions_name_what_is_there, names_are_there,
 };
+use cjc_narrow_proof::types::State;
 use cjc_shape_proof::written::{
     converted_classes_keep_rules, converted_files_are_sound, converted_methods_are_consistent,
     converted_methods_are_in_order, converted_methods_are_ready, converted_packages_run_by_token,
@@ -30,7 +31,6 @@ use cjc_token_proof::written_sends::{
     known_objects_receive_calls, operations_are_known, package_interfaces_ask,
     sent_methods_begin_alike,
 };
-use cjc_types::State;
 use cjc_vtable::package_laws;
 
 /// A converted package has all that joins its narrow code to its components, where the calls that are known are

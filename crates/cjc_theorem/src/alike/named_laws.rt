@@ -10,7 +10,7 @@ ghost use Rattle.cjc_code.specs.Jvm as jvm;
 ghost use Rattle.cjc_code.specs.declared.insn.JOp.TheVariants as jop;
 ghost use Rattle.cjc_components.specs.Package.{LaidMethod, Package, world};
 ghost use Rattle.cjc_judge.specs.declared.judged.Judged.{Judged};
-ghost use Rattle.cjc_list.specs.Listed.{ListTree};
+ghost use Rattle.cjc_components.specs.List.Listed.{ListTree};
 ghost use Rattle.cjc_theorem.specs.Alike.Opcodes.{CallsHaveOpcodes};
 ghost use Rattle.cjc_narrow.specs.Rows.Resolved.{resolved_method};
 ghost use Rattle.cjc_narrow_proof.specs.Laws.Unbroken.{IsInsnOf};

@@ -12,7 +12,7 @@ ghost use Rattle.cjc_code.specs.Jvm as jvm;
 ghost use Rattle.cjc_code.specs.declared.insn.JOp.TheVariants as jop;
 ghost use Rattle.cjc_components.specs.Package.{Package, world};
 ghost use Rattle.cjc_judge.specs.declared.judged.Judged.{Judged};
-ghost use Rattle.cjc_list.specs.Listed.{ListTree};
+ghost use Rattle.cjc_components.specs.List.Listed.{ListTree};
 ghost use Rattle.cjc_narrow.specs.Rows.Resolved.{method_found, virtual_by};
 ghost use Rattle.cjc_narrow_proof.specs.Laws.Unbroken.{IsInsnOf};
 ghost use Rattle.cjc_ncode.specs.ByLabel.{OnObject, OnSuper};
@@ -21,7 +21,7 @@ ghost use Rattle.cjc_world.specs.Classes.{class_named};
 ghost use Rattle.cjc_token_proof.specs.WrittenCalls.Calls.{IsNamed, TakesWords};
 ghost use Rattle.cjc_shape_proof.specs.Written.Converted.{IsConverted};
 
-use cjc_check_proof::flags::methods_keep_flags;
+use cjc_shape_proof::check_proof::flags::methods_keep_flags;
 use cjc_shape_proof::written::{converted_classes_keep_rules, converted_files_are_sound};
 use cjc_tokens::token_laws::interface_tokens_mean_methods;
 use cjc_vtable::package_laws;

@@ -5,8 +5,8 @@ use Rattle.std.specs.Prelude.{Option, Some, None, option_map, option_to_list, sl
 use Rattle.std.specs.Prelude.{◌==◌}
 use Rattle.std.proofs.lemmas.Bool.Decides.{nat_tests}
 use Rattle.std.specs.Str.{bytes_eq}
-use Rattle.cjc_capread.specs.declared.tree.ClassEntry.{ClassEntry}
-use Rattle.cjc_capread.specs.declared.tree.ImplementedInterface.{ImplementedInterface}
+use Rattle.cjc_check_rules.specs.CapRead.declared.tree.ClassEntry.{ClassEntry}
+use Rattle.cjc_check_rules.specs.CapRead.declared.tree.ImplementedInterface.{ImplementedInterface}
 use Rattle.cjc_card_semantics.specs.Machine.Classes.{Own, External, Info, IsClass, same_class, info_of, class_of}
 use Rattle.cjc_card_semantics.specs.Machine.Classes.{external}
 use Rattle.cjc_card_semantics.specs.Machine.Classes as card

@@ -1,7 +1,7 @@
 -- What class infos say of a class and its superclasses, told from the class up to any height that is enough.
 use Rattle.std.proofs.Common.{◌≡◌, ℕ, zero, suc, ◌+◌, ◌≤◌, sym, ap, ◌∙◌, arith, one-add, List, length}
 use Rattle.std.specs.Prelude.{Some}
-use Rattle.cjc_capread.specs.declared.tree.ClassEntry.{ClassEntry}
+use Rattle.cjc_check_rules.specs.CapRead.declared.tree.ClassEntry.{ClassEntry}
 use Rattle.cjc_card_semantics.specs.Machine.Classes.{class_of, external, depth, info_count}
 use Rattle.cjc_card_semantics.specs.Machine.Loaded.{Loaded}
 use Rattle.cjc_card_semantics.specs.Machine.Dispatch.{Tower, Exported, Table, above, exported_line, tower, tower_from}

@@ -2,32 +2,37 @@
 use Rattle.std.proofs.Common.{◌≡◌, ℕ, ◌+◌, ◌*◌, List, [], ◌∷◌, length, refl, ap, ◌∙◌, arith, length-append}
 use Rattle.std.specs.Prelude.{Option, Some, None, flat_map, sum_by}
 use Rattle.std.proofs.lemmas.List.Sums.{sum_by-cons}
-use Rattle.cjc_capread.specs.declared.tree.Header.{Header}
-use Rattle.cjc_capread.specs.declared.tree.Applet.{Applet}
-use Rattle.cjc_capread.specs.declared.tree.Import.{Import}
-use Rattle.cjc_capread.specs.declared.tree.ConstantPool.{ConstantPool}
-use Rattle.cjc_capread.specs.declared.tree.ClassEntry.{ClassEntry}
-use Rattle.cjc_capread.specs.declared.tree.ClassInfo.{ClassInfo}
-use Rattle.cjc_capread.specs.declared.tree.Method.{Method}
-use Rattle.cjc_capread.specs.declared.tree.StaticField.{StaticField}
-use Rattle.cjc_capread.specs.declared.tree.ReferenceLocation.{ReferenceLocation}
-use Rattle.cjc_capread.specs.declared.tree.Export.{Export}
-use Rattle.cjc_capread.specs.declared.tree.TypeDescriptor.{TypeDescriptor}
-use Rattle.cjc_capread.specs.declared.tree.Descriptor.{Descriptor}
-use Rattle.cjc_capwrite.specs.Package.{header_bytes, applet_entry_bytes, applet_bytes, imported_package_bytes}
-use Rattle.cjc_capwrite.specs.Package.{import_bytes}
-use Rattle.cjc_capwrite.specs.Pool.{pool_bytes}
-use Rattle.cjc_capwrite.specs.Class.{interface_bytes, implemented_bytes, class_entry_bytes, class_info_bytes}
-use Rattle.cjc_capwrite.specs.Method.{method_bytes}
-use Rattle.cjc_capwrite.specs.Statics.{array_init_bytes, static_field_bytes, reference_location_bytes}
-use Rattle.cjc_capwrite.specs.Export.{exported_class_bytes, export_bytes}
-use Rattle.cjc_capwrite.specs.Descriptor.{class_descriptor_bytes, type_bytes, types_bytes, descriptor_bytes}
-use Rattle.cjc_capwrite.specs.Files.{part}
-use Rattle.cjc_capwrite.proofs.Lengths.{header_length, applet_entry_length, applet_length, imported_package_length}
-use Rattle.cjc_capwrite.proofs.Lengths.{import_length, pool_length, interface_length, implemented_length}
-use Rattle.cjc_capwrite.proofs.Lengths.{class_entry_length, class_info_length, method_length, array_init_length}
-use Rattle.cjc_capwrite.proofs.Lengths.{static_field_length, locations_length, exported_class_length, export_length}
-use Rattle.cjc_capwrite.proofs.Lengths.{class_descriptor_length, type_length, types_length, descriptor_length}
+use Rattle.cjc_check_rules.specs.CapRead.declared.tree.Header.{Header}
+use Rattle.cjc_check_rules.specs.CapRead.declared.tree.Applet.{Applet}
+use Rattle.cjc_check_rules.specs.CapRead.declared.tree.Import.{Import}
+use Rattle.cjc_check_rules.specs.CapRead.declared.tree.ConstantPool.{ConstantPool}
+use Rattle.cjc_check_rules.specs.CapRead.declared.tree.ClassEntry.{ClassEntry}
+use Rattle.cjc_check_rules.specs.CapRead.declared.tree.ClassInfo.{ClassInfo}
+use Rattle.cjc_check_rules.specs.CapRead.declared.tree.Method.{Method}
+use Rattle.cjc_check_rules.specs.CapRead.declared.tree.StaticField.{StaticField}
+use Rattle.cjc_check_rules.specs.CapRead.declared.tree.ReferenceLocation.{ReferenceLocation}
+use Rattle.cjc_check_rules.specs.CapRead.declared.tree.Export.{Export}
+use Rattle.cjc_check_rules.specs.CapRead.declared.tree.TypeDescriptor.{TypeDescriptor}
+use Rattle.cjc_check_rules.specs.CapRead.declared.tree.Descriptor.{Descriptor}
+use Rattle.cjc_components.specs.CapWrite.Package.{header_bytes, applet_entry_bytes, applet_bytes}
+use Rattle.cjc_components.specs.CapWrite.Package.{imported_package_bytes}
+use Rattle.cjc_components.specs.CapWrite.Package.{import_bytes}
+use Rattle.cjc_components.specs.CapWrite.Pool.{pool_bytes}
+use Rattle.cjc_components.specs.CapWrite.Class.{interface_bytes, implemented_bytes, class_entry_bytes, class_info_bytes}
+use Rattle.cjc_components.specs.CapWrite.Method.{method_bytes}
+use Rattle.cjc_components.specs.CapWrite.Statics.{array_init_bytes, static_field_bytes, reference_location_bytes}
+use Rattle.cjc_components.specs.CapWrite.Export.{exported_class_bytes, export_bytes}
+use Rattle.cjc_components.specs.CapWrite.Descriptor.{class_descriptor_bytes, type_bytes, types_bytes, descriptor_bytes}
+use Rattle.cjc_components.specs.CapWrite.Files.{part}
+use Rattle.cjc_components.proofs.CapWrite.Lengths.{header_length, applet_entry_length, applet_length}
+use Rattle.cjc_components.proofs.CapWrite.Lengths.{imported_package_length}
+use Rattle.cjc_components.proofs.CapWrite.Lengths.{import_length, pool_length, interface_length, implemented_length}
+use Rattle.cjc_components.proofs.CapWrite.Lengths.{class_entry_length, class_info_length, method_length}
+use Rattle.cjc_components.proofs.CapWrite.Lengths.{array_init_length}
+use Rattle.cjc_components.proofs.CapWrite.Lengths.{static_field_length, locations_length, exported_class_length}
+use Rattle.cjc_components.proofs.CapWrite.Lengths.{export_length}
+use Rattle.cjc_components.proofs.CapWrite.Lengths.{class_descriptor_length, type_length, types_length}
+use Rattle.cjc_components.proofs.CapWrite.Lengths.{descriptor_length}
 use Rattle.cjc_check_rules.specs.Complete.{applet_size, package_size, interface_size, map_size, class_size, array_size}
 use Rattle.cjc_check_rules.specs.Complete.{exported_size, described_size, type_size, header_size, applets_size}
 use Rattle.cjc_check_rules.specs.Complete.{import_size, pool_size, class_info_size, method_size, statics_size}

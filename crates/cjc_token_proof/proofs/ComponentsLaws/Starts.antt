@@ -5,8 +5,8 @@ use Rattle.std.specs.Prelude.{Some, map, slice_get, sum_by, position, option_and
 use Rattle.std.specs.Str.{bytes_eq}
 use Rattle.std.proofs.lemmas.List.{length-map}
 use Rattle.std.proofs.lemmas.List.Sums.{sum_by-cons}
-use Rattle.cjc_capread.specs.declared.tree.ClassRef.{ClassRef}
-use Rattle.cjc_capread.specs.declared.tree.ClassRef.TheVariants.{Inside}
+use Rattle.cjc_check_rules.specs.CapRead.declared.tree.ClassRef.{ClassRef}
+use Rattle.cjc_check_rules.specs.CapRead.declared.tree.ClassRef.TheVariants.{Inside}
 use Rattle.cjc_card_semantics.specs.Machine.Classes.{Own, external_from, or_else}
 use Rattle.cjc_check_rules.specs.Spots.{placed, starts}
 use Rattle.cjc_check_rules.specs.Complete.{interface_size, class_size, map_size}

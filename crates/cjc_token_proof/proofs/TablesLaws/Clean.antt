@@ -8,7 +8,7 @@ use Rattle.cjc_bytes.specs.Breaks.{broken_at, list_spot}
 use Rattle.cjc_bytes.specs.declared.order.FileKey.{FileKey}
 use Rattle.cjc_bytes.specs.declared.order.FileKey.TheVariants as keys
 use Rattle.cjc_bytes.specs.declared.settings.FileLine.{FileLine}
-use Rattle.cjc_classfile.specs.declared.tree.ClassTree.{ClassTree}
+use Rattle.cjc_world.specs.ClassFile.declared.tree.ClassTree.{ClassTree}
 use Rattle.cjc_export.specs.declared.tree.ExportTree.{ExportTree}
 use Rattle.cjc_vtable.proofs.Filed.{Every, every-append, Has, at_front, behind}
 use Rattle.cjc_world.specs.Files.{Files}

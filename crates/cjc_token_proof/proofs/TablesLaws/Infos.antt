@@ -8,9 +8,9 @@ use Rattle.std.proofs.lemmas.Bool.{eqb-true}
 use Rattle.std.proofs.lemmas.Bool.Decides.{nat_tests}
 use Rattle.std.proofs.lemmas.List.Sums.{sum_by-cons}
 use Rattle.std.proofs.lemmas.Option.{slice_get-map}
-use Rattle.cjc_capread.specs.declared.tree.ClassEntry.{ClassEntry}
-use Rattle.cjc_capread.specs.declared.tree.ImplementedInterface.{ImplementedInterface}
-use Rattle.cjc_capread.specs.declared.tree.InterfaceEntry.{InterfaceEntry}
+use Rattle.cjc_check_rules.specs.CapRead.declared.tree.ClassEntry.{ClassEntry}
+use Rattle.cjc_check_rules.specs.CapRead.declared.tree.ImplementedInterface.{ImplementedInterface}
+use Rattle.cjc_check_rules.specs.CapRead.declared.tree.InterfaceEntry.{InterfaceEntry}
 use Rattle.cjc_card_semantics.specs.Machine.Classes.{Info, IsInterface, IsClass, info_of, info_size, infos, map_sizes}
 use Rattle.cjc_card_semantics.specs.Machine.Classes.{number_from, number_named, offset_from}
 use Rattle.cjc_card_semantics.specs.Machine.Loaded.{ClassNames}

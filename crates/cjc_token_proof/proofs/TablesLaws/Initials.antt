@@ -6,10 +6,10 @@ use Rattle.std.specs.Prelude.{option_map, if◌then◌else◌}
 use Rattle.std.proofs.lemmas.List.{map-append}
 use Rattle.std.proofs.lemmas.Option.{slice_get-map, slice_get_within}
 use Rattle.cjc_bytes.specs.declared.fault.MemberId.{MemberId}
-use Rattle.cjc_classfile.specs.declared.tree.ClassTree.{ClassTree}
-use Rattle.cjc_classfile.specs.declared.tree.FieldTree.{FieldTree}
-use Rattle.cjc_classfile.specs.declared.tree.MethodTree.{MethodTree}
-use Rattle.cjc_code.specs.declared.method_code.MethodCode.{MethodCode}
+use Rattle.cjc_world.specs.ClassFile.declared.tree.ClassTree.{ClassTree}
+use Rattle.cjc_world.specs.ClassFile.declared.tree.FieldTree.{FieldTree}
+use Rattle.cjc_world.specs.ClassFile.declared.tree.MethodTree.{MethodTree}
+use Rattle.cjc_ncode.specs.Bytecode.declared.method_code.MethodCode.{MethodCode}
 use Rattle.cjc_world.specs.declared.image.ArrayCell.{ArrayCell}
 use Rattle.cjc_clinit.specs.declared.stage.Held.{Held}
 use Rattle.cjc_clinit.specs.declared.stage.Held.TheVariants as held
@@ -195,7 +195,9 @@ module _ (list : List ℕ) (p : Package) (sound : IsSound list p.files) where
       let n = code.class in
       let is_class = class_of_code (slice_get classes n) code.method c is in
       let nothing = free 0 code c refl is in
-      let free_later = λ (i : ℕ) (a : MethodCode) (d : ClassTree) (e : slice_get more i ≡ Some a) (f : initialised p.files a ≡ Some d). set_other before n a.class fields (λ same. (let s = once 0 (suc i) code a c d refl e is f same in omega (arith, s))) ∙ free (suc i) a d e f in
+      let free_later = λ (i : ℕ) (a : MethodCode) (d : ClassTree) (e : slice_get more i ≡ Some a)
+      (f : initialised p.files a ≡ Some d). set_other before n a.class fields (λ same. (let s = once 0
+      (suc i) code a c d refl e is f same in omega (arith, s))) ∙ free (suc i) a d e f in
       let later = all_made (slice_set before n fields) after more made rest (λ i j a b c d e f g h k.
       (let s = once (suc i) (suc j) a b c d e f g h k in omega (arith, s))) free_later in
       subst (Made before after) (sym (map-append (λ (a : ArrayCell). a.field) (arrays_of c puts) made))

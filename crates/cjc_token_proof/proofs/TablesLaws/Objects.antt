@@ -9,8 +9,8 @@ use Rattle.std.proofs.lemmas.Grind.{flat_map-append, reverse_onto}
 use Rattle.std.proofs.lemmas.List.Folds.{list_any-append}
 use Rattle.cjc_bytes.specs.AccessFlags.{is_abstract, is_static, is_interface}
 use Rattle.cjc_bytes.specs.declared.fault.MemberId.{MemberId}
-use Rattle.cjc_classfile.specs.declared.tree.ClassTree.{ClassTree}
-use Rattle.cjc_classfile.specs.declared.tree.FieldTree.{FieldTree}
+use Rattle.cjc_world.specs.ClassFile.declared.tree.ClassTree.{ClassTree}
+use Rattle.cjc_world.specs.ClassFile.declared.tree.FieldTree.{FieldTree}
 use Rattle.cjc_card_semantics.specs.Machine.Classes.{Class as CardClass, Info, IsInterface, IsClass, Own, External}
 use Rattle.cjc_card_semantics.specs.Machine.Classes.{class_of, depth, info_of, info_size, infos, offset_from}
 use Rattle.cjc_card_semantics.specs.Machine.Classes.{superclass as superclass_on_card, superclass_by}

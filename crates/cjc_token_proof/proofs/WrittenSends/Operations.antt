@@ -18,19 +18,19 @@ use Rattle.cjc_token_proof.proofs.ByToken.Members.{bytes_same, member_tells}
 use Rattle.cjc_token_proof.specs.ByToken.Cells.{fields, is_one_of, letter, letter_by, may_access, same_letter}
 use Rattle.cjc_token_proof.specs.ByToken.Supers.{HasShape, has_class}
 use Rattle.cjc_card_semantics.specs.Machine.ByToken.{letter_of}
-use Rattle.cjc_code.specs.declared.insn.JInsn.{JInsn}
-use Rattle.cjc_code.specs.declared.insn.JOp.{JOp}
-use Rattle.cjc_code.specs.declared.insn.JOp.TheVariants as jop
-use Rattle.cjc_code.specs.declared.method_code.MethodCode.{MethodCode}
+use Rattle.cjc_ncode.specs.Bytecode.declared.insn.JInsn.{JInsn}
+use Rattle.cjc_ncode.specs.Bytecode.declared.insn.JOp.{JOp}
+use Rattle.cjc_ncode.specs.Bytecode.declared.insn.JOp.TheVariants as jop
+use Rattle.cjc_ncode.specs.Bytecode.declared.method_code.MethodCode.{MethodCode}
 use Rattle.cjc_components.specs.Methods.{first_method, method_size, placed_at, placed_from, placed_methods}
 use Rattle.cjc_components.specs.Package.{LaidMethod, Package, pool, world}
 use Rattle.cjc_components.specs.Written.{IsPackage, code_by}
-use Rattle.cjc_list.specs.Listed.{ListTree}
+use Rattle.cjc_components.specs.List.Listed.{ListTree}
 use Rattle.cjc_ncode.specs.Lowering.Agreement.{IsAmong, IsKnownCall}
 use Rattle.cjc_ncode.specs.Lowering.Placed.{Placed}
-use Rattle.cjc_narrow.specs.Rows.Resolved.{by_owner, constant_named, field_found, resolution, resolved_field}
-use Rattle.cjc_narrow.specs.Rows.Resolved.{special_by}
-use Rattle.cjc_narrow.specs.Rows.Selected.{near_fields}
+use Rattle.cjc_components.specs.Narrow.Rows.Resolved.{by_owner, constant_named, field_found, resolution, resolved_field}
+use Rattle.cjc_components.specs.Narrow.Rows.Resolved.{special_by}
+use Rattle.cjc_components.specs.Narrow.Rows.Selected.{near_fields}
 use Rattle.cjc_ncode.specs.ByLabel.{Callee, Fixed, OnInterface, OnObject, OnSuper, Resolved, jumping, making, operation}
 use Rattle.cjc_ncode.specs.ByLabel.{plain, switching, testing}
 use Rattle.cjc_ncode.specs.ByLabel as label
@@ -46,7 +46,7 @@ use Rattle.cjc_ncode.specs.declared.narrow.PoolKey.TheVariants as keys
 use Rattle.cjc_script.specs.Sorts.{Element, Sort, Boolean, Byte, Short, Int, Reference, NoValue, Shape, OfClass}
 use Rattle.cjc_script.specs.Sorts.{OfNumbers, OfReferences, Booleans, Bytes, Shorts, Ints, field_sort, shape_named}
 use Rattle.cjc_token_proof.specs.Tables.Known.{may_name, order_of}
-use Rattle.cjc_range.specs.Words.{low_word}
+use Rattle.cjc_card_semantics.specs.Range.Words.{low_word}
 use Rattle.cjc_world.specs.Classes.{Class}
 use Rattle.cjc_token_proof.specs.WrittenCalls.Calls.{IsNamed, TakesWords}
 use Rattle.cjc_token_proof.specs.WrittenSends.Named.{CallsAreNamed, IsTypeThere, NamesWhatIsThere}

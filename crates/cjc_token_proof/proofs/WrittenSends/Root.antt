@@ -16,7 +16,8 @@ use Rattle.cjc_vtable.proofs.Filed.{IsFiled, filed, in_class_file, in_export_fil
 use Rattle.cjc_world.proofs.Rising.{first-append}
 use Rattle.cjc_world.specs.Classes.{Class, class_named, declared, imported}
 use Rattle.cjc_world.specs.Lookup.{first, object, or_else}
-use Rattle.cjc_world.specs.Supertypes.{AreSupertypes, Lists, Supertypes, after, ends, foremost, known_here, line, stands}
+use Rattle.cjc_world.specs.Supertypes.{AreSupertypes, Lists, Supertypes, after, ends, foremost, known_here, line}
+use Rattle.cjc_world.specs.Supertypes.{stands}
 use Rattle.cjc_world.specs.Supertypes.{supertypes, unknown_here, upwards}
 use Rattle.cjc_world.specs.declared.found.Found.{Found}
 

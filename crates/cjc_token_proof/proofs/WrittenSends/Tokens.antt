@@ -8,8 +8,8 @@ use Rattle.std.proofs.lemmas.List.{length-map}
 use Rattle.cjc_bytes.specs.AccessFlags.{is_interface, is_private, is_static}
 use Rattle.cjc_card_semantics.specs.Machine.Calls.{Described, described_token}
 use Rattle.cjc_card_semantics.specs.Machine.Dispatch.{Hidden, Open, Token}
-use Rattle.cjc_classfile.specs.declared.tree.ClassTree.{ClassTree}
-use Rattle.cjc_classfile.specs.declared.tree.FieldTree.{FieldTree}
+use Rattle.cjc_world.specs.ClassFile.declared.tree.ClassTree.{ClassTree}
+use Rattle.cjc_world.specs.ClassFile.declared.tree.FieldTree.{FieldTree}
 use Rattle.cjc_components.specs.Descriptor.{method_descriptor}
 use Rattle.cjc_components.specs.Package.{Package, has_applets, tokens, world}
 use Rattle.cjc_token_proof.specs.Tables.Sound.{IsSound}

@@ -6,17 +6,17 @@ use Rattle.cjc_bytes.specs.Spots.{desc_of}
 use Rattle.cjc_bytes.specs.declared.settings.FileLine.{FileLine}
 use Rattle.cjc_export.specs.declared.tree.ExportClass.{ExportClass}
 use Rattle.cjc_card_semantics.specs.Machine.ByToken.{letter_of}
-use Rattle.cjc_classfile.specs.declared.tree.ClassTree.{ClassTree}
-use Rattle.cjc_classfile.specs.declared.tree.FieldTree.{FieldTree}
+use Rattle.cjc_world.specs.ClassFile.declared.tree.ClassTree.{ClassTree}
+use Rattle.cjc_world.specs.ClassFile.declared.tree.FieldTree.{FieldTree}
 use Rattle.cjc_script.specs.Sorts.{field_sort}
 use Rattle.cjc_tokens.specs.Fields.{is_reference}
 use Rattle.cjc_token_proof.specs.ByToken.Objects.{is_reference as is_reference_sort}
-use Rattle.cjc_subset.specs.Members.{imports}
+use Rattle.cjc_vtable.specs.Subset.Members.{imports}
 use Rattle.cjc_world.specs.Subtype.{starts}
 use Rattle.cjc_world.specs.Files.{Files}
 use Rattle.cjc_world.specs.Rules.{breaks}
 use Rattle.cjc_vtable.specs.Kept.{AreRead}
-use Rattle.cjc_order.specs.Classes.Numbers.{class_count}
+use Rattle.cjc_vtable.specs.ClassOrder.Classes.Numbers.{class_count}
 
 -- how many lines name export files
 abbrev pub export_count : List FileLine → ℕ

@@ -5,8 +5,8 @@ use Rattle.std.specs.Prelude.{◌⊎◌, ◌&&◌, not, codes, Some, option_map,
 use Rattle.std.specs.Str.{bytes_eq}
 use Rattle.cjc_bytes.specs.AccessFlags.{is_abstract, is_interface, is_private, is_static}
 use Rattle.cjc_bytes.specs.declared.fault.MemberId.{MemberId}
-use Rattle.cjc_classfile.specs.declared.tree.ClassTree.{ClassTree}
-use Rattle.cjc_classfile.specs.declared.tree.MethodTree.{MethodTree}
+use Rattle.cjc_world.specs.ClassFile.declared.tree.ClassTree.{ClassTree}
+use Rattle.cjc_world.specs.ClassFile.declared.tree.MethodTree.{MethodTree}
 use Rattle.cjc_world.specs.declared.found.Found.{Found}
 use Rattle.cjc_world.specs.Classes.{Class, Member, all_classes, class_named, declared, method_of_class}
 use Rattle.cjc_world.specs.Files.{Files}

@@ -10,9 +10,9 @@ use Rattle.std.specs.List.{position, position_or_len}
 use Rattle.std.specs.Str.{bytes_eq}
 use Rattle.cjc_bytes.specs.declared.fault.MemberId.{MemberId}
 use Rattle.cjc_bytes.specs.AccessFlags.{is_static}
-use Rattle.cjc_classfile.specs.declared.tree.ClassTree.{ClassTree}
-use Rattle.cjc_classfile.specs.declared.tree.FieldTree.{FieldTree}
-use Rattle.cjc_export.specs.Members.{may_be_constant}
+use Rattle.cjc_world.specs.ClassFile.declared.tree.ClassTree.{ClassTree}
+use Rattle.cjc_world.specs.ClassFile.declared.tree.FieldTree.{FieldTree}
+use Rattle.cjc_world.specs.ExportFile.Members.{may_be_constant}
 use Rattle.cjc_world.specs.declared.found.Found.{Found}
 use Rattle.cjc_world.specs.declared.image.StaticImage.{StaticImage}
 use Rattle.cjc_world.specs.Files.{Files}
@@ -20,7 +20,7 @@ use Rattle.cjc_world.specs.Classes.{Class, Member, all_classes, class_at, class_
 use Rattle.cjc_world.specs.Supertypes.{Supertypes, supertypes_within, in_a_row, supertypes, known_as}
 use Rattle.cjc_world.specs.Lookup.{field_in, find_field, is_called, member_at, or_else, own_field}
 use Rattle.cjc_world.proofs.Settled.{bytes-true}
-use Rattle.cjc_tokens.proofs.Supers.{class_at-number}
+use Rattle.cjc_vtable.proofs.Tokens.Supers.{class_at-number}
 use Rattle.cjc_vtable.proofs.Numbers.{named-number}
 use Rattle.cjc_jvm_semantics.specs.Linked.{Static, Instance}
 use Rattle.cjc_jvm_semantics.specs.OnePackage.{ResolvedMember, constant_at, constant_in, field_by, field_hit}

@@ -11,16 +11,17 @@ use Rattle.cjc_bytes.specs.declared.fault.MemberId.{MemberId}
 use Rattle.cjc_bytes.specs.declared.descriptor.Kind.{Kind}
 use Rattle.cjc_bytes.specs.declared.descriptor.Kind.TheVariants as kinds
 use Rattle.cjc_bytes.specs.Spots.{after, bad_at, types_from, parts_of, desc_of}
-use Rattle.cjc_range.specs.Words.{low_word, low_byte}
-use Rattle.cjc_range.proofs.WordsLaws.Words.{fits16, low_byte_fixed, low_word_fixed}
-use Rattle.cjc_code.specs.declared.insn.JInsn.{JInsn}
-use Rattle.cjc_code.specs.declared.insn.JOp.{JOp}
-use Rattle.cjc_code.specs.declared.insn.JOp.TheVariants as jop
-use Rattle.cjc_script.specs.declared.value.Value.{Value}
-use Rattle.cjc_script.specs.declared.value.Value.TheVariants.{Num, Null, Obj}
-use Rattle.cjc_script.specs.declared.report.Thing.{Thing}
-use Rattle.cjc_script.specs.declared.report.Thing.TheVariants.{Array}
-use Rattle.cjc_script.specs.Sorts.{Element, Booleans, Bytes, Shorts, Ints, OfNumbers, array_name, array_of, shape_named}
+use Rattle.cjc_vtable.specs.Range.Words.{low_word, low_byte}
+use Rattle.cjc_vtable.proofs.Range.WordsLaws.Words.{fits16, low_byte_fixed, low_word_fixed}
+use Rattle.cjc_jvm_semantics.specs.Bytecode.declared.insn.JInsn.{JInsn}
+use Rattle.cjc_jvm_semantics.specs.Bytecode.declared.insn.JOp.{JOp}
+use Rattle.cjc_jvm_semantics.specs.Bytecode.declared.insn.JOp.TheVariants as jop
+use Rattle.cjc_jvm_semantics.specs.Script.declared.value.Value.{Value}
+use Rattle.cjc_jvm_semantics.specs.Script.declared.value.Value.TheVariants.{Num, Null, Obj}
+use Rattle.cjc_jvm_semantics.specs.Script.declared.report.Thing.{Thing}
+use Rattle.cjc_jvm_semantics.specs.Script.declared.report.Thing.TheVariants.{Array}
+use Rattle.cjc_jvm_semantics.specs.Script.Sorts.{Element, Booleans, Bytes, Shorts, Ints, OfNumbers, array_name}
+use Rattle.cjc_jvm_semantics.specs.Script.Sorts.{array_of, shape_named}
 use Rattle.cjc_jvm_semantics.specs.Effects.{Go, Store, effect, values_with, value_in, is_same_kind, only_if, with_some}
 use Rattle.cjc_jvm_semantics.specs.Effects.{element_of, cut, stores, serves, of_references, is_kind}
 use Rattle.cjc_jvm_semantics.specs.Effects.{array_in as with_array, item_at, item_if, with_new_numbers}
@@ -29,7 +30,7 @@ use Rattle.cjc_jvm_semantics.specs.Linked.{Linked, Method, Static}
 use Rattle.cjc_jvm_semantics.specs.OnePackage.{static_array, array_desc}
 use Rattle.cjc_clinit.specs.Fields.{Contents, fits, lies_in}
 use Rattle.cjc_clinit.specs.Image.{array_in}
-use Rattle.cjc_code.specs.Jvm.{dup}
+use Rattle.cjc_jvm_semantics.specs.Bytecode.Jvm.{dup}
 use Rattle.cjc_clinit.specs.Initialiser.{element_kind, store, ops_of, Stores, Makes}
 use Rattle.cjc_clinit.specs.Initialiser.Stores.{none, one}
 use Rattle.cjc_clinit.specs.Initialiser.Makes.{of_number, of_null, of_array}

@@ -11,18 +11,19 @@ use Rattle.cjc_bytes.specs.declared.order.FileKey.{FileKey}
 use Rattle.cjc_bytes.specs.declared.order.FileKey.TheVariants as keys
 use Rattle.cjc_bytes.specs.declared.settings.FileLine.{FileLine}
 use Rattle.cjc_bytes.specs.declared.settings.Settings.{Settings}
-use Rattle.cjc_classfile.specs.declared.tree.ClassTree.{ClassTree}
-use Rattle.cjc_classfile.specs.declared.tree.FieldTree.{FieldTree}
-use Rattle.cjc_classfile.specs.declared.tree.MethodTree.{MethodTree}
-use Rattle.cjc_code.specs.declared.method_code.MethodCode.{MethodCode}
-use Rattle.cjc_export.specs.declared.tree.ExportTree.{ExportTree}
-use Rattle.cjc_subset.specs.Checks.{check_breaks, class_breaks, code_breaks, field_breaks, list_breaks, method_breaks}
-use Rattle.cjc_subset.specs.Checks.{own_breaks}
-use Rattle.cjc_subset.specs.Flags.{is_unfit_field, is_unfit_method}
-use Rattle.cjc_subset.specs.Limits.{has_deep_stack, has_many_locals}
-use Rattle.cjc_subset.specs.Overriding.{supertype_breaks, lacks_code, overriding_breaks}
-use Rattle.cjc_subset.specs.Places.{at_class, at_field, at_method}
-use Rattle.cjc_subset.specs.Types.{is_unsupported_desc, is_int_desc}
+use Rattle.cjc_world.specs.ClassFile.declared.tree.ClassTree.{ClassTree}
+use Rattle.cjc_world.specs.ClassFile.declared.tree.FieldTree.{FieldTree}
+use Rattle.cjc_world.specs.ClassFile.declared.tree.MethodTree.{MethodTree}
+use Rattle.cjc_jvm_semantics.specs.Bytecode.declared.method_code.MethodCode.{MethodCode}
+use Rattle.cjc_world.specs.ExportFile.declared.tree.ExportTree.{ExportTree}
+use Rattle.cjc_vtable.specs.Subset.Checks.{check_breaks, class_breaks, code_breaks, field_breaks, list_breaks}
+use Rattle.cjc_vtable.specs.Subset.Checks.{method_breaks}
+use Rattle.cjc_vtable.specs.Subset.Checks.{own_breaks}
+use Rattle.cjc_vtable.specs.Subset.Flags.{is_unfit_field, is_unfit_method}
+use Rattle.cjc_vtable.specs.Subset.Limits.{has_deep_stack, has_many_locals}
+use Rattle.cjc_vtable.specs.Subset.Overriding.{supertype_breaks, lacks_code, overriding_breaks}
+use Rattle.cjc_vtable.specs.Subset.Places.{at_class, at_field, at_method}
+use Rattle.cjc_vtable.specs.Subset.Types.{is_unsupported_desc, is_int_desc}
 use Rattle.cjc_vtable.proofs.Filed.{Every, every-append, every-named}
 use Rattle.cjc_world.specs.Classes.{Class, all_classes, class_named, classes_from, declared, imported, numbered}
 use Rattle.cjc_world.specs.Classes.{of_class_file, of_export_file, size}

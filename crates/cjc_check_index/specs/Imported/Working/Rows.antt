@@ -2,7 +2,7 @@
 use Rattle.std.specs.Prelude.{ℕ, ◌==◌, ◌&&◌, ◌||◌, not, List, map, get_or, set, Bool, true, false, if◌then◌else◌}
 use Rattle.std.specs.Prelude.{is_none}
 use Rattle.std.specs.List.{list_any}
-use Rattle.cjc_bytes.specs.AccessFlags.{is_static}
+use Rattle.cjc_export.specs.Bytes.AccessFlags.{is_static}
 use Rattle.cjc_export.specs.declared.tree.ExportClass.{ExportClass}
 use Rattle.cjc_export.specs.declared.tree.ExportField.{ExportField}
 use Rattle.cjc_export.specs.declared.tree.ExportMethod.{ExportMethod}

@@ -2,10 +2,10 @@ use Rattle.std.proofs.Common.{◌≡◌, ℕ, ◌+◌, refl, sym, ap, ◌∙◌,
 use Rattle.std.specs.Prelude.{if◌then◌else◌, Some, is_some, map, slice_get, unwrap_or}
 use Rattle.cjc_capread.specs.declared.tree.ClassRef.{ClassRef}
 use Rattle.cjc_capread.specs.declared.tree.FieldPlace.TheVariants as places
-use Rattle.cjc_clinit.specs.Image.{field_id}
+use Rattle.cjc_components.specs.Clinit.Image.{field_id}
 use Rattle.cjc_world.specs.Lookup.{member_at}
 use Rattle.cjc_components.specs.Statics.{cell_offset}
-use Rattle.cjc_classfile.specs.declared.tree.FieldTree.{FieldTree}
+use Rattle.cjc_world.specs.ClassFile.declared.tree.FieldTree.{FieldTree}
 use Rattle.cjc_bytes.specs.AccessFlags.{is_static}
 use Rattle.cjc_check_rules.specs.Spots.{along, in_info}
 use Rattle.cjc_check_rules.specs.Complete.{interface_size, class_size, described_size, type_size, map_size}

@@ -1,6 +1,6 @@
 use Rattle.cjc_ncode.specs.Written.{place_in, reached}
-use Rattle.cjc_narrow.specs.Rows.Resolved.{resolution}
-use Rattle.cjc_narrow.specs.Written.Rows.{rows_by}
+use Rattle.cjc_components.specs.Narrow.Rows.Resolved.{resolution}
+use Rattle.cjc_components.specs.Narrow.Written.Rows.{rows_by}
 use Rattle.cjc_check_proof.proofs.PromisesLaws.KeyKinds.{code_has_kinds}
 use Rattle.cjc_check_proof.proofs.promises.selected_keys_have_kinds.Goals as goal
 

@@ -3,7 +3,7 @@ use Rattle.std.specs.Prelude.{Ok, option_map}
 use Rattle.cjc_bytes.specs.Breaks.{each}
 use Rattle.cjc_bytes.specs.Told.{break_of}
 use Rattle.cjc_bytes.proofs.Firsts.{each_none, each_more, each_all}
-use Rattle.cjc_code.specs.declared.method_code.MethodCode.{MethodCode}
+use Rattle.cjc_subset.specs.Bytecode.declared.method_code.MethodCode.{MethodCode}
 use Rattle.cjc_clinit.specs.Working.Reading.{after_code, after_codes, code_breaks, puts}
 use Rattle.cjc_clinit.proofs.Effects.{joining, mapped}
 use Rattle.cjc_clinit.proofs.Walks.{codes-next, codes-end}
@@ -26,7 +26,9 @@ loop-code-preserved c =
           c.loop-code-test.true c.code-item.is all,
       joining break_of (each (λ _ code. code_breaks w code) (take i codes)) (code_breaks w x) c.loop-code.least
           c.in_ok-broken.broken c.first-least.result _ _ _ c.loop-code.invariant.0 c.in_ok-broken.ensures.first all
-          (λ (p : after_codes w before (drop i codes) ≡ after_codes w (puts c.args.rows.now c.args.arrays.now) codes) (q : after_code w before x ≡ Ok later). sym (codes-next w codes i x before (Ok later) c.loop-code-test.true c.code-item.is q) ∙ p)
+          (λ (p : after_codes w before (drop i codes) ≡ after_codes w (puts c.args.rows.now c.args.arrays.now) codes)
+          (q : after_code w before x ≡ Ok later). sym (codes-next w codes i x before
+          (Ok later) c.loop-code-test.true c.code-item.is q) ∙ p)
           c.loop-code.invariant.1 c.in_ok-broken.ensures.puts,
     )
 
@@ -39,4 +41,6 @@ returns-clause-puts c =
     let w = c.args.world.now in
     let codes = c.args.codes.now in
     let now = puts c.loop-code.rows c.loop-code.arrays in
-    mapped c.loop-code.least _ _ (λ (p : after_codes w now (drop c.loop-code.code-index codes) ≡ after_codes w (puts c.args.rows.now c.args.arrays.now) codes). sym p ∙ codes-end w codes c.loop-code.code-index now c.loop-code-test.false) c.loop-code.invariant.1
+    mapped c.loop-code.least _ _ (λ (p : after_codes w now (drop c.loop-code.code-index codes) ≡ after_codes w
+    (puts c.args.rows.now c.args.arrays.now) codes). sym p
+    ∙ codes-end w codes c.loop-code.code-index now c.loop-code-test.false) c.loop-code.invariant.1

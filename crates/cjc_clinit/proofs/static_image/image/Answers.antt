@@ -3,9 +3,9 @@ use Rattle.std.specs.Prelude.{Ok, option_map}
 use Rattle.std.proofs.lemmas.Result.{err_from_is_err_and}
 use Rattle.cjc_bytes.specs.Breaks.{IsFirstOf}
 use Rattle.cjc_bytes.specs.Told.{break_of}
-use Rattle.cjc_code.specs.declared.method_code.MethodCode.{MethodCode}
-use Rattle.cjc_classfile.specs.declared.tree.ClassTree.{ClassTree}
-use Rattle.cjc_world.specs.declared.image.ArrayCell.{ArrayCell}
+use Rattle.cjc_subset.specs.Bytecode.declared.method_code.MethodCode.{MethodCode}
+use Rattle.cjc_subset.specs.ClassFile.declared.tree.ClassTree.{ClassTree}
+use Rattle.cjc_subset.specs.World.declared.image.ArrayCell.{ArrayCell}
 use Rattle.cjc_clinit.specs.declared.stage.Held.{Held}
 use Rattle.cjc_clinit.specs.Initialiser.{nothing_in}
 use Rattle.cjc_clinit.specs.Working.Reading.{after_codes, image_breaks, puts}

@@ -5,12 +5,12 @@ use Rattle.cjc_bytes.specs.Reading.{front, digits, read_file}
 use Rattle.cjc_bytes.specs.Found.{each, all_of}
 use Rattle.cjc_bytes.specs.Spots.{desc_of, parts_of, bad_at, after, types_from}
 use Rattle.cjc_bytes.proofs.Laws.{file_ok}
-use Rattle.cjc_classfile.specs.Pool
-use Rattle.cjc_classfile.specs.Items
-use Rattle.cjc_classfile.specs.Members
-use Rattle.cjc_classfile.specs.CodeAttribute
-use Rattle.cjc_classfile.specs.Methods
-use Rattle.cjc_classfile.specs.ClassFile as Reader
+use Rattle.cjc_cmd_convert.specs.ClassFile.Pool
+use Rattle.cjc_cmd_convert.specs.ClassFile.Items
+use Rattle.cjc_cmd_convert.specs.ClassFile.Members
+use Rattle.cjc_cmd_convert.specs.ClassFile.CodeAttribute
+use Rattle.cjc_cmd_convert.specs.ClassFile.Methods
+use Rattle.cjc_cmd_convert.specs.ClassFile.ClassFile as Reader
 use Rattle.cjc_cmd_make.specs.Package.ClassFile.{attribute_bytes, method_bytes, file_bytes}
 use Rattle.cjc_cmd_make.specs.Package.Classes.{class_with}
 use Rattle.cjc_cmd_make.specs.Laws.ClassTrees.{class_tree}

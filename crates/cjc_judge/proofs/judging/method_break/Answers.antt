@@ -5,7 +5,7 @@ use Rattle.cjc_bytes.specs.declared.settings.FileLine.{FileLine}
 use Rattle.cjc_classfile.specs.declared.tree.ClassTree.{ClassTree}
 use Rattle.cjc_classfile.specs.declared.tree.MethodTree.{MethodTree}
 use Rattle.cjc_bytes.specs.Told.{file_place_of, spot_of}
-use Rattle.cjc_subset.specs.Places.{at_method}
+use Rattle.cjc_vtable.specs.Subset.Places.{at_method}
 use Rattle.cjc_bytes.specs.Breaks.{RulePlace, broken_at}
 use Rattle.cjc_bytes.specs.Order.{FilePlace, file_of}
 use Rattle.cjc_judge.proofs.Typed.{at_is}

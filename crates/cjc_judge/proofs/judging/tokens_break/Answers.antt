@@ -5,7 +5,7 @@ use Rattle.cjc_bytes.specs.declared.settings.FileLine.{FileLine}
 use Rattle.cjc_classfile.specs.declared.tree.ClassTree.{ClassTree}
 use Rattle.cjc_bytes.specs.Breaks.{IsFirst}
 use Rattle.cjc_bytes.specs.Told.{file_place_of, spot_of}
-use Rattle.cjc_tokens.specs.Rules.{IsFirstHigh, at_class, tested_breaks}
+use Rattle.cjc_vtable.specs.Tokens.Rules.{IsFirstHigh, at_class, tested_breaks}
 use Rattle.cjc_bytes.specs.Order.{file_of}
 use Rattle.cjc_judge.proofs.Firsts.{high_at}
 use Rattle.cjc_judge.proofs.judging.tokens_break.Goals as goal

@@ -1,6 +1,6 @@
 -- What is written of one method after the other.
 use Rattle.std.specs.Prelude.{◌≡◌, ℕ, ◌+◌, List, [], ◌∷◌, position, unwrap_or, ◌==◌, Bool, if◌then◌else◌}
-use Rattle.cjc_capread.specs.declared.tree.Handler.{Handler}
+use Rattle.cjc_ncode.specs.CapRead.declared.tree.Handler.{Handler}
 use Rattle.cjc_ncode.specs.declared.narrow.PoolKey.{PoolKey}
 use Rattle.cjc_ncode.specs.PoolOrder.{same_key}
 use Rattle.cjc_ncode.specs.Lowering.Naming.{Naming}

@@ -1,7 +1,7 @@
 -- A method by its parts, whose labels are the places of these offsets.
 use Rattle.std.specs.Prelude.{◌≡◌, ℕ, ◌-◌, Bool, List}
-use Rattle.cjc_classfile.specs.Code.{CodeTree}
-use Rattle.cjc_code.specs.declared.insn.JInsn.{JInsn}
+use Rattle.cjc_ncode.specs.ClassFile.Code.{CodeTree}
+use Rattle.cjc_ncode.specs.Bytecode.declared.insn.JInsn.{JInsn}
 use Rattle.cjc_ncode.specs.declared.narrow.NMethod.{NMethod}
 use Rattle.cjc_ncode.specs.Written.{Resolution, catches_at, reached, sources, widest_sum}
 use Rattle.cjc_narrow.specs.Written.Rows.{rows_by}

@@ -27,14 +27,14 @@ use Rattle.cjc_world_proof.proofs.InitialisersLaws.Packages.{class-there}
 use Rattle.cjc_world_proof.proofs.InitialisersLaws.Places.{place-field}
 use Rattle.cjc_world_proof.proofs.InitialisersLaws.Values.{set-other, set-same}
 use Rattle.cjc_world_proof.specs.Initialisers.Values.{StandOnce}
-use Rattle.cjc_code.specs.declared.insn.JOp.{JOp}
-use Rattle.cjc_code.specs.declared.method_code.MethodCode.{MethodCode}
+use Rattle.cjc_subset.specs.Bytecode.declared.insn.JOp.{JOp}
+use Rattle.cjc_subset.specs.Bytecode.declared.method_code.MethodCode.{MethodCode}
 use Rattle.cjc_components.specs.Descriptor.{field_descriptor, fields_from}
 use Rattle.cjc_components.specs.Class.{fields_in as class_fields, fields_of}
 use Rattle.cjc_components.specs.Package.{Package, world}
 use Rattle.cjc_components.specs.Statics.{cell_order}
 use Rattle.cjc_tokens.specs.Fields.{is_constant}
-use Rattle.cjc_order.specs.Classes.Numbers.{class_count, numbered_from}
+use Rattle.cjc_vtable.specs.ClassOrder.Classes.Numbers.{class_count, numbered_from}
 use Rattle.cjc_check_proof.specs.Limits.Premises.{CellsAreDescribed}
 use Rattle.cjc_narrow_proof.proofs.LawsLaws.Own.{class_by_name}
 use Rattle.cjc_token_proof.proofs.TablesLaws.Filed.{one_class, own_in}

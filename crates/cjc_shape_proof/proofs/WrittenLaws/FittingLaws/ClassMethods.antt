@@ -24,11 +24,11 @@ use Rattle.cjc_components.specs.Package.{Package, has_applets, world}
 use Rattle.cjc_export.specs.Members.{is_unbound, same_bool}
 use Rattle.cjc_export.specs.Writable.{EachAfter, MethodStands}
 use Rattle.cjc_export.specs.declared.tree.ExportMethod.{ExportMethod}
-use Rattle.cjc_exported.proofs.ExportLaws.Own.{IsOwn, own_class}
-use Rattle.cjc_exported.proofs.ExportLaws.Tokens.{counted}
-use Rattle.cjc_judge.specs.Rules.{settings_of}
-use Rattle.cjc_judge.specs.declared.judged.Judged.{Judged}
-use Rattle.cjc_list.specs.Listed.{ListTree}
+use Rattle.cjc_shape.proofs.Exported.ExportLaws.Own.{IsOwn, own_class}
+use Rattle.cjc_shape.proofs.Exported.ExportLaws.Tokens.{counted}
+use Rattle.cjc_shape.specs.Judge.Rules.{settings_of}
+use Rattle.cjc_shape.specs.Judge.declared.judged.Judged.{Judged}
+use Rattle.cjc_components.specs.List.Listed.{ListTree}
 use Rattle.cjc_narrow_proof.proofs.LawsLaws.Own.{class_by_name, own_kept}
 use Rattle.cjc_subset.specs.Flags.{has_two_accesses, is_unfit_method}
 use Rattle.cjc_tokens.specs.Lines.{line_at}

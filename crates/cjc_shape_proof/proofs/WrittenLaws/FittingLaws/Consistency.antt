@@ -15,10 +15,10 @@ use Rattle.cjc_components.specs.Limits.{has_far_types, has_large_component, size
 use Rattle.cjc_components.specs.Names.{class_ref}
 use Rattle.cjc_components.specs.Package.{Package, world}
 use Rattle.cjc_check_proof.proofs.LimitsLaws.Offsets.{widest_short}
-use Rattle.cjc_judge.specs.Rules.{settings_of}
-use Rattle.cjc_judge.specs.declared.judged.Judged.{Judged}
-use Rattle.cjc_list.specs.Listed.{ListTree}
-use Rattle.cjc_check_rules.specs.Complete.{class_info_size}
+use Rattle.cjc_shape.specs.Judge.Rules.{settings_of}
+use Rattle.cjc_shape.specs.Judge.declared.judged.Judged.{Judged}
+use Rattle.cjc_components.specs.List.Listed.{ListTree}
+use Rattle.cjc_components.specs.CheckRules.Complete.{class_info_size}
 use Rattle.cjc_subset.specs.Applets.{has_unfit_applets, is_applet, is_install, is_unfit_applet, is_unfit_class}
 use Rattle.cjc_subset.specs.Applets.{repeats_aid}
 use Rattle.cjc_tokens.proofs.Supers.{class_at-number}

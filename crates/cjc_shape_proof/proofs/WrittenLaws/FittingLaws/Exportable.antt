@@ -27,20 +27,20 @@ use Rattle.cjc_export.specs.Members.{as_desc}
 use Rattle.cjc_export.specs.Pool.{aid_length}
 use Rattle.cjc_export.specs.Writable.{IsText}
 use Rattle.cjc_export.specs.Written.{constants}
-use Rattle.cjc_exported.proofs.ExportLaws.Own.{IsOwn, own_class}
-use Rattle.cjc_exported.specs.Exportable.{ClassIsRead, ClassStands, ClassesStand, IsExportable, ListIsRead}
-use Rattle.cjc_judge.specs.Rules.{settings_of}
-use Rattle.cjc_judge.specs.Spelt.{IsRead}
-use Rattle.cjc_judge.specs.declared.judged.Judged.{Judged}
-use Rattle.cjc_list.specs.Listed.{ListTree}
+use Rattle.cjc_shape.proofs.Exported.ExportLaws.Own.{IsOwn, own_class}
+use Rattle.cjc_shape.specs.Exported.Exportable.{ClassIsRead, ClassStands, ClassesStand, IsExportable, ListIsRead}
+use Rattle.cjc_shape.specs.Judge.Rules.{settings_of}
+use Rattle.cjc_shape.specs.Judge.Spelt.{IsRead}
+use Rattle.cjc_shape.specs.Judge.declared.judged.Judged.{Judged}
+use Rattle.cjc_components.specs.List.Listed.{ListTree}
 use Rattle.cjc_narrow_proof.proofs.LawsLaws.Own.{own_kept}
 use Rattle.cjc_shape.proofs.PreparedLaws.Sound as Sound
-use Rattle.cjc_range.specs.Span.{Holds, full}
-use Rattle.cjc_code.proofs.ReadLaws.Members.{read_class}
-use Rattle.cjc_code.specs.ReadLaws.Members.{IsDescOf}
+use Rattle.cjc_narrow_proof.specs.Range.Span.{Holds, full}
+use Rattle.cjc_subset.proofs.Bytecode.ReadLaws.Members.{read_class}
+use Rattle.cjc_subset.specs.Bytecode.ReadLaws.Members.{IsDescOf}
 use Rattle.cjc_tokens.specs.Rules.{FewCells}
 use Rattle.cjc_vtable.proofs.Numbers.{at-tree}
-use Rattle.cjc_order.specs.Supers.Supers.{interfaces, superclasses}
+use Rattle.cjc_vtable.specs.ClassOrder.Supers.Supers.{interfaces, superclasses}
 use Rattle.cjc_world.specs.Classes.{Class, class_at, declared, field_of_class}
 use Rattle.cjc_world.specs.Rules.{is_second}
 use Rattle.cjc_shape_proof.proofs.WrittenLaws.FittingLaws.Exported.{or_second}
@@ -202,7 +202,8 @@ module _ (list : ListTree) (files : List (List ℕ)) (judged : Judged) (p : Pack
         in
         let mapped = length-map t.fields field_of_class in
         record {
-          root = ap (λ (d : Class). has_root (superclasses (world p) d)) own.is ∙ own_root list.name p.files u.listed u.world
+          root = ap (λ (d : Class). has_root (superclasses (world p) d)) own.is
+              ∙ own_root list.name p.files u.listed u.world
               (writable list files judged p is) (acyclic list files judged p is) own.number t own.is_tree;
           interfaces = omega (arith, named, kept, few, same);
           fields = omega (arith, count, fields, mapped);

@@ -10,14 +10,14 @@ use Rattle.cjc_classfile.specs.declared.tree.ClassTree.{ClassTree}
 use Rattle.cjc_export.specs.declared.tree.ExportClass.{ExportClass}
 use Rattle.cjc_export.specs.declared.tree.ExportTree.{ExportTree}
 use Rattle.cjc_components.specs.Class.{interfaces_of}
-use Rattle.cjc_order.specs.Supers.Supers.{interfaces}
+use Rattle.cjc_vtable.specs.ClassOrder.Supers.Supers.{interfaces}
 use Rattle.cjc_subset.specs.Limits.{listed_above, listed_by_declared, listed_by_imported, listed_names, noted}
 use Rattle.cjc_subset.specs.Members.{imports}
 use Rattle.cjc_narrow_proof.proofs.LawsLaws.Own.{class_by_name}
 use Rattle.cjc_world_proof.proofs.SelectionLaws.Rules.{listed_interface}
 use Rattle.cjc_token_proof.proofs.TablesLaws.Clean.{has_named}
 use Rattle.cjc_token_proof.proofs.TablesLaws.Filed.{import_filed, own_filed}
-use Rattle.cjc_order.specs.Classes.Numbers.{class_count}
+use Rattle.cjc_vtable.specs.ClassOrder.Classes.Numbers.{class_count}
 use Rattle.cjc_token_proof.specs.Tables.Sound.{export_count}
 use Rattle.cjc_world.specs.Rules.{breaks}
 use Rattle.cjc_tokens.specs.Methods.{interfaces_at}

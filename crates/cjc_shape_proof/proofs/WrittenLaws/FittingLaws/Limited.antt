@@ -7,11 +7,11 @@ use Rattle.cjc_bytes.specs.AccessFlags.{is_interface}
 use Rattle.cjc_bytes.specs.Breaks.{Break}
 use Rattle.cjc_bytes.specs.Format.{FileSpells}
 use Rattle.cjc_clinit.specs.Rules.{BreaksImage}
-use Rattle.cjc_code.specs.PackageCodes.{all_codes}
+use Rattle.cjc_subset.specs.Bytecode.PackageCodes.{all_codes}
 use Rattle.cjc_classes.specs.Descriptor.Fits.{AreFit}
 use Rattle.cjc_shape_proof.proofs.WrittenLaws.FittingLaws.Initialisers.{stand_once}
 use Rattle.cjc_classfile.specs.ClassFile.{class_file}
-use Rattle.cjc_jvm_semantics.specs.OnePackage.{method_at}
+use Rattle.cjc_world_proof.specs.JvmSemantics.OnePackage.{method_at}
 use Rattle.cjc_classfile.specs.declared.tree.ClassTree.{ClassTree}
 use Rattle.cjc_classfile.specs.declared.tree.MethodTree.{MethodTree}
 use Rattle.cjc_components.specs.Class.{interfaces_of}
@@ -24,12 +24,12 @@ use Rattle.cjc_export.specs.Writable.{IsWritable}
 use Rattle.cjc_export.specs.declared.tree.ExportTree.{ExportTree}
 use Rattle.cjc_check_proof.specs.Limits.Premises.{CellsAreDescribed, ClassIsSmall, IsLimited, ListIsShort}
 use Rattle.cjc_check_proof.specs.Limits.Premises.{MethodIsShort}
-use Rattle.cjc_judge.specs.Rules.{settings_of}
-use Rattle.cjc_judge.specs.Rules as judging
-use Rattle.cjc_judge.specs.Spelt.{FileTree, exports_of}
-use Rattle.cjc_judge.specs.declared.judged.Judged.{Judged}
+use Rattle.cjc_shape.specs.Judge.Rules.{settings_of}
+use Rattle.cjc_shape.specs.Judge.Rules as judging
+use Rattle.cjc_shape.specs.Judge.Spelt.{FileTree, exports_of}
+use Rattle.cjc_shape.specs.Judge.declared.judged.Judged.{Judged}
 use Rattle.cjc_shape.proofs.JudgedLaws.Selected.{judged_writable}
-use Rattle.cjc_list.specs.Listed.{ListTree}
+use Rattle.cjc_components.specs.List.Listed.{ListTree}
 use Rattle.cjc_narrow_proof.specs.Laws.Unbroken.{IsUnbroken}
 use Rattle.cjc_shape.proofs.PreparedLaws.Sound.{are_ready, has_tokens, is_tested, is_unbroken}
 use Rattle.cjc_shape.proofs.PreparedLaws.Sound as Sound

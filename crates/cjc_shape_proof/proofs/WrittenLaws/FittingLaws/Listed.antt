@@ -8,11 +8,11 @@ use Rattle.cjc_bytes.specs.Format.{FileSpells}
 use Rattle.cjc_bytes.specs.declared.settings.FileLine.{FileLine}
 use Rattle.cjc_classfile.specs.ClassFile.{class_file}
 use Rattle.cjc_classfile.specs.declared.tree.ClassTree.{ClassTree}
-use Rattle.cjc_judge.specs.Spelt.{FileTree, IsRead, classes_of, exports_of, of_class, of_export}
-use Rattle.cjc_judge.specs.Trees.{AllSpelt}
-use Rattle.cjc_list.specs.Grammar.{export_count, is_name}
-use Rattle.cjc_list.specs.Listed.{ListTree}
-use Rattle.cjc_list.specs.Spelling.{Spelt}
+use Rattle.cjc_shape.specs.Judge.Spelt.{FileTree, IsRead, classes_of, exports_of, of_class, of_export}
+use Rattle.cjc_shape.specs.Judge.Trees.{AllSpelt}
+use Rattle.cjc_components.specs.List.Grammar.{export_count, is_name}
+use Rattle.cjc_components.specs.List.Listed.{ListTree}
+use Rattle.cjc_components.specs.List.Spelling.{Spelt}
 
 -- ---- the list
 

@@ -19,11 +19,11 @@ use Rattle.cjc_export.specs.Members.{as_desc, is_unbound, not_special}
 use Rattle.cjc_export.specs.Writable.{ClassFits, IsText, MethodFits, MethodStands}
 use Rattle.cjc_export.specs.declared.tree.ExportClass.{ExportClass}
 use Rattle.cjc_export.specs.declared.tree.ExportMethod.{ExportMethod}
-use Rattle.cjc_judge.specs.Rules.{settings_of}
-use Rattle.cjc_judge.specs.declared.judged.Judged.{Judged}
-use Rattle.cjc_list.specs.Listed.{ListTree}
-use Rattle.cjc_code.proofs.ReadLaws.Members.{read_class}
-use Rattle.cjc_code.specs.ReadLaws.Members.{IsDescOf}
+use Rattle.cjc_shape.specs.Judge.Rules.{settings_of}
+use Rattle.cjc_shape.specs.Judge.declared.judged.Judged.{Judged}
+use Rattle.cjc_components.specs.List.Listed.{ListTree}
+use Rattle.cjc_subset.proofs.Bytecode.ReadLaws.Members.{read_class}
+use Rattle.cjc_subset.specs.Bytecode.ReadLaws.Members.{IsDescOf}
 use Rattle.cjc_subset.specs.Members.{imports}
 use Rattle.cjc_tokens.specs.Lines.{Declared, Imported, line_in}
 use Rattle.cjc_tokens.specs.Members.{Signature, is_constructor, is_initialiser, is_shown, is_virtual}

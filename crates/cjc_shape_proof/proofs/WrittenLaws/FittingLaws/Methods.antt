@@ -13,19 +13,19 @@ use Rattle.cjc_components.specs.Limits.{method_spot, of_methods, order_breaks, s
 use Rattle.cjc_components.specs.Package.{LaidMethod, Package, codes, world}
 use Rattle.cjc_components.specs.Written.{code_at}
 use Rattle.cjc_check_proof.specs.Limits.Premises.{MethodIsShort}
-use Rattle.cjc_judge.specs.declared.judged.Judged.{Judged}
+use Rattle.cjc_shape.specs.Judge.declared.judged.Judged.{Judged}
 use Rattle.cjc_shape.proofs.JudgedLaws.Selected.{judged_whole}
 use Rattle.cjc_shape.specs.Judged.Tested.{IsTested}
-use Rattle.cjc_layout.specs.Forms.{HasForm}
-use Rattle.cjc_layout.specs.Layouts.{IsWhole}
-use Rattle.cjc_layout.specs.Refusals.{least, overtaking}
-use Rattle.cjc_layout.specs.Sizes.{widest_size}
-use Rattle.cjc_list.specs.Listed.{ListTree}
-use Rattle.cjc_methods.proofs.Alike.{IsFromCode, one_selected}
-use Rattle.cjc_methods.specs.Ready.{IsOwn}
-use Rattle.cjc_methods.specs.Ready as Ready
-use Rattle.cjc_narrow.specs.Rows.Resolved.{resolution}
-use Rattle.cjc_narrow.specs.Rows.Selected.{near_fields}
+use Rattle.cjc_components.specs.Layout.Forms.{HasForm}
+use Rattle.cjc_components.specs.Layout.Layouts.{IsWhole}
+use Rattle.cjc_components.specs.Layout.Refusals.{least, overtaking}
+use Rattle.cjc_components.specs.Layout.Sizes.{widest_size}
+use Rattle.cjc_components.specs.List.Listed.{ListTree}
+use Rattle.cjc_shape.proofs.Methods.Alike.{IsFromCode, one_selected}
+use Rattle.cjc_shape.specs.Methods.Ready.{IsOwn}
+use Rattle.cjc_shape.specs.Methods.Ready as Ready
+use Rattle.cjc_components.specs.Narrow.Rows.Resolved.{resolution}
+use Rattle.cjc_components.specs.Narrow.Rows.Selected.{near_fields}
 use Rattle.cjc_ncode.specs.PoolOrder.{pool_order}
 use Rattle.cjc_ncode.specs.Written.{place_in, reached}
 use Rattle.cjc_ncode.specs.declared.narrow.NInsn.{NInsn}
@@ -42,7 +42,7 @@ use Rattle.cjc_world.specs.Classes.{Class, all_classes, class_at}
 use Rattle.cjc_world.specs.Files.{Files}
 use Rattle.cjc_world.specs.Order.{method_order}
 use Rattle.cjc_world.specs.declared.found.Found.{Found}
-use Rattle.cjc_narrow.specs.Written.Rows.{has_rows, rows_by}
+use Rattle.cjc_components.specs.Narrow.Written.Rows.{has_rows, rows_by}
 
 -- ---- lists
 

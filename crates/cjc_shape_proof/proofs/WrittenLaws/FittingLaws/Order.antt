@@ -5,9 +5,9 @@ use Rattle.std.specs.Prelude.{not, ◌&&◌, ◌||◌, ◌==◌, ◌⊎◌, opti
 use Rattle.std.proofs.lemmas.Bool.Decides.{nat_tests}
 use Rattle.std.proofs.lemmas.List.Sums.{sum_by-cons}
 use Rattle.cjc_bytes.specs.AccessFlags.{is_interface}
-use Rattle.cjc_order.proofs.ClassesLaws.Declared.{order_declared}
-use Rattle.cjc_order.proofs.ClassesLaws.Standing.{is_in-more}
-use Rattle.cjc_order.specs.Classes.Numbers.{declared_at, numbered_from}
+use Rattle.cjc_vtable.proofs.ClassOrder.ClassesLaws.Declared.{order_declared}
+use Rattle.cjc_vtable.proofs.ClassOrder.ClassesLaws.Standing.{is_in-more}
+use Rattle.cjc_vtable.specs.ClassOrder.Classes.Numbers.{declared_at, numbered_from}
 use Rattle.cjc_classfile.specs.declared.tree.ClassTree.{ClassTree}
 use Rattle.cjc_vtable.proofs.Filed.{Has, at_front, behind}
 use Rattle.cjc_world.specs.Classes.{Class, all_classes, declared}

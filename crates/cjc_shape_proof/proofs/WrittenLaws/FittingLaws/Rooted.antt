@@ -10,8 +10,8 @@ use Rattle.cjc_export.specs.Supers.{is_one_of}
 use Rattle.cjc_export.specs.Writable.{IsWritable}
 use Rattle.cjc_export.specs.declared.tree.ExportTree.{ExportTree}
 use Rattle.cjc_narrow_proof.proofs.LawsLaws.Own.{own_kept}
-use Rattle.cjc_order.specs.Classes.Numbers.{class_count}
-use Rattle.cjc_order.specs.Supers.Supers.{each_once, names_upwards, superclasses}
+use Rattle.cjc_vtable.specs.ClassOrder.Classes.Numbers.{class_count}
+use Rattle.cjc_vtable.specs.ClassOrder.Supers.Supers.{each_once, names_upwards, superclasses}
 use Rattle.cjc_token_proof.proofs.TablesLaws.Above.{class_there}
 use Rattle.cjc_token_proof.proofs.TablesLaws.Lists.{supers_there}
 use Rattle.cjc_token_proof.proofs.TablesLaws.Rooted.{import_root}

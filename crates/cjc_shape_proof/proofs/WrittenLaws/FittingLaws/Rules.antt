@@ -8,7 +8,7 @@ use Rattle.cjc_bytes.specs.Order.{file_of}
 use Rattle.cjc_bytes.specs.declared.settings.Settings.{Settings}
 use Rattle.cjc_classfile.specs.declared.tree.ClassTree.{ClassTree}
 use Rattle.cjc_classfile.specs.declared.tree.MethodTree.{MethodTree}
-use Rattle.cjc_code.specs.declared.method_code.MethodCode.{MethodCode}
+use Rattle.cjc_subset.specs.Bytecode.declared.method_code.MethodCode.{MethodCode}
 use Rattle.cjc_narrow_proof.proofs.SelectedLaws.Limits.{each_at, none_left, none_right, not_broken}
 use Rattle.cjc_subset.specs.Applets.{has_unfit_applets}
 use Rattle.cjc_subset.specs.Checks.{check_breaks, class_breaks, code_breaks, list_breaks, method_breaks, own_breaks}

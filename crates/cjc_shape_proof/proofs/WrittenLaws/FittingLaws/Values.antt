@@ -16,8 +16,8 @@ use Rattle.cjc_bytes.specs.declared.descriptor.Kind.{Kind}
 use Rattle.cjc_bytes.specs.declared.descriptor.Kind.TheVariants as kinds
 use Rattle.cjc_classfile.specs.declared.tree.ClassTree.{ClassTree}
 use Rattle.cjc_classfile.specs.declared.tree.FieldTree.{FieldTree}
-use Rattle.cjc_code.specs.declared.insn.JOp.{JOp}
-use Rattle.cjc_code.specs.declared.method_code.MethodCode.{MethodCode}
+use Rattle.cjc_subset.specs.Bytecode.declared.insn.JOp.{JOp}
+use Rattle.cjc_subset.specs.Bytecode.declared.method_code.MethodCode.{MethodCode}
 use Rattle.cjc_clinit.proofs.Cells.{cell_fits}
 use Rattle.cjc_clinit.specs.Fields.{Contents, ANull, ANumber, AnArray, fits, fits_kind, has_unfit_value, held_by}
 use Rattle.cjc_clinit.specs.Fields.{is_cell, is_reference, number_kind, takes, value_fits}
@@ -34,7 +34,7 @@ use Rattle.cjc_world_proof.proofs.InitialisersLaws.Initialisers.{taken}
 use Rattle.cjc_world_proof.proofs.InitialisersLaws.Packages.{class-there}
 use Rattle.cjc_world_proof.proofs.InitialisersLaws.Places.{place-field}
 use Rattle.cjc_classes.specs.Descriptor.Fits.{FitsValue, is_number_of}
-use Rattle.cjc_script.specs.Sorts.{field_sort}
+use Rattle.cjc_ncode.specs.Script.Sorts.{field_sort}
 use Rattle.cjc_subset.specs.Places.{at_class}
 use Rattle.cjc_tokens.proofs.Walks.{slice_get-set}
 use Rattle.cjc_world.proofs.Settled.{bytes-true}

@@ -23,7 +23,7 @@ use Rattle.cjc_export.specs.declared.tree.ExportTree.{ExportTree}
 use Rattle.cjc_shape.proofs.JudgedLaws.Called.{IsDeclared}
 use Rattle.cjc_shape.proofs.JudgedLaws.Owners.{IsOwn}
 use Rattle.cjc_narrow_proof.proofs.LawsLaws.Own.{first_here}
-use Rattle.cjc_pool.specs.Pool.{token_of}
+use Rattle.cjc_check_proof.specs.Pool.Pool.{token_of}
 use Rattle.cjc_subset.specs.Members.{imports}
 use Rattle.cjc_tokens.proofs.Means.{kept-at}
 use Rattle.cjc_tokens.specs.Fields.{field_tokens}

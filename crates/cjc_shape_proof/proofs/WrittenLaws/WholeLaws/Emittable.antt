@@ -8,37 +8,37 @@ use Rattle.std.proofs.lemmas.List.Elements.{All-head, All-tail}
 use Rattle.std.proofs.lemmas.Option.{slice_get-map}
 use Rattle.cjc_bytes.specs.Breaks.{Break, at}
 use Rattle.cjc_bytes.specs.declared.fault.MemberId.{MemberId}
-use Rattle.cjc_jvm_semantics.specs.Linked.{Method}
+use Rattle.cjc_world_proof.specs.JvmSemantics.Linked.{Method}
 use Rattle.cjc_components.specs.Limits.{form_breaks, has_many_entries, layout_breaks, of_methods, spot_of_list}
 use Rattle.cjc_components.specs.Names.{names, token_in_interface}
 use Rattle.cjc_components.specs.Package.{LaidMethod, Package, codes, has_applets, tokens}
 use Rattle.cjc_components.specs.Package as packages
 use Rattle.cjc_components.specs.Written.{code_at}
-use Rattle.cjc_emit.specs.Emitted.{IsEmittable, IsNamedBy}
-use Rattle.cjc_judge.specs.Rules as judge_rules
-use Rattle.cjc_judge.specs.declared.judged.Judged.{Judged}
+use Rattle.cjc_components.specs.Emit.Emitted.{IsEmittable, IsNamedBy}
+use Rattle.cjc_shape.specs.Judge.Rules as judge_rules
+use Rattle.cjc_shape.specs.Judge.declared.judged.Judged.{Judged}
 use Rattle.cjc_shape.proofs.JudgedLaws.Emittable.{calls_are_declared}
 use Rattle.cjc_shape.proofs.JudgedLaws.Selected.{judged_writable}
 use Rattle.cjc_shape.specs.Judged.Pooled.{ArePooled, IsSelected}
 use Rattle.cjc_shape.specs.Judged.Tested.{IsTested}
-use Rattle.cjc_layout.specs.Layouts.{IsLayout}
-use Rattle.cjc_layout.specs.declared.layout.Layout.{Layout}
-use Rattle.cjc_list.specs.Listed.{ListTree}
+use Rattle.cjc_components.specs.Layout.Layouts.{IsLayout}
+use Rattle.cjc_components.specs.Layout.declared.layout.Layout.{Layout}
+use Rattle.cjc_components.specs.List.Listed.{ListTree}
 use Rattle.cjc_ncode.specs.Lowering.Naming.{Naming}
-use Rattle.cjc_methods.proofs.Alike.{one_selected}
-use Rattle.cjc_methods.specs.Ready.{IsOwn}
-use Rattle.cjc_narrow.specs.Rows.Selected.{near_fields}
+use Rattle.cjc_shape.proofs.Methods.Alike.{one_selected}
+use Rattle.cjc_shape.specs.Methods.Ready.{IsOwn}
+use Rattle.cjc_components.specs.Narrow.Rows.Selected.{near_fields}
 use Rattle.cjc_ncode.specs.PoolOrder.{pool_order, same_key}
 use Rattle.cjc_ncode.specs.declared.narrow.NInsn.{NInsn}
 use Rattle.cjc_ncode.specs.declared.narrow.NMethod.{NMethod}
 use Rattle.cjc_ncode.specs.declared.narrow.PoolKey.{PoolKey}
-use Rattle.cjc_pool.specs.Pool.{IsPool, PoolView, is_called, token_in, token_of}
+use Rattle.cjc_check_proof.specs.Pool.Pool.{IsPool, PoolView, is_called, token_in, token_of}
 use Rattle.cjc_shape.proofs.PreparedLaws.Sound.{are_ready, has_tokens, is_tested, is_unbroken}
 use Rattle.cjc_shape.specs.Prepared.{IsSound}
 use Rattle.cjc_tokens.specs.Methods.{interface_methods}
 use Rattle.cjc_tokens.specs.Rules.{token_breaks}
 use Rattle.cjc_tokens.specs.Tokens.{assigned}
-use Rattle.cjc_types.specs.declared.state.State.{State}
+use Rattle.cjc_narrow_proof.specs.Types.declared.state.State.{State}
 use Rattle.cjc_vtable.specs.Tables.{or_zero}
 use Rattle.cjc_shape.proofs.WholeLaws.Drafts.{narrow_codes, narrow_is, rows, rows_are, same_narrow, same_spelt}
 use Rattle.cjc_shape.proofs.WholeLaws.Ordered.{all_own}

@@ -1,6 +1,6 @@
 use Rattle.std.specs.Prelude.{option_map}
 use Rattle.std.proofs.Common.{ap, subst, ◌∙◌}
-use Rattle.cjc_emit.specs.Emitted.{CanBeWritten, placed_at}
+use Rattle.cjc_components.specs.Emit.Emitted.{CanBeWritten, placed_at}
 use Rattle.std.proofs.lemmas.Option.{slice_get-map}
 use Rattle.cjc_components.specs.Package.{LaidMethod, codes, has_applets, tokens}
 use Rattle.cjc_shape.proofs.PreparedLaws.Sound.{is_tested}

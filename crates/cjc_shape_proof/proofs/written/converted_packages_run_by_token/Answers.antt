@@ -2,12 +2,12 @@ use Rattle.std.proofs.Common.{subst, sym, ◌∙◌}
 use Rattle.std.specs.Prelude.{◌≢◌, ℕ}
 use Rattle.cjc_token_proof.specs.ByToken.Classes.{memories, tests}
 use Rattle.cjc_token_proof.specs.Calls.Reaching as reaching
-use Rattle.cjc_code.specs.PackageCodes.{all_codes}
+use Rattle.cjc_subset.specs.Bytecode.PackageCodes.{all_codes}
 use Rattle.cjc_components.specs.Methods.{placed_methods}
-use Rattle.cjc_judge.specs.Rules.{settings_of}
-use Rattle.cjc_narrow.specs.Rows.Package.{named}
-use Rattle.cjc_script.specs.declared.report.Outcome.TheVariants.{Stuck}
-use Rattle.cjc_script.specs.declared.report.Report.{Report}
+use Rattle.cjc_shape.specs.Judge.Rules.{settings_of}
+use Rattle.cjc_components.specs.Narrow.Rows.Package.{named}
+use Rattle.cjc_ncode.specs.Script.declared.report.Outcome.TheVariants.{Stuck}
+use Rattle.cjc_ncode.specs.Script.declared.report.Report.{Report}
 use Rattle.cjc_token_proof.specs.Tables.Known.{known_names}
 use Rattle.cjc_token_proof.specs.Tables.Loading.{naming, part}
 use Rattle.cjc_token_proof.specs.WrittenCalls.Standing.{place}

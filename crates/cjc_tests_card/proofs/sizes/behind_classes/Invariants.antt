@@ -1,5 +1,5 @@
 use Rattle.std.proofs.Common.{◌≤◌, ◌+◌, drop, length, sum_by}
-use Rattle.cjc_check_rules.specs.Complete.{class_size}
+use Rattle.cjc_card.specs.CheckRules.Complete.{class_size}
 use Rattle.cjc_tests_card.proofs.sizes.behind_classes.Given as goal
 
 abbrev pub invariant-loop-k : goal.invariant-loop-k

@@ -5,15 +5,15 @@ use Rattle.cjc_components.specs.Limits.{has_far_types, has_large_component, size
 use Rattle.cjc_components.specs.Package.{Package}
 use Rattle.cjc_bytes.specs.Breaks.{at}
 use Rattle.cjc_judge.specs.declared.judged.Judged.{Judged}
-use Rattle.cjc_list.specs.Listed.{ListTree}
+use Rattle.cjc_components.specs.List.Listed.{ListTree}
 use Rattle.cjc_narrow_proof.proofs.SelectedLaws.Limits.{none_left, none_right, not_broken}
 use Rattle.cjc_world.specs.Files.{Files}
 use Rattle.cjc_bytes.specs.declared.settings.FileLine.{FileLine}
 use Rattle.cjc_token_proof.specs.Tables.Sound.{export_count}
 use Rattle.cjc_shape_proof.specs.Written.Converted.{IsConverted}
 use Rattle.cjc_shape_proof.proofs.WrittenLaws.Files.{files_sound, same_files}
-use Rattle.cjc_check_proof.specs.Classes.Premises.{HasShortMethods}
-use Rattle.cjc_check_proof.specs.Consistent.Premises.{HasSoundSizes}
+use Rattle.cjc_shape_proof.specs.CheckProof.Classes.Premises.{HasShortMethods}
+use Rattle.cjc_shape_proof.specs.CheckProof.Consistent.Premises.{HasSoundSizes}
 
 module _ (list : ListTree) (files : List (List ℕ)) (judged : Judged) (p : Package) (is : IsConverted list files judged
     p) where

@@ -20,7 +20,7 @@ use Rattle.cjc_classfile.specs.declared.tree.FieldTree.{FieldTree}
 use Rattle.cjc_clinit.specs.Fields.{is_cell}
 use Rattle.cjc_clinit.specs.Image.{field_id}
 use Rattle.cjc_world_proof.proofs.InitialisersLaws.Initialisers.{same-field}
-use Rattle.cjc_classes.specs.Descriptor.Fits.{AreFit, FitsValue, is_number_of}
+use Rattle.cjc_shape_proof.specs.Classes.Descriptor.Fits.{AreFit, FitsValue, is_number_of}
 use Rattle.cjc_ncode.specs.Lowering.Agreement.{Cells}
 use Rattle.cjc_narrow.specs.Rows.Package.{first_cell}
 use Rattle.cjc_ncode.specs.PoolOrder.{same_member}

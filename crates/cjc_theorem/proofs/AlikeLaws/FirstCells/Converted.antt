@@ -4,12 +4,12 @@ use Rattle.cjc_bytes.specs.Breaks.{Break}
 use Rattle.cjc_clinit.specs.Rules.{BreaksImage}
 use Rattle.cjc_code.specs.PackageCodes.{all_codes}
 use Rattle.cjc_components.specs.Package.{Package}
-use Rattle.cjc_classes.specs.Descriptor.Fits.{AreFit}
+use Rattle.cjc_shape_proof.specs.Classes.Descriptor.Fits.{AreFit}
 use Rattle.cjc_shape_proof.proofs.WrittenLaws.FittingLaws.Arrays.{arrays_fit}
 use Rattle.cjc_shape_proof.proofs.WrittenLaws.FittingLaws.Values.{values_fit}
 use Rattle.cjc_judge.specs.declared.judged.Judged.{Judged}
-use Rattle.cjc_list.specs.Listed.{ListTree}
-use Rattle.cjc_shape.proofs.PreparedLaws.Sound as Sound
+use Rattle.cjc_components.specs.List.Listed.{ListTree}
+use Rattle.cjc_shape_proof.proofs.Shape.PreparedLaws.Sound as Sound
 use Rattle.cjc_world.specs.Files.{Files}
 use Rattle.cjc_shape_proof.proofs.WrittenLaws.Files.{own_image, same_files}
 use Rattle.cjc_shape_proof.specs.Written.Converted.{IsConverted}

@@ -15,7 +15,7 @@ use Rattle.cjc_theorem.proofs.AlikeLaws.InsnNames.Fields.{object_field, static_f
 use Rattle.cjc_theorem.proofs.AlikeLaws.InsnNames.Types.{class_is_there, made_is_there, type_is_there}
 use Rattle.cjc_judge.specs.Rules.{settings_of}
 use Rattle.cjc_judge.specs.declared.judged.Judged.{Judged}
-use Rattle.cjc_list.specs.Listed.{ListTree}
+use Rattle.cjc_components.specs.List.Listed.{ListTree}
 use Rattle.cjc_theorem.proofs.AlikeLaws.NamedLaws.Members.{field_named, static_named, static_own}
 use Rattle.cjc_narrow.specs.Rows.Resolved.{constant_named, resolved_field}
 use Rattle.cjc_narrow_proof.proofs.LawsLaws.Casts.{cast_there, test_there}

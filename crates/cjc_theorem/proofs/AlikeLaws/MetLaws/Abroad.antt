@@ -8,16 +8,16 @@ use Rattle.cjc_bytes.specs.declared.fault.MemberId.{MemberId}
 use Rattle.cjc_jvm_semantics.specs.OnePackage.{is_initialiser, of_class}
 use Rattle.cjc_world_proof.proofs.CallsLaws.Own.{mapped_at}
 use Rattle.cjc_card_semantics.specs.Machine.Classes.{with_token}
-use Rattle.cjc_check_proof.proofs.ClassesLaws.Lists.{get-behind, get-front}
+use Rattle.cjc_shape_proof.proofs.CheckProof.ClassesLaws.Lists.{get-behind, get-front}
 use Rattle.cjc_classfile.specs.declared.tree.ClassTree.{ClassTree}
-use Rattle.cjc_check_proof.specs.Code.Members.{IsImportedClass, IsImportedMethod, classes_before}
+use Rattle.cjc_shape_proof.specs.CheckProof.Code.Members.{IsImportedClass, IsImportedMethod, classes_before}
 use Rattle.cjc_token_proof.specs.Components.Whole.{exports_of}
 use Rattle.cjc_components.specs.Package.{Package, world}
 use Rattle.cjc_export.specs.Members.{is_unbound}
 use Rattle.cjc_export.specs.declared.tree.ExportClass.{ExportClass}
 use Rattle.cjc_export.specs.declared.tree.ExportTree.{ExportTree}
 use Rattle.cjc_judge.specs.declared.judged.Judged.{Judged}
-use Rattle.cjc_list.specs.Listed.{ListTree}
+use Rattle.cjc_components.specs.List.Listed.{ListTree}
 use Rattle.cjc_subset.specs.Members.{imports}
 use Rattle.cjc_token_proof.proofs.TablesLaws.Above.{entry_of_name}
 use Rattle.cjc_token_proof.proofs.TablesLaws.Clean.{own_name}

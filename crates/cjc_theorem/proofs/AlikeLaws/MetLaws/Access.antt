@@ -4,9 +4,9 @@ use Rattle.std.specs.Prelude.{Some, slice_get}
 use Rattle.cjc_bytes.specs.AccessFlags.{is_private}
 use Rattle.cjc_world_proof.proofs.CallsLaws.Own.{mapped_at}
 use Rattle.cjc_components.specs.Package.{Package, world}
-use Rattle.cjc_check_proof.specs.Exports.{ExportsHaveOneAccess}
+use Rattle.cjc_shape_proof.specs.CheckProof.Exports.{ExportsHaveOneAccess}
 use Rattle.cjc_judge.specs.declared.judged.Judged.{Judged}
-use Rattle.cjc_list.specs.Listed.{ListTree}
+use Rattle.cjc_components.specs.List.Listed.{ListTree}
 use Rattle.cjc_tokens.specs.Members.{In, first_of, later}
 use Rattle.cjc_vtable.proofs.Filed.{IsFiled, filed, in_class_file, in_export_file}
 use Rattle.cjc_world.specs.Classes.{Class, Member, class_named, method_of_export}

@@ -10,12 +10,13 @@ use Rattle.cjc_bytes.specs.declared.settings.FileLine.{FileLine}
 use Rattle.cjc_shape_proof.proofs.WrittenLaws.FittingLaws.Lists.{all_both}
 use Rattle.cjc_shape_proof.specs.Written.LaidOut.{AidsAreShort}
 use Rattle.cjc_judge.specs.Spelt.{IsRead}
-use Rattle.cjc_list.specs.Grammar.{◌>>=◌, aid_of, applet_of, has_room, is_name, item_of, package_of, with_item}
-use Rattle.cjc_list.specs.Grammar.{with_line}
-use Rattle.cjc_list.specs.Listed.{ListTree, of_lines, said, with_lines}
-use Rattle.cjc_list.proofs.Items.{aid_is, package_says}
-use Rattle.cjc_list.proofs.Texts.{lines_are}
-use Rattle.cjc_list.proofs.Wholes.{onward_ok, said_ok}
+use Rattle.cjc_components.specs.List.Grammar.{◌>>=◌, aid_of, applet_of, has_room, is_name, item_of, package_of}
+use Rattle.cjc_components.specs.List.Grammar.{with_item}
+use Rattle.cjc_components.specs.List.Grammar.{with_line}
+use Rattle.cjc_components.specs.List.Listed.{ListTree, of_lines, said, with_lines}
+use Rattle.cjc_components.proofs.List.Items.{aid_is, package_says}
+use Rattle.cjc_components.proofs.List.Texts.{lines_are}
+use Rattle.cjc_components.proofs.List.Wholes.{onward_ok, said_ok}
 
 -- each has at most 16 bytes
 abbrev IsShort : AppletLine → Type 0

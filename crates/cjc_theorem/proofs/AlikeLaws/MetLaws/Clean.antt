@@ -10,7 +10,7 @@ use Rattle.cjc_bytes.specs.Breaks.{broken_at, list_spot}
 use Rattle.cjc_bytes.specs.declared.order.FileKey.{FileKey}
 use Rattle.cjc_bytes.specs.declared.order.FileKey.TheVariants as keys
 use Rattle.cjc_bytes.specs.declared.settings.FileLine.{FileLine}
-use Rattle.cjc_order.specs.Classes.Numbers.{class_count}
+use Rattle.cjc_vtable.specs.ClassOrder.Classes.Numbers.{class_count}
 use Rattle.cjc_classfile.specs.declared.tree.ClassTree.{ClassTree}
 use Rattle.cjc_classfile.specs.declared.tree.FieldTree.{FieldTree}
 use Rattle.cjc_classfile.specs.declared.tree.MethodTree.{MethodTree}

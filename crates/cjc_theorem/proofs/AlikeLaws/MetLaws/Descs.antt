@@ -9,7 +9,7 @@ use Rattle.cjc_bytes.specs.Descriptor.{Part, Parts, base_kind, plain}
 use Rattle.cjc_bytes.specs.Spots.{desc_of, part_of}
 use Rattle.cjc_bytes.specs.declared.descriptor.Kind.{Kind}
 use Rattle.cjc_bytes.specs.declared.descriptor.Kind.TheVariants as kinds
-use Rattle.cjc_check_proof.specs.Classes.Premises.{is_known, result_known, sort_known, types_known}
+use Rattle.cjc_shape_proof.specs.CheckProof.Classes.Premises.{is_known, result_known, sort_known, types_known}
 use Rattle.cjc_script.specs.Sorts.{OfClass, OfReferences, array_by, array_of, reference_to, result_by, shape_named}
 use Rattle.cjc_script.specs.Sorts.{signature_by, sort_by, sort_of, sort_or_none}
 use Rattle.cjc_world.specs.Classes.{Class, class_named}

@@ -3,7 +3,7 @@ use Rattle.std.proofs.Common.{ℕ, List}
 use Rattle.cjc_components.specs.Package.{Package}
 use Rattle.cjc_shape_proof.specs.Written.LaidOut.{IsLaidOut}
 use Rattle.cjc_judge.specs.declared.judged.Judged.{Judged}
-use Rattle.cjc_list.specs.Listed.{ListTree}
+use Rattle.cjc_components.specs.List.Listed.{ListTree}
 use Rattle.cjc_shape_proof.specs.Written.Converted.{IsConverted}
 use Rattle.cjc_theorem.proofs.AlikeLaws.MetLaws.Aids.{aids_short}
 

@@ -5,8 +5,8 @@ use Rattle.std.specs.Str.{bytes_eq}
 use Rattle.std.specs.Prelude.{codes as bytes_of}
 use Rattle.std.proofs.lemmas.Option.{slice_get_within}
 use Rattle.cjc_bytes.specs.declared.fault.MemberId.{MemberId}
-use Rattle.cjc_check_proof.proofs.ClassesLaws.Lists.{has-mapped}
-use Rattle.cjc_check_proof.specs.Classes.Premises.{is_known, types_known}
+use Rattle.cjc_shape_proof.proofs.CheckProof.ClassesLaws.Lists.{has-mapped}
+use Rattle.cjc_shape_proof.specs.CheckProof.Classes.Premises.{is_known, types_known}
 use Rattle.cjc_classfile.specs.declared.tree.ClassTree.{ClassTree}
 use Rattle.cjc_classfile.specs.declared.tree.FieldTree.{FieldTree}
 use Rattle.cjc_components.specs.Class.{fields_in, fields_of}
@@ -17,7 +17,7 @@ use Rattle.cjc_shape_proof.proofs.WrittenLaws.FittingLaws.Meant.{added_method}
 use Rattle.cjc_shape_proof.proofs.WrittenLaws.FittingLaws.Order.{has_cons, has_either, has_none, order_filed}
 use Rattle.cjc_shape_proof.specs.Written.LaidOut.{IsLaidOut}
 use Rattle.cjc_judge.specs.declared.judged.Judged.{Judged}
-use Rattle.cjc_list.specs.Listed.{ListTree}
+use Rattle.cjc_components.specs.List.Listed.{ListTree}
 use Rattle.cjc_shape_proof.proofs.FindsLaws.Descs.{member_desc}
 use Rattle.cjc_narrow_proof.proofs.LawsLaws.Own.{class_by_name}
 use Rattle.cjc_ncode.specs.declared.narrow.PoolKey.{PoolKey}

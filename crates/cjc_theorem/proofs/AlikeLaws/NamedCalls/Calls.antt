@@ -13,7 +13,7 @@ use Rattle.cjc_narrow_proof.specs.Sources as sources
 use Rattle.cjc_narrow_proof.specs.Sources.{IsWrittenFor}
 use Rattle.cjc_components.specs.Package.{LaidMethod, Package, pool, world}
 use Rattle.cjc_judge.specs.declared.judged.Judged.{Judged}
-use Rattle.cjc_list.specs.Listed.{ListTree}
+use Rattle.cjc_components.specs.List.Listed.{ListTree}
 use Rattle.cjc_theorem.proofs.AlikeLaws.NamedLaws.Names.{called}
 use Rattle.cjc_theorem.proofs.AlikeLaws.NamedLaws.Sources.{has_source, holder}
 use Rattle.cjc_theorem.specs.Alike.Opcodes.{CallsHaveOpcodes}

@@ -11,7 +11,7 @@ use Rattle.cjc_components.specs.Package.{LaidMethod, Package, codes, pool, world
 use Rattle.cjc_judge.specs.declared.judged.Judged.{Judged}
 use Rattle.cjc_narrow.specs.Keys.Index.{index_of}
 use Rattle.cjc_narrow.proofs.KeysLaws.Indices.{needed}
-use Rattle.cjc_list.specs.Listed.{ListTree}
+use Rattle.cjc_components.specs.List.Listed.{ListTree}
 use Rattle.cjc_ncode.specs.Lowering.Handlers.{Catches, any, every, one}
 use Rattle.cjc_ncode.specs.Lowering.Naming.{IsClass}
 use Rattle.cjc_narrow_proof.proofs.LawsLaws.Handlers.{caught_there, class_there}
@@ -19,7 +19,7 @@ use Rattle.cjc_ncode.specs.PoolOrder.{any_exception, has_catch_type, is_field, i
 use Rattle.cjc_ncode.specs.declared.narrow.NCatch.{NCatch}
 use Rattle.cjc_ncode.specs.declared.narrow.PoolKey.{PoolKey}
 use Rattle.cjc_ncode.specs.declared.narrow.PoolKey.TheVariants as keys
-use Rattle.cjc_pool.proofs.PoolLaws.Keys.{some_of}
+use Rattle.cjc_shape_proof.proofs.Pool.PoolLaws.Keys.{some_of}
 use Rattle.cjc_token_proof.specs.Tables.Loading.{naming}
 use Rattle.cjc_tokens.proofs.Facts.{position-cons}
 use Rattle.cjc_world.specs.Classes.{Class, class_named}

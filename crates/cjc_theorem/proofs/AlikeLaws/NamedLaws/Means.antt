@@ -6,7 +6,7 @@ use Rattle.std.proofs.lemmas.Option.{slice_get-map}
 use Rattle.cjc_card_semantics.specs.Bytecode.Meanings.{Calls, Gets, GetsStatic, Makes, MakesReferences, Puts}
 use Rattle.cjc_card_semantics.specs.Bytecode.Meanings.{PutsStatic, Special, Static, Use, Virtual}
 use Rattle.cjc_bytes.specs.declared.fault.MemberId.{MemberId}
-use Rattle.cjc_check_proof.specs.Code.Kinds.{is_for}
+use Rattle.cjc_shape_proof.specs.CheckProof.Code.Kinds.{is_for}
 use Rattle.cjc_components.specs.Package.{LaidMethod, Package, codes}
 use Rattle.cjc_ncode.specs.Lowering.Naming.{Fit, Holds, IsCell, IsClass, Naming, gets, gets_static, makes}
 use Rattle.cjc_ncode.specs.Lowering.Naming.{makes_references, puts, puts_static}
@@ -15,8 +15,8 @@ use Rattle.cjc_ncode.specs.declared.narrow.NCatch.{NCatch}
 use Rattle.cjc_ncode.specs.declared.narrow.NInsn.{NInsn}
 use Rattle.cjc_ncode.specs.declared.narrow.PoolKey.{PoolKey}
 use Rattle.cjc_ncode.specs.declared.narrow.PoolKey.TheVariants as keys
-use Rattle.cjc_pool.proofs.PoolLaws.Entries.{all_held}
-use Rattle.cjc_pool.proofs.PoolLaws.Keys.{same_itself}
+use Rattle.cjc_shape_proof.proofs.Pool.PoolLaws.Entries.{all_held}
+use Rattle.cjc_shape_proof.proofs.Pool.PoolLaws.Keys.{same_itself}
 use Rattle.cjc_token_proof.specs.Tables.Loading.{loaded, naming}
 
 -- ---- each kind of key

@@ -13,7 +13,7 @@ use Rattle.cjc_classfile.specs.declared.tree.ClassTree.{ClassTree}
 use Rattle.cjc_code.specs.declared.insn.JOp.{JOp}
 use Rattle.cjc_code.specs.declared.insn.JOp.TheVariants as jop
 use Rattle.cjc_code.specs.declared.method_code.MethodCode.{MethodCode}
-use Rattle.cjc_check_proof.specs.Code.Kinds.{HasKind, is_for}
+use Rattle.cjc_shape_proof.specs.CheckProof.Code.Kinds.{HasKind, is_for}
 use Rattle.cjc_narrow_proof.specs.Sources as sources
 use Rattle.cjc_narrow_proof.specs.Sources.{IsWrittenFor, NamesClass, names_nothing}
 use Rattle.cjc_components.specs.Names.{class_at, field_token, member_ref}
@@ -22,7 +22,7 @@ use Rattle.cjc_components.specs.Statics.{cell_offset}
 use Rattle.cjc_export.specs.Members.{is_unbound}
 use Rattle.cjc_judge.specs.Rules.{settings_of}
 use Rattle.cjc_judge.specs.declared.judged.Judged.{Judged}
-use Rattle.cjc_list.specs.Listed.{ListTree}
+use Rattle.cjc_components.specs.List.Listed.{ListTree}
 use Rattle.cjc_ncode.specs.Lowering.Naming.{Fit, IsCell, IsClass, calls_special, calls_static}
 use Rattle.cjc_narrow.specs.Rows.Resolved.{method_found, resolution, resolved_field, resolved_method, special_by}
 use Rattle.cjc_narrow.specs.Rows.Resolved.{virtual_by}

@@ -23,7 +23,7 @@ use Rattle.cjc_narrow_proof.specs.Sources.{IsWrittenFor}
 use Rattle.cjc_components.specs.Package.{LaidMethod, Package, pool, world}
 use Rattle.cjc_components.specs.Written.{code_at, code_by}
 use Rattle.cjc_judge.specs.declared.judged.Judged.{Judged}
-use Rattle.cjc_list.specs.Listed.{ListTree}
+use Rattle.cjc_components.specs.List.Listed.{ListTree}
 use Rattle.cjc_narrow.specs.Rows.Package.{code_of}
 use Rattle.cjc_narrow.specs.Rows.Resolved.{resolution}
 use Rattle.cjc_narrow.specs.Rows.Selected.{near_fields}
@@ -33,12 +33,12 @@ use Rattle.cjc_ncode.specs.Written.{catch_at, catches_at, place_in, reached}
 use Rattle.cjc_ncode.specs.declared.narrow.NCatch.{NCatch}
 use Rattle.cjc_ncode.specs.declared.narrow.NInsn.{NInsn}
 use Rattle.cjc_ncode.specs.declared.narrow.NMethod.{NMethod}
-use Rattle.cjc_shape.proofs.PreparedLaws.Sound.{are_ready}
+use Rattle.cjc_shape_proof.proofs.Shape.PreparedLaws.Sound.{are_ready}
 use Rattle.cjc_narrow_proof.proofs.SelectedLaws.Places.{reached_from}
 use Rattle.cjc_token_proof.proofs.TablesLaws.Filed.{own_filed}
 use Rattle.cjc_token_proof.proofs.TablesLaws.Order.{get-has, kind-in}
-use Rattle.cjc_types.specs.Tables.{IsMethodOf}
-use Rattle.cjc_types.specs.declared.state.State.{State}
+use Rattle.cjc_narrow_proof.specs.Types.Tables.{IsMethodOf}
+use Rattle.cjc_narrow_proof.specs.Types.declared.state.State.{State}
 use Rattle.cjc_world.specs.declared.found.Found.{Found}
 use Rattle.cjc_world.specs.Added.{added}
 use Rattle.cjc_world.specs.Classes.{Class, Member, class_named, declared}

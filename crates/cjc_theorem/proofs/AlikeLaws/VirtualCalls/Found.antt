@@ -12,7 +12,7 @@ use Rattle.cjc_token_proof.specs.Calls.Selecting.{signature}
 use Rattle.cjc_classfile.specs.declared.tree.ClassTree.{ClassTree}
 use Rattle.cjc_components.specs.Package.{Package, world}
 use Rattle.cjc_judge.specs.declared.judged.Judged.{Judged}
-use Rattle.cjc_list.specs.Listed.{ListTree}
+use Rattle.cjc_components.specs.List.Listed.{ListTree}
 use Rattle.cjc_theorem.proofs.AlikeLaws.NamedLaws.Names.{Calls_method}
 use Rattle.cjc_tokens.specs.Members.{chosen, is_exposed, is_initialiser, is_virtual, signature_of}
 use Rattle.cjc_tokens.proofs.Facts.{chosen-In}

@@ -8,10 +8,10 @@ use Rattle.cjc_world_proof.proofs.CallsLaws.Own.{mapped_at}
 use Rattle.cjc_classfile.specs.declared.tree.ClassTree.{ClassTree}
 use Rattle.cjc_code.specs.declared.insn.JOp.TheVariants as jop
 use Rattle.cjc_components.specs.Package.{Package, world}
-use Rattle.cjc_check_proof.specs.Exports.{ExportsHaveOneAccess}
+use Rattle.cjc_shape_proof.specs.CheckProof.Exports.{ExportsHaveOneAccess}
 use Rattle.cjc_theorem.proofs.AlikeLaws.InterfaceCalls.Words.{called_signature}
 use Rattle.cjc_judge.specs.declared.judged.Judged.{Judged}
-use Rattle.cjc_list.specs.Listed.{ListTree}
+use Rattle.cjc_components.specs.List.Listed.{ListTree}
 use Rattle.cjc_narrow.specs.Rows.Resolved.{by_owner, resolved_method, virtual_by}
 use Rattle.cjc_narrow_proof.specs.Laws.Unbroken.{IsInsnOf}
 use Rattle.cjc_ncode.specs.ByLabel.{OnObject, OnSuper}

@@ -2,7 +2,7 @@ use Rattle.std.proofs.Common.{◌≡◌, ℕ, suc, ◌+◌, List, [], ◌∷◌,
 use Rattle.std.specs.Prelude.{Some, map, slice_get, nat_le}
 use Rattle.std.proofs.lemmas.Bool.Decides.{nat_tests}
 use Rattle.std.proofs.lemmas.List.{length-map}
-use Rattle.cjc_capread.specs.declared.tree.ClassRef.TheVariants.{Inside}
+use Rattle.cjc_check_rules.specs.CapRead.declared.tree.ClassRef.TheVariants.{Inside}
 use Rattle.cjc_check_rules.specs.declared.spot.ComponentPlace.{ComponentPlace}
 use Rattle.cjc_check_rules.specs.Spots.{in_info, unless, numbered}
 use Rattle.cjc_check_rules.specs.Complete.{described_size}

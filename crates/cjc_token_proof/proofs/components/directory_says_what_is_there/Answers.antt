@@ -1,8 +1,8 @@
 use Rattle.std.proofs.Common.{◌≡◌, ℕ, ◌+◌, ◌/◌, ◌<◌, ◌==◌, Bool, true, false, List, [], length, refl, ap, ◌∙◌, arith}
 use Rattle.std.specs.Prelude.{◌&&◌, ◌||◌, not}
 use Rattle.std.proofs.lemmas.Bool.Decides.{nat_tests}
-use Rattle.cjc_capwrite.specs.Package.{applet_bytes, directory_bytes}
-use Rattle.cjc_capwrite.specs.Export.{export_bytes}
+use Rattle.cjc_components.specs.CapWrite.Package.{applet_bytes, directory_bytes}
+use Rattle.cjc_components.specs.CapWrite.Export.{export_bytes}
 use Rattle.cjc_check_rules.specs.Spots.{in_info, beside}
 use Rattle.cjc_check_rules.specs.Complete.{applets_size, export_size, header_size, import_size, pool_size}
 use Rattle.cjc_check_rules.specs.Complete.{class_info_size, method_size, statics_size, locations_size, descriptor_size}

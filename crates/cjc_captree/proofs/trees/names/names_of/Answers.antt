@@ -3,13 +3,13 @@ use Rattle.std.specs.Prelude.{nat_lt, Some}
 use Rattle.cjc_world.specs.Files.{Files}
 use Rattle.cjc_world.specs.Classes.{all_classes}
 use Rattle.cjc_world.specs.Order.{class_order}
-use Rattle.cjc_clinit.specs.Image.{field_id}
+use Rattle.cjc_components.specs.Clinit.Image.{field_id}
 use Rattle.cjc_components.specs.Statics.{cell_offset}
 use Rattle.cjc_components.specs.Names.{class_ref}
 use Rattle.cjc_classes.specs.ClassInfo.Refs.{ref_of}
 use Rattle.cjc_classes.specs.TypeInfo.TypeTable.{class_at}
 use Rattle.cjc_captree.specs.Trees.Working.{offsets_in}
-use Rattle.cjc_tokens.proofs.Steps.{map_same}
+use Rattle.cjc_classes.proofs.Tokens.Steps.{map_same}
 use Rattle.cjc_methods.specs.Ready.{AreOrdered}
 use Rattle.cjc_captree.proofs.trees.names.names_of.Goals as goal
 

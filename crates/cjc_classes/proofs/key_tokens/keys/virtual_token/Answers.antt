@@ -5,7 +5,7 @@ use Rattle.cjc_world.specs.Classes.{all_classes, class_named, declared}
 use Rattle.cjc_world.specs.Working.Known.{class_of}
 use Rattle.cjc_tokens.specs.Lines.{Line, line_at, line_of}
 use Rattle.cjc_tokens.proofs.Held.{token-nil}
-use Rattle.cjc_vtable.specs.Tables.{or_zero}
+use Rattle.cjc_components.specs.VTable.Tables.{or_zero}
 use Rattle.cjc_components.specs.Names.{token_in}
 use Rattle.cjc_classes.specs.Walks.{called}
 use Rattle.cjc_classes.proofs.KeyTokens.Walked.{named_there, number_within, unknown_line}

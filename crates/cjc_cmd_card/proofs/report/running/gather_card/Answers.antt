@@ -1,6 +1,6 @@
-use Rattle.cjc_shelf.proofs.CommandLaws.Gathering.{gathers_then, gathers_end}
-use Rattle.cjc_shelf.proofs.CommandLaws.Judging.{gathers_judged}
-use Rattle.cjc_shelf.specs.Command.Plan.{has}
+use Rattle.cjc_cmd_jvm.proofs.Shelf.CommandLaws.Gathering.{gathers_then, gathers_end}
+use Rattle.cjc_cmd_jvm.proofs.Shelf.CommandLaws.Judging.{gathers_judged}
+use Rattle.cjc_cmd_jvm.specs.Shelf.Command.Plan.{has}
 use Rattle.std.proofs.lemmas.Result.{err_from_is_err_and}
 use Rattle.cjc_cmd_card.specs.Running.Reads.{plan_of_card}
 use Rattle.cjc_cmd_card.specs.declared.running.input.Input.{Input}

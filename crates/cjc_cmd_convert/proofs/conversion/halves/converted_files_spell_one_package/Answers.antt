@@ -2,8 +2,8 @@ use Rattle.std.proofs.Common.{ap, ◌∙◌}
 use Rattle.cjc_cmd_convert.proofs.ConversionLaws.OneTree.{one_tree}
 use Rattle.cjc_cmd_convert.proofs.ConversionLaws.Spelt.{files_are}
 use Rattle.cjc_cmd_convert.proofs.conversion.halves.converted_files_spell_one_package.Goals as goal
-use Rattle.cjc_components.specs.Components.{components_of}
-use Rattle.cjc_shape.proofs.WholeLaws.One.{one_package}
+use Rattle.cjc_theorem.specs.Components.Components.{components_of}
+use Rattle.cjc_convert.proofs.Shape.WholeLaws.One.{one_package}
 
 pub returns-clause-some : goal.returns-clause-some
 returns-clause-some c = λ list files made is. (is.whole, is.is_package)

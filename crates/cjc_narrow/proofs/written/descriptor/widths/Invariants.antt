@@ -1,6 +1,6 @@
 use Rattle.std.proofs.Common.{◌≡◌, ◌+◌, ◌<◌, ◌≤◌, ◌*◌, ◌^◌, map, length}
-use Rattle.cjc_script.specs.Sorts.{sort_of}
-use Rattle.cjc_card_semantics.specs.Bytecode.Arguments.{widths}
+use Rattle.cjc_ncode.specs.Script.Sorts.{sort_of}
+use Rattle.cjc_ncode.specs.CardSemantics.Bytecode.Arguments.{widths}
 use Rattle.cjc_narrow.proofs.written.descriptor.widths.Given as goal
 
 abbrev pub invariant-loop-kind : goal.invariant-loop-kind

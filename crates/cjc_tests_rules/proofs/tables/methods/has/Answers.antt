@@ -1,5 +1,5 @@
 use Rattle.std.proofs.Common.{◌≡◌, sym, subst}
-use Rattle.cjc_world.specs.Classes.{all_classes}
+use Rattle.cjc_vtable.specs.World.Classes.{all_classes}
 use Rattle.cjc_types.specs.Flow.{Body}
 use Rattle.cjc_types.specs.Tables.{IsTypeTable}
 use Rattle.cjc_tests_rules.proofs.tables.methods.has.Goals as goal

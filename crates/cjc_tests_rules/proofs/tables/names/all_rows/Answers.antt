@@ -1,5 +1,5 @@
 use Rattle.std.proofs.Common.{length}
-use Rattle.cjc_fixpoint.proofs.AllMarked.{all_are, all_meet}
+use Rattle.cjc_types.proofs.Fixpoint.AllMarked.{all_are, all_meet}
 use Rattle.cjc_tests_rules.specs.Tables.Names.{name_flow}
 use Rattle.cjc_tests_rules.specs.Tables.NameLaws.{names_stay}
 use Rattle.cjc_tests_rules.proofs.tables.names.all_rows.Goals as goal

@@ -1,5 +1,5 @@
 use Rattle.cjc_tests_rules.specs.Tables.NameLaws.{names_stay}
-use Rattle.cjc_fixpoint.proofs.Marked.{marks_are}
+use Rattle.cjc_types.proofs.Fixpoint.Marked.{marks_are}
 use Rattle.cjc_tests_rules.proofs.TablesLaws.Meeting.{names_meet}
 use Rattle.cjc_tests_rules.proofs.tables.names.met.Goals as goal
 

@@ -1,5 +1,5 @@
 use Rattle.std.proofs.Common.{◌≤◌, drop, length}
-use Rattle.cjc_layout.specs.Handlers.{AllLie}
+use Rattle.cjc_examples.specs.Layout.Handlers.{AllLie}
 use Rattle.cjc_tests_selection.proofs.code.whole.all_lie.Given as goal
 
 abbrev pub invariant-loop-k : goal.invariant-loop-k

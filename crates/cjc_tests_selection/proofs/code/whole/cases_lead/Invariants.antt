@@ -1,5 +1,5 @@
 use Rattle.std.proofs.Common.{◌≤◌, drop, length}
-use Rattle.cjc_layout.specs.Sizes.{CasesLead}
+use Rattle.cjc_examples.specs.Layout.Sizes.{CasesLead}
 use Rattle.cjc_tests_selection.proofs.code.whole.cases_lead.Given as goal
 
 abbrev pub invariant-loop-k : goal.invariant-loop-k

@@ -1,5 +1,5 @@
 use Rattle.std.proofs.Common.{◌≤◌, ◌+◌, drop, length}
-use Rattle.cjc_layout.specs.Sizes.{widest_size}
+use Rattle.cjc_examples.specs.Layout.Sizes.{widest_size}
 use Rattle.cjc_tests_selection.proofs.code.whole.has_room.Given as goal
 
 abbrev pub invariant-loop-k : goal.invariant-loop-k

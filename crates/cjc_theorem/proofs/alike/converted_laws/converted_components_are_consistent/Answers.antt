@@ -1,4 +1,4 @@
-use Rattle.cjc_check_proof.specs.Consistent.Premises.{HasSoundFiles, HasSoundMethods, HasSoundNames}
+use Rattle.cjc_shape_proof.specs.CheckProof.Consistent.Premises.{HasSoundFiles, HasSoundMethods, HasSoundNames}
 use Rattle.cjc_theorem.proofs.AlikeLaws.ConvertedLaws.Sizes.{sizes_kept}
 use Rattle.cjc_theorem.proofs.alike.converted_laws.converted_components_are_consistent.Goals as goal
 use Rattle.cjc_judge.specs.Rules.{settings_of}

@@ -3,7 +3,7 @@ use Rattle.std.specs.Prelude.{◌≢◌, nat_lt, length}
 use Rattle.cjc_card_semantics.specs.Machine.ByToken.{run as run_by_token}
 use Rattle.cjc_components.specs.Paired.Naming.{loaded_of}
 use Rattle.cjc_judge.specs.Rules.{has_applets}
-use Rattle.cjc_list.specs.Listed.{ListTree}
+use Rattle.cjc_components.specs.List.Listed.{ListTree}
 use Rattle.cjc_script.specs.declared.report.Outcome.TheVariants.{Stuck}
 use Rattle.cjc_script.specs.declared.report.Report.{Report}
 use Rattle.cjc_script.specs.declared.script.Script.{Script}
