@@ -121,7 +121,7 @@ record IsKept (old new : ExportClass) : Type 0 where
   name : new.name ≡ old.name
   token : new.token ≡ old.token
   interface : is_interface new.flags ≡ is_interface old.flags
-  supers : lacks_one new.supers old.supers ≡ false
+  supers : lacks_one new.listed old.listed ≡ false
   interfaces : lacks_one new.interfaces old.interfaces ≡ false
   fields : (i : ℕ) (f : ExportField) → slice_get old.fields i ≡ Some f → is_lost_field new.fields f ≡ false
   methods : (i : ℕ) (m : ExportMethod) → slice_get old.methods i ≡ Some m → is_lost_method new.methods m ≡ false
@@ -146,7 +146,7 @@ kept f n old new token e =
     (at_class f n old) 744) supers.0 in
     let class = or_none (not (bytes_eq new.name old.name)) (not (is_of_kind old.flags new.flags))
     (at_none (is_other_class old new) _ 742 table.0) in
-    let less = or_none (lacks_one new.supers old.supers) (lacks_one new.interfaces old.interfaces)
+    let less = or_none (lacks_one new.listed old.listed) (lacks_one new.interfaces old.interfaces)
     (at_none (is_less old new) _ 745 supers.1) in
     record {
       name = name_is new.name old.name (not_false _ class.0);
@@ -286,7 +286,7 @@ module _ (file : List ℕ) (old new : ExportTree) (e : breaks file old new ≡ [
       let there = classes_kept n c g in
       let is = there.3 in
       subst (λ z. ListsSuper new z x) is.name
-      (superclass there.0 there.1 there.2 x (still_listed there.1.supers c.supers is.supers x h))
+      (superclass there.0 there.1 there.2 x (still_listed there.1.listed c.listed is.supers x h))
   same_super _ s (interface n c g x h) =
       let there = classes_kept n c g in
       let is = there.3 in

@@ -1,5 +1,5 @@
--- What packages refer to of a package by token (Java Card Virtual Machine Specification 2.2.2, sections 4.3.3, 4.3.7 and
--- 6.7), and what a new version of an export file keeps of that.
+-- What packages refer to of a package by token (Java Card Virtual Machine Specification 2.2.2, sections 4.3.3, 4.3.7
+-- and 6.7), and what a new version of an export file keeps of that.
 use Rattle.std.specs.Prelude.{◌≡◌, ◌||◌, ℕ, Bool, true, false, if◌then◌else◌, List, Some, codes, slice_get}
 use Rattle.std.specs.Str.{bytes_eq}
 use Rattle.cjc_bytes.specs.AccessFlags.{is_interface, is_static}
@@ -53,7 +53,7 @@ pub data Resolves (tree : ExportTree) : Reference → Meant → Type 0 where
 -- A class of the export file lists a name among its superclasses, or among its interfaces.
 pub data ListsSuper (tree : ExportTree) : (class super : List ℕ) → Type 0 where
   superclass : (n : ℕ) (c : ExportClass) → slice_get tree.classes n ≡ Some c → (x : List ℕ)
-      → is_one_of c.supers x ≡ true → ListsSuper tree c.name x
+      → is_one_of c.listed x ≡ true → ListsSuper tree c.name x
   interface : (n : ℕ) (c : ExportClass) → slice_get tree.classes n ≡ Some c → (x : List ℕ)
       → is_one_of c.interfaces x ≡ true → ListsSuper tree c.name x
 

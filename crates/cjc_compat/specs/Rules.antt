@@ -1,6 +1,6 @@
 -- Rules 741 to 745: whether a new version of an export file may stand in the place of the old one, so that what was
--- converted with the old one links with the new package (Java Card Virtual Machine Specification 2.2.2, sections 4.4 and
--- 4.5). Each is a test; where it is broken, and which stands first, is a list of breaks.
+-- converted with the old one links with the new package (Java Card Virtual Machine Specification 2.2.2, sections 4.4
+-- and 4.5). Each is a test; where it is broken, and which stands first, is a list of breaks.
 use Rattle.std.specs.Prelude.{ℕ, ◌+◌, ◌==◌, ◌&&◌, ◌||◌, not, nat_lt, max, Bool, true, false, if◌then◌else◌, List, []}
 use Rattle.std.specs.Prelude.{◌∷◌, ◌++◌, length, is_some, Option, Some, None}
 use Rattle.std.specs.List.{find, list_any}
@@ -92,7 +92,7 @@ lacks_one new old = list_any (λ x. not (is_one_of new x)) old
 
 -- The new class does not list a super or an interface that the old one lists.
 abbrev pub is_less : (old new : ExportClass) → Bool
-is_less old new = lacks_one new.supers old.supers || lacks_one new.interfaces old.interfaces
+is_less old new = lacks_one new.listed old.listed || lacks_one new.interfaces old.interfaces
 
 -- ---- where they are broken
 

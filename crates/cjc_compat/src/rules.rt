@@ -160,7 +160,7 @@ pub(crate) fn is_other_table(old: &ExportClass, new: &ExportClass) -> bool
 pub(crate) fn is_less(alloc: Global, old: &ExportClass, new: &ExportClass) -> Result<bool, NoMemory>
     ensures { IfOk result (λ less. less ≡ is_less old.now new.now) }
 {
-    let supers = lacks_one(alloc, new.supers.items(), old.supers.items())?;
+    let supers = lacks_one(alloc, new.listed.items(), old.listed.items())?;
     let interfaces = lacks_one(alloc, new.interfaces.items(), old.interfaces.items())?;
     Ok(supers || interfaces)
 }

@@ -1,4 +1,5 @@
--- What `run` says, in the order in which to read it. docs/BELIEVE.md names each definition, and what to compare it with.
+-- What `run` says, in the order in which to read it. docs/BELIEVE.md names each definition, and what to compare it
+-- with.
 
 -- Bytes: what a format is, and which bytes spell which value by it; descriptors, and the lines of a text.
 pub use Rattle.cjc_bytes.specs as Bytes

@@ -141,7 +141,8 @@ pub record MadeReported (number size : ℕ) (old new : Shelved) (from to : Sunk)
   pub kept : IfSome old.files (λ files. new.files ≡ Some files)
   pub printed : IsPrinted todo from to
 
--- The files of these names were read, spell two versions of an export file, and the new one keeps what the old one says.
+-- The files of these names were read, spell two versions of an export file, and the new one keeps what the old one
+-- says.
 pub record IsCompared (old new : List ℕ) (files : Files) : Type 0 where
   pub old_bytes : List ℕ
   pub new_bytes : List ℕ

@@ -1,0 +1,7 @@
+package p;
+
+public class A {
+    public static short f() {
+        return 1;
+    }
+}
