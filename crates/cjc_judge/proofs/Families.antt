@@ -12,12 +12,14 @@ use Rattle.cjc_code.specs.declared.insn.JOp.{JOp}
 use Rattle.cjc_code.specs.declared.method_code.MethodCode.{MethodCode}
 use Rattle.cjc_world.specs.Classes.{Class, all_classes, declared, imported}
 use Rattle.cjc_world.specs.Files.{Files}
+use Rattle.cjc_world.specs.ExportFile.declared.tree.ExportClass.{ExportClass}
 use Rattle.cjc_bytes.specs.Breaks.{Break, broken_at, each}
 use Rattle.cjc_vtable.specs.Subset.Places.{at_method}
 use Rattle.cjc_bytes.specs.Order.{FilePlace, file_of}
 use Rattle.cjc_vtable.specs.Subset.Names.{insn_breaks, catch_breaks, catches_of, method_breaks, code_breaks}
 use Rattle.cjc_vtable.specs.Subset.Names.{name_breaks}
 use Rattle.cjc_vtable.specs.Subset.Checks as checks
+use Rattle.cjc_vtable.specs.Subset.Exports.{export_breaks, export_file_of, listed_class_breaks}
 use Rattle.cjc_vtable.specs.Subset.Overriding.{is_inherited, method_against, class_against, supertype_breaks}
 use Rattle.cjc_vtable.specs.Subset.Overriding.{overriding_breaks}
 use Rattle.cjc_vtable.specs.Tokens.Rules.{breaks_from, breaks_where, has_high_token, is_few, tested_breaks}
@@ -164,8 +166,10 @@ unfolding checks.own_breaks
 check_own files settings f n c =
     each_append IsLanguage _ _
     (each_append IsLanguage _ _
+    (each_append IsLanguage _ _
     (each_append IsLanguage _ _ (each_append IsLanguage _ _ (each_at IsLanguage _ _ 301 third) (each_at IsLanguage _ _
     302 third)) (each_at IsLanguage _ _ 304 third))
+    (each_at IsLanguage _ _ 305 third))
     (each_at IsLanguage _ _ 403 fourth))
     (each_at IsLanguage _ _ 406 fourth)
 
@@ -180,6 +184,16 @@ check_class files settings f n c =
     (each_of IsLanguage _ c.methods (λ i m _. check_method settings f c i m)))
     (check_overriding files f c)
 
+check_listed : (f : FilePlace) (n : ℕ) (c : ExportClass) → Each IsLanguage (listed_class_breaks f n c)
+unfolding listed_class_breaks
+check_listed f n c = each_append IsLanguage _ _ (each_at IsLanguage _ _ 301 third) (each_of IsLanguage _ c.methods
+    (λ i m _. each_at IsLanguage _ _ 304 third))
+
+check_exports : (files : Files) → Each IsLanguage (export_breaks files)
+unfolding export_breaks
+check_exports files = each_of IsLanguage _ files.exports (λ e t _. each_of IsLanguage _ t.classes (λ i c _. check_listed
+    (export_file_of files.lines e) (i + 1) c))
+
 check_list : (list : List ℕ) (files : Files) (settings : Settings)
     → Each IsLanguage (checks.list_breaks list files settings)
 unfolding checks.list_breaks
@@ -187,8 +201,10 @@ check_list list files settings =
     each_append IsLanguage _ _
     (each_append IsLanguage _ _
     (each_append IsLanguage _ _
-    (each_append IsLanguage _ _ (each_append IsLanguage _ _ (each_at IsLanguage _ _ 309 third) (each_at IsLanguage _ _
-    401 fourth)) (each_at IsLanguage _ _ 402 fourth))
+    (each_append IsLanguage _ _
+    (each_append IsLanguage _ _ (each_append IsLanguage _ _ (check_exports files) (each_at IsLanguage _ _ 309 third))
+    (each_at IsLanguage _ _ 401 fourth))
+    (each_at IsLanguage _ _ 402 fourth))
     (each_at IsLanguage _ _ 407 fourth))
     (each_at IsLanguage _ _ 408 fourth))
     (each_at IsLanguage _ _ 409 fourth)

@@ -19,11 +19,11 @@ use Rattle.cjc_judge.specs.Rules.{FileBreach, no_class_file, no_instructions, no
 use Rattle.cjc_judge.specs.Rules.{code_refusal, method_rank, BreaksFile, BreaksWorld, BreaksNames, HasWrongTypes}
 use Rattle.cjc_judge.specs.Rules.{BreaksGroup, files_spelt, settings_of, has_applets, Breach, of_file, of_world}
 use Rattle.cjc_judge.specs.Rules.{of_names, of_group, OnLevels, on_first, on_second, IsFirstRefused, IsFirstBroken}
-use Rattle.cjc_judge.specs.Spelt.{FileTree, of_class, of_export, SpellTrees, classes_of}
+use Rattle.cjc_judge.specs.Spelt.{FileTree, of_class, of_export, SpellTrees, classes_of, exports_of}
 use Rattle.cjc_judge.specs.declared.groups.Group.{Group}
 use Rattle.cjc_judge.specs.declared.groups.Group.TheVariants as groups
 use Rattle.cjc_judge.proofs.Firsts.{file_family, world_family, names_family, late_family, one_spelling}
-use Rattle.cjc_judge.proofs.Places.{IsTold, place_at, class_files}
+use Rattle.cjc_judge.proofs.Places.{IsTold, place_at, class_files, export_files}
 use Rattle.cjc_judge.proofs.ToldWorld.{world_told}
 use Rattle.cjc_judge.proofs.ToldRules.{image_told, names_told, unsupported_insns_told, checks_told, tokens_told}
 use Rattle.cjc_judge.proofs.ToldRules.{method_told}
@@ -111,6 +111,17 @@ class_lines (l ∷ ls) (b ∷ bs) (of_class t ∷ ts) s =
 class_lines (l ∷ ls) (b ∷ bs) (of_export t ∷ ts) s =
     class_lines ls bs ts s.1 ∙ sym (ap (λ (v : Bool). if v then suc (class_files ls) else class_files ls) s.0.0)
 
+export_lines : (lines : List FileLine) (files : List (List ℕ)) (trees : List FileTree) → SpellTrees lines files trees
+    → length (exports_of trees) ≡ export_files lines
+export_lines [] files trees s = ap (λ (ts : List FileTree). length (exports_of ts)) s.1
+export_lines (l ∷ ls) [] trees s = absurd s
+export_lines (l ∷ ls) (b ∷ bs) [] s = absurd s
+export_lines (l ∷ ls) (b ∷ bs) (of_class t ∷ ts) s =
+    export_lines ls bs ts s.1 ∙ sym (ap (λ (v : Bool). if v then export_files ls else suc (export_files ls)) s.0.0)
+export_lines (l ∷ ls) (b ∷ bs) (of_export t ∷ ts) s =
+    ap suc (export_lines ls bs ts s.1) ∙ sym (ap (λ (v : Bool). if v then export_files ls else suc (export_files ls))
+    s.0.0)
+
 module _ (list : ListTree) (files : List (List ℕ)) where
   world_spelt : (b : Break) → BreaksWorld list files b → IsSpelt list files b
   world_spelt b (trees, spelt, among) = (trees, spelt, (world_told list.name (files_spelt list trees)).holds b among)
@@ -119,49 +130,56 @@ module _ (list : ListTree) (files : List (List ℕ)) where
   group_spelt groups.Unsupported b (trees, spelt, among) = (
     trees,
     spelt,
-    (unsupported_insns_told list.name (files_spelt list trees) (class_lines list.lines files trees
-        spelt) (all_unsupported_insns (classes_of trees))).holds b among,
+    (unsupported_insns_told list.name (files_spelt list trees) (class_lines list.lines files trees spelt)
+        (export_lines list.lines files trees spelt) (all_unsupported_insns (classes_of trees))).holds b among,
   )
   group_spelt groups.Language b ((trees, world, among), third) = (
     trees,
     world.0,
     (checks_told list.name (files_spelt list trees) (class_lines list.lines files trees world.0)
+        (export_lines list.lines files trees world.0)
         (all_codes (classes_of trees)) (settings_of list)).holds b among,
   )
   group_spelt groups.Initialisers b (trees, world, h) = (
     trees,
     world.0,
     image_told list.name (files_spelt list trees) (class_lines list.lines files trees world.0)
+        (export_lines list.lines files trees world.0)
         (all_codes (classes_of trees)) b h,
   )
   group_spelt groups.Limits b (trees, world, among) = (
     trees,
     world.0,
     (checks_told list.name (files_spelt list trees) (class_lines list.lines files trees world.0)
+        (export_lines list.lines files trees world.0)
         (all_codes (classes_of trees)) (settings_of list)).holds b among,
   )
   group_spelt groups.Tokens b (trees, world, among) = (
     trees,
     world.0,
     (tokens_told list.name (files_spelt list trees) (class_lines list.lines files trees world.0)
+        (export_lines list.lines files trees world.0)
         (has_applets list)).holds b among,
   )
   group_spelt groups.Types b (trees, world, (i, code, at, h)) = (
     trees,
     world.0,
     method_told list.name (files_spelt list trees) (class_lines list.lines files trees world.0)
+        (export_lines list.lines files trees world.0)
         HasWrongTypes code b h,
   )
   group_spelt groups.Ranges b (inl (trees, world, (i, code, at, h))) = (
     trees,
     world.0,
     method_told list.name (files_spelt list trees) (class_lines list.lines files trees world.0)
+        (export_lines list.lines files trees world.0)
         HasWrongTypes code b h,
   )
   group_spelt groups.Ranges b (inr (trees, world, (i, code, at, h))) = (
     trees,
     world.0,
     method_told list.name (files_spelt list trees) (class_lines list.lines files trees world.0)
+        (export_lines list.lines files trees world.0)
         IsOutOfRange code b h,
   )
 
@@ -189,6 +207,7 @@ module _ (list : ListTree) (files : List (List ℕ)) where
           trees,
           world.0,
           (names_told list.name (files_spelt list trees) (class_lines list.lines files trees world.0)
+              (export_lines list.lines files trees world.0)
               (all_codes (classes_of trees))).holds b among,
         )
     from_where b (of_group (i, g, at, h)) = inr (

@@ -13,9 +13,13 @@ use Rattle.cjc_bytes.specs.Refused.{refused_at, in_class, field_text, method_tex
 use Rattle.cjc_classfile.specs.declared.tree.ClassTree.{ClassTree}
 use Rattle.cjc_classfile.specs.declared.tree.FieldTree.{FieldTree}
 use Rattle.cjc_classfile.specs.declared.tree.MethodTree.{MethodTree}
+use Rattle.cjc_vtable.specs.Subset.Exports.{export_file_from, export_file_of}
 use Rattle.cjc_vtable.specs.Subset.Places.{at_class, at_field, at_method}
-use Rattle.cjc_world.specs.Classes.{Class, Member, declared, field_of_class, method_of_class, of_class_file}
-use Rattle.cjc_world.specs.Classes.{of_export_file, size}
+use Rattle.cjc_world.specs.Classes.{Class, Member, declared, field_of_class, field_of_export, imported, method_of_class}
+use Rattle.cjc_world.specs.Classes.{method_of_export, numbered, of_class_file, of_export_file, size}
+use Rattle.cjc_world.specs.ExportFile.declared.tree.ExportClass.{ExportClass}
+use Rattle.cjc_world.specs.ExportFile.declared.tree.ExportMethod.{ExportMethod}
+use Rattle.cjc_world.specs.ExportFile.declared.tree.ExportTree.{ExportTree}
 use Rattle.cjc_world.specs.Files.{Files}
 
 -- ---- what stands at a place of the order
@@ -273,3 +277,152 @@ module _ (list : List ℕ) (files : Files) (number : ℕ) (c : ClassTree) (f : F
         (method_text m.name m.desc) offset rule h.class
         (method_at (declared number c) i (length c.fields + i + 1) (method_of_class m) (omega (arith, same))
         (mapped method_of_class c.methods i m there)))
+
+-- ---- the file of an export file's number
+
+-- how many export files these lines name
+abbrev pub export_files : List FileLine → ℕ
+export_files [] = 0
+export_files (line ∷ lines) = if line.class_file then export_files lines else suc (export_files lines)
+
+-- The place of an export file: a line, whose classes are those of this file.
+pub record IsExportFileOf (files : Files) (t : ExportTree) (f : FilePlace) : Type 0 where
+  pub index : ℕ
+  pub line : FileLine
+  pub is_line : slice_get files.lines index ≡ Some line
+  pub is : f ≡ record { key = keys.Line index; name = line.name }
+  -- the number of the first of its classes
+  pub first : ℕ
+  pub classes : classes_in files 0 0 0 files.lines index ≡ numbered first t.classes
+
+-- the same behind so many lines
+record IsListedBehind (files : Files) (before c e i : ℕ) (lines : List FileLine) (k : ℕ) (t : ExportTree) : Type 0 where
+  index : ℕ
+  line : FileLine
+  is_line : slice_get lines index ≡ Some line
+  is : export_file_from before lines k ≡ record { key = keys.Line (before + index); name = line.name }
+  first : ℕ
+  classes : classes_in files c e i lines index ≡ numbered first t.classes
+
+first_listed : (files : Files) (before c e i : ℕ) (line : FileLine) (lines : List FileLine) (t : ExportTree)
+    → line.class_file ≡ false → slice_get files.exports (e + 0) ≡ Some t
+    → IsListedBehind files before c e i (line ∷ lines) 0 t
+first_listed files before c e i line lines t is there = record {
+  index = 0;
+  line = line;
+  is_line = refl;
+  is = ap (λ (b : Bool). if b then export_file_from (before + 1) lines 0
+      else record { key = keys.Line before; name = line.name }) is
+      ∙ ap (λ (n : ℕ). record { key = keys.Line n; name = line.name }) (let e : before ≡ before + 0 = omega arith in e);
+  first = i;
+  classes = ap (λ (b : Bool). if b then of_class_file c (slice_get files.classes c)
+      else of_export_file i (slice_get files.exports e)) is
+      ∙ ap (λ (n : ℕ). of_export_file i (slice_get files.exports n)) (let z : e ≡ e + 0 = omega arith in z)
+      ∙ ap (of_export_file i) there;
+}
+
+later_listed : (files : Files) (before c e i : ℕ) (line : FileLine) (lines : List FileLine) (k : ℕ) (t : ExportTree)
+    → line.class_file ≡ false → IsListedBehind files (before + 1) c (e + 1) (i + size (slice_get files.exports e)) lines
+    k t
+    → IsListedBehind files before c e i (line ∷ lines) (suc k) t
+later_listed files before c e i line lines k t is h = record {
+  index = suc h.index;
+  line = h.line;
+  is_line = h.is_line;
+  is = ap (λ (b : Bool). if b then export_file_from (before + 1) lines (suc k)
+      else export_file_from (before + 1) lines k) is ∙ h.is
+      ∙ ap (λ (n : ℕ). record { key = keys.Line n; name = h.line.name }) (let e : before + 1 + h.index
+      ≡ before + suc h.index = omega arith in e);
+  first = h.first;
+  classes = ap (λ (b : Bool). if b then classes_in files (c + 1) e i lines h.index
+      else classes_in files c (e + 1) (i + size (slice_get files.exports e)) lines h.index) is ∙ h.classes;
+}
+
+class_before : (files : Files) (before c e i : ℕ) (line : FileLine) (lines : List FileLine) (k : ℕ) (t : ExportTree)
+    → line.class_file ≡ true → IsListedBehind files (before + 1) (c + 1) e i lines k t
+    → IsListedBehind files before c e i (line ∷ lines) k t
+class_before files before c e i line lines k t is h = record {
+  index = suc h.index;
+  line = h.line;
+  is_line = h.is_line;
+  is = passed k ∙ h.is ∙ ap (λ (n : ℕ). record { key = keys.Line n; name = h.line.name }) (let e : before + 1 + h.index
+      ≡ before + suc h.index = omega arith in e);
+  first = h.first;
+  classes = ap (λ (b : Bool). if b then classes_in files (c + 1) e i lines h.index
+      else classes_in files c (e + 1) (i + size (slice_get files.exports e)) lines h.index) is ∙ h.classes;
+}
+  where
+    passed : (k : ℕ) → export_file_from before (line ∷ lines) k ≡ export_file_from (before + 1) lines k
+    passed zero = ap (λ (b : Bool). if b then export_file_from (before + 1) lines 0
+        else record { key = keys.Line before; name = line.name }) is
+    passed (suc k) = ap (λ (b : Bool). if b then export_file_from (before + 1) lines (suc k)
+        else export_file_from (before + 1) lines k) is
+
+listed_behind : (files : Files) (before c e i : ℕ) (lines : List FileLine) (k : ℕ) (t : ExportTree)
+    → k < export_files lines → slice_get files.exports (e + k) ≡ Some t → IsListedBehind files before c e i lines k t
+listed_behind files before c e i [] k t lt there = absurd (omega (arith, lt))
+listed_behind files before c e i (line ∷ lines) k t lt there = by line.class_file refl k lt there (λ b c e i k lt there.
+    listed_behind files b c e i lines k t lt there)
+  where
+    by : (b : Bool) → line.class_file ≡ b → (k : ℕ) → k < (if b then export_files lines else suc (export_files lines))
+        → slice_get files.exports (e + k) ≡ Some t
+        → ((before c e i k : ℕ) → k < export_files lines → slice_get files.exports (e + k) ≡ Some t
+        → IsListedBehind files before c e i lines k t)
+        → IsListedBehind files before c e i (line ∷ lines) k t
+    by false is zero lt there more = first_listed files before c e i line lines t is there
+    by false is (suc k) lt there more =
+        later_listed files before c e i line lines k t is
+        (more (before + 1) c (e + 1) (i + size (slice_get files.exports e)) k (omega (arith, lt))
+        (ap (slice_get files.exports) (let z : e + 1 + k ≡ e + suc k = omega arith in z) ∙ there))
+    by true is k lt there more = class_before files before c e i line lines k t is (more (before + 1) (c + 1) e i k lt
+        there)
+
+pub export_file_is_of : (files : Files) (number : ℕ) (t : ExportTree) → number < export_files files.lines
+    → slice_get files.exports number ≡ Some t → IsExportFileOf files t (export_file_of files.lines number)
+export_file_is_of files number t lt there =
+    let zero_plus : 0 + number ≡ number = omega arith in
+    let h = listed_behind files 0 0 0 0 files.lines number t lt (ap (slice_get files.exports) zero_plus ∙ there) in
+    record {
+      index = h.index;
+      line = h.line;
+      is_line = h.is_line;
+      is = h.is ∙ ap (λ (n : ℕ). record { key = keys.Line n; name = h.line.name }) (let e : 0 + h.index
+          ≡ h.index = omega arith in e);
+      first = h.first;
+      classes = h.classes;
+    }
+
+-- ---- places of export files
+
+numbered_get : (first : ℕ) (cs : List ExportClass) (k : ℕ) (c : ExportClass) → slice_get cs k ≡ Some c
+    → slice_get (numbered first cs) k ≡ Some (imported (first + k) c)
+numbered_get first [] k c e = absurd cc
+numbered_get first (b ∷ cs) zero c e =
+    let same : b ≡ c = cc in
+    ap (λ (x : ExportClass). Some (imported first x)) same
+    ∙ ap (λ (n : ℕ). Some (imported n c)) (let z : first ≡ first + 0 = omega arith in z)
+numbered_get first (b ∷ cs) (suc k) c e = numbered_get (first + 1) cs k c e
+    ∙ ap (λ (n : ℕ). Some (imported n c)) (let z : first + 1 + k ≡ first + suc k = omega arith in z)
+
+module _ (list : List ℕ) (files : Files) (t : ExportTree) (f : FilePlace) (h : IsExportFileOf files t f)
+    (k : ℕ) (c : ExportClass) (is_class : slice_get t.classes k ≡ Some c) where
+  class_there : item (classes_in files 0 0 0 files.lines h.index) (k + 1) ≡ Some (imported (h.first + k) c)
+  class_there = ap (λ (n : ℕ). item (classes_in files 0 0 0 files.lines h.index) n) (add-one k)
+      ∙ ap (λ (cs : List Class). slice_get cs k) h.classes ∙ numbered_get h.first t.classes k c is_class
+
+  pub told_at_listed_class : (rule : ℕ) → IsTold list files (broken_at (class_spot f (k + 1) c.name) rule)
+  told_at_listed_class rule =
+      subst (λ (g : FilePlace). IsTold list files (broken_at (class_spot g (k + 1) c.name) rule)) (sym h.is)
+      (told_class list files h.index h.line h.is_line (k + 1) (imported (h.first + k) c) rule class_there)
+
+  pub told_at_listed_method : (i : ℕ) (m : ExportMethod) → slice_get c.methods i ≡ Some m → (rule : ℕ)
+      → IsTold list files (broken_at (member_spot f (k + 1) c.name (length c.fields + i + 1) (method_text m.name m.desc)
+      0) rule)
+  told_at_listed_method i m there rule =
+      let same = length-map c.fields field_of_export in
+      subst (λ (g : FilePlace). IsTold list files (broken_at (member_spot g (k + 1) c.name (length c.fields + i + 1)
+      (method_text m.name m.desc) 0) rule)) (sym h.is)
+      (told_member list files h.index h.line h.is_line (k + 1) (imported (h.first + k) c) (length c.fields + i + 1)
+      (method_text m.name m.desc) 0 rule class_there
+      (method_at (imported (h.first + k) c) i (length c.fields + i + 1) (method_of_export m) (omega (arith, same))
+      (mapped method_of_export c.methods i m there)))

@@ -1,13 +1,14 @@
 -- What is told of the rules of names, of the language of the card, of limits, of tokens, of types and of ranges.
 use Rattle.std.proofs.Common.{◌≡◌, ℕ, suc, ◌+◌, Bool, true, false, List, [], ◌∷◌, length, Some, refl, sym, ap, subst}
 use Rattle.std.proofs.Common.{◌∙◌, arith}
-use Rattle.std.specs.Prelude.{slice_get, if◌then◌else◌}
+use Rattle.std.specs.Prelude.{not, slice_get, if◌then◌else◌}
 use Rattle.std.proofs.lemmas.Option.{slice_get_within}
 use Rattle.cjc_bytes.specs.declared.breaks.BrokenAt.{BrokenAt}
 use Rattle.cjc_bytes.specs.declared.settings.Settings.{Settings}
 use Rattle.cjc_types.specs.Flow.{Body}
-use Rattle.cjc_bytes.specs.Breaks.{Break, at, broken_at, each, list_spot}
+use Rattle.cjc_bytes.specs.Breaks.{Break, at, broken_at, class_spot, each, list_spot, member_spot}
 use Rattle.cjc_bytes.specs.Order.{FilePlace, file_of}
+use Rattle.cjc_bytes.specs.Refused.{method_text}
 use Rattle.cjc_classfile.specs.declared.tree.Catch.{Catch}
 use Rattle.cjc_classfile.specs.declared.tree.ClassTree.{ClassTree}
 use Rattle.cjc_classfile.specs.declared.tree.FieldTree.{FieldTree}
@@ -15,6 +16,8 @@ use Rattle.cjc_classfile.specs.declared.tree.MethodTree.{MethodTree}
 use Rattle.cjc_code.specs.declared.insn.JInsn.{JInsn}
 use Rattle.cjc_code.specs.declared.method_code.MethodCode.{MethodCode}
 use Rattle.cjc_vtable.specs.Subset.Checks as checks
+use Rattle.cjc_vtable.specs.Subset.Exports.{export_breaks, export_file_of, is_class_name, is_of_objects}
+use Rattle.cjc_vtable.specs.Subset.Exports.{is_unfit_listed, listed_class_breaks}
 use Rattle.cjc_vtable.specs.Subset.Names.{insn_breaks, catch_breaks, catches_of, method_breaks, code_breaks}
 use Rattle.cjc_vtable.specs.Subset.Names.{name_breaks}
 use Rattle.cjc_vtable.specs.Subset.Overriding.{is_inherited, method_against, class_against, supertype_breaks}
@@ -26,15 +29,19 @@ use Rattle.cjc_vtable.specs.Tokens.Rules.{at_class as token_at_class}
 use Rattle.cjc_world.specs.Classes.{Class, all_classes, declared, imported}
 use Rattle.cjc_world.specs.Exported.{is_exported}
 use Rattle.cjc_world.specs.Files.{Files}
+use Rattle.cjc_world.specs.ExportFile.declared.tree.ExportClass.{ExportClass}
+use Rattle.cjc_world.specs.ExportFile.declared.tree.ExportTree.{ExportTree}
 use Rattle.cjc_clinit.specs.Rules.{BreaksImage, of_class, of_code}
 use Rattle.cjc_judge.specs.declared.reading.UnsupportedInsn.{UnsupportedInsn}
 use Rattle.cjc_judge.specs.Rules.{unsupported_break, unsupported_breaks, BreaksMethod}
 use Rattle.cjc_judge.proofs.Each.{Each, each_none, each_more, each_append, each_at, each_of, each_code}
-use Rattle.cjc_judge.proofs.Places.{IsTold, IsFileOf, class_files, file_is_of, told_list, told_at_class, told_at_field}
-use Rattle.cjc_judge.proofs.Places.{told_at_method}
+use Rattle.cjc_judge.proofs.Places.{IsTold, IsFileOf, IsExportFileOf, class_files, export_file_is_of, export_files}
+use Rattle.cjc_judge.proofs.Places.{file_is_of, told_list, told_at_class, told_at_field, told_at_listed_class}
+use Rattle.cjc_judge.proofs.Places.{told_at_listed_method, told_at_method}
 
--- Each class has a line.
-module _ (list : List ℕ) (files : Files) (counted : length files.classes ≡ class_files files.lines) where
+-- Each class and each export file has a line.
+module _ (list : List ℕ) (files : Files) (counted : length files.classes ≡ class_files files.lines)
+    (listed : length files.exports ≡ export_files files.lines) where
   abbrev Told : Break → Type 0
   Told = IsTold list files
 
@@ -140,7 +147,9 @@ module _ (list : List ℕ) (files : Files) (counted : length files.classes ≡ c
     unfolding checks.own_breaks
     check_own settings =
         each_append Told _ _
+        (each_append Told _ _
         (each_append Told _ _ (each_append Told _ _ (each_append Told _ _ (own _ 301) (own _ 302)) (own _ 304))
+        (own _ 305))
         (own _ 403))
         (own _ 406)
 
@@ -153,6 +162,28 @@ module _ (list : List ℕ) (files : Files) (counted : length files.classes ≡ c
         at_i)))
         (each_of Told _ c.methods (λ i m at_i. check_method settings i m at_i)))
         overriding
+
+  -- ---- in an export file
+
+  -- 301 and 304 of a class that it lists
+  check_listed : (e : ℕ) (t : ExportTree) → slice_get files.exports e ≡ Some t → (k : ℕ) (c : ExportClass)
+      → slice_get t.classes k ≡ Some c → Each Told (listed_class_breaks (export_file_of files.lines e) (k + 1) c)
+  unfolding listed_class_breaks
+  check_listed e t is k c at_k =
+      let f = export_file_of files.lines e in
+      let stands : IsExportFileOf files t f = export_file_is_of files e t (let within = slice_get_within files.exports e
+      t is in omega (arith, within, listed)) is in
+      each_append Told _ _
+      (each_at Told (not (is_class_name c.name)) (class_spot f (k + 1) c.name) 301 (told_at_listed_class list files t f
+      stands k c at_k 301))
+      (each_of Told _ c.methods (λ i m at_i. each_at Told (is_unfit_listed (is_of_objects c m.name) m.flags m.name)
+      (member_spot f (k + 1) c.name (length c.fields + i + 1) (method_text m.name m.desc) 0) 304
+      (told_at_listed_method list files t f stands k c at_k i m at_i 304)))
+
+  exports_told : Each Told (export_breaks files)
+  unfolding export_breaks
+  exports_told = each_of Told _ files.exports (λ e t is. each_of Told _ t.classes (λ k c at_k. check_listed e t is k c
+      at_k))
 
   -- ---- of all
 
@@ -180,8 +211,10 @@ module _ (list : List ℕ) (files : Files) (counted : length files.classes ≡ c
   check_list settings =
       each_append Told _ _
       (each_append Told _ _
-      (each_append Told _ _ (each_append Told _ _ (each_append Told _ _ (by_list _ 309) (by_list _ 401))
-      (by_list _ 402)) (by_list _ 407))
+      (each_append Told _ _
+      (each_append Told _ _ (each_append Told _ _ (each_append Told _ _ exports_told (by_list _ 309)) (by_list _ 401))
+      (by_list _ 402))
+      (by_list _ 407))
       (by_list _ 408))
       (by_list _ 409)
 

@@ -22,7 +22,8 @@ use Rattle.cjc_subset.specs.Places.{at_class, at_field, at_method, of_code}
 use Rattle.cjc_bytes.specs.Order.{FilePlace, file_of}
 use Rattle.cjc_subset.specs.Types.{is_unsupported_desc, is_int_desc, names_unsupported, names_int}
 use Rattle.cjc_subset.specs.Flags.{is_unfit_class, is_unfit_field, is_unfit_method}
-use Rattle.cjc_subset.specs.Overriding.{overriding_breaks}
+use Rattle.cjc_subset.specs.Exports.{export_breaks}
+use Rattle.cjc_subset.specs.Overriding.{gets_hidden, overriding_breaks}
 use Rattle.cjc_subset.specs.Applets.{has_unfit_applets}
 use Rattle.cjc_subset.specs.Limits.{has_deep_stack, has_many_cells, has_many_exported, has_many_handlers}
 use Rattle.cjc_subset.specs.Limits.{has_many_interfaces, has_many_locals}
@@ -87,6 +88,7 @@ own_breaks files settings f n c =
     at (has_unsupported (added_at files n)) (at_class f c) 301
     ++ at (not settings.ints && has_int (added_at files n)) (at_class f c) 302
     ++ at (is_unfit_class c.flags) (at_class f c) 304
+    ++ at (gets_hidden files c (added_at files n)) (at_class f c) 305
     ++ at (has_many_interfaces files c) (at_class f c) 403
     ++ at (has_many_cells c) (at_class f c) 406
 
@@ -100,10 +102,11 @@ class_breaks files settings f n c =
 
 -- ---- by the list
 
--- of 309, 401, 402, 407, 408 and 409, which are broken by the package as a whole
+-- of 301 and 304 in export files, and of 309, 401, 402, 407, 408 and 409, which are broken by the package as a whole
 unfoldable pub list_breaks : (list : List ℕ) → Files → Settings → List Break
 list_breaks list files settings =
-    at (has_unfit_applets (all_classes files) settings.applets) (list_spot list) 309
+    export_breaks files
+    ++ at (has_unfit_applets (all_classes files) settings.applets) (list_spot list) 309
     ++ at (has_many_exported files settings) (list_spot list) 401
     ++ at (nat_lt 255 (length files.classes)) (list_spot list) 402
     ++ at (has_many_handlers files) (list_spot list) 407

@@ -4,6 +4,7 @@ pub mod Names
 pub mod Types
 pub mod Flags
 pub mod Overriding
+pub mod Exports
 pub mod Applets
 pub mod Limits
 pub mod Checks

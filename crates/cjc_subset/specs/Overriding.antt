@@ -1,12 +1,15 @@
 -- Rules 305, 306 and 307: methods and the methods that they inherit. A class inherits from its superclasses upwards and
 -- from its superinterfaces, and from nothing else: not from the superclass that an interface's file names.
-use Rattle.std.specs.Prelude.{ℕ, List, [], ◌++◌, Bool, true, false, not, ◌&&◌, ◌||◌, if◌then◌else◌, Option, Some, None}
+use Rattle.std.specs.Prelude.{ℕ, List, [], ◌∷◌, ◌++◌, Bool, true, false, not, ◌&&◌, ◌||◌, if◌then◌else◌, Option, Some}
+use Rattle.std.specs.Prelude.{None}
 use Rattle.std.specs.List.{list_any}
 use Rattle.std.specs.Str.{bytes_eq}
+use Rattle.cjc_bytes.specs.declared.fault.MemberId.{MemberId}
 use Rattle.cjc_code.specs.ClassFile.declared.tree.ClassTree.{ClassTree}
 use Rattle.cjc_code.specs.ClassFile.declared.tree.MethodTree.{MethodTree}
 use Rattle.cjc_world.specs.Classes.{Class, Member, all_classes, declared, imported}
-use Rattle.cjc_bytes.specs.AccessFlags.{is_abstract, is_interface, is_private, is_protected, is_public, is_static}
+use Rattle.cjc_bytes.specs.AccessFlags.{acc_public, is_abstract, is_interface, is_private, is_protected, is_public}
+use Rattle.cjc_bytes.specs.AccessFlags.{is_static}
 use Rattle.cjc_world.specs.Files.{Files}
 use Rattle.cjc_world.specs.Interfaces.{has_interface}
 use Rattle.cjc_world.specs.Supertypes.{is_below}
@@ -46,6 +49,23 @@ is_out_of_sight inherited_is_imported flags inherited =
 abbrev pub hides_one : Class → (flags : ℕ) → (name desc : List ℕ) → Bool
 hides_one d flags name desc = list_any (λ k. is_called name desc k && is_out_of_sight d.is_imported flags k.flags)
     d.methods
+
+-- another class that is a superclass
+abbrev pub is_superclass : List Class → ClassTree → Class → Bool
+is_superclass w c d = is_below w c.name d.name && not (bytes_eq c.name d.name)
+
+-- A method that an abstract class gets from an interface is public. A method of another class is package-visible, and
+-- the class is a superclass of this one.
+abbrev pub hides_added : List Class → ClassTree → (added : List MemberId) → Class → Bool
+hides_added w c added d = is_superclass w c d && list_any (λ m. hides_one d acc_public m.name m.desc) added
+
+-- with some class of the files, where the class gets methods; the numbers of classes do not matter here
+unfoldable pub gets_hidden : Files → ClassTree → (added : List MemberId) → Bool
+gets_hidden files c [] = false
+gets_hidden files c (m ∷ added) =
+    list_any (λ d. hides_added (all_classes files) c (m ∷ added) (declared 0 d)) files.classes
+    || list_any (λ t. list_any (λ d. hides_added (all_classes files) c (m ∷ added) (imported 0 d)) t.classes)
+    files.exports
 
 -- ---- 306
 

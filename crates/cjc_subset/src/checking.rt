@@ -17,6 +17,7 @@ ghost use Rattle.cjc_subset.specs.Flags.{is_unfit_method};
 ghost use Rattle.cjc_subset.specs.Types.{is_int_desc, names_int};
 
 use crate::applets::has_unfit_applets;
+use crate::exports::exports_break;
 use crate::flags::{is_unfit_class, is_unfit_field, is_unfit_method};
 use crate::interfaces::has_many_interfaces;
 use crate::kinds::{Kinds, all_kinds};
@@ -24,7 +25,7 @@ use crate::limits::{
     has_deep_stack, has_many_cells, has_many_exported, has_many_handlers, has_many_locals,
 };
 use crate::members::is_constant;
-use crate::overriding::overriding_break;
+use crate::overriding::{gets_hidden, overriding_break};
 use crate::places::{class_spot, field_spot, method_spot};
 use crate::types::{is_int_desc, is_unsupported_desc, names_int, names_unsupported};
 use cjc_bytes::{
@@ -279,10 +280,12 @@ fn own_break<'w>(
     let unsupported = broken(has_unsupported(added), spot, 301);
     let int = broken(adds_int(settings, added), spot, 302);
     let unfit = broken(is_unfit_class(class.flags), spot, 304);
+    let hidden = broken(gets_hidden(world, class, added), spot, 305);
     let interfaces = broken(has_many_interfaces(alloc, world, class)?, spot, 403);
     let cells = broken(has_many_cells(class), spot, 406);
     let types = first(unsupported, int);
-    Ok(first(first(first(types, unfit), interfaces), cells))
+    let methods = first(first(types, unfit), hidden);
+    Ok(first(first(methods, interfaces), cells))
 }
 
 /// The first rule that the class of this number or its members break, whose place this is. The kinds are those
@@ -334,8 +337,8 @@ fn classes_break<'w>(
     Ok(least)
 }
 
-/// The first rule that is broken at the list, whose name this is.
-fn list_break<'w>(list: &'w [u8], world: &World<'_>, settings: &Settings) -> Option<Break<'w>>
+/// The first rule that is broken at the list, whose name this is, or by the export files that it names.
+fn list_break<'w>(list: &'w [u8], world: &'w World<'_>, settings: &Settings) -> Option<Break<'w>>
     ensures { IsFirstOf (list_breaks list.now world.now settings.now) (option_map break_of result) }
 {
     let spot = RulePlace::of_list(list);
@@ -346,7 +349,8 @@ fn list_break<'w>(list: &'w [u8], world: &World<'_>, settings: &Settings) -> Opt
     let handlers = broken(has_many_handlers(world), spot, 407);
     let package = broken(world.package().len() > 255, spot, 408);
     let lines = broken(applets.len() > 255, spot, 409);
-    let front = first(first(unfit, exported), classes);
+    let exports = first(exports_break(world), unfit);
+    let front = first(first(exports, exported), classes);
     first(first(first(front, handlers), package), lines)
 }
 

@@ -10,6 +10,7 @@ pub use cjc_world::export_file;
 
 mod applets;
 mod checking;
+mod exports;
 mod flags;
 mod interfaces;
 mod kinds;

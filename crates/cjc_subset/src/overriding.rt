@@ -2,15 +2,17 @@
 //! method beside those of its name and descriptor above it.
 
 ghost use Rattle.std.specs.Prelude.{◌≡◌, ◌&&◌, ◌<◌, false, length, get_or, map, not, option_map, IfOk};
+ghost use Rattle.std.specs.List.{list_any};
 ghost use Rattle.cjc_world.specs.Classes.{Member, all_classes, declared, imported};
-ghost use Rattle.cjc_bytes.specs.AccessFlags.{is_interface};
+ghost use Rattle.cjc_bytes.specs.AccessFlags.{acc_public, is_interface};
 ghost use Rattle.cjc_world.specs.Working.Known.{class_of};
 ghost use Rattle.cjc_world.specs.Lookup.{is_called, selected};
 ghost use Rattle.cjc_bytes.specs.Told.{break_of, spot_of};
 ghost use Rattle.cjc_subset.specs.Working.Hits.{hit_of};
 ghost use Rattle.cjc_subset.specs.Working.Kinds.{kinds_of};
 ghost use Rattle.cjc_subset.specs.Members.{hit};
-ghost use Rattle.cjc_subset.specs.Overriding.{asks_for_code, changes_kind, class_against, has_no_code, hides_one};
+ghost use Rattle.cjc_subset.specs.Overriding.{asks_for_code, changes_kind, class_against, gets_hidden, has_no_code};
+ghost use Rattle.cjc_subset.specs.Overriding.{hides_added, hides_one, is_superclass};
 ghost use Rattle.cjc_subset.specs.Overriding.{is_inherited, is_of_other_kind, is_open, is_out_of_sight};
 ghost use Rattle.cjc_subset.specs.Overriding.{is_package_visible, is_special, is_unfit_selection, supertype_breaks};
 ghost use Rattle.cjc_subset.specs.Overriding.{lacks_code, method_against, overriding_breaks};
@@ -22,8 +24,8 @@ use crate::kinds::{Kinds, kinds_of, may_break};
 use crate::members::{ResolvedMember, is_constructor, is_initialiser, member_found};
 use crate::places::method_spot;
 use cjc_bytes::{
-    Break, Bytes, MemberId, NoMemory, RulePlace, broken, first, is_abstract, is_private,
-    is_protected, is_public, is_static,
+    ACC_PUBLIC, Break, Bytes, MemberId, NoMemory, RulePlace, broken, first, is_abstract,
+    is_private, is_protected, is_public, is_static,
 };
 use cjc_code::classfile::{ClassTree, MethodTree};
 use cjc_world::export_file::{ExportClass, ExportTree};
@@ -115,6 +117,83 @@ fn changes_kind(known: Known<'_, '_>, flags: u16, name: &[u8], desc: &[u8]) -> b
         }
     }
     false
+}
+
+// ---- 305 of methods that a class gets
+
+/// Whether another class is a superclass of a class.
+fn is_superclass(world: &World<'_>, class: &ClassTree<'_>, known: Known<'_, '_>) -> bool
+    ensures { result ≡ is_superclass (all_classes world.now) class.now (class_of known.entry) }
+{
+    let name = class.name.items();
+    world.is_below(name, known.name()) && name != known.name()
+}
+
+/// Whether a class has a package-visible method of the name and descriptor of one of these, which are public.
+fn hides_any(known: Known<'_, '_>, added: &[MemberId]) -> bool
+    ensures { result ≡ list_any (λ m. hides_one (class_of known.entry) acc_public m.name m.desc) added.now }
+{
+    added.iter().any(|m| hides_one(known, ACC_PUBLIC, m.name.items(), m.desc.items()))
+}
+
+/// Whether another class is a superclass of a class and has a package-visible method where the class gets a public one.
+fn hides_added(
+    world: &World<'_>,
+    class: &ClassTree<'_>,
+    added: &[MemberId],
+    known: Known<'_, '_>,
+) -> bool
+    ensures { result ≡ hides_added (all_classes world.now) class.now added.now (class_of known.entry) }
+{
+    is_superclass(world, class, known) && hides_any(known, added)
+}
+
+fn hides_declared(
+    world: &World<'_>,
+    class: &ClassTree<'_>,
+    added: &[MemberId],
+    others: &[ClassTree<'_>],
+) -> bool
+    ensures { result ≡ list_any (λ d. hides_added (all_classes world.now) class.now added.now (declared 0 d))
+        others.now }
+{
+    others.iter().any(|other| hides_added(world, class, added, Known::Declared(0, other)))
+}
+
+fn hides_imported(
+    world: &World<'_>,
+    class: &ClassTree<'_>,
+    added: &[MemberId],
+    others: &[ExportClass],
+) -> bool
+    ensures { result ≡ list_any (λ d. hides_added (all_classes world.now) class.now added.now (imported 0 d))
+        others.now }
+{
+    others.iter().any(|other| hides_added(world, class, added, Known::Imported(0, other)))
+}
+
+fn hides_exported(
+    world: &World<'_>,
+    class: &ClassTree<'_>,
+    added: &[MemberId],
+    exports: &[ExportTree],
+) -> bool
+    ensures { result ≡ list_any (λ t. list_any (λ d. hides_added (all_classes world.now) class.now added.now
+        (imported 0 d)) t.classes) exports.now }
+{
+    exports.iter().any(|tree| hides_imported(world, class, added, tree.classes.items()))
+}
+
+/// Whether a superclass of a class has a package-visible method where the class gets one of these.
+#[tactic(auto, unfolding(crate::specs::Overriding::gets_hidden))]
+pub(crate) fn gets_hidden(world: &World<'_>, class: &ClassTree<'_>, added: &[MemberId]) -> bool
+    ensures { result ≡ gets_hidden world.now class.now added.now }
+{
+    match added {
+        [] => false,
+        [_, ..] => hides_declared(world, class, added, world.classes().items())
+            || hides_exported(world, class, added, world.exports().items()),
+    }
 }
 
 // ---- 307

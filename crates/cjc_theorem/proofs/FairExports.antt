@@ -1,5 +1,5 @@
 pub mod Alone
+pub mod Listed
 pub mod Roots
 pub mod Sent
 pub mod Test
-pub mod Implementing

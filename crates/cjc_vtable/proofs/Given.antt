@@ -101,10 +101,10 @@ open-upwards (Known c p q next) m s i e is = ⊎_elim
     (In-split m c.methods (all_methods (upwards p ++ upwards next)) i)
 
 -- what has a slot stands at a place
-slot-of : (all : Slots) (s : Signature) → has_slot all s ≡ true → (t : ℕ) × (slice_get all t ≡ Some (Some s))
+pub slot-of : (all : Slots) (s : Signature) → has_slot all s ≡ true → (t : ℕ) × (slice_get all t ≡ Some (Some s))
 slot-of all s e = let t = token-some all s e in (t.0, token-slot all s t.0 t.1)
 
-with_new-slot : (all : Slots) (ss : List Signature) (s : Signature) → has_slot (with_new all ss) s ≡ true
+pub with_new-slot : (all : Slots) (ss : List Signature) (s : Signature) → has_slot (with_new all ss) s ≡ true
     → (has_slot all s ≡ true) ⊎ (has ss s ≡ true)
 with_new-slot all ss s e =
     let t = slot-of (with_new all ss) s e in

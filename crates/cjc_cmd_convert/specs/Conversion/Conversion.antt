@@ -24,7 +24,7 @@ IsConverted list files made = assembled.IsConverted list files made
 abbrev pub IsRefused : ListTree → List (List ℕ) → Refusal → Type 0
 IsRefused list files r = whole.IsRefused list files r
 
--- The export files are such as a platform has.
+-- The export files do not contradict one another.
 abbrev pub ExportsAreFair : List ExportTree → Type 0
 ExportsAreFair exports = fair.ExportsAreFair exports
 

@@ -36,13 +36,12 @@ pub fn converted_files_spell_one_package()
     readings();
 }
 
-/// Over export files that are fair, each half of the promise of what is converted: the narrow code that is selected
-/// behaves as the class files, and whichever components the files that are made spell give the reports of that code. Of
-/// all legal layouts of that code none has fewer bytes than the one that is written, whatever the export files say.
+/// Each half of the promise of what is converted: the narrow code that is selected behaves as the class files, whatever
+/// the export files say; and over export files that are fair, whichever components the files that are made spell give
+/// the reports of that code. Of all legal layouts of that code none has fewer bytes than the one that is written.
 pub fn both_halves_are_kept()
     ensures code { (list : ListTree) (files : Items (Items ℕ)) (made : Written) → IsRead list
         → IsConverted list files made
-        → (trees : Items FileTree) → SpellTrees list.lines files trees → ExportsAreFair (exports_of trees)
         → (p : Package) → IsPackageOf list files p → CodeBehavesAlike p }
     ensures components { (list : ListTree) (files : Items (Items ℕ)) (made : Written) → IsRead list
         → IsConverted list files made

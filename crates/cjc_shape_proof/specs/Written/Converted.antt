@@ -1,5 +1,5 @@
 -- Packages that are converted, and what is asked of the export files beside them.
-use Rattle.std.specs.Prelude.{◌≡◌, ℕ, List, [], Some, true, false, slice_get}
+use Rattle.std.specs.Prelude.{◌≡◌, ℕ, List, [], Some, true, false, ◌&&◌, slice_get}
 use Rattle.cjc_world_proof.specs.JvmSemantics.OnePackage.{is_initialiser}
 use Rattle.cjc_bytes.specs.AccessFlags.{is_interface, is_private, is_static}
 use Rattle.cjc_components.specs.Limits.{form_breaks, of_methods, size_breaks, word_breaks}
@@ -12,17 +12,20 @@ use Rattle.cjc_components.specs.List.Listed.{ListTree}
 use Rattle.cjc_shape.specs.Prepared.{IsSound}
 use Rattle.cjc_world_proof.specs.Files.{ExportsAreSound}
 use Rattle.cjc_subset.specs.Members.{imports}
+use Rattle.cjc_tokens.specs.Members.{is_exposed}
 use Rattle.cjc_vtable.specs.Kept.{ExportsAgree}
 use Rattle.cjc_shape.specs.Whole.Conversion.{IsPackageOf}
 use Rattle.cjc_world.specs.Files.{Files}
 
--- The premise on methods in export files, method by method: none is private, one of an interface is not static, and an
--- initialiser is static (Java Virtual Machine Specification, sections 2.9 and 4.6; Java Card 2.2.2, section 5.9).
+-- What rules leave of methods in export files, method by method: none is private beside public or protected, one of an
+-- interface is neither private nor static, and an initialiser is static (Java Virtual Machine Specification, sections
+-- 2.9 and 4.6; Java Card 2.2.2, section 5.9).
 pub record ExportsArePlain (files : Files) : Type 0 where
   pub visible : (n : ℕ) (c : ExportClass) → slice_get (imports files.exports) n ≡ Some c → (k : ℕ) (m : ExportMethod)
-      → slice_get c.methods k ≡ Some m → is_private m.flags ≡ false
+      → slice_get c.methods k ≡ Some m → (is_private m.flags && is_exposed m.flags) ≡ false
   pub interfaces : (n : ℕ) (c : ExportClass) → slice_get (imports files.exports) n ≡ Some c → is_interface c.flags
-      ≡ true → (k : ℕ) (m : ExportMethod) → slice_get c.methods k ≡ Some m → is_static m.flags ≡ false
+      ≡ true → (k : ℕ) (m : ExportMethod) → slice_get c.methods k ≡ Some m → (is_private m.flags ≡ false)
+      × (is_static m.flags ≡ false)
   pub initialisers : (n : ℕ) (c : ExportClass) → slice_get (imports files.exports) n ≡ Some c
       → (k : ℕ) (m : ExportMethod) → slice_get c.methods k ≡ Some m → is_initialiser m.name ≡ true
       → is_static m.flags ≡ true

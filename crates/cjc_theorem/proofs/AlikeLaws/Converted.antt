@@ -1,17 +1,20 @@
--- A package that breaks no rule, nor does what is written for it, with fair export files, is one that is converted.
+-- A package that breaks no rule, nor does what is written for it, is one that is converted.
 use Rattle.std.proofs.Common.{◌≡◌, ℕ, refl, sym, subst, List, [], ◌∷◌}
 use Rattle.cjc_bytes.specs.Breaks.{Break}
 use Rattle.cjc_components.specs.Limits.{else_of, form_breaks, limit_breaks, of_methods, size_breaks, word_breaks}
 use Rattle.cjc_components.specs.Package.{Package, world}
-use Rattle.cjc_theorem.specs.FairExports.Fair.{ExportsAreFair}
+use Rattle.cjc_judge.specs.Rules.{settings_of}
 use Rattle.cjc_judge.specs.Spelt.{IsRead}
 use Rattle.cjc_judge.specs.declared.judged.Judged.{Judged}
 use Rattle.cjc_components.specs.List.Listed.{ListTree}
 use Rattle.cjc_shape_proof.specs.Shape.Prepared.{IsSound}
 use Rattle.cjc_world_proof.specs.Files.{ExportsAreSound}
+use Rattle.cjc_subset.specs.Checks.{check_breaks}
+use Rattle.cjc_theorem.proofs.FairExports.Listed.{names}
 use Rattle.cjc_theorem.proofs.SoundRuns.Placed.{sound_package}
 use Rattle.cjc_token_proof.specs.Tables.Sound.{IsSound as IsSoundPackage}
 use Rattle.cjc_vtable.specs.Kept.{ExportsAgree}
+use Rattle.cjc_shape_proof.proofs.Shape.PreparedLaws.Sound.{is_unbroken}
 use Rattle.cjc_shape_proof.proofs.Shape.WholeLaws.Drafts.{same_spelt}
 use Rattle.cjc_shape_proof.specs.Shape.Whole.Conversion.{IsPackageOf}
 use Rattle.cjc_world.specs.Files.{Files}
@@ -26,15 +29,21 @@ back_nil [] b e = e
 back_nil (x ∷ a) b e = cc
 
 module _ (list : ListTree) (files : List (List ℕ)) (judged : Judged) (of : IsRead list) (is : IsSound list files judged)
-    (p : Package) (laid : IsPackageOf list files p) (fair : (let world = p.files in ExportsAreFair world.exports)) where
+    (p : Package) (laid : IsPackageOf list files p) where
   pub same_files : p.files ≡ judged.world
   same_files = same_spelt list files judged is p.files laid.rows laid.spelt
 
-  pub fair_world : ExportsAreFair judged.world.exports
-  fair_world = subst (λ (w : Files). ExportsAreFair w.exports) same_files fair
+  -- no rule of the card's language and of limits is broken
+  pub judged_checks : check_breaks list.name judged.world judged.codes (settings_of list) ≡ []
+  judged_checks = let u = is_unbroken list files judged is in u.checks
+
+  pub own_checks : check_breaks list.name p.files judged.codes (settings_of list) ≡ []
+  own_checks = subst (λ (w : Files). check_breaks list.name w judged.codes (settings_of list) ≡ []) (sym same_files)
+      judged_checks
 
   pub judged_package : IsSoundPackage list.name judged.world
-  judged_package = sound_package list files judged is of fair_world.names
+  judged_package = sound_package list files judged is of (names list.name judged.world judged.codes (settings_of list)
+      judged_checks)
 
   pub own_package : IsSoundPackage list.name p.files
   own_package = subst (IsSoundPackage list.name) (sym same_files) judged_package

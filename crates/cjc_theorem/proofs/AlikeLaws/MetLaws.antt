@@ -4,7 +4,6 @@ pub mod Descs
 pub mod Clean
 pub mod Aids
 pub mod LaidOut
-pub mod Access
 pub mod Cells
 pub mod Own
 pub mod Abroad

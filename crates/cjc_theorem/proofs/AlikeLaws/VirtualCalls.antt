@@ -6,5 +6,6 @@ pub mod Places
 pub mod Sought
 pub mod Found
 pub mod Objects
+pub mod Hidden
 pub mod Supers
 pub mod Words

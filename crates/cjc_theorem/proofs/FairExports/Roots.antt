@@ -6,10 +6,10 @@ use Rattle.std.specs.Str.{bytes_eq}
 use Rattle.cjc_jvm_semantics.specs.Effects.{Arithmetic, ArrayStore, ClassCast, Fault, IndexOutside, NegativeSize}
 use Rattle.cjc_jvm_semantics.specs.Effects.{NullPointer, exception_class}
 use Rattle.cjc_bytes.specs.AccessFlags.{is_interface}
+use Rattle.cjc_bytes.specs.Descriptor.{IsClassName}
 use Rattle.cjc_export.proofs.Rooted.{has_root}
 use Rattle.cjc_export.specs.declared.tree.ExportClass.{ExportClass}
 use Rattle.cjc_export.specs.declared.tree.ExportTree.{ExportTree}
-use Rattle.cjc_theorem.specs.FairExports.Fair.{ExportsAreFair}
 use Rattle.cjc_theorem.proofs.FairExports.Alone.{acyclic, found}
 use Rattle.cjc_world_proof.proofs.SelectionLaws.Rules.{only_object, super_class}
 use Rattle.cjc_world_proof.specs.Files.{ExportsAreSound}
@@ -268,9 +268,10 @@ module _ (list : List ℕ) (files : Files) (sound : IsSound list files) where
       by false e = refl
       by true e = absurd (on e (exception_class fault) refl (fault_line fault))
 
-  pub exports_sound : ExportsAreFair files.exports → ExportsAreSound files
-  exports_sound fair = record {
-    names = fair.names;
+  pub exports_sound : ((n : ℕ) (c : ExportClass) → slice_get (imports files.exports) n ≡ Some c → IsClassName c.name)
+      → ExportsAreSound files
+  exports_sound names = record {
+    names = names;
     exceptions = λ fault. (let s = fault_there fault in record {
       number = s.number;
       class = s.class;

@@ -1,18 +1,22 @@
--- What fair export files say of tokens, and of the methods of interfaces and of java/lang/Object, in the world of a
--- package.
+-- What export files say of tokens, where they are fair, and what rules leave of the methods of interfaces and of
+-- java/lang/Object, in the world of a package.
 use Rattle.std.proofs.Common.{◌≡◌, ℕ, suc, refl, sym, ap, subst, ◌∙◌, Bool, true, false, List, [], ◌∷◌, ◌++◌, inl, inr}
 use Rattle.std.proofs.Common.{length, map, ⊎_elim}
 use Rattle.std.specs.Prelude.{◌⊎◌, not, ◌&&◌, ◌||◌, Some, option_map, position, slice_get, if◌then◌else◌}
 use Rattle.std.proofs.lemmas.Option.{slice_get-map}
 use Rattle.cjc_bytes.specs.AccessFlags.{is_interface, is_private, is_static}
+use Rattle.cjc_bytes.specs.declared.settings.Settings.{Settings}
+use Rattle.cjc_code.specs.declared.method_code.MethodCode.{MethodCode}
 use Rattle.cjc_world_proof.proofs.CallsLaws.Own.{mapped_at}
 use Rattle.cjc_components.specs.Package.{Package, world}
 use Rattle.cjc_export.specs.declared.tree.ExportClass.{ExportClass}
 use Rattle.cjc_export.specs.declared.tree.ExportMethod.{ExportMethod}
 use Rattle.cjc_theorem.specs.FairExports.Fair.{ExportsAreFair, world_of}
 use Rattle.cjc_theorem.proofs.FairExports.Alone.{acyclic, filed, found, same_supertypes, supers_abroad}
+use Rattle.cjc_theorem.proofs.FairExports.Listed.{exports_plain, root_bare}
 use Rattle.cjc_theorem.proofs.FairExports.Roots.{below_root, object_there}
 use Rattle.cjc_world_proof.proofs.SelectionLaws.Rules.{listed_abroad}
+use Rattle.cjc_subset.specs.Checks.{check_breaks}
 use Rattle.cjc_token_proof.specs.Tables.Sound.{IsSound}
 use Rattle.cjc_tokens.specs.Members.{In, Signature, all_methods, first_of, has, is_initialiser, later, same}
 use Rattle.cjc_tokens.specs.Members.{signature_of}
@@ -139,17 +143,14 @@ in_at m (x ∷ ms) (later h) = let r = in_at m ms h in (suc r.0, r.1)
 selectable : (flags : ℕ) → is_private flags ≡ false → is_static flags ≡ false → is_selectable flags ≡ true
 selectable flags e f = ap (λ b. not b && not (is_static flags)) e ∙ ap not f
 
-no_both : {A : Type 0} → true ≡ false → A
-no_both e = absurd cc
-
-module _ (list : List ℕ) (files : Files) (sound : IsSound list files) (fair : ExportsAreFair files.exports) where
+module _ (list : List ℕ) (files : Files) (sound : IsSound list files) where
   abbrev w : List Class
   w = all_classes files
 
   -- ---- tokens
 
-  pub exports_agree : ExportsAgree w
-  exports_agree x c e is class_here =
+  pub exports_agree : ExportsAreFair files.exports → ExportsAgree w
+  exports_agree fair x c e is class_here =
       let r = filed list files sound x c e is in
       let plain : is_interface r.1.flags ≡ false = ap (λ (v : Class). is_interface v.flags) (sym r.3) ∙ class_here in
       let abroad = supers_abroad list files sound x c e is in
@@ -158,17 +159,6 @@ module _ (list : List ℕ) (files : Files) (sound : IsSound list files) (fair : 
       (subst (λ (q : Class). IsOneToOne (q.methods
       ++ all_methods (upwards (supertypes (world_of files.exports) q.supers)))) (sym r.3) (fair.tokens r.0 r.1 r.2
       plain))
-
-  -- ---- interfaces
-
-  ask : InterfacesAsk true w
-  ask x i e interface is k m at plain =
-      let r = filed list files sound x i e is in
-      let q = mapped_at method_of_export r.1.methods k m (ap (λ (v : Class). slice_get v.methods k) (sym r.3) ∙ at) in
-      let here : is_interface r.1.flags ≡ true = ap (λ (v : Class). is_interface v.flags) (sym r.3) ∙ interface in
-      selectable m.flags
-      (ap (λ (v : Member). is_private v.flags) q.2 ∙ fair.visible r.0 r.1 r.2 k q.0 q.1)
-      (ap (λ (v : Member). is_static v.flags) q.2 ∙ fair.interfaces r.0 r.1 r.2 here k q.0 q.1)
 
   -- ---- java/lang/Object
 
@@ -188,34 +178,6 @@ module _ (list : List ℕ) (files : Files) (sound : IsSound list files) (fair : 
       (λ same. acyclic list files sound object (subst (Above w object) (same ∙ o_name) first))
       (λ far. acyclic list files sound object (above_on w object s object first (subst (Above w s) o_name far)))
       (line_below w s o on)
-
-  objects : (o : Class) → class_named w object ≡ Some o → o.is_imported ≡ true → (m : Member)
-      → In m (all_methods (line w object)) → is_initialiser m.name ≡ false → is_selectable m.flags ≡ true
-  unfolding line
-  objects o e is m among plain =
-      let r = filed list files sound object o e is in
-      let name : r.1.name ≡ object = ap (λ (v : Class). v.name) (sym r.3) ∙ class_named-name w object o e in
-      let tree = known_here e (supertypes-AreSupertypes w (acyclic list files sound) o.supers) (supertypes-AreSupertypes
-      w (acyclic list files sound) o.interfaces) ends in
-      let line_is : supertypes w (object ∷ []) ≡ Known o (supertypes w o.supers) (supertypes w o.interfaces) End =
-      AreSupertypes-one w (object ∷ []) _ _ (supertypes-AreSupertypes w (acyclic list files sound) (object ∷ [])) tree
-      in
-      let bare : upwards (supertypes w o.supers) ≡ [] = none_known w o.supers (supertypes w o.supers)
-      (supertypes-AreSupertypes w (acyclic list files sound) o.supers) (no_super o e is) in
-      let here : In m o.methods = in_front m o.methods (subst (λ ks. In m (o.methods ++ all_methods (ks ++ []))) bare
-      (subst (λ k. In m (all_methods (upwards k))) line_is among)) in
-      let at = in_at m o.methods here in
-      let q = mapped_at method_of_export r.1.methods at.0 m (ap (λ (v : Class). slice_get v.methods at.0) (sym r.3)
-      ∙ at.1) in
-      selectable m.flags
-      (ap (λ (v : Member). is_private v.flags) q.2 ∙ fair.visible r.0 r.1 r.2 at.0 q.0 q.1)
-      (ap (λ (v : Member). is_static v.flags) q.2 ∙ by q.0 (is_static (let z = q.0 in z.flags)) refl
-      (fair.root r.0 r.1 r.2 name at.0 q.0 q.1) (ap (λ (v : Member). is_initialiser v.name) (sym q.2) ∙ plain))
-    where
-      by : (z : ExportMethod) (b : Bool) → is_static z.flags ≡ b → (is_static z.flags ≡ true → is_initialiser z.name
-          ≡ true) → is_initialiser z.name ≡ false → b ≡ false
-      by z false f static plain = refl
-      by z true f static plain = no_both (sym (static f) ∙ plain)
 
   -- ---- the methods of interfaces, by their tokens
 
@@ -238,14 +200,52 @@ module _ (list : List ℕ) (files : Files) (sound : IsSound list files) (fair : 
     refl,
   )
 
+  -- ---- what no broken rule leaves
+
+  module _ (codes : List MethodCode) (settings : Settings) (none : check_breaks list files codes settings ≡ []) where
+    -- of interfaces
+    ask : InterfacesAsk true w
+    ask x i e interface is k m at plain =
+        let r = filed list files sound x i e is in
+        let q = mapped_at method_of_export r.1.methods k m (ap (λ (v : Class). slice_get v.methods k) (sym r.3) ∙ at) in
+        let here : is_interface r.1.flags ≡ true = ap (λ (v : Class). is_interface v.flags) (sym r.3) ∙ interface in
+        let bare = (exports_plain list files codes settings none).interfaces r.0 r.1 r.2 here k q.0 q.1 in
+        selectable m.flags (ap (λ (v : Member). is_private v.flags) q.2 ∙ bare.0)
+        (ap (λ (v : Member). is_static v.flags) q.2 ∙ bare.1)
+
+    -- and of java/lang/Object
+    objects : (o : Class) → class_named w object ≡ Some o → o.is_imported ≡ true → (m : Member)
+        → In m (all_methods (line w object)) → is_initialiser m.name ≡ false → is_selectable m.flags ≡ true
+    unfolding line
+    objects o e is m among plain =
+        let r = filed list files sound object o e is in
+        let name : r.1.name ≡ object = ap (λ (v : Class). v.name) (sym r.3) ∙ class_named-name w object o e in
+        let tree = known_here e (supertypes-AreSupertypes w (acyclic list files sound) o.supers)
+        (supertypes-AreSupertypes w (acyclic list files sound) o.interfaces) ends in
+        let line_is : supertypes w (object ∷ []) ≡ Known o (supertypes w o.supers) (supertypes w o.interfaces) End =
+        AreSupertypes-one w (object ∷ []) _ _ (supertypes-AreSupertypes w (acyclic list files sound) (object ∷ [])) tree
+        in
+        let bare : upwards (supertypes w o.supers) ≡ [] = none_known w o.supers (supertypes w o.supers)
+        (supertypes-AreSupertypes w (acyclic list files sound) o.supers) (no_super o e is) in
+        let here : In m o.methods = in_front m o.methods (subst (λ ks. In m (o.methods ++ all_methods (ks ++ []))) bare
+        (subst (λ k. In m (all_methods (upwards k))) line_is among)) in
+        let at = in_at m o.methods here in
+        let q = mapped_at method_of_export r.1.methods at.0 m (ap (λ (v : Class). slice_get v.methods at.0) (sym r.3)
+        ∙ at.1) in
+        let its = root_bare list files codes settings none r.0 r.1 r.2 name at.0 q.0 q.1
+        (ap (λ (v : Member). is_initialiser v.name) (sym q.2) ∙ plain) in
+        selectable m.flags (ap (λ (v : Member). is_private v.flags) q.2 ∙ its.0)
+        (ap (λ (v : Member). is_static v.flags) q.2 ∙ its.1)
+
 -- what scripts rest on when they send
-pub exports_send : (list : List ℕ) (p : Package) → IsSound list p.files
-    → (let files = p.files in ExportsAreFair files.exports) → ExportsSend p
-exports_send list p sound fair =
-    let o = root_import list p.files sound fair in
+pub exports_send : (list : List ℕ) (p : Package) (codes : List MethodCode) (settings : Settings) → IsSound list p.files
+    → check_breaks list p.files codes settings ≡ [] → ExportsSend p
+exports_send list p codes settings sound none =
+    let o = root_import list p.files sound in
     record {
-      ask = ask list p.files sound fair;
-      listed = listed list p.files sound fair;
-      objects = λ y i e interface m among asked. objects list p.files sound fair o.0 o.1 o.2 m among
+      ask = ask list p.files sound codes settings none;
+      listed = listed list p.files sound;
+      objects = λ y i e interface m among asked. objects list p.files sound codes settings none o.0 o.1
+          o.2 m among
           (interface_plain (world p) i (signature_of m) asked);
     }

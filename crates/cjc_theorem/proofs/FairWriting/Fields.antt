@@ -4,7 +4,6 @@ use Rattle.std.proofs.Common.{List, [], ◌∷◌, ◌++◌, map, ⊎_elim, Some
 use Rattle.std.specs.Prelude.{◌&&◌, ◌/◌, ◌%◌, nat_lt, slice_get, if◌then◌else◌}
 use Rattle.std.proofs.lemmas.Nat.Bits.{and_pow}
 use Rattle.cjc_bytes.specs.AccessFlags.{acc_shareable, acc_super, is_interface, is_private, is_static}
-use Rattle.cjc_bytes.specs.Descriptor.{IsClassName}
 use Rattle.cjc_bytes.specs.declared.settings.Settings.{Settings}
 use Rattle.cjc_jvm_semantics.specs.OnePackage.{is_initialiser}
 use Rattle.cjc_code.specs.declared.method_code.MethodCode.{MethodCode}
@@ -18,8 +17,6 @@ use Rattle.cjc_export.specs.declared.tree.ExportTree.{ExportTree}
 use Rattle.cjc_shape_proof.proofs.Exported.ExportLaws.Own.{IsOwn, own_class}
 use Rattle.cjc_theorem.specs.FairExports.Fair.{ExportsAreFair, OfEach, OfMethods}
 use Rattle.cjc_shape_proof.proofs.WrittenLaws.FittingLaws.Lists.{mapped_at}
-use Rattle.cjc_narrow_proof.proofs.LawsLaws.ClassNames.{each_name}
-use Rattle.cjc_narrow_proof.specs.Laws.Unbroken.{AreSpelt}
 use Rattle.cjc_world_proof.specs.Files.{IsImportedClass}
 use Rattle.cjc_subset.specs.Checks.{check_breaks}
 use Rattle.cjc_subset.specs.Members.{imports}
@@ -40,9 +37,8 @@ use Rattle.cjc_world.specs.Classes.{Class, Member, class_named, imported, method
 use Rattle.cjc_world.specs.Supertypes.{supertypes, line, upwards}
 use Rattle.cjc_world.specs.Lookup.{object}
 use Rattle.cjc_world.proofs.Settled.{AreSupertypes-one, supertypes-AreSupertypes}
-use Rattle.cjc_token_proof.specs.WrittenSends.Sends.{ExportsImplement}
 use Rattle.cjc_theorem.specs.Open.{ExportsAreOpen}
-use Rattle.cjc_theorem.proofs.FairWriting.Entries.{IsBound, IsEntry, class_entry, interface_entry}
+use Rattle.cjc_theorem.proofs.FairWriting.Entries.{IsEntry, class_entry}
 use Rattle.cjc_theorem.proofs.FairWriting.Beside.{IsFrom, IsImport, IsKnown, IsWritten, all_from, beside, cs}
 use Rattle.cjc_theorem.proofs.FairWriting.Beside.{known, of_one, on_line, own_here, own_named, still_acyclic, v}
 use Rattle.cjc_theorem.proofs.FairWriting.Worlds.{found}
@@ -91,11 +87,10 @@ both_true true b e f = f
 both_true false b e f = cc
 
 module _ (list : List ℕ) (p : Package) (codes : List MethodCode) (settings : Settings) (sound : IsSound list p.files)
-    (checks : check_breaks list p.files codes settings ≡ []) (spelt : AreSpelt p.files)
+    (checks : check_breaks list p.files codes settings ≡ [])
     (ordered : IsOrdered (world p)) (rules : KeepsRules (world p)) (root : IsImportedClass p.files object)
-    (fair : (let files = p.files in ExportsAreFair files.exports)) (open_ones : (let files = p.files
-    in ExportsAreOpen files.exports))
-    (before following : List ExportTree) (split : (let files = p.files in files.exports ≡ before ++ following)) where
+    (open_ones : (let files = p.files in ExportsAreOpen files.exports)) (before following :
+    List ExportTree) (split : (let files = p.files in files.exports ≡ before ++ following)) where
   abbrev w : List Class
   w = world p
 
@@ -138,34 +133,13 @@ module _ (list : List ℕ) (p : Package) (codes : List MethodCode) (settings : S
     tree_kept = ap (λ (d : Class). is_interface d.flags) (sym own.is) ∙ sym kept
 
     abbrev Entry : ExportMethod → Type 0
-    Entry = IsEntry list p codes settings sound checks ordered fair.visible fair.interfaces own.number own.tree
-        own.is_tree
+    Entry = IsEntry list p codes settings sound checks ordered own.number own.tree own.is_tree
 
     written_entry : is_interface (let x = export_class p c in x.flags) ≡ false → (e : ExportMethod)
         → Has e (let x = export_class p c in x.methods) → Entry e
-    written_entry plain e h = class_entry list p codes settings sound checks ordered fair.visible fair.interfaces
-        own.number own.tree own.is_tree (tree_kept ∙ plain) rules e
+    written_entry plain e h = class_entry list p codes settings sound checks ordered own.number own.tree own.is_tree
+        (tree_kept ∙ plain) rules e
         (subst (λ (d : Class). Has e (let x = export_class p d in x.methods)) own.is h)
-
-    abbrev Bound : ExportMethod → Type 0
-    Bound = IsBound list p codes settings sound checks ordered fair.visible fair.interfaces own.number own.tree
-        own.is_tree
-
-    written_bound : is_interface (let x = export_class p c in x.flags) ≡ true → (e : ExportMethod)
-        → Has e (let x = export_class p c in x.methods) → Bound e
-    written_bound interface e h = interface_entry list p codes settings sound checks ordered fair.visible
-        fair.interfaces own.number own.tree own.is_tree (tree_kept
-        ∙ interface) e (subst (λ (d : Class). Has e (let x = export_class p d in x.methods)) own.is h)
-
-    -- its methods are neither private nor initialisers
-    written_plain : (e : ExportMethod) → Has e (let x = export_class p c in x.methods) → (is_private e.flags ≡ false)
-        × (is_initialiser e.name ≡ false)
-    written_plain e h = by (is_interface (let x = export_class p c in x.flags)) refl
-      where
-        by : (b : Bool) → is_interface (let x = export_class p c in x.flags) ≡ b → (is_private e.flags ≡ false)
-            × (is_initialiser e.name ≡ false)
-        by true f = let r = written_bound f e h in (r.visible, r.plain)
-        by false f = let r = written_entry f e h in (r.visible, r.plain)
 
     -- it is not java/lang/Object
     not_object : c.name ≡ object → ⊥
@@ -175,34 +149,7 @@ module _ (list : List ℕ) (p : Package) (codes : List MethodCode) (settings : S
         ∙ root.found) in
         no_both (ap (λ (d : Class). d.is_imported) (sym one) ∙ own_here list p sound before following split k c at)
 
-  -- ---- the easy ones
-
-  names : OfEach (beside list p sound before following split) (λ c. IsClassName c.name)
-  names = each (λ c. IsClassName c.name) fair.names (λ k c at. each_name p.files list sound.classes sound.unbroken spelt
-      c.name c (own_named list p sound before following split k c at))
-
-  visible : OfEach (beside list p sound before following split) (λ c. OfMethods c (λ m. is_private m.flags ≡ false))
-  visible = each (λ c. OfMethods c (λ m. is_private m.flags ≡ false)) fair.visible
-      (λ k c at j m g. (written_plain k c at m (get-has m (let x = export_class p c in x.methods) j g)).0)
-
-  initialisers : OfEach (beside list p sound before following split) (λ c. OfMethods c (λ m. is_initialiser m.name
-      ≡ true → is_static m.flags ≡ true))
-  initialisers = each (λ c. OfMethods c (λ m. is_initialiser m.name ≡ true → is_static m.flags ≡ true))
-      fair.initialisers
-      (λ k c at j m g is. no_both (sym is
-      ∙ (written_plain k c at m (get-has m (let x = export_class p c in x.methods) j g)).1))
-
-  interfaces : OfEach (beside list p sound before following split) (λ c. is_interface c.flags ≡ true
-      → OfMethods c (λ m. is_static m.flags ≡ false))
-  interfaces = each (λ c. is_interface c.flags ≡ true → OfMethods c (λ m. is_static m.flags ≡ false)) fair.interfaces
-      (λ k c at is j m g. (let r = written_bound k c at is m (get-has m (let x = export_class p c in x.methods) j g)
-      in r.bound))
-
-  roots_static : OfEach (beside list p sound before following split) (λ c. c.name ≡ object
-      → OfMethods c (λ m. is_static m.flags ≡ true → is_initialiser m.name ≡ true))
-  roots_static = each (λ c. c.name ≡ object → OfMethods c (λ m. is_static m.flags ≡ true → is_initialiser m.name
-      ≡ true)) fair.root
-      (λ k c at same. absurd (not_object k c at same))
+  -- ---- what is open
 
   exposed : OfEach (beside list p sound before following split) (λ c. is_interface c.flags ≡ false
       → OfMethods c (λ m. is_exposed m.flags ≡ true))
@@ -309,33 +256,10 @@ module _ (list : List ℕ) (p : Package) (codes : List MethodCode) (settings : S
         λ same. some_number (sym a ∙ ap (token S) same ∙ b),
       )
 
-  -- ---- methods for those of interfaces
-
-  implements : ExportsImplement u
-  implements x c i asked given e is plain f interface sub among choice =
-      let acyclic_here = still_acyclic list p sound before following split in
-      let o = of_one (line u x) given (chosen-In selects (signature_of asked) (all_methods (line u x)) given choice) in
-      let on = on_line list p sound before following split x o.0 (of_line u acyclic_here x o.0 o.1) in
-      let first = found all x c e in
-      let under : Under w (let q = first.class in q.name) (let q = on.class in q.name) =
-      subst (λ y. Under w y (let q = on.class in q.name)) (sym first.name) on.under in
-      let plain_first : is_interface (let q = first.class in q.flags) ≡ false = ap (λ (d : Class). is_interface d.flags)
-      (sym first.is) ∙ plain in
-      all_exposed on.class on.there (still_plain first.class first.there plain_first on.class on.there under) given
-      (subst (λ (d : Class). In given d.methods) on.is o.2)
-
   -- ---- all
 
   pub still_fair : ExportsAreFair (beside list p sound before following split)
-  still_fair = record {
-    names = names;
-    tokens = tokens;
-    implements = implements;
-    visible = visible;
-    initialisers = initialisers;
-    interfaces = interfaces;
-    root = roots_static;
-  }
+  still_fair = record { tokens = tokens }
 
   pub still_open : ExportsAreOpen (beside list p sound before following split)
   still_open = record { exposed = exposed; top = top }

@@ -22,20 +22,20 @@ use crate::fair_exports::fair_exports_are_sound;
 use crate::sound_runs::sound_packages_run_alike;
 use cjc_narrow_proof::intervals::range_laws::least_ranges_exist;
 
-/// Of a list that was read, and files that break no rule that is tested before a package is written, with export files
-/// that are fair: the narrow code that Method has is what is selected, and it behaves as the class files do.
+/// Of a list that was read, and files that break no rule that is tested before a package is written: the narrow code
+/// that Method has is what is selected, and it behaves as the class files do.
 pub fn selected_code_behaves_alike()
     ensures { (list : ListTree) (files : List (List ℕ)) (judged : Judged) → IsRead list
         → IsSound list files judged
-        → (p : Package) → IsPackageOf list files p
-        → (let world = p.files in ExportsAreFair world.exports) → CodeBehavesAlike p }
+        → (p : Package) → IsPackageOf list files p → CodeBehavesAlike p }
 {
     fair_exports_are_sound();
     least_ranges_exist();
     sound_packages_run_alike();
 }
 
-/// Where what is written breaks no rule either, the components of the package give the reports of that narrow code.
+/// Where what is written breaks no rule either, and export files are fair, the components of the package give the
+/// reports of that narrow code.
 pub fn components_run_as_selected_code()
     ensures { (list : ListTree) (files : List (List ℕ)) (judged : Judged) → IsRead list
         → IsSound list files judged

@@ -5,7 +5,6 @@
 ghost use Rattle.std.specs.Prelude.{◌≡◌, ◌≢◌, ℕ, List};
 ghost use Rattle.cjc_card_semantics.specs.Machine.ByToken.{run as run_by_token};
 ghost use Rattle.cjc_components.specs.Package.{Package};
-ghost use Rattle.cjc_theorem.specs.Alike.Left.{AreLeft};
 ghost use Rattle.cjc_judge.specs.declared.judged.Judged.{Judged};
 ghost use Rattle.cjc_components.specs.List.Listed.{ListTree};
 ghost use Rattle.cjc_narrow.specs.Rows.Package.{run as run_by_label};
@@ -16,6 +15,7 @@ ghost use Rattle.cjc_token_proof.specs.WrittenCalls.Standing.{laid_code};
 ghost use Rattle.cjc_shape_proof.specs.Written.Converted.{IsConverted};
 ghost use Rattle.cjc_shape_proof.specs.Written.Joined.{IsJoined};
 ghost use Rattle.cjc_token_proof.specs.WrittenSends.Named.{is_called};
+ghost use Rattle.cjc_token_proof.specs.WrittenSends.Sends.{ExportsSend};
 
 use crate::alike::{
     calls_are_named, calls_have_opcodes, export_files_are_kept, first_cells_are_typed,
@@ -37,7 +37,7 @@ use cjc_vtable::package_laws;
 /// those that its code makes.
 pub fn converted_packages_are_joined()
     ensures { (list : ListTree) (files : List (List ℕ)) (judged : Judged) (p : Package)
-        → IsConverted list files judged p → AreLeft p → IsJoined p (is_called p) }
+        → IsConverted list files judged p → ExportsSend p → IsJoined p (is_called p) }
 {
     calls_are_named();
     calls_have_opcodes();
@@ -62,7 +62,7 @@ pub fn converted_packages_are_joined()
 /// number of instructions where narrow code is not stuck.
 pub fn converted_components_run_by_token()
     ensures { (list : ListTree) (files : List (List ℕ)) (judged : Judged) (p : Package)
-        → IsConverted list files judged p → AreLeft p → (script : Script) (n : ℕ)
+        → IsConverted list files judged p → ExportsSend p → (script : Script) (n : ℕ)
         → (let report = run_by_label p.files p.image (laid_code p) script n in (at : ℕ) → report.outcome ≢ Stuck at)
         → run_by_token (loaded p) script n ≡ run_by_label p.files p.image (laid_code p) script n }
 {

@@ -14,7 +14,6 @@ ghost use Rattle.cjc_judge.specs.declared.judged.Judged.{Judged};
 ghost use Rattle.cjc_components.specs.List.Listed.{ListTree};
 ghost use Rattle.cjc_components.specs.CheckRules.Consistent.{Consistent};
 ghost use Rattle.cjc_shape_proof.specs.CheckProof.Keys.{AllAreThere};
-ghost use Rattle.cjc_token_proof.specs.WrittenSends.Sends.{ExportsImplement};
 ghost use Rattle.cjc_shape_proof.specs.Written.Converted.{IsConverted};
 
 use crate::alike::{
@@ -62,11 +61,10 @@ pub fn types_are_known()
 
 /// Each key of its pool names what is there: a class; a field of the package, static ones with their cells; a
 /// static method, a constructor or a private method, of the package or of an imported class, by the class that
-/// declares it; or a virtual method that calls can name, those of a superclass where the classes of export
-/// files implement interfaces by public or protected methods.
+/// declares it; or a virtual method that calls can name.
 pub fn members_are_there()
     ensures { (list : ListTree) (files : List (List ℕ)) (judged : Judged) (p : Package)
-        → IsConverted list files judged p → ExportsImplement (world p) → AllAreThere p }
+        → IsConverted list files judged p → AllAreThere p }
 {
     calls_have_opcodes();
     converted_files_are_sound();
@@ -79,10 +77,9 @@ pub fn members_are_there()
 /// So its names are met, and its components are consistent with the export files that it imports.
 pub fn names_are_met()
     ensures met { (list : ListTree) (files : List (List ℕ)) (judged : Judged) (p : Package)
-        → IsConverted list files judged p → ExportsImplement (world p) → NamesAreMet p }
+        → IsConverted list files judged p → NamesAreMet p }
     ensures consistent { (list : ListTree) (files : List (List ℕ)) (judged : Judged) (p : Package)
-        → IsConverted list files judged p → ExportsImplement (world p)
-        → Consistent (components_of p) (exports_of p) }
+        → IsConverted list files judged p → Consistent (components_of p) (exports_of p) }
 {
     converted_components_are_consistent();
     files_keep_promises();

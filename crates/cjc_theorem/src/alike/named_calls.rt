@@ -3,10 +3,9 @@
 //! narrow code. It has a law alone; nothing here runs.
 
 ghost use Rattle.std.specs.Prelude.{ℕ, List};
-ghost use Rattle.cjc_components.specs.Package.{Package, world};
+ghost use Rattle.cjc_components.specs.Package.{Package};
 ghost use Rattle.cjc_judge.specs.declared.judged.Judged.{Judged};
 ghost use Rattle.cjc_components.specs.List.Listed.{ListTree};
-ghost use Rattle.cjc_token_proof.specs.WrittenSends.Sends.{ExportsImplement};
 ghost use Rattle.cjc_shape_proof.specs.Written.Converted.{IsConverted};
 ghost use Rattle.cjc_token_proof.specs.WrittenSends.Named.{CallsAreNamed};
 
@@ -15,11 +14,10 @@ use crate::alike::{
     private_calls_are_named, super_calls_are_named, virtual_calls_are_named,
 };
 
-/// Each call in the code of a converted package names what calls can name, and takes the words of its
-/// descriptor, where the classes of its export files implement interfaces by public or protected methods.
+/// Each call in the code of a converted package names what calls can name, and takes the words of its descriptor.
 pub fn calls_are_named()
     ensures { (list : ListTree) (files : List (List ℕ)) (judged : Judged) (p : Package)
-        → IsConverted list files judged p → ExportsImplement (world p) → CallsAreNamed p }
+        → IsConverted list files judged p → CallsAreNamed p }
 {
     calls_have_opcodes();
     fixed_calls_are_named();

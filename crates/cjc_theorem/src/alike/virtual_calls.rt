@@ -16,7 +16,6 @@ ghost use Rattle.cjc_components.specs.List.Listed.{ListTree};
 ghost use Rattle.cjc_narrow.specs.Rows.Resolved.{method_found, virtual_by};
 ghost use Rattle.cjc_narrow_proof.specs.Laws.Unbroken.{IsInsnOf};
 ghost use Rattle.cjc_ncode.specs.ByLabel.{OnObject, OnSuper};
-ghost use Rattle.cjc_token_proof.specs.WrittenSends.Sends.{ExportsImplement};
 ghost use Rattle.cjc_world.specs.Classes.{class_named};
 ghost use Rattle.cjc_token_proof.specs.WrittenCalls.Calls.{IsNamed, TakesWords};
 ghost use Rattle.cjc_shape_proof.specs.Written.Converted.{IsConverted};
@@ -51,11 +50,10 @@ pub fn virtual_calls_are_named()
 }
 
 /// What an invokespecial in a class calls, where it is neither a constructor nor private, is a virtual method
-/// that the superclass and the class have by one token, where the classes of export files implement interfaces
-/// by public or protected methods. It takes the words of its descriptor.
+/// that the superclass and the class have by one token. It takes the words of its descriptor.
 pub fn super_calls_are_named()
     ensures named { (list : ListTree) (files : List (List ℕ)) (judged : Judged) (p : Package)
-        → IsConverted list files judged p → ExportsImplement (world p) → (class : ClassTree) (id : Member)
+        → IsConverted list files judged p → (class : ClassTree) (id : Member)
         → IsInsnOf p.files judged.codes class (jop.Call jvm.invokespecial id)
         → is_interface class.flags ≡ false → is_constructor id.name ≡ false
         → (hit : ResolvedMember) → method_found (world p) id ≡ Some hit → is_private hit.flags ≡ false
@@ -65,6 +63,11 @@ pub fn super_calls_are_named()
         → IsInsnOf p.files judged.codes class (jop.Call jvm.invokespecial id)
         → TakesWords (world p) (OnSuper (of_class class.name id)) }
 {
+    asked_methods_have_tokens();
     converted_classes_keep_rules();
+    converted_files_are_sound();
+    interface_tokens_mean_methods();
     lookup_laws();
+    methods_keep_flags();
+    package_laws();
 }

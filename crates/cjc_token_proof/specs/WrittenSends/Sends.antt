@@ -1,17 +1,15 @@
 -- What is promised of interfaces, each by itself, for what scripts send (Java Card Virtual Machine Specification 2.2.2,
 -- section 4.3.7.7).
-use Rattle.std.specs.Prelude.{◌≡◌, ℕ, List, [], ◌∷◌, Some, Bool, true, false, position, slice_get}
+use Rattle.std.specs.Prelude.{◌≡◌, ℕ, List, Some, Bool, true, false, position, slice_get}
 use Rattle.cjc_bytes.specs.AccessFlags.{is_interface}
 use Rattle.cjc_components.specs.Package.{Package, world}
 use Rattle.cjc_export.specs.declared.tree.ExportClass.{ExportClass}
 use Rattle.cjc_export.specs.declared.tree.ExportMethod.{ExportMethod}
-use Rattle.cjc_tokens.specs.Members.{In, all_methods, chosen, has, is_exposed, is_initialiser, same, signature_of}
+use Rattle.cjc_tokens.specs.Members.{In, all_methods, has, is_initialiser, same, signature_of}
 use Rattle.cjc_tokens.specs.Methods.{interface_methods}
-use Rattle.cjc_vtable.specs.Calls.{selects}
 use Rattle.cjc_world.specs.Classes.{Class, Member, class_named, imported, method_of_export}
 use Rattle.cjc_world.specs.Supertypes.{line}
 use Rattle.cjc_world.specs.Lookup.{is_selectable, object}
-use Rattle.cjc_world.specs.Subtype.{is_subtype}
 
 -- Each method of an interface of the package, or of an export file, is neither private nor static, its initialiser
 -- aside.
@@ -28,17 +26,6 @@ ExportsListInterfaces p =
     → (j : ℕ) (m : ExportMethod) → slice_get e.methods j ≡ Some m → is_initialiser m.name ≡ false
     → position (λ s. same s (signature_of (method_of_export m))) (interface_methods (world p) (imported k e))
     ≡ Some m.token
-
--- For a method of one of its interfaces, selection on a class of an export file gives none that is package-visible:
--- what
--- implements a public method is public (Java Language Specification, section 8.4.8.3).
-abbrev pub ExportsImplement : List Class → Type 0
-ExportsImplement w =
-    (x : List ℕ) (c i : Class) (asked given : Member) → class_named w x ≡ Some c → c.is_imported ≡ true
-    → is_interface c.flags ≡ false → class_named w i.name ≡ Some i → is_interface i.flags ≡ true → is_subtype w x i.name
-    ≡ true
-    → In asked i.methods → chosen selects (signature_of asked) (all_methods (line w x)) ≡ Some given
-    → is_exposed given.flags ≡ true
 
 -- What export files say of interfaces and of java/lang/Object. Left out are a private or static method of an interface;
 -- an interface that lists a method twice; and a private or static method of java/lang/Object with the name and

@@ -60,7 +60,8 @@ module _ (list : List ℕ) (files : Files) (codes : List MethodCode) (settings :
   -- 309
   pub fit_applets : has_unfit_applets (all_classes files) settings.applets ≡ false
   unfolding list_breaks
-  fit_applets = not_broken _ _ 309 (none_left _ _ (none_left _ _ (none_left _ _ (none_left _ _ (none_left _ _ own)))))
+  fit_applets = not_broken _ _ 309 (none_right _ _ (none_left _ _ (none_left _ _ (none_left _ _ (none_left _ _
+      (none_left _ _ own))))))
 
   -- ---- of a class
 

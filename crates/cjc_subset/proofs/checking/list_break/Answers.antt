@@ -19,8 +19,9 @@ returns c =
     (c.first-2.ensures _ _
     (c.first-front.ensures _ _
     (c.first.ensures _ _
+    (c.first-exports.ensures _ _ c.exports_break.ensures
     (at_same 309 _ (c.has_unfit_applets.ensures ∙ ap (λ (xs : List AppletLine). has_unfit_applets w xs) applets) here
-    c.broken-unfit.ensures)
+    c.broken-unfit.ensures))
     (at_same 401 _ c.has_many_exported.ensures here c.broken-exported.ensures))
     (at_same 402 _ (ap (λ (xs : List ClassTree). nat_lt 255 (length xs)) (c.items.ensures ∙ c.classes.ensures)) here
     c.broken-classes.ensures))

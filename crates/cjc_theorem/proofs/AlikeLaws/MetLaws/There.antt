@@ -21,7 +21,7 @@ use Rattle.cjc_judge.specs.Rules.{settings_of}
 use Rattle.cjc_judge.specs.declared.judged.Judged.{Judged}
 use Rattle.cjc_components.specs.List.Listed.{ListTree}
 use Rattle.cjc_theorem.proofs.AlikeLaws.NamedLaws.Members.{field_named, static_named, static_own}
-use Rattle.cjc_theorem.proofs.AlikeLaws.NamedLaws.Names.{called, fixed_in_class}
+use Rattle.cjc_theorem.proofs.AlikeLaws.NamedLaws.Names.{called, fixed_in_class, private_own}
 use Rattle.cjc_shape_proof.proofs.FindsLaws.Descs.{member_desc}
 use Rattle.cjc_narrow_proof.proofs.LawsLaws.Instructions.{op_there}
 use Rattle.cjc_narrow_proof.specs.Laws.Unbroken.{IsInsnOf}
@@ -40,7 +40,6 @@ use Rattle.cjc_shape_proof.specs.Written.Converted.{IsConverted}
 use Rattle.cjc_shape_proof.proofs.WrittenLaws.Files.{own_unbroken, read_files}
 use Rattle.cjc_shape_proof.proofs.WrittenLaws.Worlds.{own_solid}
 use Rattle.cjc_theorem.proofs.AlikeLaws.MetLaws.Abroad.{abroad_named}
-use Rattle.cjc_theorem.proofs.AlikeLaws.MetLaws.Access.{visible}
 use Rattle.cjc_theorem.proofs.AlikeLaws.MetLaws.Descs.{desc_known}
 use Rattle.cjc_theorem.proofs.AlikeLaws.MetLaws.KeySources as sources
 use Rattle.cjc_theorem.proofs.AlikeLaws.MetLaws.KeySources.{IsMet}
@@ -246,10 +245,8 @@ module _ (list : ListTree) (files : List (List ℕ)) (judged : Judged) (p : Pack
             last false b e = e
 
         not_abroad : {A : Type 0} → (let d = n.owner in d.is_imported) ≡ true → is_private flags ≡ true → A
-        not_abroad import e =
-            let open_one = visible list files judged p is (let d = n.owner in d.name) n.owner n.named import
-            (let a = n.at in a.place) (let a = n.at in a.member) (let a = n.at in a.is_member) in
-            true_not_false (is_private flags) e open_one
+        not_abroad import e = true_not_false (let d = n.owner in d.is_imported) import (private_own list files judged p
+            is class 0xB7 id n e)
     key_there _ (sources.of_call class id of) =
         let n = called list files judged p is class 0xB8 id of in
         let flags = (let a = n.at in let m = a.member in m.flags) in

@@ -101,10 +101,10 @@ module _ (list : List ℕ) (p : Package) (sound : IsSound list p.files) (told : 
           let z = mapped_at method_of_export e.methods r.place (method_of_export o)
           (ap (λ (q : Class). slice_get q.methods r.place) (sym same) ∙ slice_get-map method_of_export u.methods
           r.place ∙ ap (option_map method_of_export) r.there) in
+          let bare = plain.interfaces n u there interface_there r.place o r.there in
           let passes = open_virtual z.0 t
-          (ap (λ (q : Member). is_static q.flags) (sym z.2) ∙ plain.interfaces n u there interface_there r.place o
-          r.there)
-          (ap (λ (q : Member). is_private q.flags) (sym z.2) ∙ plain.visible n u there r.place o r.there)
+          (ap (λ (q : Member). is_static q.flags) (sym z.2) ∙ bare.1)
+          (ap (λ (q : Member). is_private q.flags) (sym z.2) ∙ bare.0)
           (ap (λ (q : Member). bytes_eq q.name (codes "<init>")) (sym z.2) ∙ r.no_constructor)
           (ap (λ (q : Member). q.token) (sym z.2) ∙ r.token) in
           let f = find_some (λ (m : ExportMethod). is_virtual m && (m.token == t)) e.methods r.place z.0 z.1 passes in

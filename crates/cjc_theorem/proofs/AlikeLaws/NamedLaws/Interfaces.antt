@@ -104,8 +104,9 @@ module _ (list : List ℕ) (files : Files) (methods : List MethodCode) (settings
           class.1.methods (get-has x.0 t.methods k x.1) in
           let fits : MethodStands true (length t.methods) stands.0 x.0 =
           subst (λ b. MethodStands b (length t.methods) stands.0 x.0) interface stands.1 in
+          let bare = plain.interfaces n t at interface k x.0 x.1 in
           record {
-            on_object = ap (λ (v : Member). is_static v.flags) x.2 ∙ plain.interfaces n t at interface k x.0 x.1;
-            visible = ap (λ (v : Member). is_private v.flags) x.2 ∙ plain.visible n t at k x.0 x.1;
+            on_object = ap (λ (v : Member). is_static v.flags) x.2 ∙ bare.1;
+            visible = ap (λ (v : Member). is_private v.flags) x.2 ∙ bare.0;
             no_constructor = ap (λ (v : Member). is_constructor v.name) x.2 ∙ constructor x.0.name fits.2;
           }

@@ -1,8 +1,8 @@
 -- What the instructions of a converted package name stands in its pool, and means what they use.
 use Rattle.std.proofs.Common.{◌≡◌, ◌⊎◌, inl, inr, ℕ, refl, sym, ap, subst, ◌∙◌, Bool, true, false, List}
-use Rattle.std.specs.Prelude.{◌&&◌, ◌||◌, Option, Some, None, option_and_then, slice_get, if◌then◌else◌}
+use Rattle.std.specs.Prelude.{not, ◌&&◌, ◌||◌, Option, Some, None, option_and_then, slice_get, if◌then◌else◌}
 use Rattle.cjc_card_semantics.specs.Bytecode.Meanings.{Calls, Special, Static, Use, Virtual}
-use Rattle.cjc_bytes.specs.AccessFlags.{is_interface, is_private, is_static}
+use Rattle.cjc_bytes.specs.AccessFlags.{is_interface, is_private, is_protected, is_public, is_static}
 use Rattle.cjc_bytes.specs.declared.fault.MemberId.{MemberId}
 use Rattle.cjc_jvm_semantics.specs.OnePackage.{is_constructor, is_initialiser, is_made, method_hit, object_fields}
 use Rattle.cjc_jvm_semantics.specs.OnePackage.{of_class}
@@ -43,6 +43,7 @@ use Rattle.cjc_subset.specs.Members as subset
 use Rattle.cjc_token_proof.specs.Tables.Loading.{loaded, naming}
 use Rattle.cjc_token_proof.proofs.TablesLaws.Above.{info_of_name}
 use Rattle.cjc_vtable.proofs.Filed.{IsFiled, filed, in_class_file, in_export_file}
+use Rattle.cjc_world.specs.Access.{is_accessible}
 use Rattle.cjc_world.specs.Classes.{Class, Member, class_named, declared, method_of_export}
 use Rattle.cjc_world.specs.Rules.{is_interface_of}
 use Rattle.cjc_world.proofs.Cycles.{class_named-name}
@@ -110,6 +111,47 @@ module _ (list : ListTree) (files : List (List ℕ)) (judged : Judged) (p : Pack
           in let m = a.member in m.flags)) (is_constructor id.name)
           open_one.on_object open_one.visible (ap is_constructor (sym (let a = n.at in a.has_name))
           ∙ open_one.no_constructor) fixed)
+
+  -- a private method that code may use is no imported class's
+  pub private_own : (class : ClassTree) (op : ℕ) (id : MemberId) (n : Calls_method class op id)
+      → is_private (let a = n.at in let m = a.member in m.flags) ≡ true → (let d = n.owner in d.is_imported) ≡ false
+  unfolding is_accessible
+  private_own class op id n private = own (is_public flags) (is_private flags) (let d = n.owner in d.is_imported) _ _
+      private shut (may _ n.seen)
+    where
+      flags : ℕ
+      flags = let a = n.at in let m = a.member in m.flags
+
+      may : (a : Bool) → not a ≡ false → a ≡ true
+      may true e = refl
+      may false e = cc
+
+      own : (a p i q r : Bool) → p ≡ true → (i ≡ true → a ≡ false) → (a || (if p then not i && q else r)) ≡ true
+          → i ≡ false
+      own a p false q r e f g = refl
+      own true p true q r e f g = let clash : true ≡ false = f refl in cc
+      own false true true q r e f g = cc
+      own false false true q r e f g = cc
+
+      not_public : (p a b : Bool) → (p && (a || b)) ≡ false → p ≡ true → a ≡ false
+      not_public p false b e f = refl
+      not_public true true b e f = cc
+      not_public false true b e f = cc
+
+      by : (d : Class) → IsFiled p.files d → (i : ℕ) (x : Member) → slice_get d.methods i ≡ Some x
+          → is_private x.flags ≡ true → d.is_imported ≡ true → is_public x.flags ≡ false
+      by d (in_class_file q t at) i x there private import = cc
+      by d (in_export_file q t at) i x there private import =
+          let y = mapped_at method_of_export t.methods i x there in
+          let z = y.0 in
+          ap (λ (v : Member). is_public v.flags) y.2
+          ∙ not_public (is_private z.flags) (is_public z.flags) (is_protected z.flags)
+          ((let r = is.plain in r.visible) q t at i z y.1)
+          (ap (λ (v : Member). is_private v.flags) (sym y.2) ∙ private)
+
+      shut : (let d = n.owner in d.is_imported) ≡ true → is_public flags ≡ false
+      shut import = by n.owner (filed p.files (let d = n.owner in d.name) n.owner n.named) (let a = n.at in a.place)
+          (let a = n.at in a.member) (let a = n.at in a.is_member) private import
 
   -- what an invokevirtual finds through an imported class, and what it names itself, are of classes
   pub virtual_class : (class : ClassTree) (id : MemberId) (n : Calls_method class 0xB6 id)
@@ -277,20 +319,6 @@ module _ (list : ListTree) (files : List (List ℕ)) (judged : Judged) (p : Pack
               in d.name) id) n.owner n.named (virtual_owner class id n import)))
           by false own = virtual_fits (naming p) id (virtuals id n.named_class n.names_class (virtual_class class id n))
 
-      -- a private method is no imported class's
-      private_own : (op : ℕ) (id : MemberId) (n : Calls_method class op id)
-          → is_private (let a = n.at in let m = a.member in m.flags) ≡ true → (let d = n.owner in d.is_imported) ≡ false
-      private_own op id n private = by n.owner (filed p.files (let d = n.owner in d.name) n.owner n.named) (let a = n.at
-          in a.place) (let a = n.at in a.member) (let a = n.at in a.is_member) private
-        where
-          by : (d : Class) → IsFiled p.files d → (i : ℕ) (x : Member) → slice_get d.methods i ≡ Some x
-              → is_private x.flags ≡ true → d.is_imported ≡ false
-          by d (in_class_file q t at) i x there private = refl
-          by d (in_export_file q t at) i x there private =
-              let y = mapped_at method_of_export t.methods i x there in
-              let visible = (let r = is.plain in r.visible) q t at i y.0 y.1 in
-              true_not_false (is_private x.flags) private (ap (λ (v : Member). is_private v.flags) y.2 ∙ visible)
-
       KeyFits : PoolKey → Type 0
       KeyFits key = (how : Use) → is_for how key ≡ true → Fit (naming p) how key
 
@@ -331,7 +359,7 @@ module _ (list : ListTree) (files : List (List ℕ)) (judged : Judged) (p : Pack
           by true b e f = fixed_means class 0xB7 id n (fixed_in_class class 0xB7 id n (first (is_static flags)
               (is_private flags) (is_constructor id.name) e)) (inr (bound e))
           by false true e f = fixed_means class 0xB7 id n (fixed_in_class class 0xB7 id n (second (is_static flags)
-              (is_private flags) (is_constructor id.name) f)) (inl (private_own 0xB7 id n f))
+              (is_private flags) (is_constructor id.name) f)) (inl (private_own class 0xB7 id n f))
           by false false e f =
               let h = holder list files judged p is k m e_method in
               super_fits (naming p) (of_class class.name id) (supers (of_class class.name id)

@@ -50,7 +50,7 @@ use Rattle.cjc_theorem.proofs.AlikeLaws.VirtualCalls.Places.{has_place}
 use Rattle.cjc_theorem.proofs.AlikeLaws.VirtualCalls.Sought.{hidden_sought, shown_sought}
 use Rattle.cjc_theorem.proofs.AlikeLaws.VirtualCalls.Ways.{line_finds, under_below}
 
-among_get : (i : Class) (is : List Class) → Among i is → (j : ℕ) × (slice_get is j ≡ Some i)
+pub among_get : (i : Class) (is : List Class) → Among i is → (j : ℕ) × (slice_get is j ≡ Some i)
 among_get i [] a = elim a [ ]
 among_get i (c ∷ is) at_head = (0, refl)
 among_get i (c ∷ is) (further a) = let r = among_get i is a in (suc r.0, r.1)

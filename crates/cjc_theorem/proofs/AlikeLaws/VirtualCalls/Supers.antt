@@ -1,6 +1,6 @@
 -- What an invokespecial selects from the superclass of the class that holds the code is a virtual method that calls can
 -- name.
-use Rattle.std.proofs.Common.{◌≡◌, ℕ, refl, sym, ap, subst, ◌∙◌, Bool, true, false, List, inl, inr, ⊎_elim}
+use Rattle.std.proofs.Common.{◌≡◌, ℕ, refl, sym, ap, subst, ◌∙◌, Bool, true, false, List, [], ◌∷◌, inl, inr, ⊎_elim}
 use Rattle.std.specs.Prelude.{◌⊎◌, ◌&&◌, ◌||◌, not, Option, Some, None, option_and_then, position, slice_get}
 use Rattle.cjc_bytes.specs.AccessFlags.{is_interface, is_private, is_static}
 use Rattle.cjc_bytes.specs.declared.fault.MemberId.{MemberId}
@@ -23,35 +23,46 @@ use Rattle.cjc_ncode.specs.ByLabel.{OnSuper}
 use Rattle.cjc_subset.specs.Members as subset
 use Rattle.cjc_subset.specs.Names.{is_bodiless, is_unfit_super}
 use Rattle.cjc_tokens.specs.Lines.{line_of}
-use Rattle.cjc_tokens.specs.Members.{Signature, all_methods, chosen, is_exposed, is_initialiser, is_virtual}
-use Rattle.cjc_tokens.specs.Members.{signature_of}
+use Rattle.cjc_tokens.specs.Members.{In, Signature, all_methods, chosen, is_exposed, is_initialiser, is_shown}
+use Rattle.cjc_tokens.specs.Members.{is_virtual, signature_of}
+use Rattle.cjc_tokens.specs.Methods.{interface_methods, interfaces_at}
+use Rattle.cjc_tokens.specs.Slots.{has_slot, slots}
 use Rattle.cjc_tokens.proofs.Facts.{chosen-In, chosen-passes, same-refl}
-use Rattle.cjc_world.specs.Upwards.{Below, IsOrdered, OnLine}
+use Rattle.cjc_tokens.proofs.Held.{here-has_slot, token-slot}
+use Rattle.cjc_world.specs.Interfaces.{known as known_interfaces}
+use Rattle.cjc_world.specs.Upwards.{Below, Has, IsOrdered, OnLine, after as further, foremost as at_front, up}
 use Rattle.cjc_world.proofs.UpwardLaws.Lines.{below_line, below_on, line_below, line_begins, line_named, line_on}
 use Rattle.cjc_world.proofs.UpwardLaws.Lines.{of_line, on_line}
 use Rattle.cjc_vtable.specs.Calls.{any_method, finds_hidden, is_special, selects}
 use Rattle.cjc_vtable.specs.Kept.{Keeps}
+use Rattle.cjc_vtable.specs.Meant.{AskedHaveTokens}
 use Rattle.cjc_vtable.specs.Laws.{KeepsRules, Under, below, itself, selection}
+use Rattle.cjc_vtable.proofs.Asked.{named-among}
 use Rattle.cjc_vtable.proofs.Filed.{IsFiled, filed, in_class_file, in_export_file}
+use Rattle.cjc_vtable.proofs.Given.{In-split}
 use Rattle.cjc_world.specs.declared.found.Found.{Found}
 use Rattle.cjc_world.specs.Classes.{Class, Member, class_named, declared, method_of_class}
 use Rattle.cjc_world.specs.Supertypes.{AreSupertypes, Supertypes, foremost, is_below, supertypes, line}
 use Rattle.cjc_world.specs.Lookup.{first, is_called, is_selectable, own_method, receiver, selected}
 use Rattle.cjc_world.specs.Rules.{is_earlier, is_twice}
 use Rattle.cjc_world.proofs.Cycles.{class_named-name}
+use Rattle.cjc_world.proofs.Upwards.{line_goes_up}
 use Rattle.cjc_token_proof.specs.WrittenCalls.Calls.{IsNamed, on_super}
-use Rattle.cjc_shape_proof.proofs.WrittenLaws.Files.{own_unbroken}
-use Rattle.cjc_shape_proof.proofs.WrittenLaws.Worlds.{own_solid}
+use Rattle.cjc_shape_proof.proofs.WrittenLaws.Files.{own_unbroken, read_files}
+use Rattle.cjc_shape_proof.proofs.WrittenLaws.Worlds.{own_solid, own_subtypes}
 use Rattle.cjc_shape_proof.specs.Written.Converted.{IsConverted}
-use Rattle.cjc_token_proof.specs.WrittenSends.Sends.{ExportsImplement}
-use Rattle.cjc_theorem.proofs.AlikeLaws.VirtualCalls.Chosen.{IsFirstOf, first_found, own_any, placed}
-use Rattle.cjc_theorem.proofs.AlikeLaws.VirtualCalls.Found.{none_on_line, stands_there}
+use Rattle.cjc_theorem.proofs.AlikeLaws.VirtualCalls.Chosen.{IsFirstOf, any_selects, first_found, has_methods}
+use Rattle.cjc_theorem.proofs.AlikeLaws.VirtualCalls.Chosen.{placed as place_of}
+use Rattle.cjc_theorem.proofs.AlikeLaws.VirtualCalls.Found.{stands_there}
 use Rattle.cjc_theorem.proofs.AlikeLaws.VirtualCalls.Found as found
 use Rattle.cjc_theorem.proofs.AlikeLaws.VirtualCalls.Lines.{HasHidden, HasShown, hidden_below, hidden_found}
 use Rattle.cjc_theorem.proofs.AlikeLaws.VirtualCalls.Lines.{shown_alone, shown_below}
-use Rattle.cjc_theorem.proofs.AlikeLaws.VirtualCalls.Places.{member_in}
-use Rattle.cjc_theorem.proofs.AlikeLaws.VirtualCalls.Objects.{of_above, own_kinds, sought_there}
-use Rattle.cjc_theorem.proofs.AlikeLaws.VirtualCalls.Ways.{far_above, line_class, line_finds, top}
+use Rattle.cjc_theorem.proofs.AlikeLaws.VirtualCalls.Hidden.{gets_none, of_slot}
+use Rattle.cjc_theorem.proofs.AlikeLaws.VirtualCalls.MethodKinds.{in_get}
+use Rattle.cjc_theorem.proofs.AlikeLaws.VirtualCalls.Objects.{ListsMethods, among_get, of_above, own_kinds}
+use Rattle.cjc_theorem.proofs.AlikeLaws.VirtualCalls.Objects.{sought_there}
+use Rattle.cjc_theorem.proofs.AlikeLaws.VirtualCalls.Places.{has_place}
+use Rattle.cjc_theorem.proofs.AlikeLaws.VirtualCalls.Ways.{far_above, line_class, under_below}
 
 or_left : (a b : Bool) → (a || b) ≡ false → a ≡ false
 or_left true b e = absurd cc
@@ -73,11 +84,18 @@ chosen_some w super id same_name (Some f) g e = (
       (sym same_name) ∙ g,
 )
 
+-- a method of some classes is one of a class of them
+of_one : (cs : List Class) (m : Member) → In m (all_methods cs) → (c : Class) × Has c cs × In m c.methods
+of_one [] m i = elim i [ ]
+of_one (c ∷ cs) m i = ⊎_elim (λ j. (c, at_front, j)) (λ j. let r = of_one cs m j in (r.0, further r.1, r.2))
+    (In-split m c.methods (all_methods cs) i)
+
 module _ (list : ListTree) (files : List (List ℕ)) (judged : Judged) (p : Package) (is : IsConverted list files judged
     p)
     (are_supertypes : (xs : List (List ℕ)) → AreSupertypes (world p) xs (supertypes (world p) xs)) (one_supertypes :
     (xs : List (List ℕ)) (j k : Supertypes) → AreSupertypes (world p) xs j → AreSupertypes (world p) xs k
-    → j ≡ k) (keeps : Keeps (world p)) (implement : ExportsImplement (world p)) where
+    → j ≡ k) (keeps : Keeps (world p)) (asked : AskedHaveTokens (world p))
+    (listed_methods : ListsMethods list files judged p is are_supertypes one_supertypes keeps) where
   abbrev w : List Class
   w = world p
 
@@ -111,7 +129,7 @@ module _ (list : ListTree) (files : List (List ℕ)) (judged : Judged) (p : Pack
           k) x.2 ∙ once in
           let at_place = first_here (λ y. is_called m.name m.desc y) (declared n t).methods k m e
           (same-refl (signature_of m)) apart in
-          let r = placed any_method (signature_of m) (declared n t).methods k at_place in
+          let r = place_of any_method (signature_of m) (declared n t).methods k at_place in
           let both : Some r.0 ≡ Some m = sym r.2 ∙ e in
           let one : r.0 ≡ m = cc in
           r.1 ∙ ap Some one
@@ -188,6 +206,9 @@ module _ (list : ListTree) (files : List (List ℕ)) (judged : Judged) (p : Pack
     holder = let q = u in class_by_name p.files list.name q.listed q.world number class (let o = of in let m =
         o.of_package in m.is_class)
 
+    under : Under w class.name super
+    under = below (declared number class) holder foremost itself
+
     super_class : is_interface (let d = super_there.0 in d.flags) ≡ false
     super_class = let o = ordered in o.supers class.name super (declared number class) super_there.0 holder foremost
         super_there.1
@@ -240,54 +261,117 @@ module _ (list : ListTree) (files : List (List ℕ)) (judged : Judged) (p : Pack
           both true true e f = absurd cc
           both false b e f = absurd cc
 
-      -- one of an imported class implements the interface's
-      exposed_abroad : d.is_imported ≡ true → is_exposed m.flags ≡ true
-      exposed_abroad import = by (let c = n in let k = c.named_class in k.is_imported) refl
-        where
-          by : (b : Bool) → (let c = n in let k = c.named_class in k.is_imported) ≡ b → is_exposed m.flags ≡ true
-          by false own =
-              let c = n in
-              let way = far_above w ordered rules super c.named_class d named_on (line_named w super c.named_class
-              named_on) own on import in
-              let g = own_any s d f (let q = r in q.own) in
-              let x = line_finds w ordered (own_method false id.name id.desc) (let k = c.named_class in k.name) d g.0
-              way g.1 in
-              let none = none_on_line list files judged p is class 0xB7 id n named_class_plain interface in
-              let clash : Some x.0 ≡ None = sym x.1 ∙ ap (λ y. first (own_method false id.name id.desc) (line w y))
-              (class_named-name w id.class c.named_class c.names_class) ∙ none in
-              absurd cc
-          by true far =
-              let c = n in
-              let k = c.named_class in
-              let q = r in
-              let at = q.at in
-              let here_kind : f.imported ≡ true = ap (λ (v : Found). v.imported) at.is ∙ import in
-              let t = top w ordered rules s f super super_there.0 k named_on far super_there.1 super_class here_kind
-              selected_some.1 in
-              let way : Below w t.name (let o = c.owner in o.name) = below_on w t.name id.class (let o = c.owner
-              in o.name) (subst (λ y. Below w t.name y) (class_named-name w id.class k c.names_class)
-              (line_below w t.name k t.on)) c.below in
-              let z = first_found true s (line w t.name) f t.selected in
-              let zat = z.at in
-              let e = z.class in
-              let e_known = line_named w t.name e (of_line w (let o = ordered in o.acyclic) t.name e z.among) in
-              let told = implement t.name t.class c.owner (found.called list files judged p is class 0xB7 id n)
-              zat.method t.known t.import t.plain c.named interface
-              (of_above list files judged p is are_supertypes one_supertypes keeps t.name t.class c.owner t.known
-              c.named way)
-              (member_in (let o = c.owner in o.methods) (let a = c.at in a.place) (let a = c.at
-              in a.member) (let a = c.at in a.is_member))
-              (ap (λ v. chosen selects v (all_methods (line w t.name))) (found.called_signature list files judged p is
-              class 0xB7 id n) ∙ z.of_all) in
-              let h1 : ResolvedMember = record { owner = d; flags = m.flags } in
-              let h2 : ResolvedMember = record { owner = e; flags = (let x = zat.method in x.flags) } in
-              let one : method_hit w f ≡ Some h1 = ap (method_hit w) at.is ∙ hit_is w d at.place m (let v = solid
-              in v.numbered d.name d known) at.there in
-              let two : method_hit w f ≡ Some h2 = ap (method_hit w) zat.is
-              ∙ hit_is w e zat.place zat.method (let v = solid in v.numbered e.name e e_known) zat.there in
-              let both : Some h1 ≡ Some h2 = sym one ∙ two in
-              let same_one : h1 ≡ h2 = cc in
-              ap (λ (h : ResolvedMember). is_exposed h.flags) same_one ∙ told
+      -- ---- an imported class has it there, package-visible
+
+      -- its place among the methods of the interface
+      placed : (k : ℕ) × (slice_get (interface_methods w (let c = n in c.owner)) k ≡ Some s)
+      placed =
+          let c = n in
+          let a = c.at in
+          let g = c.fits in
+          let r = has_place p.files (let q = read_files list files judged p is in q.exports) listed_methods
+          (let o = c.owner in o.name) c.owner c.named interface a.place a.member a.is_member (ap is_initialiser
+          a.has_name ∙ g.no_initialiser) in
+          (r.0, r.1 ∙ ap Some (found.called_signature list files judged p is class 0xB7 id c))
+
+      -- the interface is one of those of the class that holds the code
+      has_interface : (j : ℕ) × (slice_get (known_interfaces (interfaces_at w (declared number class))) j
+          ≡ Some (let c = n in c.owner))
+      has_interface =
+          let c = n in
+          let o = c.owner in
+          let k = c.named_class in
+          let subtypes = own_subtypes list files judged p is in
+          let above : Below w super o.name = below_on w super id.class o.name (subst (Below w super) (class_named-name w
+          id.class k c.names_class) (line_below w super k named_on)) c.below in
+          let way : Below w class.name o.name = below_on w class.name super o.name (under_below w class.name super
+          under) above in
+          among_get o (known_interfaces (interfaces_at w (declared number class)))
+          (named-among (known_interfaces (interfaces_at w (declared number class))) o.name o
+          (subtypes.implements class.name o.name (declared number class) o holder class_here c.named interface
+          (of_above list files judged p is are_supertypes one_supertypes keeps class.name (declared number class) o
+          holder c.named way)))
+
+      -- so a class that has the code has a slot for it
+      slotted : has_slot (slots (line_of w class.name)) s ≡ true
+      slotted =
+          let c = n in
+          let at = placed in
+          let j = has_interface in
+          let t = asked class.name (declared number class) holder refl class_here j.0 c.owner j.1 at.0 s at.1 in
+          here-has_slot (slots (line_of w class.name)) t.0 s (token-slot (slots (line_of w class.name)) s t.0 t.1)
+
+      own_line : line w class.name ≡ declared number class ∷ line w super
+      own_line = line_goes_up w (let o = ordered in o.acyclic) class.name super (declared number class) holder refl
+
+      -- a public or protected one stands above: none is in the class itself (305)
+      module _ (import : d.is_imported ≡ true) (hidden_one : is_exposed m.flags ≡ false) where
+        shut : is_private m.flags ≡ false
+        shut = first_off (is_private m.flags) (is_static m.flags) kept.1
+          where
+            first_off : (a b : Bool) → (not a && not b) ≡ true → a ≡ false
+            first_off false b e = refl
+            first_off true b e = absurd cc
+
+        clash : (k : Member) → In k (let c = declared number class in c.methods) → is_shown k ≡ true → signature_of k
+            ≡ s → ⊥
+        unfolding line
+        clash k i shown one = both (is_exposed k.flags) (is_exposed m.flags) (is_private m.flags) (is_virtual k) _ shown
+            hidden_one shut (rules.access class.name (declared number class) k m holder refl i (let q = r
+            in has_methods d (line w super) m q.among (chosen-In selects s d.methods m first_one)) (one ∙ sym kept.0)
+            (ap is_special one ∙ plain_name))
+          where
+            both : (a b p v x : Bool) → (a && v) ≡ true → b ≡ false → p ≡ false → ((x && b) || (a && (not b && not p)))
+                ≡ false → ⊥
+            both true false false v true e f g h = cc
+            both true false false v false e f g h = cc
+            both false b p v x e f g h = cc
+            both true true p v x e f g h = cc
+            both true false true v x e f g h = cc
+
+        stands : (k : Member) → In k (all_methods (line w super)) → is_shown k ≡ true → signature_of k ≡ s
+            → HasShown w super s
+        stands k i shown one =
+            let at = of_one (line w super) k i in
+            let e = at.0 in
+            let on_it = of_line w (let o = ordered in o.acyclic) super e at.1 in
+            let place = in_get k e.methods at.2 in
+            let may = selectable_one (is_exposed k.flags) (is_selectable k.flags) (is_special (signature_of k)) shown in
+            record {
+              class = e;
+              on = on_it;
+              method = k;
+              among = at.2;
+              shown = shown;
+              one = one;
+              is_first = λ own. subst (λ v. chosen selects v e.methods ≡ Some k) one
+                  (any_selects (signature_of k) e.methods k (first_own e (line_named w super e on_it) own place.0 k
+                  place.1) may);
+            }
+          where
+            selectable_one : (a b c : Bool) → (a && (b && not c)) ≡ true → b ≡ true
+            selectable_one true true c e = refl
+            selectable_one true false c e = absurd cc
+            selectable_one false b c e = absurd cc
+
+        listed : (k : Member) → In k (all_methods (line w class.name)) → is_shown k ≡ true → signature_of k ≡ s
+            → HasShown w super s
+        listed k i shown one = ⊎_elim
+            (λ h. absurd (clash k h shown one))
+            (λ h. stands k h shown one)
+            (In-split k (let c = declared number class in c.methods) (all_methods (line w super))
+            (subst (λ cs. In k (all_methods cs)) own_line i))
+
+        pub shown_there : HasShown w super s
+        unfolding line
+        shown_there = ⊎_elim
+            (λ h. listed h.0 h.1 h.2 h.3)
+            (λ g. absurd (gets_none list.name p.files judged.codes (settings_of list) (let q = u in q.checks)
+            (let o = ordered in o.acyclic) g.class d m s g.named g.own known import
+            (far_above w ordered rules class.name g.class d g.on g.named g.own (up (declared number class) holder
+            foremost on) import) g.given (chosen-In selects s d.methods m first_one) kept.0 hidden_one shut))
+            (of_slot w rules (class.name ∷ []) (supertypes w (class.name ∷ [])) class.name s
+            (are_supertypes (class.name ∷ [])) refl slotted)
 
       pub interface_there : HasShown w super s ⊎ HasHidden w super s
       interface_there = by (is_exposed m.flags) refl
@@ -302,23 +386,22 @@ module _ (list : ListTree) (files : List (List ℕ)) (judged : Judged) (p : Pack
             one = kept.0;
             is_first = λ o. first_one;
           })
-          by false e =
-              let q = r in
-              let at = q.at in
-              let own = apart d.is_imported refl in
-              inr (record {
-                class = d;
-                on = on;
-                own = own;
-                method = m;
-                hidden_one = ap (λ b. not b && is_virtual m) e ∙ virtual;
-                is_first = ap (λ v. chosen any_method v d.methods) (sym kept.0)
-                    ∙ first_own d known own at.place m at.there;
-              })
+          by false e = abroad d.is_imported refl
             where
-              apart : (b : Bool) → d.is_imported ≡ b → d.is_imported ≡ false
-              apart false g = g
-              apart true g = let clash : true ≡ false = sym (exposed_abroad g) ∙ e in absurd cc
+              abroad : (b : Bool) → d.is_imported ≡ b → HasShown w super s ⊎ HasHidden w super s
+              abroad true import = inl (shown_there import e)
+              abroad false own =
+                  let q = r in
+                  let at = q.at in
+                  inr (record {
+                    class = d;
+                    on = on;
+                    own = own;
+                    method = m;
+                    hidden_one = ap (λ b. not b && is_virtual m) e ∙ virtual;
+                    is_first = ap (λ v. chosen any_method v d.methods) (sym kept.0)
+                        ∙ first_own d known own at.place m at.there;
+                  })
 
     -- ---- all
 
@@ -336,9 +419,6 @@ module _ (list : ListTree) (files : List (List ℕ)) (judged : Judged) (p : Pack
             let far = line_on w super k c.owner named_on (subst (λ y. OnLine w y c.owner)
             (sym (class_named-name w id.class k c.names_class)) way) in
             stands_there list files judged p is class 0xB7 id n selectable no_constructor super far
-
-    under : Under w class.name super
-    under = below (declared number class) holder foremost itself
 
     alike : HasShown w super s ⊎ HasHidden w super s → finds_hidden (line_of w class.name) s
         ≡ finds_hidden (line_of w super) s

@@ -1,6 +1,6 @@
 -- The words that a virtual call takes, by the descriptor of the method that it finds.
-use Rattle.std.proofs.Common.{◌≡◌, ℕ, refl, ap, ◌∙◌, Bool, true, false, List, map}
-use Rattle.std.specs.Prelude.{Option, Some, None, if◌then◌else◌}
+use Rattle.std.proofs.Common.{◌≡◌, ℕ, refl, sym, ap, ◌∙◌, Bool, true, false, List, map}
+use Rattle.std.specs.Prelude.{◌&&◌, Option, Some, None, if◌then◌else◌}
 use Rattle.cjc_bytes.specs.AccessFlags.{is_private}
 use Rattle.cjc_bytes.specs.declared.fault.MemberId.{MemberId}
 use Rattle.cjc_jvm_semantics.specs.OnePackage.{ResolvedMember, of_class}
@@ -16,23 +16,31 @@ use Rattle.cjc_narrow.specs.Rows.Resolved.{by_owner, resolved_method, virtual_by
 use Rattle.cjc_narrow_proof.specs.Laws.Unbroken.{IsInsnOf}
 use Rattle.cjc_ncode.specs.ByLabel.{OnObject, OnSuper}
 use Rattle.cjc_script.specs.Sorts.{signature_of}
-use Rattle.cjc_tokens.specs.Members.{In}
+use Rattle.cjc_tokens.specs.Members.{In, is_exposed}
 use Rattle.cjc_vtable.proofs.Filed.{IsFiled, filed, in_class_file, in_export_file}
 use Rattle.cjc_world.specs.Classes.{Class, Member, class_named, method_of_export}
 use Rattle.cjc_token_proof.specs.WrittenCalls.Calls.{TakesWords, super_words, virtual_words}
 use Rattle.cjc_shape_proof.specs.Written.Converted.{ExportsArePlain, IsConverted}
 use Rattle.cjc_theorem.proofs.AlikeLaws.VirtualCalls.MethodKinds.{in_get}
 
--- no method of an export file is private
+apart : (a b : Bool) → (a && b) ≡ false → b ≡ true → a ≡ false
+apart false b e f = refl
+apart true true e f = absurd cc
+apart true false e f = absurd cc
+
+-- no method of an export file is private beside public or protected
 pub exports_have_one_access : (p : Package) → ExportsArePlain p.files → ExportsHaveOneAccess (world p)
-exports_have_one_access p plain x c m e import i exposed = by c (filed p.files x c e) import i
+exports_have_one_access p plain x c m e import i shown = by c (filed p.files x c e) import i
   where
     by : (c : Class) → IsFiled p.files c → c.is_imported ≡ true → In m c.methods → is_private m.flags ≡ false
     by c (in_class_file n t at) import i = absurd cc
     by c (in_export_file n t at) import i =
         let k = in_get m (map method_of_export t.methods) i in
         let y = mapped_at method_of_export t.methods k.0 m k.1 in
-        ap (λ (v : Member). is_private v.flags) y.2 ∙ plain.visible n t at k.0 y.0 y.1
+        let q = y.0 in
+        ap (λ (v : Member). is_private v.flags) y.2
+        ∙ apart (is_private q.flags) (is_exposed q.flags) (plain.visible n t at k.0 q y.1)
+        (ap (λ (v : Member). is_exposed v.flags) (sym y.2) ∙ shown)
 
 module _ (list : ListTree) (files : List (List ℕ)) (judged : Judged) (p : Package) (is : IsConverted list files judged
     p) (class : ClassTree) (id : MemberId) where

@@ -6,9 +6,8 @@ use Rattle.cjc_theorem.specs.Components.Package.{Package}
 use Rattle.cjc_theorem.specs.Alike.Halves.{ComponentsRunAsCode}
 
 pub returns-clause-code : goal.returns-clause-code
-returns-clause-code c = λ list files made read is trees spell fair p of.
-    c.selected_code_behaves_alike.ensures list files is.judged read is.sound p of
-    (exports_are_fair list files trees spell p of fair)
+returns-clause-code c = λ list files made read is p of. c.selected_code_behaves_alike.ensures list files is.judged read
+    is.sound p of
 
 pub returns-clause-components : goal.returns-clause-components
 returns-clause-components c = λ list files made read is trees spell fair p of cap spelt.

@@ -1,12 +1,13 @@
-use Rattle.cjc_theorem.proofs.AlikeLaws.Converted.{fair_world, judged_package}
+use Rattle.cjc_judge.specs.Rules.{settings_of}
+use Rattle.cjc_theorem.proofs.AlikeLaws.Converted.{judged_checks, judged_package}
 use Rattle.cjc_theorem.proofs.SoundRuns.Alike.{selected_code}
 use Rattle.cjc_theorem.proofs.alike.halves.selected_code_behaves_alike.Goals as goal
 use Rattle.cjc_shape_proof.proofs.Shape.WholeLaws.Second.{package_is_draft}
 
 pub returns : goal.returns
-returns c = λ list files judged of is p laid fair.
-    let exports = c.fair_exports_are_sound.ensures.sound list.name judged.world (judged_package list files judged of is
-    p laid fair) (fair_world list files judged of is p laid fair) in
+returns c = λ list files judged of is p laid.
+    let exports = c.fair_exports_are_sound.ensures.sound list.name judged.world judged.codes (settings_of list)
+    (judged_package list files judged of is p laid) (judged_checks list files judged of is p laid) in
     let draft = package_is_draft list files p laid in
     record {
       rows = draft.rows;

@@ -5,7 +5,7 @@ use Rattle.cjc_judge.specs.Rules.{settings_of}
 use Rattle.cjc_shape_proof.proofs.WrittenLaws.Files.{is_kept}
 
 pub returns : goal.returns
-returns c = λ list files judged p is left.
+returns c = λ list files judged p is sends.
     let sound = c.converted_files_are_sound.ensures.sound list files judged p is in
     let rules = c.converted_classes_keep_rules.ensures in
     let keeps = rules.keeps list files judged p is in
@@ -22,7 +22,7 @@ returns c = λ list files judged p is left.
     let laid = is.is_package in
     let codes = (let w = p.files in all_codes w.classes) in
     let names = c.instructions_name_what_is_there.ensures list files judged p is in
-    let calls = c.calls_are_named.ensures list files judged p is left.implement in
+    let calls = c.calls_are_named.ensures list files judged p is in
     let objects = c.known_objects_receive_calls.ensures.objects p (faults_are_classes p.files is.exports) in
     let ask = c.package_interfaces_ask.ensures.ask list.name p.files judged.codes (settings_of list) kept in
     record {
@@ -37,5 +37,5 @@ returns c = λ list files judged p is left.
           (c.operations_are_known.ensures.words p calls m known) k words;
       receives = objects;
       sent = λ kind id thing. c.sent_methods_begin_alike.ensures list.name p sound ready methods small keeps subtypes
-          tokens exports ask left.sends kind (objects kind thing) id;
+          tokens exports ask sends kind (objects kind thing) id;
     }

@@ -10,7 +10,7 @@ use Rattle.cjc_shape_proof.specs.CheckProof.Keys.{IsThere}
 use Rattle.cjc_vtable.proofs.Filed.{has-get}
 
 pub returns : goal.returns
-returns c = λ list files judged p is implement.
+returns c = λ list files judged p is.
     let its = c.converted_files_are_sound.ensures in
     let classes = (let w = p.files in w.classes) in
     let told = c.static_fields_are_told.ensures.cells list.name p (all_codes classes) (its.sound list files judged p is)
@@ -21,5 +21,5 @@ returns c = λ list files judged p is implement.
     each_of (IsThere p) (pool p) (λ key h. let at = has-get key (pool p) h in key_there list files judged p is told fit
     (λ class id of. c.virtual_calls_are_named.ensures.named list files judged p is class id of)
     (λ class id of plain no_constructor hit found open_one. c.super_calls_are_named.ensures.named list files judged p is
-    implement class id of plain no_constructor hit found open_one)
+    class id of plain no_constructor hit found open_one)
     key (key_met list files judged p is opcodes at.0 key at.1))

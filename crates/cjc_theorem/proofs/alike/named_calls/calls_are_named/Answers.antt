@@ -2,13 +2,13 @@ use Rattle.cjc_theorem.proofs.AlikeLaws.NamedCalls.Calls.{calls_named}
 use Rattle.cjc_theorem.proofs.alike.named_calls.calls_are_named.Goals as goal
 
 pub returns : goal.returns
-returns c = λ list files judged p is implement.
+returns c = λ list files judged p is.
     calls_named list files judged p is (c.calls_have_opcodes.ensures list files judged is.sound)
     (record {
       virtuals = λ class id of. c.virtual_calls_are_named.ensures.named list files judged p is class id of;
       virtual_takes = λ class id of. c.virtual_calls_are_named.ensures.words list files judged p is class id of;
       supers = λ class id of class_here plain hit told visible. c.super_calls_are_named.ensures.named list files judged
-          p is implement class id of class_here plain hit told visible;
+          p is class id of class_here plain hit told visible;
       super_takes = λ class id of. c.super_calls_are_named.ensures.words list files judged p is class id of;
       privates = λ class id of hit told private. c.private_calls_are_named.ensures list files judged p is class id
           of hit told private;

@@ -1,0 +1,4 @@
+package p;
+
+public abstract class C extends q.Q implements I {
+}

@@ -1,0 +1,5 @@
+package p;
+
+interface I {
+    void m();
+}
