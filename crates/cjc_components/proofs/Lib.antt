@@ -5,5 +5,5 @@ pub use Rattle.cjc_vtable.proofs.ClassOrder as ClassOrder
 pub use Rattle.cjc_vtable.proofs.Tokens as Tokens
 pub use Rattle.cjc_vtable.proofs as VTable
 pub use Rattle.cjc_narrow.proofs as Narrow
-pub use Rattle.cjc_emit.proofs.Layout as Layout
+pub use Rattle.cjc_emit.proofs.LowerLayout as LowerLayout
 pub use Rattle.cjc_emit.proofs as Emit

@@ -5,4 +5,4 @@ mod Whole
 mod Decoded
 pub mod EmitLaws
 -- Lemmas of lower crates, for those above.
-pub use Rattle.cjc_layout.proofs as Layout
+pub use Rattle.cjc_layout.proofs as LowerLayout

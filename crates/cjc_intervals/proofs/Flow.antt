@@ -17,7 +17,7 @@ use Rattle.cjc_types.specs.Bytecode.declared.insn.JInsn.{JInsn}
 use Rattle.cjc_types.specs.Fixpoint.declared.flow.Edge.{Edge}
 use Rattle.cjc_types.specs.Fixpoint.Dataflow.{IsLawful, AreBelow}
 use Rattle.cjc_types.specs.Fixpoint.Working.Edges.{AreBelowInTurn, below_from_zip, AreBelow-append, AreBelow-map}
-use Rattle.cjc_types.proofs.Fixpoint.Lattices.{flow_laws}
+use Rattle.cjc_fixpoint.proofs.Lattices.{flow_laws}
 use Rattle.cjc_types.specs.declared.cell.Cell.{Cell}
 use Rattle.cjc_types.specs.declared.state.State.{State}
 use Rattle.cjc_types.specs.States.{most_cells}

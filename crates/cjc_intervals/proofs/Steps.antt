@@ -20,7 +20,7 @@ use Rattle.cjc_range.proofs.OrderBits.{ushr_monotone, and_monotone, or_monotone,
 use Rattle.cjc_types.specs.Bytecode.declared.insn.JOp.{JOp}
 use Rattle.cjc_types.specs.Bytecode.declared.insn.JOp.TheVariants as jop
 use Rattle.cjc_types.specs.Fixpoint.Lattice.{IsListOf}
-use Rattle.cjc_types.proofs.Fixpoint.Lattices.{zip-slice_set}
+use Rattle.cjc_fixpoint.proofs.Lattices.{zip-slice_set}
 use Rattle.cjc_types.specs.declared.cell.Cell.{Cell}
 use Rattle.cjc_types.specs.declared.cell.Cell.TheVariants.{Number, Refs, Unusable}
 use Rattle.cjc_types.specs.Types.{parts, is_void}

@@ -16,5 +16,5 @@ pub mod ComponentLaws
 -- Lemmas of lower crates, for those above.
 pub use Rattle.cjc_components.proofs.ClassOrder as ClassOrder
 pub use Rattle.cjc_types.proofs as Types
-pub use Rattle.cjc_components.proofs.Layout as Layout
+pub use Rattle.cjc_components.proofs.LowerLayout as LowerLayout
 pub use Rattle.cjc_pool.proofs as Pool

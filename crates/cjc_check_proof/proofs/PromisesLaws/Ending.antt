@@ -34,7 +34,7 @@ use Rattle.cjc_narrow_proof.specs.Types.Tables.{IsLeastTable, IsMethodOf}
 use Rattle.cjc_narrow_proof.specs.Types.TypeLaws.Closed.{IsClosedTable}
 use Rattle.cjc_narrow_proof.proofs.Types.TypeLaws.Lowered.{least_closed}
 use Rattle.cjc_narrow_proof.proofs.Types.TypeLaws.Standing.{next_there}
-use Rattle.cjc_components.proofs.Layout.Places.{get_inside}
+use Rattle.cjc_components.proofs.LowerLayout.Places.{get_inside}
 use Rattle.cjc_narrow_proof.proofs.SelectedLaws.Cuts.{decoded, few}
 use Rattle.cjc_check_rules.specs.Instructions.{ends_code}
 use Rattle.cjc_check_proof.specs.Code.Ends.{last_ends}

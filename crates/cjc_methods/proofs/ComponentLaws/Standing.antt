@@ -26,7 +26,7 @@ use Rattle.cjc_components.specs.Layout.Handlers.{table_order}
 use Rattle.cjc_components.specs.Layout.Layouts.{IsLayout}
 use Rattle.cjc_components.specs.Layout.OnCard.{handler_on_card}
 use Rattle.cjc_components.specs.Layout.Sizes as Sizes
-use Rattle.cjc_components.proofs.Layout.Lowered.{before_same, handlers_placed}
+use Rattle.cjc_components.proofs.LowerLayout.Lowered.{before_same, handlers_placed}
 use Rattle.cjc_components.specs.Emit.declared.emitted.MethodBytes.{MethodBytes}
 use Rattle.cjc_components.specs.Emit.Emitted.{IsEmittable, IsEmitted, code_places, emitted_bytes, header_bytes}
 use Rattle.cjc_components.specs.Emit.Emitted.{index_place}

@@ -17,7 +17,7 @@ use Rattle.cjc_narrow_proof.specs.Emit.Said.{CanBeSaid}
 use Rattle.cjc_judge.specs.declared.judged.Judged.{Judged}
 use Rattle.cjc_narrow_proof.specs.Narrow.Keys.Index.{index_of}
 use Rattle.cjc_narrow_proof.specs.Narrow.Keys.Working.Same.{same_member-Decides}
-use Rattle.cjc_methods.proofs.Layout.Places.{all_wide}
+use Rattle.cjc_methods.proofs.LowerLayout.Places.{all_wide}
 use Rattle.cjc_methods.specs.Layout.Forms.{HasForm}
 use Rattle.cjc_methods.specs.Layout.Layouts.{IsLayout, IsWhole}
 use Rattle.cjc_methods.specs.Layout.Sizes.{code_size}

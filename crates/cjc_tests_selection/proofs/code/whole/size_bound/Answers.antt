@@ -1,7 +1,7 @@
 use Rattle.std.proofs.Common.{ℕ, ◌+◌, ◌*◌, ◌≤◌, arith}
 use Rattle.std.proofs.lemmas.Bool.Decides.{nat_tests}
 use Rattle.cjc_examples.specs.Layout.Working.{switch_size}
-use Rattle.cjc_examples.proofs.Layout.Opcodes.{size_some, size_zero}
+use Rattle.cjc_examples.proofs.LowerLayout.Opcodes.{size_some, size_zero}
 use Rattle.cjc_tests_selection.proofs.code.whole.size_bound.Goals as goal
 
 table_bound : (op cases : ℕ) → switch_size op cases ≤ 11 + 6 * cases
