@@ -5,7 +5,7 @@ use Rattle.cjc_world.specs.Classes.{Class, Member}
 use Rattle.cjc_tokens.specs.Lines.{Line, line_at}
 use Rattle.cjc_tokens.specs.Members.{Signature, chosen, has, is_hidden, is_shown, signature_of, signatures}
 use Rattle.cjc_tokens.specs.Methods.{with_high_bit}
-use Rattle.cjc_tokens.specs.Slots.{hidden_slots, slots, token}
+use Rattle.cjc_tokens.specs.Slots.{hidden_slots, shown_token, token}
 use Rattle.cjc_components.specs.VTable.Calls.{any_method, finds_hidden}
 
 -- a name and a descriptor as a signature
@@ -32,8 +32,8 @@ TellsHidden line s (Some t) = (finds_hidden line s ≡ true) × (hidden_token li
 
 -- ---- public and protected methods
 
--- The class has no such method of its own, and got none; or its slot has this token.
+-- The class has no such method of its own, and got none; or it gives this token.
 abbrev pub IsShownHere : List Class → Class → Signature → Option ℕ → Type 0
 IsShownHere w c s None = (has (signatures is_shown c.methods) s ≡ false) × (has (map signature_of (added w c)) s
     ≡ false)
-IsShownHere w c s (Some t) = token (slots (line_at w c)) s ≡ Some t
+IsShownHere w c s (Some t) = shown_token (line_at w c) s ≡ Some t

@@ -20,7 +20,7 @@ use Rattle.cjc_vtable.specs.World.Lookup.{find_field, find_method}
 use Rattle.cjc_vtable.specs.World.Order.{class_order}
 use Rattle.cjc_vtable.specs.Tokens.Members.{Signature, same}
 use Rattle.cjc_vtable.specs.Tokens.Lines.{Line, line_of}
-use Rattle.cjc_vtable.specs.Tokens.Slots.{slots, hidden_slots, token}
+use Rattle.cjc_vtable.specs.Tokens.Slots.{hidden_slots, shown_token, token}
 use Rattle.cjc_vtable.specs.Tokens.Methods.{interface_methods, with_high_bit}
 use Rattle.cjc_vtable.specs.Tokens.Tokens.{token_of_member}
 use Rattle.cjc_vtable.specs.Tables.{or_zero}
@@ -76,7 +76,7 @@ signature_of m = record { name = m.name; desc = m.desc }
 -- package.
 abbrev pub token_in : Line → Signature → ℕ
 token_in line s = if finds_hidden line s then with_high_bit (or_zero (token (hidden_slots line) s))
-    else or_zero (token (slots line) s)
+    else or_zero (shown_token line s)
 
 -- the token of a virtual method in the class that the member names
 abbrev pub virtual_token : Package → MemberId → ℕ

@@ -9,9 +9,9 @@ use Rattle.cjc_world.specs.Classes.{Class, declared, method_of_class}
 use Rattle.cjc_bytes.specs.AccessFlags.{is_interface}
 use Rattle.cjc_world.specs.Added.{added, named_by}
 use Rattle.cjc_tokens.specs.declared.slot.Rows.{Rows}
-use Rattle.cjc_tokens.specs.Members.{signature_of}
+use Rattle.cjc_tokens.specs.Members.{Signature, signature_of}
 use Rattle.cjc_tokens.specs.Lines.{line_at}
-use Rattle.cjc_tokens.specs.Slots.{slots, hidden_slots, token, row, hidden_row}
+use Rattle.cjc_tokens.specs.Slots.{Slots, hidden_slots, shown_token, row, hidden_row}
 use Rattle.cjc_tokens.specs.Fields.{is_open_static, field_tokens, instance_tokens}
 use Rattle.cjc_tokens.specs.Methods.{interface_methods, interface_row, interface_token, is_open_bound, virtual_token}
 use Rattle.cjc_tokens.specs.Methods.{class_method_tokens}
@@ -35,6 +35,11 @@ same : {a a' : Option ℕ} {m m' i i' : List (Option ℕ)} {p p' h h' : List (Op
     → p ≡ p' → h ≡ h' → made a m i p h ≡ made a' m' i' p' h'
 same a m i p h = cc
 
+-- the first of the four breaks of 413
+pub high-first : (a b c d : Bool) → (((a || b) || c) || d) ≡ false → a ≡ false
+high-first true b c d e = cc
+high-first false b c d e = refl
+
 module _ (w : List Class) (n : ℕ) (c : ClassTree) where
   -- the tokens of the class, where it is an interface and where it is none
   abbrev whole : (applets : Bool) (before : ℕ) (interface : Bool) → OfClass
@@ -42,94 +47,98 @@ module _ (w : List Class) (n : ℕ) (c : ClassTree) where
       made (if is_exported w applets (declared n c) then Some before else None)
       (field_tokens (is_exported w applets (declared n c)) c.fields 0 c.fields
       ++ (if b then map (interface_token (interface_methods w (declared n c))) (map method_of_class c.methods)
-      else class_method_tokens (is_exported w applets (declared n c)) (slots (line_at w (declared n c)))
+      else class_method_tokens (is_exported w applets (declared n c)) (shown_token (line_at w (declared n c)))
       (hidden_slots (line_at w (declared n c))) (map method_of_class c.methods) 0 (map method_of_class c.methods)
-      ++ map (λ m. token (slots (line_at w (declared n c))) (signature_of m)) (added w (declared n c))))
+      ++ map (λ m. shown_token (line_at w (declared n c)) (signature_of m)) (added w (declared n c))))
       (instance_tokens c.fields 0 c.fields)
       (if b then interface_row w (declared n c) else row (line_at w (declared n c)))
       (if b then [] else hidden_row (line_at w (declared n c)))
 
-  pub high-class : (exported : Bool) (rows : Rows) (ids : List MemberId) → is_interface c.flags ≡ false
-      → AreRowsOf (line_at w (declared n c)) rows → ids ≡ map (named_by c.name) (added w (declared n c))
-      → is_high_class exported (signs rows.shown.items) (signs rows.hidden.items) c ids ≡ has_high_token w exported n c
-  unfolding has_high_token
-  high-class exported rows ids plain a named =
-      ap (λ q. is_high_class exported q (signs rows.hidden.items) c ids) a.shown_slots
-      ∙ ap (λ q. is_high_class exported (slots (line_at w (declared n c))) q c ids) a.hidden_slots_are
-      ∙ ap (λ q. is_high_class exported (slots (line_at w (declared n c))) (hidden_slots (line_at w (declared n c))) c
-      q) named
-      ∙ ap (λ q. ((q
-      || list_any (λ m. is_above 127 (token (slots (line_at w (declared n c))) (signature_of (member_of m))))
-      (map (named_by c.name) (added w (declared n c))))
-      || (exported && nat_lt 255 (count_by is_open_bound (map method_of_class c.methods))))
-      || (exported && nat_lt 255 (count_by is_open_static c.fields)))
-      (sym (any-map (λ m. is_above 127 (virtual_token (slots (line_at w (declared n c)))
-      (hidden_slots (line_at w (declared n c))) m)) method_of_class c.methods))
-      ∙ ap (λ q. ((list_any (λ m. is_above 127 (virtual_token (slots (line_at w (declared n c)))
-      (hidden_slots (line_at w (declared n c))) m)) (map method_of_class c.methods) || q)
-      || (exported && nat_lt 255 (count_by is_open_bound (map method_of_class c.methods))))
-      || (exported && nat_lt 255 (count_by is_open_static c.fields)))
-      (any-map (λ m. is_above 127 (token (slots (line_at w (declared n c))) (signature_of (member_of m))))
-      (named_by c.name) (added w (declared n c)))
-      ∙ ap (λ b. (if b then nat_lt 128 (length (interface_methods w (declared n c)))
-      else has_high_method w (declared n c)
-      || (exported && nat_lt 255 (count_by is_open_bound (map method_of_class c.methods))))
-      || (exported && nat_lt 255 (count_by is_open_static c.fields))) (sym plain)
+  -- what the code holds of the class: the tokens of public and protected virtual methods, and the rows
+  module _ (shown : Signature → Option ℕ) (shown_is : shown ≡ shown_token (line_at w (declared n c))) (rows : Rows)
+      (rows_are : AreRowsOf (line_at w (declared n c)) rows) (ids : List MemberId)
+      (ids_are : ids ≡ map (named_by c.name) (added w (declared n c))) where
+    pub high-class : (exported : Bool) → is_interface c.flags ≡ false
+        → is_high_class exported shown (signs rows.hidden.items) c ids ≡ has_high_token w exported n c
+    unfolding has_high_token
+    high-class exported plain =
+        ap (λ q. is_high_class exported q (signs rows.hidden.items) c ids) shown_is
+        ∙ ap (λ q. is_high_class exported (shown_token (line_at w (declared n c))) q c ids) rows_are.hidden_slots_are
+        ∙ ap (λ q. is_high_class exported (shown_token (line_at w (declared n c)))
+        (hidden_slots (line_at w (declared n c))) c q) ids_are
+        ∙ ap (λ q. ((q
+        || list_any (λ m. is_above 127 (shown_token (line_at w (declared n c)) (signature_of (member_of m))))
+        (map (named_by c.name) (added w (declared n c))))
+        || (exported && nat_lt 255 (count_by is_open_bound (map method_of_class c.methods))))
+        || (exported && nat_lt 255 (count_by is_open_static c.fields)))
+        (sym (any-map (λ m. is_above 127 (virtual_token (shown_token (line_at w (declared n c)))
+        (hidden_slots (line_at w (declared n c))) m)) method_of_class c.methods))
+        ∙ ap (λ q. ((list_any (λ m. is_above 127 (virtual_token (shown_token (line_at w (declared n c)))
+        (hidden_slots (line_at w (declared n c))) m)) (map method_of_class c.methods) || q)
+        || (exported && nat_lt 255 (count_by is_open_bound (map method_of_class c.methods))))
+        || (exported && nat_lt 255 (count_by is_open_static c.fields)))
+        (any-map (λ m. is_above 127 (shown_token (line_at w (declared n c)) (signature_of (member_of m))))
+        (named_by c.name) (added w (declared n c)))
+        ∙ ap (λ b. (if b then nat_lt 128 (length (interface_methods w (declared n c)))
+        else has_high_method w (declared n c)
+        || (exported && nat_lt 255 (count_by is_open_bound (map method_of_class c.methods))))
+        || (exported && nat_lt 255 (count_by is_open_static c.fields))) (sym plain)
 
-  pub tokens-class : (applets : Bool) (before : ℕ) (rows : Rows) (ids : List MemberId) (class : Option ℕ)
-      (members instances : List (Option ℕ)) (public hidden : List (Option Found))
-      → is_interface c.flags ≡ false → AreRowsOf (line_at w (declared n c)) rows
-      → ids ≡ map (named_by c.name) (added w (declared n c))
-      → class ≡ (if is_exported w applets (declared n c) then Some before else None)
-      → members ≡ field_tokens (is_exported w applets (declared n c)) c.fields 0 c.fields
-      ++ class_method_tokens (is_exported w applets (declared n c)) (signs rows.shown.items)
-      (signs rows.hidden.items) (map method_of_class c.methods) 0 (map method_of_class c.methods)
-      ++ map (λ m. token (signs rows.shown.items) (signature_of (member_of m))) ids
-      → instances ≡ instance_tokens c.fields 0 c.fields → public ≡ methods_in rows.shown.items
-      → hidden ≡ methods_in rows.hidden.items
-      → record {
-        class = class;
-        members = members;
-        instances = instances;
-        public_methods = public;
-        package_methods = hidden;
-      } ≡ of_class w applets before n c
-  tokens-class applets before rows ids class members instances public hidden plain a named k m i p h =
-      same k (m ∙ more) i (p ∙ a.shown_methods) (h ∙ a.hidden_methods) ∙ ap (whole applets before) (sym plain)
-    where
-      F : List (Option ℕ)
-      F = field_tokens (is_exported w applets (declared n c)) c.fields 0 c.fields
+    pub tokens-class : (applets : Bool) (before : ℕ) (class : Option ℕ) (members instances : List (Option ℕ))
+        (public hidden : List (Option Found))
+        → is_interface c.flags ≡ false
+        → class ≡ (if is_exported w applets (declared n c) then Some before else None)
+        → members ≡ field_tokens (is_exported w applets (declared n c)) c.fields 0 c.fields
+        ++ class_method_tokens (is_exported w applets (declared n c)) shown
+        (signs rows.hidden.items) (map method_of_class c.methods) 0 (map method_of_class c.methods)
+        ++ map (λ m. shown (signature_of (member_of m))) ids
+        → instances ≡ instance_tokens c.fields 0 c.fields → public ≡ methods_in rows.shown.items
+        → hidden ≡ methods_in rows.hidden.items
+        → record {
+          class = class;
+          members = members;
+          instances = instances;
+          public_methods = public;
+          package_methods = hidden;
+        } ≡ of_class w applets before n c
+    tokens-class applets before class members instances public hidden plain k m i p h =
+        same k (m ∙ more) i (p ∙ rows_are.shown_methods) (h ∙ rows_are.hidden_methods) ∙ ap (whole applets before)
+        (sym plain)
+      where
+        F : List (Option ℕ)
+        F = field_tokens (is_exported w applets (declared n c)) c.fields 0 c.fields
 
-      all : List (Option ℕ)
-      all = field_tokens (is_exported w applets (declared n c)) c.fields 0 c.fields
-          ++ (class_method_tokens (is_exported w applets (declared n c)) (slots (line_at w (declared n c)))
-          (hidden_slots (line_at w (declared n c))) (map method_of_class c.methods) 0 (map method_of_class c.methods)
-          ++ map (λ m. token (slots (line_at w (declared n c))) (signature_of m)) (added w (declared n c)))
+        T : Signature → Option ℕ
+        T = shown_token (line_at w (declared n c))
 
-      more : field_tokens (is_exported w applets (declared n c)) c.fields 0 c.fields
-          ++ class_method_tokens (is_exported w applets (declared n c)) (signs rows.shown.items)
-          (signs rows.hidden.items) (map method_of_class c.methods) 0 (map method_of_class c.methods)
-          ++ map (λ m. token (signs rows.shown.items) (signature_of (member_of m))) ids ≡ all
-      more =
-          ap (λ q. F ++ class_method_tokens (is_exported w applets (declared n c)) q (signs rows.hidden.items)
-          (map method_of_class c.methods) 0 (map method_of_class c.methods)
-          ++ map (λ m. token q (signature_of (member_of m))) ids) a.shown_slots
-          ∙ ap (λ q. F ++ class_method_tokens (is_exported w applets (declared n c)) (slots (line_at w (declared n c)))
-          q (map method_of_class c.methods) 0 (map method_of_class c.methods)
-          ++ map (λ m. token (slots (line_at w (declared n c))) (signature_of (member_of m))) ids)
-          a.hidden_slots_are
-          ∙ ap (λ q. F ++ class_method_tokens (is_exported w applets (declared n c)) (slots (line_at w (declared n c)))
-          (hidden_slots (line_at w (declared n c))) (map method_of_class c.methods) 0
-          (map method_of_class c.methods)
-          ++ map (λ m. token (slots (line_at w (declared n c))) (signature_of (member_of m))) q) named
-          ∙ ap (λ q. F ++ class_method_tokens (is_exported w applets (declared n c)) (slots (line_at w (declared n c)))
-          (hidden_slots (line_at w (declared n c))) (map method_of_class c.methods) 0
-          (map method_of_class c.methods) ++ q) (map-map (λ m. token (slots (line_at w (declared n c)))
-          (signature_of (member_of m))) (named_by c.name) (added w (declared n c)))
-          ∙ append_assoc F (class_method_tokens (is_exported w applets (declared n c))
-          (slots (line_at w (declared n c))) (hidden_slots (line_at w (declared n c)))
-          (map method_of_class c.methods) 0 (map method_of_class c.methods))
-          (map (λ m. token (slots (line_at w (declared n c))) (signature_of m)) (added w (declared n c)))
+        H : Slots
+        H = hidden_slots (line_at w (declared n c))
+
+        more : field_tokens (is_exported w applets (declared n c)) c.fields 0 c.fields
+            ++ class_method_tokens (is_exported w applets (declared n c)) shown
+            (signs rows.hidden.items) (map method_of_class c.methods) 0 (map method_of_class c.methods)
+            ++ map (λ m. shown (signature_of (member_of m))) ids
+            ≡ field_tokens (is_exported w applets (declared n c)) c.fields 0 c.fields
+            ++ (class_method_tokens (is_exported w applets (declared n c)) (shown_token (line_at w (declared n c)))
+            (hidden_slots (line_at w (declared n c))) (map method_of_class c.methods) 0
+            (map method_of_class c.methods)
+            ++ map (λ m. shown_token (line_at w (declared n c)) (signature_of m)) (added w (declared n c)))
+        more =
+            ap (λ q. F ++ class_method_tokens (is_exported w applets (declared n c)) q (signs rows.hidden.items)
+            (map method_of_class c.methods) 0 (map method_of_class c.methods)
+            ++ map (λ m. q (signature_of (member_of m))) ids) shown_is
+            ∙ ap (λ q. F ++ class_method_tokens (is_exported w applets (declared n c)) T
+            q (map method_of_class c.methods) 0 (map method_of_class c.methods)
+            ++ map (λ m. T (signature_of (member_of m))) ids) rows_are.hidden_slots_are
+            ∙ ap (λ q. F ++ class_method_tokens (is_exported w applets (declared n c)) T H
+            (map method_of_class c.methods) 0 (map method_of_class c.methods)
+            ++ map (λ m. T (signature_of (member_of m))) q) ids_are
+            ∙ ap (λ q. F ++ class_method_tokens (is_exported w applets (declared n c)) T H
+            (map method_of_class c.methods) 0 (map method_of_class c.methods) ++ q)
+            (map-map (λ m. T (signature_of (member_of m))) (named_by c.name) (added w (declared n c)))
+            ∙ append_assoc F (class_method_tokens (is_exported w applets (declared n c)) T H
+            (map method_of_class c.methods) 0 (map method_of_class c.methods))
+            (map (λ m. T (signature_of m)) (added w (declared n c)))
 
   pub high-interface : (exported : Bool) (count : ℕ) → is_interface c.flags ≡ true
       → count ≡ length (interface_methods w (declared n c)) → is_high_interface exported count c

@@ -2,6 +2,7 @@ pub mod Places
 pub mod Offers
 pub mod Facts
 pub mod Held
+pub mod Takings
 pub mod Steps
 pub mod Overlays
 pub mod Walks
@@ -10,6 +11,7 @@ pub mod Sums
 pub mod Counts
 pub mod Asked
 pub mod Once
+pub mod Listings
 pub mod Classes
 pub mod Signs
 pub mod Assigns

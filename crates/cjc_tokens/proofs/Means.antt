@@ -1,7 +1,7 @@
 -- The methods that the tokens of an interface mean.
-use Rattle.std.proofs.Common.{◌≡◌, ℕ, zero, suc, ◌<◌, ◌≤◌, ◌+◌, refl, sym, ap, ◌∙◌, arith, Bool, true, false, List, []}
+use Rattle.std.proofs.Common.{◌≡◌, ℕ, zero, suc, ◌<◌, ◌≤◌, ◌+◌, refl, ap, ◌∙◌, arith, Bool, true, List, []}
 use Rattle.std.proofs.Common.{◌∷◌, ◌++◌, length, get_or, take}
-use Rattle.std.specs.Prelude.{◌-◌, map, Option, Some, None, option_map, option_and_then, slice_get, nat_lt}
+use Rattle.std.specs.Prelude.{◌-◌, map, Option, Some, option_map, option_and_then, slice_get, nat_lt}
 use Rattle.std.specs.Prelude.{if◌then◌else◌}
 use Rattle.std.proofs.lemmas.Option.{slice_get-map}
 use Rattle.std.proofs.lemmas.Bool.Decides.{nat_tests}

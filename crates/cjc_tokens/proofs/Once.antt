@@ -16,7 +16,8 @@ use Rattle.cjc_world.specs.Working.Places.{at_places}
 use Rattle.cjc_tokens.specs.declared.slot.Rows.{Rows}
 use Rattle.cjc_tokens.specs.Lines.{Imported}
 use Rattle.cjc_tokens.specs.Members.{Signature, signature_of, same, has, is_virtual, all_methods}
-use Rattle.cjc_tokens.specs.Slots.{Slots, has_slot, new_in, with_new, listed_slots, meant_by, own}
+use Rattle.cjc_tokens.specs.Slots.{Slots, first_answer, has_slot, new_in, with_new, listed_slots, meant_by, or_next, own}
+use Rattle.cjc_tokens.specs.Slots.{told_in}
 use Rattle.cjc_tokens.specs.Working.{AreRowsOf, asked, overlay}
 use Rattle.cjc_tokens.proofs.Facts.{same-refl}
 use Rattle.cjc_tokens.proofs.Held.{has_slot-append, offered-has_slot}
@@ -271,11 +272,59 @@ module _ (f : Class → Option Found) where
   first-once w cs a = sym (answers-all None (once [] cs)) ∙ acts-once answers answers-again w None [] cs tt a
       ∙ answers-all None cs
 
+-- so is the nearest method
+pub nearest-once : (w : List Class) (c : Class) (xs : List (List ℕ)) (k : Supertypes) (s : Signature)
+    → AreSupertypes w xs k → first (own is_virtual s) (c ∷ once [] (upwards k)) ≡ first (own is_virtual s) (c
+    ∷ upwards k)
+unfolding first
+nearest-once w c xs k s is = ap (or_else (own is_virtual s c)) (first-once (own is_virtual s) w (upwards k)
+    (named-upwards w xs k is))
+
 meant-same : (f g : Signature → Option Found) (all : Slots) → ((s : Signature) → f s ≡ g s) → map (meant_by f) all
     ≡ map (meant_by g) all
 meant-same f g [] e = refl
 meant-same f g (None ∷ all) e = ap (λ q. None ∷ q) (meant-same f g all e)
 meant-same f g (Some s ∷ all) e = ap (λ o. o ∷ map (meant_by f) all) (e s) ∙ ap (λ q. g s ∷ q) (meant-same f g all e)
+
+-- ---- the first token that is listed
+
+module _ (f : Class → Option ℕ) where
+  abbrev tells : Option ℕ → Class → Option ℕ
+  tells o c = or_next o (f c)
+
+  tells-all : (o : Option ℕ) (cs : List Class) → acts tells o cs ≡ or_next o (first_answer f cs)
+  unfolding first_answer
+  tells-all o [] = none o
+    where
+      none : (o : Option ℕ) → o ≡ or_next o None
+      none None = refl
+      none (Some t) = refl
+  tells-all o (c ∷ cs) = tells-all (tells o c) cs ∙ assoc o (f c) (first_answer f cs)
+    where
+      assoc : (a b d : Option ℕ) → or_next (or_next a b) d ≡ or_next a (or_next b d)
+      assoc None b d = refl
+      assoc (Some t) b d = refl
+
+  tells-again : (o : Option ℕ) (c : Class) (ds : List Class) → tells (acts tells (tells o c) ds) c ≡ acts tells (tells o c)
+      ds
+  tells-again o c ds = ap (λ q. or_next q (f c)) (tells-all (tells o c) ds) ∙ same_answer o (f c) (first_answer f ds)
+      ∙ sym (tells-all (tells o c) ds)
+    where
+      same_answer : (a b d : Option ℕ) → or_next (or_next (or_next a b) d) b ≡ or_next (or_next a b) d
+      same_answer (Some t) b d = refl
+      same_answer None (Some t) d = refl
+      same_answer None None None = refl
+      same_answer None None (Some t) = refl
+
+  answer-once : (w cs : List Class) → AreNamed w cs → first_answer f (once [] cs) ≡ first_answer f cs
+  answer-once w cs a = sym (tells-all None (once [] cs)) ∙ acts-once tells tells-again w None [] cs tt a
+      ∙ tells-all None cs
+
+-- the tokens that a class and its supers list are those that each lists once
+pub told-once : (w : List Class) (c : Class) (xs : List (List ℕ)) (k : Supertypes) (s : Signature) → AreSupertypes w xs k
+    → first_answer (told_in s) (c ∷ once [] (upwards k)) ≡ first_answer (told_in s) (c ∷ upwards k)
+unfolding first_answer
+told-once w c xs k s is = ap (or_next (told_in s c)) (answer-once (told_in s) w (upwards k) (named-upwards w xs k is))
 
 -- the slots of a class and its supers are those of each once
 pub slots-once : (w : List Class) (c : Class) (xs : List (List ℕ)) (k : Supertypes) → AreSupertypes w xs k

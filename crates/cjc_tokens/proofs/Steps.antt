@@ -9,9 +9,9 @@ use Rattle.cjc_world.specs.Added.{named_by}
 use Rattle.cjc_tokens.specs.declared.slot.Slot.{Slot}
 use Rattle.cjc_tokens.specs.Members.{Signature, signature_of, same, has, signatures, is_shown, is_hidden}
 use Rattle.cjc_tokens.specs.Lines.{Line, Declared}
-use Rattle.cjc_tokens.specs.Slots.{Slots, new_in, with_new, slots, hidden_slots, own, got, implementing}
-use Rattle.cjc_tokens.specs.Slots.{implementing_hidden, meant_by}
-use Rattle.cjc_tokens.specs.Working.{Offered, Renewed, member_of, methods_in, nearest_slot, signature_in, signs}
+use Rattle.cjc_tokens.specs.Slots.{new_in, with_new, slots, hidden_slots, own, got, implementing}
+use Rattle.cjc_tokens.specs.Slots.{implementing_hidden, listed_token, meant_by, taken_slots, with_all_taken}
+use Rattle.cjc_tokens.specs.Working.{Offered, Renewed, Taken, member_of, methods_in, nearest_slot, signature_in, signs}
 use Rattle.cjc_tokens.proofs.Facts.{same-refl, chosen-none, chosen-some, own-none, own-some, has-got_none}
 use Rattle.cjc_tokens.proofs.Held.{new-offered, new-fresh, offered-has_slot}
 use Rattle.cjc_tokens.proofs.Offers.{map_append}
@@ -58,7 +58,7 @@ new_meant method I (s ∷ ss) h =
 
 -- ---- the methods that a class declares or got
 
-declared-found : (test : Member → Bool) (s : Signature) (c : Class) → has (signatures test c.methods) s ≡ true
+pub declared-found : (test : Member → Bool) (s : Signature) (c : Class) → has (signatures test c.methods) s ≡ true
     → (f : Found) × (own test s c ≡ Some f)
 declared-found test s c e = let m = chosen-some test s c.methods e in let r = own-some test s c m.0 m.1
     in (member_at c r.0, r.1)
@@ -86,37 +86,43 @@ signatures-ids x (m ∷ given) = ap (λ q. signature_of m ∷ q) (signatures-ids
 
 -- ---- the public row
 
-pub shown-step : (c : Class) (given : List Member) (line : Line) (above one two three : List (Option Slot))
+pub shown-step : (c : Class) (given : List Member) (line : Line) (above one taken two three : List (Option Slot))
     → signs above ≡ slots line → methods_in above ≡ map (meant_by (implementing line)) (slots line)
     → Renewed c given false above one
-    → Offered (signatures is_shown c.methods) (λ s. own is_shown s c) one two
+    → Taken (listed_token line) (methods_in above) (signatures is_shown c.methods) (implementing (Declared c given line))
+    one taken
+    → Offered (signatures is_shown c.methods) (λ s. own is_shown s c) taken two
     → Offered (map signature_of given) (λ s. got given s c) two three
     → (signs three ≡ slots (Declared c given line))
     × (methods_in three ≡ map (meant_by (implementing (Declared c given line))) (slots (Declared c given line)))
-unfolding found_in
-shown-step c given line above one two three above_slots above_methods r o p = (slots_are, methods_are)
+unfolding found_in taken_slots
+shown-step c given line above one taken two three above_slots above_methods r t o p = (slots_are, methods_are)
   where
     I : Signature → Option Found
     I s = or_else (own is_shown s c) (or_else (got given s c) (implementing line s))
 
-    S : Slots
-    S = slots line
+    taken_are : signs taken ≡ taken_slots c line (slots line)
+    taken_are =
+        t.slots
+        ∙ ap (λ q. with_all_taken (listed_token line) q (signatures is_shown c.methods) (signs one)) above_methods
+        ∙ ap (with_all_taken (listed_token line) (map (meant_by (implementing line)) (slots line))
+        (signatures is_shown c.methods)) (r.slots ∙ above_slots)
 
-    two_slots : signs two ≡ with_new (slots line) (signatures is_shown c.methods)
-    two_slots = o.slots ∙ ap (λ q. with_new q (signatures is_shown c.methods)) (r.slots ∙ above_slots)
+    two_slots : signs two ≡ with_new (taken_slots c line (slots line)) (signatures is_shown c.methods)
+    two_slots = o.slots ∙ ap (λ q. with_new q (signatures is_shown c.methods)) taken_are
 
     slots_are : signs three ≡ slots (Declared c given line)
     slots_are = p.slots ∙ ap (λ q. with_new q (map signature_of given)) two_slots
 
-    first_part : methods_in one
-        ≡ map (meant_by (λ s. or_else (own is_shown s c) (or_else (got given s c) (implementing line s)))) (slots line)
-    first_part =
+    renewed_part : methods_in one
+        ≡ map (meant_by (λ s. or_else (own is_shown s c) (or_else (got given s c) (implementing line s)))) (signs one)
+    renewed_part =
         r.methods
         ∙ nearest_is above
         ∙ refound (λ s o. or_else (own is_shown s c) (or_else (got given s c) o)) (implementing line) above
         (above_methods ∙ ap (map (meant_by (implementing line))) (sym above_slots))
         ∙ ap (map (meant_by (λ s. or_else (own is_shown s c) (or_else (got given s c) (implementing line s)))))
-        above_slots
+        (sym r.slots)
       where
         nearest_is : (xs : List (Option Slot)) → map (nearest_slot c given false) xs
             ≡ map (found_in (λ s o. or_else (own is_shown s c) (or_else (got given s c) o))) xs
@@ -126,38 +132,45 @@ shown-step c given line above one two three above_slots above_methods r o p = (s
             ap (λ q. or_else (own is_shown (signature_in s) c) (or_else (got given (signature_in s) c) s.method)
             ∷ q) (nearest_is xs)
 
-    second_part : map (λ s. own is_shown s c) (new_in (signs one) (signatures is_shown c.methods))
+    first_part : methods_in taken
         ≡ map (meant_by (λ s. or_else (own is_shown s c) (or_else (got given s c) (implementing line s))))
-        (map Some (new_in (slots line) (signatures is_shown c.methods)))
+        (taken_slots c line (slots line))
+    first_part = t.methods renewed_part
+        ∙ ap (map (meant_by (λ s. or_else (own is_shown s c) (or_else (got given s c) (implementing line s)))))
+        taken_are
+
+    second_part : map (λ s. own is_shown s c) (new_in (signs taken) (signatures is_shown c.methods))
+        ≡ map (meant_by (λ s. or_else (own is_shown s c) (or_else (got given s c) (implementing line s))))
+        (map Some (new_in (taken_slots c line (slots line)) (signatures is_shown c.methods)))
     second_part =
-        ap (λ q. map (λ s. own is_shown s c) (new_in q (signatures is_shown c.methods))) (r.slots ∙ above_slots)
+        ap (λ q. map (λ s. own is_shown s c) (new_in q (signatures is_shown c.methods))) taken_are
         ∙ new_meant (λ s. own is_shown s c) (λ s. or_else (own is_shown s c) (or_else (got given s c)
-        (implementing line s))) (new_in (slots line) (signatures is_shown c.methods)) (λ s h.
-        let f = declared-found is_shown s c (new-offered (slots line) (signatures is_shown c.methods) s h) in
+        (implementing line s))) (new_in (taken_slots c line (slots line)) (signatures is_shown c.methods)) (λ s h.
+        let f = declared-found is_shown s c (new-offered (taken_slots c line (slots line)) (signatures is_shown c.methods) s h) in
         f.1 ∙ ap (λ q. or_else q (or_else (got given s c) (implementing line s))) (sym f.1))
 
     third_part : map (λ s. got given s c) (new_in (signs two) (map signature_of given))
         ≡ map (meant_by (λ s. or_else (own is_shown s c) (or_else (got given s c) (implementing line s))))
-        (map Some (new_in (with_new (slots line) (signatures is_shown c.methods)) (map signature_of given)))
+        (map Some (new_in (with_new (taken_slots c line (slots line)) (signatures is_shown c.methods)) (map signature_of given)))
     third_part =
         ap (λ q. map (λ s. got given s c) (new_in q (map signature_of given))) two_slots
         ∙ new_meant (λ s. got given s c) (λ s. or_else (own is_shown s c) (or_else (got given s c)
-        (implementing line s))) (new_in (with_new (slots line) (signatures is_shown c.methods))
+        (implementing line s))) (new_in (with_new (taken_slots c line (slots line)) (signatures is_shown c.methods))
         (map signature_of given)) (λ s h.
-        let f = given-found given s c (new-offered (with_new (slots line) (signatures is_shown c.methods))
+        let f = given-found given s c (new-offered (with_new (taken_slots c line (slots line)) (signatures is_shown c.methods))
         (map signature_of given) s h) in
         let none = own-none is_shown s c (chosen-none is_shown s c.methods
         (undeclared s h (has (signatures is_shown c.methods) s) refl)) in
         f.1 ∙ ap (λ q. or_else q (implementing line s)) (sym f.1)
         ∙ ap (λ q. or_else q (or_else (got given s c) (implementing line s))) (sym none))
       where
-        undeclared : (s : Signature) → has (new_in (with_new (slots line) (signatures is_shown c.methods))
+        undeclared : (s : Signature) → has (new_in (with_new (taken_slots c line (slots line)) (signatures is_shown c.methods))
             (map signature_of given)) s ≡ true → (b : Bool) → has (signatures is_shown c.methods) s ≡ b
             → has (signatures is_shown c.methods) s ≡ false
         undeclared s h false e = e
         undeclared s h true e =
-            let no = new-fresh (with_new (slots line) (signatures is_shown c.methods)) (map signature_of given) s
-            (offered-has_slot (slots line) (signatures is_shown c.methods) s e) in
+            let no = new-fresh (with_new (taken_slots c line (slots line)) (signatures is_shown c.methods)) (map signature_of given) s
+            (offered-has_slot (taken_slots c line (slots line)) (signatures is_shown c.methods) s e) in
             cc
 
     methods_are : methods_in three ≡ map (meant_by (implementing (Declared c given line)))
@@ -165,19 +178,19 @@ shown-step c given line above one two three above_slots above_methods r o p = (s
     methods_are =
         p.methods
         ∙ ap (λ q. q ++ map (λ s. got given s c) (new_in (signs two) (map signature_of given))) (o.methods
-        ∙ ap (λ q. q ++ map (λ s. own is_shown s c) (new_in (signs one) (signatures is_shown c.methods)))
+        ∙ ap (λ q. q ++ map (λ s. own is_shown s c) (new_in (signs taken) (signatures is_shown c.methods)))
         first_part)
-        ∙ ap (λ q. map (meant_by (implementing (Declared c given line))) (slots line) ++ q
+        ∙ ap (λ q. map (meant_by (implementing (Declared c given line))) (taken_slots c line (slots line)) ++ q
         ++ map (λ s. got given s c) (new_in (signs two) (map signature_of given))) second_part
-        ∙ ap (λ q. map (meant_by (implementing (Declared c given line))) (slots line)
+        ∙ ap (λ q. map (meant_by (implementing (Declared c given line))) (taken_slots c line (slots line))
         ++ map (meant_by (implementing (Declared c given line)))
-        (map Some (new_in (slots line) (signatures is_shown c.methods))) ++ q) third_part
+        (map Some (new_in (taken_slots c line (slots line)) (signatures is_shown c.methods))) ++ q) third_part
         ∙ ap (λ q. q ++ map (meant_by (implementing (Declared c given line)))
-        (map Some (new_in (with_new (slots line) (signatures is_shown c.methods)) (map signature_of given))))
-        (sym (map_append (meant_by (implementing (Declared c given line))) (slots line)
-        (map Some (new_in (slots line) (signatures is_shown c.methods)))))
-        ∙ sym (map_append (meant_by (implementing (Declared c given line))) (with_new (slots line)
-        (signatures is_shown c.methods)) (map Some (new_in (with_new (slots line) (signatures is_shown c.methods))
+        (map Some (new_in (with_new (taken_slots c line (slots line)) (signatures is_shown c.methods)) (map signature_of given))))
+        (sym (map_append (meant_by (implementing (Declared c given line))) (taken_slots c line (slots line))
+        (map Some (new_in (taken_slots c line (slots line)) (signatures is_shown c.methods)))))
+        ∙ sym (map_append (meant_by (implementing (Declared c given line))) (with_new (taken_slots c line (slots line))
+        (signatures is_shown c.methods)) (map Some (new_in (with_new (taken_slots c line (slots line)) (signatures is_shown c.methods))
         (map signature_of given))))
 
 -- ---- the package-visible row

@@ -5,6 +5,7 @@ pub mod Fields
 pub mod Methods
 pub mod Tokens
 pub mod Rules
+pub mod MethodNames
 pub mod Working
 pub mod TokenLaws
 -- Definitions of lower crates, for those above.

@@ -42,24 +42,25 @@ is_open_bound m = is_exposed m.flags && (is_static m.flags || is_constructor m.n
 abbrev pub with_high_bit : ℕ → ℕ
 with_high_bit t = t + 128
 
--- the token of a virtual method among the slots of its class, without the high bit of a package-visible one
-abbrev pub virtual_token : (shown hidden : Slots) → Member → Option ℕ
+-- the token of a virtual method, from those of public and protected ones and the slots of package-visible ones; without
+-- the high bit of the latter
+abbrev pub virtual_token : (shown : Signature → Option ℕ) (hidden : Slots) → Member → Option ℕ
 virtual_token shown hidden m =
-    if is_shown m then token shown (signature_of m)
+    if is_shown m then shown (signature_of m)
     else if is_hidden m then token hidden (signature_of m)
     else None
 
 -- the token of the method at a place of a class
-unfoldable pub class_method_token : (exported : Bool) → (shown hidden : Slots) → List Member → (place : ℕ) → Member
-    → Option ℕ
+unfoldable pub class_method_token : (exported : Bool) → (shown : Signature → Option ℕ) (hidden : Slots) → List Member
+    → (place : ℕ) → Member → Option ℕ
 class_method_token exported shown hidden ms i m =
-    if is_shown m then token shown (signature_of m)
+    if is_shown m then shown (signature_of m)
     else if is_hidden m then option_map with_high_bit (token hidden (signature_of m))
     else if exported && is_open_bound m then Some (count_by is_open_bound (take i ms)) else None
 
 -- those of the methods from a place on
-unfoldable pub class_method_tokens : (exported : Bool) → (shown hidden : Slots) → List Member → (place : ℕ)
-    → List Member → List (Option ℕ)
+unfoldable pub class_method_tokens : (exported : Bool) → (shown : Signature → Option ℕ) (hidden : Slots) → List Member
+    → (place : ℕ) → List Member → List (Option ℕ)
 class_method_tokens exported shown hidden ms i [] = []
 class_method_tokens exported shown hidden ms i (m ∷ rest) = class_method_token exported shown hidden ms i m
     ∷ class_method_tokens exported shown hidden ms (i + 1) rest

@@ -1,5 +1,5 @@
 -- Rule 413, and the two rules that tokens stand on.
-use Rattle.std.specs.Prelude.{◌≡◌, ◌≤◌, ℕ, zero, suc, ◌+◌, List, [], ◌∷◌, ◌++◌, length, count_by, All, nat_le, nat_lt}
+use Rattle.std.specs.Prelude.{◌≡◌, ◌≤◌, ℕ, ◌+◌, List, [], ◌∷◌, ◌++◌, length, count_by, All, nat_le, nat_lt}
 use Rattle.std.specs.Prelude.{slice_get, Bool, true, false, ◌&&◌, ◌||◌, if◌then◌else◌, Option, Some, None}
 use Rattle.std.specs.List.{list_all, list_any}
 use Rattle.cjc_bytes.specs.declared.settings.FileLine.{FileLine}
@@ -12,7 +12,7 @@ use Rattle.cjc_bytes.specs.Breaks.{Break, IsFirst, broken_at, class_spot}
 use Rattle.cjc_bytes.specs.Order.{FilePlace, file_of}
 use Rattle.cjc_tokens.specs.Members.{signature_of}
 use Rattle.cjc_tokens.specs.Lines.{line_at}
-use Rattle.cjc_tokens.specs.Slots.{slots, hidden_slots, token}
+use Rattle.cjc_tokens.specs.Slots.{hidden_slots, shown_token}
 use Rattle.cjc_tokens.specs.Fields.{is_open_static, instance_cells}
 use Rattle.cjc_tokens.specs.Methods.{interface_methods, is_open_bound, virtual_token}
 use Rattle.cjc_world.specs.Exported.{is_exported}
@@ -58,8 +58,8 @@ is_above limit (Some t) = nat_lt limit t
 -- a virtual method that the class declares or gets from its interfaces has a token above 127
 abbrev pub has_high_method : List Class → Class → Bool
 has_high_method w c =
-    list_any (λ m. is_above 127 (virtual_token (slots (line_at w c)) (hidden_slots (line_at w c)) m)) c.methods
-    || list_any (λ m. is_above 127 (token (slots (line_at w c)) (signature_of m))) (added w c)
+    list_any (λ m. is_above 127 (virtual_token (shown_token (line_at w c)) (hidden_slots (line_at w c)) m)) c.methods
+    || list_any (λ m. is_above 127 (shown_token (line_at w c) (signature_of m))) (added w c)
 
 -- A method that an interface inherits has a token in it too.
 unfoldable pub has_high_token : List Class → (exported : Bool) → (number : ℕ) → ClassTree → Bool

@@ -14,7 +14,7 @@ use Rattle.cjc_world.specs.Exported.{is_exported}
 use Rattle.cjc_world.specs.Added.{added}
 use Rattle.cjc_tokens.specs.Members.{signature_of, is_initialiser}
 use Rattle.cjc_tokens.specs.Lines.{line_at}
-use Rattle.cjc_tokens.specs.Slots.{slots, hidden_slots, token, row, hidden_row}
+use Rattle.cjc_tokens.specs.Slots.{hidden_slots, shown_token, row, hidden_row}
 use Rattle.cjc_tokens.specs.Fields.{field_tokens, instance_tokens}
 use Rattle.cjc_tokens.specs.Methods.{interface_methods, interface_row, interface_token, class_method_tokens}
 
@@ -37,8 +37,8 @@ pub record OfClass : Type 0 where
 abbrev pub method_tokens : List Class → (exported : Bool) → Class → List (Option ℕ)
 method_tokens w exported c =
     if is_interface c.flags then map (interface_token (interface_methods w c)) c.methods
-    else class_method_tokens exported (slots (line_at w c)) (hidden_slots (line_at w c)) c.methods 0 c.methods
-    ++ map (λ m. token (slots (line_at w c)) (signature_of m)) (added w c)
+    else class_method_tokens exported (shown_token (line_at w c)) (hidden_slots (line_at w c)) c.methods 0 c.methods
+    ++ map (λ m. shown_token (line_at w c) (signature_of m)) (added w c)
 
 -- an interface has no package-visible methods
 abbrev pub of_class : List Class → (applets : Bool) → (exported_before number : ℕ) → ClassTree → OfClass

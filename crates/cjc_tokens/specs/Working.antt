@@ -1,6 +1,7 @@
 -- What the code holds of a line while it assigns tokens.
 use Rattle.std.specs.Prelude.{◌≡◌, ℕ, zero, suc, List, [], ◌∷◌, ◌++◌, map, slice_get, nat_lt, count_by, Bool, true}
 use Rattle.std.specs.Prelude.{false, not, ◌&&◌, ◌||◌, Option, Some, None, option_map, Result, Ok, Err, if◌then◌else◌}
+use Rattle.std.specs.HashMap.{get_by}
 use Rattle.std.specs.List.{list_any}
 use Rattle.cjc_bytes.specs.declared.fault.MemberId.{MemberId}
 use Rattle.cjc_world.specs.ClassFile.declared.tree.ClassTree.{ClassTree}
@@ -14,11 +15,14 @@ use Rattle.cjc_world.specs.Added.{methods_of}
 use Rattle.cjc_world.specs.Lookup.{or_else}
 use Rattle.cjc_tokens.specs.declared.slot.Slot.{Slot}
 use Rattle.cjc_tokens.specs.declared.slot.Rows.{Rows}
-use Rattle.cjc_tokens.specs.Members.{Signature, signature_of, is_exposed, is_virtual_by, is_shown, is_virtual}
+use Rattle.cjc_tokens.specs.declared.told.Shown.{Shown}
+use Rattle.cjc_tokens.specs.declared.told.Told.{Told}
+use Rattle.cjc_tokens.specs.Members.{Signature, signature_of, same, is_exposed, is_virtual_by, is_shown, is_virtual}
 use Rattle.cjc_tokens.specs.Members.{is_initialiser}
 use Rattle.cjc_tokens.specs.Lines.{Line, line_at}
-use Rattle.cjc_tokens.specs.Slots.{Slots, slots, hidden_slots, row, hidden_row, meant_by, token, own, got, new_in}
-use Rattle.cjc_tokens.specs.Slots.{with_new}
+use Rattle.cjc_tokens.specs.Slots.{Slots, slots, hidden_slots, row, hidden_row, meant_by, own, got, new_in, with_new}
+use Rattle.cjc_tokens.specs.Slots.{first_answer, is_of_package, listed_token, nearer, token, token_among, told_in}
+use Rattle.cjc_tokens.specs.Slots.{with_all_taken}
 use Rattle.cjc_tokens.specs.Fields.{is_open_static}
 use Rattle.cjc_tokens.specs.Methods.{is_open_bound, virtual_token}
 use Rattle.cjc_world.specs.Exported.{is_exported}
@@ -81,6 +85,39 @@ pub record Offered (ss : List Signature) (method : Signature → Option Found) (
   pub slots : signs new ≡ with_new (signs old) ss
   pub methods : methods_in new ≡ methods_in old ++ map method (new_in (signs old) ss)
 
+-- The signatures took the slots of the tokens that are listed for them, where these are the superclass's methods; each
+-- slot still means what this says of its signature.
+pub record Taken (listed : Signature → Option ℕ) (above : List (Option Found)) (ss : List Signature)
+    (implements : Signature → Option Found) (old new : List (Option Slot)) : Type 0 where
+  pub slots : signs new ≡ with_all_taken listed above ss (signs old)
+  pub methods : AreMeant implements old → AreMeant implements new
+
+-- the token that the nearest of these classes lists
+abbrev pub told_among : List Class → Signature → Option ℕ
+told_among classes s = first_answer (told_in s) classes
+
+-- the token that is noted for a signature
+abbrev pub token_under : Told → Signature → Option ℕ
+token_under t s = get_by (λ k. same s k) t.tokens
+
+-- The tokens that are noted are those that the line lists.
+abbrev pub IsToldOf : Line → Told → Type 0
+IsToldOf line t = (s : Signature) → token_under t s ≡ listed_token line s
+
+-- the token where the first slot of the signature has this place, and the line has this method of it
+abbrev pub token_with : (listed : Option ℕ) → Slots → (method : Option Found) → Signature → (place : Option ℕ) → Option ℕ
+token_with listed slots method s None = listed
+token_with listed slots method s (Some place) = if is_of_package (Some method) then Some (nearer listed slots s place)
+    else listed
+
+-- the token of a signature, from what is listed for it, the slots and the method that the line has of it
+abbrev pub token_meant : (listed : Option ℕ) → Slots → (method : Option Found) → Signature → Option ℕ
+token_meant listed slots method s = token_with listed slots method s (token slots s)
+
+-- the token of a signature, from the slots of a class, the methods there and what is listed
+abbrev pub slot_token : Shown → Signature → Option ℕ
+slot_token t s = token_among (token_under t.told.now s) (signs t.row.now) t.methods.now s
+
 -- The rows are those of the line.
 pub record AreRowsOf (line : Line) (r : Rows) : Type 0 where
   pub shown_slots : signs r.shown.items ≡ slots line
@@ -129,11 +166,12 @@ abbrev pub above_where : List Class → Class → List Signature
 above_where w c = if c.is_imported then [] else asked false (supertypes w c.supers)
     ++ asked true (supertypes w c.interfaces)
 
--- whether a class that is no interface breaks 413, from its slots
-abbrev pub is_high_class : (exported : Bool) → (shown hidden : Slots) → ClassTree → (added : List MemberId) → Bool
+-- whether a class that is no interface breaks 413, from its tokens
+abbrev pub is_high_class : (exported : Bool) → (shown : Signature → Option ℕ) (hidden : Slots) → ClassTree
+    → (added : List MemberId) → Bool
 is_high_class exported shown hidden c added =
     ((list_any (λ m. is_above 127 (virtual_token shown hidden (method_of_class m))) c.methods
-    || list_any (λ m. is_above 127 (token shown (signature_of (member_of m)))) added)
+    || list_any (λ m. is_above 127 (shown (signature_of (member_of m)))) added)
     || (exported && nat_lt 255 (count_by is_open_bound (map method_of_class c.methods))))
     || (exported && nat_lt 255 (count_by is_open_static c.fields))
 

@@ -92,14 +92,14 @@ fn all_rows<'w>(
 }
 
 /// The tokens of a class of the package; None where it breaks 413.
-fn tokens_at<'w>(
+fn tokens_at<'w, 'a>(
     alloc: Global,
-    world: &'w World<'_>,
+    world: &'w World<'a>,
     applets: bool,
     kept: &[Option<Rows<'w>>],
     before: u32,
     number: u32,
-    class: &'w ClassTree<'_>,
+    class: &'w ClassTree<'a>,
 ) -> Result<Option<ClassTokens>, NoMemory>
     requires kept { IsKept (all_classes world.now) world.now.classes kept.now }
     requires number { number < length world.now.classes }

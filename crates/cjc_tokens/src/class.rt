@@ -12,7 +12,7 @@ ghost use Rattle.cjc_tokens.specs.Members.{Signature};
 ghost use Rattle.cjc_tokens.specs.Methods.{interface_token, is_open_bound};
 ghost use Rattle.cjc_world.specs.Exported.{is_exported};
 ghost use Rattle.cjc_tokens.specs.Working.{AreRowsOf, AreTokensOf, is_high_class, is_high_interface, methods_in};
-ghost use Rattle.cjc_tokens.specs.Working.{signature_in, signs};
+ghost use Rattle.cjc_tokens.specs.Working.{signature_in, signs, slot_token};
 ghost use Rattle.cjc_world.specs.Lookup.{method_of_interface};
 
 use crate::fields::{field_tokens, instance_tokens, open_statics};
@@ -22,6 +22,7 @@ use crate::methods::{
 };
 use crate::slot::{Rows, Slot, is_initialiser, token};
 use crate::tokens::ClassTokens;
+use crate::told::{Shown, told_at};
 use cjc_bytes::{MemberId, NoMemory, Row};
 use cjc_world::classfile::{ClassTree, MethodTree};
 use cjc_world::{Found, Known, World};
@@ -50,25 +51,30 @@ fn own_token(exported: bool, before: u32) -> Option<u8>
 }
 
 /// Whether a class that is no interface breaks 413.
-fn is_high_class(exported: bool, rows: &Rows<'_>, class: &ClassTree<'_>, added: &[MemberId]) -> bool
-    ensures { result ≡ is_high_class exported (signs rows.now.shown.items) (signs rows.now.hidden.items) class.now
-        added.now }
+fn is_high_class(
+    exported: bool,
+    shown: &Shown<'_, '_>,
+    hidden: &[Option<Slot<'_>>],
+    class: &ClassTree<'_>,
+    added: &[MemberId],
+) -> bool
+    ensures { result ≡ is_high_class exported (slot_token shown.now) (signs hidden.now) class.now added.now }
 {
     let methods = class.methods.items();
-    any_high(rows, methods)
-        || any_high_added(rows, added)
+    any_high(shown, hidden, methods)
+        || any_high_added(shown, added)
         || (exported && open_bounds(methods) > 255)
         || (exported && open_statics(class.fields.items()) > 255)
 }
 
 /// The tokens of a class that is no interface; None where it breaks 413.
-pub(crate) fn class_tokens(
+pub(crate) fn class_tokens<'w, 'a>(
     alloc: Global,
-    world: &World<'_>,
+    world: &'w World<'a>,
     applets: bool,
     before: u32,
     number: u32,
-    class: &ClassTree<'_>,
+    class: &'w ClassTree<'a>,
     rows: &Rows<'_>,
     ids: &[MemberId],
 ) -> Result<Option<ClassTokens>, NoMemory>
@@ -82,14 +88,26 @@ pub(crate) fn class_tokens(
     ensures { IfOk result (AreTokensOf (all_classes world.now) applets before number class.now) }
 {
     let exported = world.is_exported(applets, Known::Declared(number, class));
-    if is_high_class(exported, rows, class, ids) {
+    let told = told_at(alloc, world, Known::Declared(number, class))?;
+    let public_methods = methods_of(alloc, &rows.shown)?;
+    let shown = Shown {
+        row: &rows.shown,
+        methods: public_methods.items(),
+        told: &told,
+    };
+    if is_high_class(exported, &shown, &rows.hidden, class, ids) {
         return Ok(None);
     }
     let mut members = field_tokens(alloc, exported, class.fields.items())?;
-    put_method_tokens(&mut members, rows, exported, class.methods.items())?;
-    put_added_tokens(&mut members, rows, ids)?;
+    put_method_tokens(
+        &mut members,
+        &shown,
+        &rows.hidden,
+        exported,
+        class.methods.items(),
+    )?;
+    put_added_tokens(&mut members, &shown, ids)?;
     let instances = instance_tokens(alloc, class.fields.items())?;
-    let public_methods = methods_of(alloc, &rows.shown)?;
     let package_methods = methods_of(alloc, &rows.hidden)?;
     Ok(Some(ClassTokens {
         class: own_token(exported, before),

@@ -9,14 +9,17 @@ mod interfaces;
 mod laws;
 mod line;
 mod listed;
+mod method_name;
 mod methods;
 mod slot;
+mod taking;
 pub mod token_laws;
 mod tokens;
+mod told;
 
 pub use assigning::{assign, few, first_high};
 pub use interfaces::interface_methods;
 pub use laws::interface_laws;
-pub use listed::imported_slots;
 pub use slot::{Slot, is_exposed, is_virtual, token};
 pub use tokens::Tokens;
+pub use told::{Shown, Told, imported_token, told_at};

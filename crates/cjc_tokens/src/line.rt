@@ -10,29 +10,33 @@ ghost use Rattle.cjc_world.specs.Added.{added, named_by};
 ghost use Rattle.cjc_tokens.specs.Lines.{Declared, Imported, Line, line_at, line_in};
 ghost use Rattle.cjc_world.specs.ClassFile.declared.tree.ClassTree.{ClassTree as Tree};
 ghost use Rattle.cjc_tokens.specs.declared.slot.Rows.{Rows as KeptRows};
-ghost use Rattle.cjc_tokens.specs.Working.{AreRowsOf, IsKept, SameRows};
+ghost use Rattle.cjc_tokens.specs.Working.{AreRowsOf, IsKept, IsToldOf, SameRows};
 
 use crate::listed::{rows_of, with_supers};
 use crate::slot::{Rows, offer_added, offer_methods, renewed};
+use crate::taking::take_slots;
+use crate::told::{Told, told_at};
 use cjc_bytes::{MemberId, NoMemory, is_interface};
 use cjc_world::classfile::ClassTree;
 use cjc_world::{Known, World, lookup_laws};
 use std::alloc::Global;
 
-/// The rows of a class of the package, from those of its superclass.
+/// The rows of a class of the package, from those of its superclass and the tokens that export files list above it.
 pub(crate) fn below<'w>(
     alloc: Global,
     above: &Rows<'w>,
+    told: &Told<'_>,
     class: &'w ClassTree<'_>,
     number: u32,
     added: &'w [MemberId],
 ) -> Result<Rows<'w>, NoMemory>
     requires { length class.now.fields + length class.now.methods + length added.now < 2 ^ 32 }
-    ensures { (line : Line) (given : List Member) → AreRowsOf line above.now
+    ensures { (line : Line) (given : List Member) → AreRowsOf line above.now → IsToldOf line told.now
         → added.now ≡ map (named_by class.now.name) given
         → IfOk result (AreRowsOf (Declared (declared number class.now) given line)) }
 {
     let mut shown = renewed(alloc, class, number, added, false, &above.shown)?;
+    take_slots(&mut shown, &above.shown, told, class, number);
     offer_methods(&mut shown, class, number, false)?;
     offer_added(&mut shown, class, number, added)?;
     let mut hidden = renewed(alloc, class, number, added, true, &above.hidden)?;
@@ -118,7 +122,8 @@ fn class_rows<'w>(
         return Err(NoMemory);
     }
     let above = rows_above(alloc, world, kept, class)?;
-    below(alloc, &above, class, number, added)
+    let told = told_at(alloc, world, Known::Declared(number, class))?;
+    below(alloc, &above, &told, class, number, added)
 }
 
 /// The superclass of a class of the package, where it is of the package and has no rows yet.

@@ -1,6 +1,6 @@
 //! The slots and rows of an imported class, from what its export file and those of its supers list.
 
-ghost use Rattle.std.specs.Prelude.{◌≡◌, ◌+◌, ◌<◌, ◌&&◌, ◌++◌, [], ◌∷◌, List, Option, true, map, length, position};
+ghost use Rattle.std.specs.Prelude.{◌≡◌, ◌+◌, ◌<◌, ◌&&◌, ◌++◌, [], ◌∷◌, List, Option, map, length, position};
 ghost use Rattle.std.specs.Prelude.{get_or, option_map, IfOk, OnOk};
 ghost use Rattle.std.specs.Str.{bytes_eq};
 ghost use Rattle.cjc_world.specs.declared.class.Known.{Known as AnyClass};
@@ -9,16 +9,16 @@ ghost use Rattle.cjc_world.specs.Supertypes.{supertypes, once, upwards};
 ghost use Rattle.cjc_world.specs.Working.Known.{class_of};
 ghost use Rattle.cjc_world.specs.Lookup.{first, is_called};
 ghost use Rattle.cjc_world.specs.Working.Places.{at_places};
-ghost use Rattle.cjc_tokens.specs.Lines.{Imported, line_at};
+ghost use Rattle.cjc_tokens.specs.Lines.{Imported};
 ghost use Rattle.cjc_tokens.specs.Members.{all_methods, is_virtual, is_virtual_by};
-ghost use Rattle.cjc_tokens.specs.Slots.{listed_slots, meant_by, own, slots};
+ghost use Rattle.cjc_tokens.specs.Slots.{listed_slots, meant_by, own};
 ghost use Rattle.cjc_tokens.specs.Working.{alone, AreRowsOf, methods_in, one, overlay, signature_in, signs};
 
 use crate::slot::{Rows, Slot, is_exposed, is_virtual};
 use cjc_bytes::NoMemory;
 use cjc_world::classfile::MethodTree;
 use cjc_world::export_file::ExportMethod;
-use cjc_world::{Found, Known, World, lookup_laws};
+use cjc_world::{Found, Known, World};
 use std::alloc::Global;
 
 /// Puts the classes at some places at the end.
@@ -132,7 +132,7 @@ fn own_virtual(class: Known<'_, '_>, name: &[u8], desc: &[u8]) -> Result<Option<
 }
 
 /// The nearest virtual method.
-fn nearest_virtual(
+pub(crate) fn nearest_virtual(
     classes: &[Known<'_, '_>],
     name: &[u8],
     desc: &[u8],
@@ -202,7 +202,10 @@ fn put_listed<'w>(row: &mut Vec<Option<Slot<'w>>>, class: Known<'w, '_>) -> Resu
 }
 
 /// The slots of some classes, the nearest first.
-fn listed<'w>(alloc: Global, classes: &[Known<'w, '_>]) -> Result<Vec<Option<Slot<'w>>>, NoMemory>
+pub(crate) fn listed<'w>(
+    alloc: Global,
+    classes: &[Known<'w, '_>],
+) -> Result<Vec<Option<Slot<'w>>>, NoMemory>
     ensures { IfOk result (λ row. signs row.items ≡ listed_slots (all_methods (map class_of classes.now))) }
 {
     let mut row = Vec::new(alloc);
@@ -212,23 +215,7 @@ fn listed<'w>(alloc: Global, classes: &[Known<'w, '_>]) -> Result<Vec<Option<Slo
     Ok(row)
 }
 
-/// The slots of an imported class by their tokens, without their methods (Java Card Virtual Machine
-/// Specification 2.2.2, section 4.3.7.6).
-pub fn imported_slots<'w, 'a>(
-    alloc: Global,
-    world: &'w World<'a>,
-    class: Known<'w, 'a>,
-) -> Result<Vec<Option<Slot<'w>>>, NoMemory>
-    requires { (class_of class).is_imported ≡ true }
-    ensures { IfOk result (λ row. signs row.items ≡ slots (line_at (all_classes world.now) (class_of class.entry))) }
-{
-    lookup_laws();
-    world.acyclic();
-    let classes = with_supers(alloc, world, class)?;
-    listed(alloc, &classes)
-}
-
-/// The same slots, each with the nearest virtual method.
+/// Slots, each with the nearest virtual method.
 fn with_methods<'w>(
     alloc: Global,
     slots: &[Option<Slot<'w>>],

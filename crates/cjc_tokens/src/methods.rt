@@ -6,11 +6,11 @@ ghost use Rattle.std.specs.List.{list_any};
 ghost use Rattle.cjc_world.specs.Classes.{method_of_class};
 ghost use Rattle.cjc_tokens.specs.Members.{signature_of};
 ghost use Rattle.cjc_tokens.specs.Methods.{class_method_token, class_method_tokens, is_open_bound, virtual_token};
-ghost use Rattle.cjc_tokens.specs.Slots.{token};
 ghost use Rattle.cjc_tokens.specs.Rules.{is_above};
-ghost use Rattle.cjc_tokens.specs.Working.{member_of, signs};
+ghost use Rattle.cjc_tokens.specs.Working.{member_of, signs, slot_token};
 
-use crate::slot::{Rows, is_constructor, is_exposed, is_initialiser, is_of_kind, token};
+use crate::slot::{Slot, is_constructor, is_exposed, is_initialiser, is_of_kind, token};
+use crate::told::Shown;
 use cjc_bytes::{MemberId, NoMemory, Row, is_static};
 use cjc_world::classfile::MethodTree;
 use std::alloc::Global;
@@ -43,16 +43,19 @@ fn bounds(methods: &[MethodTree<'_>]) -> usize
 }
 
 /// The token of a virtual method, without the high bit of a package-visible one.
-fn virtual_token(rows: &Rows<'_>, method: &MethodTree<'_>) -> Option<usize>
-    ensures { result ≡ virtual_token (signs rows.now.shown.items) (signs rows.now.hidden.items)
-        (method_of_class method.now) }
+fn virtual_token(
+    shown: &Shown<'_, '_>,
+    hidden: &[Option<Slot<'_>>],
+    method: &MethodTree<'_>,
+) -> Option<usize>
+    ensures { result ≡ virtual_token (slot_token shown.now) (signs hidden.now) (method_of_class method.now) }
 {
     let name = method.name.items();
     let desc = method.desc.items();
     if is_of_kind(false, method.flags, name) {
-        token(&rows.shown, name, desc)
+        shown.token(name, desc)
     } else if is_of_kind(true, method.flags, name) {
-        token(&rows.hidden, name, desc)
+        token(hidden, name, desc)
     } else {
         None
     }
@@ -69,21 +72,22 @@ pub(crate) fn is_above(limit: usize, token: Option<usize>) -> bool
 }
 
 /// Whether a virtual method would get a token above 127.
-pub(crate) fn any_high(rows: &Rows<'_>, methods: &[MethodTree<'_>]) -> bool
-    ensures { result ≡ list_any (λ m. is_above 127 (virtual_token (signs rows.now.shown.items)
-        (signs rows.now.hidden.items) (method_of_class m))) methods.now }
+pub(crate) fn any_high(
+    shown: &Shown<'_, '_>,
+    hidden: &[Option<Slot<'_>>],
+    methods: &[MethodTree<'_>],
+) -> bool
+    ensures { result ≡ list_any (λ m. is_above 127 (virtual_token (slot_token shown.now) (signs hidden.now)
+        (method_of_class m))) methods.now }
 {
-    methods
-        .iter()
-        .any(|method| is_above(127, virtual_token(rows, method)))
+    methods.iter().any(|method| is_above(127, virtual_token(shown, hidden, method)))
 }
 
 /// Whether an added method would get a token above 127.
-pub(crate) fn any_high_added(rows: &Rows<'_>, added: &[MemberId]) -> bool
-    ensures { result ≡ list_any (λ m. is_above 127 (token (signs rows.now.shown.items) (signature_of (member_of m))))
-        added.now }
+pub(crate) fn any_high_added(shown: &Shown<'_, '_>, added: &[MemberId]) -> bool
+    ensures { result ≡ list_any (λ m. is_above 127 (slot_token shown.now (signature_of (member_of m)))) added.now }
 {
-    added.iter().any(|m| is_above(127, token(&rows.shown, m.name.items(), m.desc.items())))
+    added.iter().any(|m| is_above(127, shown.token(m.name.items(), m.desc.items())))
 }
 
 /// A token as it stands in a component, with so much more.
@@ -101,25 +105,26 @@ pub(crate) fn as_byte(token: Option<usize>, more: u8) -> Option<u8>
 /// The token of a method at a place of its class, where so many static ones with a token stand before it.
 #[tactic(auto, unfolding(crate::specs::Methods::class_method_token))]
 fn method_token(
-    rows: &Rows<'_>,
+    shown: &Shown<'_, '_>,
+    hidden: &[Option<Slot<'_>>],
     exported: bool,
     methods: &[MethodTree<'_>],
     place: usize,
     method: &MethodTree<'_>,
     bounds: usize,
 ) -> Option<u8>
-    requires low { is_above 127 (virtual_token (signs rows.now.shown.items) (signs rows.now.hidden.items)
-        (method_of_class method.now)) ≡ false }
+    requires low { is_above 127 (virtual_token (slot_token shown.now) (signs hidden.now) (method_of_class method.now))
+        ≡ false }
     requires bounds { bounds ≡ count_by is_open_bound (take place (map method_of_class methods.now)) }
     requires high { exported ≡ true → is_open_bound (method_of_class method.now) ≡ true → bounds < 255 }
-    ensures { result ≡ class_method_token exported (signs rows.now.shown.items) (signs rows.now.hidden.items)
+    ensures { result ≡ class_method_token exported (slot_token shown.now) (signs hidden.now)
         (map method_of_class methods.now) place (method_of_class method.now) }
 {
     let name = method.name.items();
     if is_of_kind(false, method.flags, name) {
-        as_byte(virtual_token(rows, method), 0)
+        as_byte(virtual_token(shown, hidden, method), 0)
     } else if is_of_kind(true, method.flags, name) {
-        as_byte(virtual_token(rows, method), 128)
+        as_byte(virtual_token(shown, hidden, method), 128)
     } else if exported && is_open_bound(method) {
         Some(bounds as u8)
     } else {
@@ -130,19 +135,20 @@ fn method_token(
 /// Puts the tokens of the methods of a class at the end.
 pub(crate) fn put_method_tokens(
     tokens: &mut Row<Option<u8>>,
-    rows: &Rows<'_>,
+    shown: &Shown<'_, '_>,
+    hidden: &[Option<Slot<'_>>],
     exported: bool,
     methods: &[MethodTree<'_>],
 ) -> Result<(), NoMemory>
-    requires low { list_any (λ m. is_above 127 (virtual_token (signs rows.now.shown.items) (signs rows.now.hidden.items)
+    requires low { list_any (λ m. is_above 127 (virtual_token (slot_token shown.now) (signs hidden.now)
         (method_of_class m))) methods.now ≡ false }
     requires high { exported ≡ true → count_by is_open_bound (map method_of_class methods.now) ≤ 255 }
-    ensures { OnOk result (tokens.new ≡ tokens.old ++ class_method_tokens exported (signs rows.now.shown.items)
-        (signs rows.now.hidden.items) (map method_of_class methods.now) 0 (map method_of_class methods.now)) }
+    ensures { OnOk result (tokens.new ≡ tokens.old ++ class_method_tokens exported (slot_token shown.now)
+        (signs hidden.now) (map method_of_class methods.now) 0 (map method_of_class methods.now)) }
 {
     let mut bounds = 0;
     for (place, method) in methods.iter().enumerate() {
-        tokens.push(method_token(rows, exported, methods, place, method, bounds))?;
+        tokens.push(method_token(shown, hidden, exported, methods, place, method, bounds))?;
         if is_open_bound(method) {
             bounds += 1;
         }
@@ -153,16 +159,15 @@ pub(crate) fn put_method_tokens(
 /// Puts the tokens of the added methods of a class at the end.
 pub(crate) fn put_added_tokens(
     tokens: &mut Row<Option<u8>>,
-    rows: &Rows<'_>,
+    shown: &Shown<'_, '_>,
     added: &[MemberId],
 ) -> Result<(), NoMemory>
-    requires { list_any (λ m. is_above 127 (token (signs rows.now.shown.items) (signature_of (member_of m)))) added.now
-        ≡ false }
+    requires { list_any (λ m. is_above 127 (slot_token shown.now (signature_of (member_of m)))) added.now ≡ false }
     ensures { OnOk result (tokens.new ≡ tokens.old
-        ++ map (λ m. token (signs rows.now.shown.items) (signature_of (member_of m))) added.now) }
+        ++ map (λ m. slot_token shown.now (signature_of (member_of m))) added.now) }
 {
     for id in added {
-        let token = token(&rows.shown, id.name.items(), id.desc.items());
+        let token = shown.token(id.name.items(), id.desc.items());
         tokens.push(as_byte(token, 0))?;
     }
     Ok(())

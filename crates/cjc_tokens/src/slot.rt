@@ -76,7 +76,7 @@ pub(crate) fn is_of_kind(hidden: bool, flags: u16, name: &[u8]) -> bool
     }
 }
 
-fn holds(slot: &Option<Slot<'_>>, name: &[u8], desc: &[u8]) -> bool
+pub(crate) fn holds(slot: &Option<Slot<'_>>, name: &[u8], desc: &[u8]) -> bool
     ensures { result ≡ holds (option_map signature_in slot.now) (record { name = name.now; desc = desc.now }) }
 {
     match slot {

@@ -15,6 +15,7 @@ use Rattle.cjc_tokens.proofs.Facts.{same-true, position-cons, position-same, pla
 use Rattle.cjc_tokens.proofs.Facts.{chosen-some, has-chosen, own-none, own-some, got-none}
 use Rattle.cjc_tokens.proofs.Held.{at_front, shown-virtual, has_slot-append, offered-has_slot, here-has_slot, In-slot}
 use Rattle.cjc_tokens.proofs.Held.{token-slot, listed_slot}
+use Rattle.cjc_vtable.proofs.Told.{told-slots}
 use Rattle.cjc_vtable.proofs.Towers.{tower, dispatched-slot, dispatched-hidden_slot}
 
 -- ---- virtual methods are selectable
@@ -144,7 +145,8 @@ shown-has_slot (Imported classes) s told e =
     here-has_slot (listed_slots (all_methods classes)) f.0.token s (r.4
     ∙ ap (λ q. Some (Some q)) ((told r.0 f.0 r.1 i (shown-virtual r.0 r.2) (shown-virtual f.0 is.1)).0 r.3 ∙ is.0))
 shown-has_slot (Declared c given above) s told e =
-    has_slot-append (with_new (slots above) (signatures is_shown c.methods))
+    ap (λ q. has_slot q s) (told-slots c given above told)
+    ∙ has_slot-append (with_new (slots above) (signatures is_shown c.methods))
     (map Some (new_in (with_new (slots above) (signatures is_shown c.methods)) (map signature_of given))) s
     (by (chosen selects s c.methods) refl e (λ h. shown-has_slot above s told h))
   where
@@ -218,10 +220,11 @@ slot_stays line above t s told here e = e
 slot_stays (Imported cs) (Imported ds) t s told (over sub) e = listed_stays (all_methods cs) (all_methods ds) told sub t
     s e
 slot_stays (Declared c given line) above t s told (up climbs) e =
-    at_front (with_new (slots line) (signatures is_shown c.methods))
+    subst (λ q. slice_get q t ≡ Some (Some s)) (sym (told-slots c given line told))
+    (at_front (with_new (slots line) (signatures is_shown c.methods))
     (map Some (new_in (with_new (slots line) (signatures is_shown c.methods)) (map signature_of given))) t (Some s)
     (at_front (slots line) (map Some (new_in (slots line) (signatures is_shown c.methods))) t (Some s)
-    (slot_stays line above t s told climbs e))
+    (slot_stays line above t s told climbs e)))
 
 pub hidden_slot_stays : (line above : Line) (t : ℕ) (slot : Option Signature) → Climbs line above
     → slice_get (hidden_slots above) t ≡ Some slot → slice_get (hidden_slots line) t ≡ Some slot

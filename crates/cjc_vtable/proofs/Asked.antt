@@ -13,7 +13,6 @@ use Rattle.cjc_world.specs.Lookup.{is_called}
 use Rattle.cjc_world.specs.Added.{own_methods, methods_of, asked_by}
 use Rattle.cjc_world.proofs.Rising.{known-append}
 use Rattle.cjc_tokens.specs.Members.{Signature, signature_of, same, has, is_shown, In, chosen, first_of, later}
-use Rattle.cjc_tokens.specs.Slots.{Slots, token}
 use Rattle.cjc_tokens.specs.Methods.{interfaces_at, interface_methods}
 use Rattle.cjc_vtable.specs.declared.table.InterfaceMap.{InterfaceMap}
 use Rattle.cjc_vtable.specs.Tables.{or_zero, interface_map}
@@ -197,17 +196,17 @@ has-In (n ∷ ms) s e = by (same (signature_of n) s) refl e (has-In ms s)
 
 -- ---- the map of an interface
 
-pub map-found : (w : List Class) (all : Slots) (is : List Class) (name : List ℕ) (above : Option InterfaceMap)
-    (i : Class) → interface_named is name ≡ Some i → map_in (map (interface_map w all) is) name above
-    ≡ Some (interface_map w all i)
-map-found w all [] name above i e = cc
-map-found w all (j ∷ is) name above i e = by (bytes_eq j.name name) e (map-found w all is name above i)
+pub map-found : (w : List Class) (shown : Signature → Option ℕ) (is : List Class) (name : List ℕ) (above : Option InterfaceMap)
+    (i : Class) → interface_named is name ≡ Some i → map_in (map (interface_map w shown) is) name above
+    ≡ Some (interface_map w shown i)
+map-found w shown [] name above i e = cc
+map-found w shown (j ∷ is) name above i e = by (bytes_eq j.name name) e (map-found w shown is name above i)
   where
     by : (b : Bool) → (if b then Some j else interface_named is name) ≡ Some i → (interface_named is name ≡ Some i
-        → map_in (map (interface_map w all) is) name above ≡ Some (interface_map w all i))
-        → (if b then Some (interface_map w all j) else map_in (map (interface_map w all) is) name above)
-        ≡ Some (interface_map w all i)
-    by true e rest = let same_one : j ≡ i = cc in ap (λ q. Some (interface_map w all q)) same_one
+        → map_in (map (interface_map w shown) is) name above ≡ Some (interface_map w shown i))
+        → (if b then Some (interface_map w shown j) else map_in (map (interface_map w shown) is) name above)
+        ≡ Some (interface_map w shown i)
+    by true e rest = let same_one : j ≡ i = cc in ap (λ q. Some (interface_map w shown q)) same_one
     by false e rest = rest e
 
 pub has-here : (ss : List Signature) (k : ℕ) (s : Signature) → slice_get ss k ≡ Some s → has ss s ≡ true
@@ -253,11 +252,11 @@ public-shown n s is sel shown plain = by (is_public n.flags) (is_protected n.fla
     by false b c d e f g = cc
 
 -- the index of a method's token, where the class has a token for it
-pub index_at : (w : List Class) (all : Slots) (i : Class) (k : ℕ) (s : Signature) (t : ℕ)
-    → slice_get (interface_methods w i) k ≡ Some s → token all s ≡ Some t → slice_get (interface_map w all i).index k
+pub index_at : (w : List Class) (shown : Signature → Option ℕ) (i : Class) (k : ℕ) (s : Signature) (t : ℕ)
+    → slice_get (interface_methods w i) k ≡ Some s → shown s ≡ Some t → slice_get (interface_map w shown i).index k
     ≡ Some t
-index_at w all i k s t e f = slice_get-map (λ u. or_zero (token all u)) (interface_methods w i) k
-    ∙ ap (option_map (λ u. or_zero (token all u))) e ∙ ap (λ o. Some (or_zero o)) f
+index_at w shown i k s t e f = slice_get-map (λ u. or_zero (shown u)) (interface_methods w i) k
+    ∙ ap (option_map (λ u. or_zero (shown u))) e ∙ ap (λ o. Some (or_zero o)) f
 
 -- what an interface has, each class asks for that has the interface
 pub method-asked : (w : List Class) (are_supertypes : (xs : List (List ℕ)) → AreSupertypes w xs (supertypes w xs))

@@ -11,12 +11,13 @@ use Rattle.cjc_world.specs.Lookup.{is_called}
 use Rattle.cjc_world.specs.Added.{is_open, declares_open, is_one_of, has_open, lacking, added, asked_by, takes_added}
 use Rattle.cjc_tokens.specs.Members.{Signature, signature_of, same, has, signatures, is_exposed, is_shown, all_methods}
 use Rattle.cjc_tokens.specs.Members.{In, first_of, later}
-use Rattle.cjc_tokens.specs.Lines.{Imported, Declared, line_in}
-use Rattle.cjc_tokens.specs.Slots.{Slots, has_slot, new_in, with_new, listed_slots, slots}
+use Rattle.cjc_tokens.specs.Lines.{Line, Imported, Declared, line_in}
+use Rattle.cjc_tokens.specs.Slots.{Slots, has_slot, new_in, with_new, listed_slots, slots, taken_slots}
 use Rattle.cjc_vtable.specs.Calls.{is_special, IsProper}
 use Rattle.cjc_tokens.proofs.Facts.{same-true, same-refl, chosen-some, chosen-passes, chosen-In}
 use Rattle.cjc_tokens.proofs.Held.{at_either, new-offered, here-has_slot, token-slot, listed_slot}
 use Rattle.cjc_vtable.proofs.Calls.{token-some, In-front, In-behind}
+use Rattle.cjc_vtable.proofs.Told.{taken_slots-either}
 
 or_left : (a b : Bool) → a ≡ true → (a || b) ≡ true
 or_left true b e = refl
@@ -111,6 +112,13 @@ with_new-slot all ss s e =
     ⊎_elim (λ h. inl (here-has_slot all t.0 s h)) (λ h. inr (new-offered all ss s h)) (at_either all (new_in all ss) t.0
     s t.1)
 
+-- what has a slot after methods have taken theirs had one, or is declared
+taken-has : (c : Class) (above : Line) (all : Slots) (s : Signature) → has_slot (taken_slots c above all) s ≡ true
+    → (has_slot all s ≡ true) ⊎ (has (signatures is_shown c.methods) s ≡ true)
+taken-has c above all s e =
+    let t = slot-of (taken_slots c above all) s e in
+    ⊎_elim (λ h. inl (here-has_slot all t.0 s h)) (λ h. inr h) (taken_slots-either c above all t.0 s t.1)
+
 -- what is added was asked for and was not there
 lacking-one : (there : Member → Bool) (given ms : List Member) (s : Signature)
     → has (map signature_of (lacking there given ms)) s ≡ true → (m : Member) × In m ms × (signature_of m ≡ s)
@@ -176,6 +184,16 @@ module _ (w : List Class) (are_supertypes : (xs : List (List ℕ)) → AreSupert
       rest : Bool
       rest = has_open s.name s.desc r
 
+      declares : has (signatures is_shown c.methods) s ≡ true → (declares_open s.name s.desc c
+          || has_open s.name s.desc p || (takes_added c && is_one_of (asked_by p q) s.name s.desc)
+          || has_open s.name s.desc r) ≡ true
+      declares g =
+          let m = chosen-some is_shown s c.methods g in
+          let is = chosen-passes is_shown s c.methods m.0 m.1 in
+          left4 (declares_open s.name s.desc c) (has_open s.name s.desc p) (takes_added c
+          && is_one_of (asked_by p q) s.name s.desc) (has_open s.name s.desc r) (shown-declares m.0 s c
+          (chosen-In is_shown s c.methods m.0 m.1) is.1 is.0)
+
       by : (b : Bool) → has_slot (slots (if b then Imported (c ∷ upwards p) else Declared c (added w c) (line_in w p)))
           s ≡ true → (has_slot (slots (line_in w p)) s ≡ true → has_open s.name s.desc p ≡ true)
           → (declares_open s.name s.desc c || has_open s.name s.desc p
@@ -191,14 +209,13 @@ module _ (w : List Class) (are_supertypes : (xs : List (List ℕ)) → AreSupert
           (In-split m.0 c.methods (all_methods (upwards p)) m.1)
       by false e rec = ⊎_elim
           (λ h. ⊎_elim
-          (λ g. second4 (declares_open s.name s.desc c) (has_open s.name s.desc p) (takes_added c
-          && is_one_of (asked_by p q) s.name s.desc) (has_open s.name s.desc r) (rec g))
-          (λ g. let m = chosen-some is_shown s c.methods g in
-          let is = chosen-passes is_shown s c.methods m.0 m.1 in
-          left4 (declares_open s.name s.desc c) (has_open s.name s.desc p) (takes_added c
-          && is_one_of (asked_by p q) s.name s.desc) (has_open s.name s.desc r) (shown-declares m.0 s c
-          (chosen-In is_shown s c.methods m.0 m.1) is.1 is.0))
-          (with_new-slot (slots (line_in w p)) (signatures is_shown c.methods) s h))
+          (λ g. ⊎_elim
+          (λ old. second4 (declares_open s.name s.desc c) (has_open s.name s.desc p) (takes_added c
+          && is_one_of (asked_by p q) s.name s.desc) (has_open s.name s.desc r) (rec old))
+          (λ own. declares own)
+          (taken-has c (line_in w p) (slots (line_in w p)) s g))
+          (λ g. declares g)
+          (with_new-slot (taken_slots c (line_in w p) (slots (line_in w p))) (signatures is_shown c.methods) s h))
           (λ h. let g = added-one w c s h in
           let ps = one_supertypes c.supers (supertypes w c.supers) p (are_supertypes c.supers) sp in
           let qs = one_supertypes c.interfaces (supertypes w c.interfaces) q (are_supertypes c.interfaces) ip in
@@ -206,8 +223,8 @@ module _ (w : List Class) (are_supertypes : (xs : List (List ℕ)) → AreSupert
           s.name s.desc) (has_open s.name s.desc r) g.0
           (ap (λ j. is_one_of (asked_by j q) s.name s.desc) (sym ps)
           ∙ ap (λ j. is_one_of (asked_by (supertypes w c.supers) j) s.name s.desc) (sym qs) ∙ g.1))
-          (with_new-slot (with_new (slots (line_in w p)) (signatures is_shown c.methods)) (map signature_of (added w c))
-          s e)
+          (with_new-slot (with_new (taken_slots c (line_in w p) (slots (line_in w p))) (signatures is_shown c.methods))
+          (map signature_of (added w c)) s e)
 
   pub proper-line : (xs : List (List ℕ)) (k : Supertypes) → AreSupertypes w xs k → IsProper (line_in w k)
   proper-line xs k ends = tt

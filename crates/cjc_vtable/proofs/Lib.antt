@@ -1,8 +1,10 @@
+pub mod Told
 pub mod Towers
 pub mod Agrees
 pub mod Calls
 pub mod Given
 pub mod Once
+pub mod Shown
 pub mod Sent
 pub mod Asked
 pub mod Worlds

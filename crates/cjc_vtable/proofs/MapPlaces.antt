@@ -4,14 +4,14 @@ use Rattle.std.proofs.Common.{get_or, add-one, append_assoc, append-nil}
 use Rattle.std.proofs.Math.Seq.{drop-cons}
 use Rattle.std.proofs.lemmas.Grind.{common_steps}
 use Rattle.std.proofs.lemmas.List.{map-append}
-use Rattle.std.specs.Prelude.{true, false, Some, slice_get, option_to_list}
+use Rattle.std.specs.Prelude.{true, false, Option, Some, slice_get, option_to_list}
 use Rattle.cjc_world.specs.Classes.{Class}
 use Rattle.cjc_world.specs.Interfaces.{each_once, gathered, known}
 use Rattle.cjc_world.specs.Supertypes.{supertypes}
 use Rattle.cjc_world.specs.Working.Places.{at_places}
 use Rattle.cjc_tokens.specs.Members.{Signature}
 use Rattle.cjc_tokens.specs.Methods.{interfaces_at, interface_methods}
-use Rattle.cjc_tokens.specs.Slots.{Slots, token}
+use Rattle.cjc_tokens.specs.Slots.{Slots}
 use Rattle.cjc_vtable.specs.Tables.{interface_map, or_zero}
 use Rattle.cjc_vtable.specs.Working.Naming.{index_of}
 use Rattle.cjc_vtable.specs.declared.table.InterfaceMap.{InterfaceMap}
@@ -48,18 +48,18 @@ interfaces-are w c = refl
 
 -- ---- one map
 
-some-indices : (all : Slots) (ss : List Signature) → map (index_of all) (map Some ss) ≡ map (λ s. or_zero (token all s))
-    ss
-some-indices all [] = refl
-some-indices all (s ∷ ss) = ap (λ q. or_zero (token all s) ∷ q) (some-indices all ss)
+some-indices : (shown : Signature → Option ℕ) (ss : List Signature) → map (index_of shown) (map Some ss)
+    ≡ map (λ s. or_zero (shown s)) ss
+some-indices shown [] = refl
+some-indices shown (s ∷ ss) = ap (λ q. or_zero (shown s) ∷ q) (some-indices shown ss)
 
 made : List ℕ → List ℕ → InterfaceMap
 made name index = record { interface = name; index = index }
 
-pub map-is : (w : List Class) (all ms : Slots) (i : Class) (name index : List ℕ) → name ≡ i.name
-    → index ≡ map (index_of all) ms → ms ≡ map Some (interface_methods w i) → record { interface = name; index = index }
-    ≡ interface_map w all i
+pub map-is : (w : List Class) (shown : Signature → Option ℕ) (ms : Slots) (i : Class) (name index : List ℕ)
+    → name ≡ i.name → index ≡ map (index_of shown) ms → ms ≡ map Some (interface_methods w i)
+    → record { interface = name; index = index } ≡ interface_map w shown i
 unfolding made
-map-is w all ms i name index e f g =
-    ap (λ q. made q index) e ∙ ap (made i.name) (f ∙ ap (map (index_of all)) g
-    ∙ some-indices all (interface_methods w i))
+map-is w shown ms i name index e f g =
+    ap (λ q. made q index) e ∙ ap (made i.name) (f ∙ ap (map (index_of shown)) g
+    ∙ some-indices shown (interface_methods w i))

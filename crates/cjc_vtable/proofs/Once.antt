@@ -10,9 +10,10 @@ use Rattle.cjc_vtable.specs.Calls.{IsOneToOne, IsTold, Climbs}
 use Rattle.cjc_tokens.proofs.Held.{shown-virtual, here-has_slot, In-slot, token-slot, listed_slot}
 use Rattle.cjc_vtable.proofs.Agrees.{slot_stays, hidden_slot_stays}
 use Rattle.cjc_vtable.proofs.Calls.{token-some}
+use Rattle.cjc_vtable.proofs.Told.{told-slots}
 
 -- a signature has one slot at most
-abbrev IsOnce : Slots → Type 0
+abbrev pub IsOnce : Slots → Type 0
 IsOnce all = (j k : ℕ) (s : Signature) → slice_get all j ≡ Some (Some s) → slice_get all k ≡ Some (Some s) → j ≡ k
 
 -- one more signature that had no slot
@@ -44,14 +45,15 @@ once-new known (u ∷ ss) once = by (has_slot known u) refl (once-new known ss) 
     by false g old fresh = subst IsOnce (append_assoc known (Some u ∷ []) (map Some (new_in (known ++ Some u ∷ []) ss)))
         (fresh (once-more known u once g))
 
-slots-once : (line : Line) → IsTold line → IsOnce (slots line)
+pub slots-once : (line : Line) → IsTold line → IsOnce (slots line)
 slots-once Nowhere told = λ j k s e f. cc
 slots-once (Imported classes) told = λ j k s e f.
     let a = listed_slot (all_methods classes) j s e in
     let b = listed_slot (all_methods classes) k s f in
     sym a.3 ∙ (told a.0 b.0 a.1 b.1 (shown-virtual a.0 a.2) (shown-virtual b.0 b.2)).1 (a.4 ∙ sym b.4) ∙ b.3
-slots-once (Declared c given above) told = once-new (with_new (slots above) (signatures is_shown c.methods))
-    (map signature_of given) (once-new (slots above) (signatures is_shown c.methods) (slots-once above told))
+slots-once (Declared c given above) told = subst IsOnce (sym (told-slots c given above told))
+    (once-new (with_new (slots above) (signatures is_shown c.methods)) (map signature_of given)
+    (once-new (slots above) (signatures is_shown c.methods) (slots-once above told)))
 
 hidden_slots-once : (line : Line) → IsOnce (hidden_slots line)
 hidden_slots-once Nowhere = λ j k s e f. cc

@@ -1,5 +1,5 @@
 -- A package-visible method of an imported class: no class of the package stands in its way, by name or by token.
-use Rattle.std.proofs.Common.{◌≡◌, ℕ, zero, suc, ◌-◌, ◌≤◌, refl, sym, ap, ◌∙◌, arith, Bool, true, false, List, [], ◌∷◌}
+use Rattle.std.proofs.Common.{◌≡◌, ℕ, zero, suc, ◌-◌, ◌≤◌, refl, sym, ap, subst, ◌∙◌, arith, Bool, true, false, List, [], ◌∷◌}
 use Rattle.std.specs.Prelude.{◌&&◌, ◌||◌, Option, Some, None, if◌then◌else◌, slice_get, map, option_map, ◌==◌, nat_lt}
 use Rattle.std.specs.Prelude.{not}
 use Rattle.std.proofs.lemmas.Bool.{eqb-true, eqb-false}
@@ -20,6 +20,7 @@ use Rattle.cjc_vtable.specs.Calls.{imported_methods, KeepsAccess, KeepsImported,
 use Rattle.cjc_tokens.proofs.Facts.{chosen-passes, chosen-In, own-none, got-none}
 use Rattle.cjc_tokens.proofs.Held.{at_front, has_slot-append, here-has_slot, shown-virtual, listed_slot, put-same_at}
 use Rattle.cjc_tokens.proofs.Held.{put-still, reserve-still}
+use Rattle.cjc_vtable.proofs.Told.{told-slots}
 use Rattle.cjc_vtable.proofs.Towers.{tower, entry_at, by_token, dispatched-slot}
 use Rattle.cjc_vtable.proofs.Agrees.{chosen-coarser, shown_selects, hidden-virtual, virtual_plain, imported-same}
 use Rattle.cjc_vtable.proofs.Calls.{In-behind}
@@ -36,36 +37,38 @@ selected-passes s line cs arrived = refl
 selected-passes s (Declared c given l) cs (past none p) = ap (λ q. or_else q (selected_in l s))
     (own-none selects s c none) ∙ selected-passes s l cs p
 
-implementing-passes : (s : Signature) (line : Line) (cs : List Class) → IsProper line → Passes s line cs
-    → has_slot (listed_slots (all_methods cs)) s ≡ true → (has_slot (slots line) s ≡ true)
+implementing-passes : (s : Signature) (line : Line) (cs : List Class) → IsTold line → IsProper line
+    → Passes s line cs → has_slot (listed_slots (all_methods cs)) s ≡ true → (has_slot (slots line) s ≡ true)
     × (implementing line s ≡ first (own is_virtual s) cs)
-implementing-passes s line cs proper arrived h = (h, refl)
-implementing-passes s (Declared c given l) cs proper (past none p) h =
-    let r = implementing-passes s l cs proper.2 p h in
+implementing-passes s line cs told proper arrived h = (h, refl)
+implementing-passes s (Declared c given l) cs told proper (past none p) h =
+    let r = implementing-passes s l cs told proper.2 p h in
     let own_one = has_slot-append (slots l) (map Some (new_in (slots l) (signatures is_shown c.methods))) s r.0 in (
-      has_slot-append (with_new (slots l) (signatures is_shown c.methods))
+      ap (λ q. has_slot q s) (told-slots c given l told)
+          ∙ has_slot-append (with_new (slots l) (signatures is_shown c.methods))
           (map Some (new_in (with_new (slots l) (signatures is_shown c.methods)) (map signature_of given))) s own_one,
       ap (λ q. or_else q (or_else (got given s c) (implementing l s))) (own-none is_shown s c (chosen-coarser is_shown
           shown_selects s c.methods none))
           ∙ ap (λ q. or_else q (implementing l s)) (got-none given s c (proper.1 s r.0)) ∙ r.1,
     )
 
-slot-passes : (s : Signature) (line : Line) (cs : List Class) (t : ℕ) (slot : Option Signature) → Passes s line cs
-    → slice_get (listed_slots (all_methods cs)) t ≡ Some slot → slice_get (slots line) t ≡ Some slot
-slot-passes s line cs t slot arrived h = h
-slot-passes s (Declared c given l) cs t slot (past none p) h =
-    at_front (with_new (slots l) (signatures is_shown c.methods))
+slot-passes : (s : Signature) (line : Line) (cs : List Class) (t : ℕ) (slot : Option Signature) → IsTold line
+    → Passes s line cs → slice_get (listed_slots (all_methods cs)) t ≡ Some slot → slice_get (slots line) t ≡ Some slot
+slot-passes s line cs t slot told arrived h = h
+slot-passes s (Declared c given l) cs t slot told (past none p) h =
+    subst (λ q. slice_get q t ≡ Some slot) (sym (told-slots c given l told))
+    (at_front (with_new (slots l) (signatures is_shown c.methods))
     (map Some (new_in (with_new (slots l) (signatures is_shown c.methods)) (map signature_of given))) t slot
     (at_front (slots l) (map Some (new_in (slots l) (signatures is_shown c.methods))) t slot (slot-passes s l cs t slot
-    p h))
+    told p h)))
 
 -- a token that is nobody's goes on to the imported class
-none-passes : (w : List Class) (s : Signature) (line : Line) (cs : List Class) (t : ℕ) → Passes s line cs
-    → slice_get (listed_slots (all_methods cs)) t ≡ Some None → dispatched (tower w line) t ≡ first (own_by_token t) cs
-none-passes w s line cs t arrived h = refl
-none-passes w s (Declared c given l) cs t (past none p) h =
-    nobody (slot-passes s (Declared c given l) cs t None (past none p) h)
-    (nat_lt t (base c.number (row (Declared c given l)))) refl ∙ none-passes w s l cs t p h
+none-passes : (w : List Class) (s : Signature) (line : Line) (cs : List Class) (t : ℕ) → IsTold line
+    → Passes s line cs → slice_get (listed_slots (all_methods cs)) t ≡ Some None → dispatched (tower w line) t ≡ first (own_by_token t) cs
+none-passes w s line cs t told arrived h = refl
+none-passes w s (Declared c given l) cs t told (past none p) h =
+    nobody (slot-passes s (Declared c given l) cs t None told (past none p) h)
+    (nat_lt t (base c.number (row (Declared c given l)))) refl ∙ none-passes w s l cs t told p h
   where
     nobody : slice_get (slots (Declared c given l)) t ≡ Some None → (b : Bool)
         → nat_lt t (base c.number (row (Declared c given l))) ≡ b
@@ -191,7 +194,7 @@ imported_calls w line told proper kept far ds m climbs i hid = by used.0 used.1
     by : (o : Option Signature) → slice_get (listed_slots (all_methods way.0)) m.token ≡ Some o
         → dispatched (tower w line) m.token ≡ selected_in line (signature_of m)
     by None h =
-        none-passes w (signature_of m) line way.0 m.token way.1 h
+        none-passes w (signature_of m) line way.0 m.token told way.1 h
         ∙ by_token way.0 (all_methods way.0) m m.token (signature_of m) (told-passes (signature_of m) line way.0 told
         way.1) way.2 (hidden-virtual m hid) refl refl (λ n j. j)
         ∙ named
@@ -200,8 +203,8 @@ imported_calls w line told proper kept far ds m climbs i hid = by used.0 used.1
         let told_one = told-passes (signature_of m) line way.0 told way.1 in
         let is = (told_one l.0 m l.1 way.2 (shown-virtual l.0 l.2) (hidden-virtual m hid)).0 l.3 in
         let same_one : u ≡ signature_of m = sym l.4 ∙ is in
-        let there = slot-passes (signature_of m) line way.0 m.token (Some u) way.1 h in
+        let there = slot-passes (signature_of m) line way.0 m.token (Some u) told way.1 h in
         let has_it = here-has_slot (listed_slots (all_methods way.0)) m.token (signature_of m) (h
         ∙ ap (λ q. Some (Some q)) same_one) in
-        let r = implementing-passes (signature_of m) line way.0 proper way.1 has_it in
+        let r = implementing-passes (signature_of m) line way.0 told proper way.1 has_it in
         dispatched-slot w line m.token u told proper there ∙ ap (implementing line) same_one ∙ r.1 ∙ named

@@ -14,7 +14,7 @@ use Rattle.cjc_world.specs.Added.{added, added_at, added_to, named_by}
 use Rattle.cjc_tokens.specs.Members.{Signature, signature_of, same, has, signatures, is_shown, is_virtual, all_methods}
 use Rattle.cjc_tokens.specs.Members.{In, first_of, later}
 use Rattle.cjc_tokens.specs.Lines.{Line, Nowhere, Imported, Declared, line_in, line_at}
-use Rattle.cjc_tokens.specs.Slots.{Slots, new_in, with_new, slots, own, got, implementing, meant_by, row}
+use Rattle.cjc_tokens.specs.Slots.{Slots, new_in, with_new, slots, own, got, implementing, meant_by, row, taken_slots}
 use Rattle.cjc_tokens.specs.Tokens.{assigned, public_methods_of}
 use Rattle.cjc_vtable.specs.Naming.{method_named, member_named, named, named_where}
 use Rattle.cjc_vtable.specs.Working.Naming.{signature_by, ids_at}
@@ -23,6 +23,7 @@ use Rattle.cjc_tokens.proofs.Held.{at_front, at_either, new-offered, listed_slot
 use Rattle.cjc_vtable.proofs.Assigned.{public-row}
 use Rattle.cjc_vtable.proofs.Given.{In-split}
 use Rattle.cjc_vtable.proofs.Numbers.{Numbered, at-kind, at-tree, named-number}
+use Rattle.cjc_vtable.proofs.Told.{taken_slots-either}
 
 -- ---- what stands at the first place that passes
 
@@ -188,11 +189,15 @@ slot-there (Declared c given above) t s e none = by (own is_shown s c) refl (got
     by None h (Some g) k none rest = cc
     by None h None k none rest = ⊎_elim
         (λ front. ⊎_elim
-        (λ there. rest there none)
+        (λ there. ⊎_elim
+        (λ old. rest old none)
+        (λ taken. let no = has-own_none is_shown s c h in cc)
+        (taken_slots-either c above (slots above) t s there))
         (λ offered. let no = has-own_none is_shown s c h in cc)
-        (split-slot (slots above) (signatures is_shown c.methods) t s front))
+        (split-slot (taken_slots c above (slots above)) (signatures is_shown c.methods) t s front))
         (λ offered. let no = has-got_none given s c k in cc)
-        (split-slot (with_new (slots above) (signatures is_shown c.methods)) (map signature_of given) t s e)
+        (split-slot (with_new (taken_slots c above (slots above)) (signatures is_shown c.methods)) (map signature_of
+        given) t s e)
 
 -- ---- the names of the methods of a row are its slots
 

@@ -6,7 +6,7 @@ use Rattle.cjc_world.specs.declared.found.Found.{Found}
 use Rattle.cjc_world.specs.Classes.{Class, declared}
 use Rattle.cjc_world.specs.Interfaces.{known}
 use Rattle.cjc_tokens.specs.Lines.{line_at}
-use Rattle.cjc_tokens.specs.Slots.{slots, row, hidden_row}
+use Rattle.cjc_tokens.specs.Slots.{shown_token, row, hidden_row}
 use Rattle.cjc_tokens.specs.Methods.{interfaces_at}
 use Rattle.cjc_vtable.specs.declared.table.ClassTable.{ClassTable}
 use Rattle.cjc_vtable.specs.declared.table.InterfaceMap.{InterfaceMap}
@@ -20,7 +20,7 @@ pub tabled : (w : List Class) (n : ℕ) (c : ClassTree) (shown hidden : List (Op
     → shown ≡ row (line_at w (declared n c)) → hidden ≡ hidden_row (line_at w (declared n c))
     → a ≡ base n shown → public ≡ entries n shown → b ≡ base n hidden → found ≡ entries n hidden
     → listed ≡ methods found
-    → maps ≡ map (interface_map w (slots (line_at w (declared n c)))) (known (interfaces_at w (declared n c)))
+    → maps ≡ map (interface_map w (shown_token (line_at w (declared n c)))) (known (interfaces_at w (declared n c)))
     → record { class = n; public_base = a; public = public; package_base = b; «package» = listed; maps = maps }
     ≡ table_of w (declared n c)
 unfolding made

@@ -13,13 +13,14 @@ use Rattle.cjc_tokens.specs.Members.{Signature, signature_of, same, has, signatu
 use Rattle.cjc_tokens.specs.Members.{all_methods, In, first_of, later}
 use Rattle.cjc_tokens.specs.Lines.{Line, Nowhere, Imported, Declared}
 use Rattle.cjc_tokens.specs.Slots.{Slots, new_in, with_new, slots, hidden_slots, own, got, implementing}
-use Rattle.cjc_tokens.specs.Slots.{implementing_hidden, meant_by, hidden_row}
+use Rattle.cjc_tokens.specs.Slots.{implementing_hidden, meant_by, hidden_row, taken_slots}
 use Rattle.cjc_vtable.specs.Tables.{is_own, base, of_package, entries, methods, table_in}
 use Rattle.cjc_vtable.specs.Dispatch.{Tower, Missing, Exported, Info, held, at_table, dispatched, dispatched_hidden}
 use Rattle.cjc_vtable.specs.Dispatch.{own_by_token}
 use Rattle.cjc_vtable.specs.Calls.{IsOneToOne, IsTold, IsProper}
 use Rattle.cjc_tokens.proofs.Facts.{same-true, same-refl, position-same, own-at, got-at, has-own_none, has-got_none}
 use Rattle.cjc_tokens.proofs.Held.{at_either, new-offered, listed_slot, shown-virtual}
+use Rattle.cjc_vtable.proofs.Told.{taken_slots-either}
 
 -- the tables of the classes of a line
 abbrev pub tower : List Class → Line → Tower
@@ -133,10 +134,11 @@ above_or_declared : (c : Class) (given : List Member) (above : Line) (t : ℕ) (
     ⊎ (has (map signature_of given) s ≡ true))
 above_or_declared c given above t s e =
     let declared = signatures is_shown c.methods in
-    let all = with_new (slots above) declared in
+    let old = taken_slots c above (slots above) in
+    let all = with_new old declared in
     ⊎_elim
-    (λ front. ⊎_elim (λ h. inl h) (λ h. inr (inl (new-offered (slots above) declared s h))) (at_either (slots above)
-    (new_in (slots above) declared) t s front))
+    (λ front. ⊎_elim (λ h. ⊎_elim (λ k. inl k) (λ k. inr (inl k)) (taken_slots-either c above (slots above) t s h))
+    (λ h. inr (inl (new-offered old declared s h))) (at_either old (new_in old declared) t s front))
     (λ h. inr (inr (new-offered all (map signature_of given) s h)))
     (at_either all (new_in all (map signature_of given)) t s e)
 

@@ -11,7 +11,7 @@ use Rattle.cjc_world.specs.Lookup.{first, own_method, or_else}
 use Rattle.cjc_world.specs.Added.{added, own_methods, methods_of, asked_by}
 use Rattle.cjc_tokens.specs.Members.{Signature, signature_of, is_shown, all_methods, In, chosen, first_of, later}
 use Rattle.cjc_tokens.specs.Lines.{Line, Imported, Declared, line_in, line_of}
-use Rattle.cjc_tokens.specs.Slots.{own, slots, hidden_slots, token}
+use Rattle.cjc_tokens.specs.Slots.{own, slots, hidden_slots, shown_token, token}
 use Rattle.cjc_tokens.specs.Methods.{interfaces_at, interface_methods}
 use Rattle.cjc_vtable.specs.Tables.{table_in}
 use Rattle.cjc_vtable.specs.Dispatch.{Exported, Info, tower_in, tower_of, dispatched, dispatched_hidden}
@@ -28,6 +28,7 @@ use Rattle.cjc_vtable.proofs.Agrees.{chosen-finer, shown_selects, shown-has_slot
 use Rattle.cjc_vtable.proofs.Given.{proper-line}
 use Rattle.cjc_vtable.proofs.Once.{inherited_token, inherited_hidden_token, one_method, listed_token}
 use Rattle.cjc_vtable.proofs.Sent.{imported_calls}
+use Rattle.cjc_vtable.proofs.Shown.{AllImported, IsAbroad, shown-is_place}
 use Rattle.cjc_vtable.proofs.Asked.{named-among, map-found, has-here, chosen-front, chosen-behind, public-shown}
 use Rattle.cjc_vtable.proofs.Asked.{index_at, method-asked, of-split}
 
@@ -121,6 +122,44 @@ module _ (w : List Class) (are_supertypes : (xs : List (List ℕ)) → AreSupert
   pub told-class : (x : List ℕ) (c : Class) → class_named w x ≡ Some c → (c.is_imported ≡ true → is_interface c.flags
       ≡ false) → IsTold (line_of w x)
   told-class x c e plain = told-line (x ∷ []) (supertypes w (x ∷ [])) (are_supertypes (x ∷ [])) (one-class x c e plain)
+
+  -- above an imported class stand imported ones alone
+  abroad-append : (a b : List Class) → AllImported a → AllImported b → AllImported (a ++ b)
+  abroad-append [] b p q = q
+  abroad-append (c ∷ a) b p q = (p.0, abroad-append a b p.1 q)
+
+  abroad-upwards : (y : List ℕ) (d : Class) → class_named w y ≡ Some d → d.is_imported ≡ true → (xs : List (List ℕ))
+      (k : Supertypes) → AreSupertypes w xs k → ((z : List ℕ) → Lists z xs → Lists z d.supers) → AllImported (upwards k)
+  abroad-upwards y d f im xs k ends sub = tt
+  abroad-upwards y d f im (x ∷ xs) k (unknown_here {next = r} e a) sub = abroad-upwards y d f im xs r a (λ z l. sub z
+      (after l))
+  abroad-upwards y d f im (x ∷ xs) k (known_here {c = c} {supers = p} {next = r} e s i a) sub =
+      let far = rules.apart y x d c f im (sub x foremost) e in (
+        far,
+        abroad-append (upwards p) (upwards r) (abroad-upwards x c e far c.supers p s (λ z l. l))
+            (abroad-upwards y d f im xs r a (λ z l. sub z (after l))),
+      )
+
+  abroad-line : (xs : List (List ℕ)) (k : Supertypes) → AreSupertypes w xs k → IsAbroad (line_in w k)
+  abroad-line xs k ends = tt
+  abroad-line xs k (unknown_here e a) = tt
+  abroad-line (x ∷ xs) k (known_here {c = c} {supers = p} {interfaces = q} e s i a) =
+      by c.is_imported refl (abroad-line c.supers p s)
+    where
+      by : (b : Bool) → c.is_imported ≡ b → IsAbroad (line_in w p) → IsAbroad (if b then Imported (c ∷ upwards p)
+          else Declared c (added w c) (line_in w p))
+      by true f rest = (f, abroad-upwards x c e f c.supers p s (λ z l. l))
+      by false f rest = rest
+
+  abroad : (x : List ℕ) → IsAbroad (line_of w x)
+  abroad x = abroad-line (x ∷ []) (supertypes w (x ∷ [])) (are_supertypes (x ∷ []))
+
+  -- In a class that is no interface of an export file the token of a method is the place of its slot.
+  pub shown-place : (x : List ℕ) (c : Class) (s : Signature) → class_named w x ≡ Some c → (c.is_imported ≡ true
+      → is_interface c.flags ≡ false) → shown_token (line_of w x) s ≡ token (slots (line_of w x)) s
+  shown-place x c s e plain = shown-is_place (line_of w x) s (told-class x c e plain)
+      (proper-line w are_supertypes one_supertypes (x ∷ []) (supertypes w (x ∷ [])) (are_supertypes (x ∷ [])))
+      (abroad x)
 
   kept-line : (xs : List (List ℕ)) (k : Supertypes) → AreSupertypes w xs k → KeepsAccess (line_in w k)
   kept-line xs k ends = tt
@@ -395,14 +434,14 @@ module _ (w : List Class) (are_supertypes : (xs : List (List ℕ)) → AreSupert
         let plain = plain r.0 r.1 in
         let shown = subst (λ (u : Signature). selects_shown (line_of w x) u ≡ true) r.2 (selects-line (x
         ∷ []) (supertypes w (x ∷ [])) x (signature_of r.0) n.0 (are_supertypes (x ∷ [])) refl plain n.1 n.2) in
-        let told_here = told-class x c e (λ far. abroad c.is_imported far im) in
+        let told_here = told-class x c e (λ far. no_export c.is_imported far im) in
         let t = token-some (slots (line_of w x)) s (shown-has_slot (line_of w x) s told_here shown) in
         let l = line_of-declared x c e im in
         let tower_here = tower-is x ∙ ap (tower w) l in
-        let found = map-found w (slots (Declared c (added w c) (line_in w (supertypes w c.supers))))
+        let found = map-found w (shown_token (Declared c (added w c) (line_in w (supertypes w c.supers))))
         (known (interfaces_at w c)) name (map_of (tower w (line_in w (supertypes w c.supers))) name) i named in
-        let index = index_at w (slots (Declared c (added w c) (line_in w (supertypes w c.supers)))) i k s t.0 at
-        (ap (λ q. token (slots q) s) (sym l) ∙ t.1) in
+        let index = index_at w (shown_token (Declared c (added w c) (line_in w (supertypes w c.supers)))) i k s t.0 at
+        (ap (λ q. shown_token q s) (sym l) ∙ shown-is_place (line_of w x) s told_here (proper x) (abroad x) ∙ t.1) in
         ap (λ q. dispatched_interface q name k) tower_here
         ∙ ap (λ q. at_map (tower w (Declared c (added w c) (line_in w (supertypes w c.supers)))) q k) found
         ∙ ap (at_index (tower w (Declared c (added w c) (line_in w (supertypes w c.supers))))) index
@@ -410,9 +449,9 @@ module _ (w : List Class) (are_supertypes : (xs : List (List ℕ)) → AreSupert
         ∙ ap (λ q. dispatched q t.0) (tower-is x)
         ∙ agree_shown w (line_of w x) (line_of w x) s t.0 told_here (proper x) here t.1 shown ∙ selection-is x s
       where
-        abroad : (b : Bool) → b ≡ true → b ≡ false → is_interface c.flags ≡ false
-        abroad true g h = cc
-        abroad false g h = cc
+        no_export : (b : Bool) → b ≡ true → b ≡ false → is_interface c.flags ≡ false
+        no_export true g h = cc
+        no_export false g h = cc
 
         plain : (m : Member)
             → In m (methods_of (known (gathered false (supertypes w c.supers)

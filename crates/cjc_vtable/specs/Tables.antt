@@ -8,7 +8,8 @@ use Rattle.cjc_world.specs.Classes.{Class}
 use Rattle.cjc_world.specs.Interfaces.{known}
 use Rattle.cjc_world.specs.Order.{in_order}
 use Rattle.cjc_tokens.specs.Lines.{Line, line_at}
-use Rattle.cjc_tokens.specs.Slots.{Slots, slots, token, row, hidden_row}
+use Rattle.cjc_tokens.specs.Members.{Signature}
+use Rattle.cjc_tokens.specs.Slots.{shown_token, row, hidden_row}
 use Rattle.cjc_tokens.specs.Methods.{interfaces_at, interface_methods}
 use Rattle.cjc_vtable.specs.declared.table.ClassTable.{ClassTable}
 use Rattle.cjc_vtable.specs.declared.table.InterfaceMap.{InterfaceMap}
@@ -41,8 +42,9 @@ abbrev pub or_zero : Option ℕ → ℕ
 or_zero None = 0
 or_zero (Some t) = t
 
-abbrev pub interface_map : List Class → Slots → Class → InterfaceMap
-interface_map w all i = record { interface = i.name; index = map (λ s. or_zero (token all s)) (interface_methods w i) }
+-- the map of an interface, where the class has these tokens
+abbrev pub interface_map : List Class → (Signature → Option ℕ) → Class → InterfaceMap
+interface_map w shown i = record { interface = i.name; index = map (λ s. or_zero (shown s)) (interface_methods w i) }
 
 -- the tables of the first class of a line
 abbrev pub table_in : List Class → Line → Class → ClassTable
@@ -52,7 +54,7 @@ table_in w line c = record {
   public = entries c.number (row line);
   package_base = base c.number (hidden_row line);
   «package» = methods (entries c.number (hidden_row line));
-  maps = map (interface_map w (slots line)) (known (interfaces_at w c));
+  maps = map (interface_map w (shown_token line)) (known (interfaces_at w c));
 }
 
 abbrev pub table_of : List Class → Class → ClassTable

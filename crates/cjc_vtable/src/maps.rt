@@ -10,9 +10,9 @@ ghost use Rattle.cjc_world.specs.Working.Known.{class_of};
 ghost use Rattle.cjc_world.specs.Working.Places.{at_places};
 ghost use Rattle.cjc_tokens.specs.Lines.{line_at};
 ghost use Rattle.cjc_tokens.specs.Methods.{interfaces_at};
-ghost use Rattle.cjc_tokens.specs.Slots.{slots};
+ghost use Rattle.cjc_tokens.specs.Slots.{shown_token, slots};
 ghost use Rattle.cjc_tokens.specs.Tokens.{assigned};
-ghost use Rattle.cjc_tokens.specs.Working.{signature_in, signs};
+ghost use Rattle.cjc_tokens.specs.Working.{signature_in, signs, slot_token};
 ghost use Rattle.cjc_vtable.specs.Working.Naming.{index_of};
 ghost use Rattle.cjc_vtable.specs.Working.Standing.{IsOwn};
 ghost use Rattle.cjc_vtable.specs.Tables.{interface_map};
@@ -21,7 +21,7 @@ use crate::naming::named_row;
 use crate::table::InterfaceMap;
 use cjc_bytes::{Bytes, NoMemory, Row};
 use cjc_order::classes::class_count;
-use cjc_tokens::{Slot, Tokens, interface_methods, token};
+use cjc_tokens::{Shown, Slot, Tokens, interface_methods, told_at};
 use cjc_world::{Known, World, lookup_laws};
 use std::alloc::Global;
 
@@ -37,12 +37,12 @@ fn as_byte(token: usize) -> Result<u8, NoMemory>
 }
 
 /// The token of an interface's method in a class; 0 where it has none.
-fn index_of(row: &[Option<Slot<'_>>], method: &Option<Slot<'_>>) -> Result<u8, NoMemory>
-    ensures { IfOk result (λ t. t ≡ index_of (signs row.now) (option_map signature_in method.now)) }
+fn index_of(shown: &Shown<'_, '_>, method: &Option<Slot<'_>>) -> Result<u8, NoMemory>
+    ensures { IfOk result (λ t. t ≡ index_of (slot_token shown.now) (option_map signature_in method.now)) }
 {
     match method {
         None => Ok(0),
-        Some(method) => match token(row, method.name, method.desc) {
+        Some(method) => match shown.token(method.name, method.desc) {
             None => Ok(0),
             Some(token) => as_byte(token),
         },
@@ -52,14 +52,14 @@ fn index_of(row: &[Option<Slot<'_>>], method: &Option<Slot<'_>>) -> Result<u8, N
 /// The tokens of an interface's methods in a class.
 fn index(
     alloc: Global,
-    row: &[Option<Slot<'_>>],
+    shown: &Shown<'_, '_>,
     methods: &[Option<Slot<'_>>],
 ) -> Result<Row<u8>, NoMemory>
-    ensures { IfOk result (λ index. index ≡ map (index_of (signs row.now)) (signs methods.now)) }
+    ensures { IfOk result (λ index. index ≡ map (index_of (slot_token shown.now)) (signs methods.now)) }
 {
     let mut index = Vec::new(alloc);
     for method in methods {
-        index.push(index_of(row, method)?)?;
+        index.push(index_of(shown, method)?)?;
     }
     Ok(Row::of(index))
 }
@@ -68,13 +68,14 @@ fn index(
 fn interface_map<'w>(
     alloc: Global,
     world: &'w World<'_>,
-    row: &[Option<Slot<'_>>],
+    shown: &Shown<'_, '_>,
     interface: Known<'w, '_>,
 ) -> Result<InterfaceMap, NoMemory>
-    ensures { IfOk result (λ m. m ≡ interface_map (all_classes world.now) (signs row.now) (class_of interface.entry)) }
+    ensures { IfOk result (λ m. m ≡ interface_map (all_classes world.now) (slot_token shown.now)
+        (class_of interface.entry)) }
 {
     let methods = interface_methods(alloc, world, interface)?;
-    let index = index(alloc, row, &methods)?;
+    let index = index(alloc, shown, &methods)?;
     let interface = Bytes::copy_of(alloc, interface.name())?;
     Ok(InterfaceMap { interface, index })
 }
@@ -83,17 +84,17 @@ fn interface_map<'w>(
 fn put_map(
     alloc: Global,
     world: &World<'_>,
-    row: &[Option<Slot<'_>>],
+    shown: &Shown<'_, '_>,
     place: u32,
     maps: &mut Row<InterfaceMap>,
 ) -> Result<(), NoMemory>
-    ensures { OnOk result (maps.new ≡ maps.old ++ map (interface_map (all_classes world.now) (signs row.now))
+    ensures { OnOk result (maps.new ≡ maps.old ++ map (interface_map (all_classes world.now) (slot_token shown.now))
         (option_to_list (slice_get (all_classes world.now) place))) }
 {
     match world.class_in(place) {
         None => Ok(()),
         Some(interface) => {
-            let map = interface_map(alloc, world, row, interface)?;
+            let map = interface_map(alloc, world, shown, interface)?;
             maps.push(map)
         }
     }
@@ -103,15 +104,15 @@ fn put_map(
 fn maps_at(
     alloc: Global,
     world: &World<'_>,
-    row: &[Option<Slot<'_>>],
+    shown: &Shown<'_, '_>,
     places: &[u32],
 ) -> Result<Row<InterfaceMap>, NoMemory>
-    ensures { IfOk result (λ maps. maps ≡ map (interface_map (all_classes world.now) (signs row.now))
+    ensures { IfOk result (λ maps. maps ≡ map (interface_map (all_classes world.now) (slot_token shown.now))
         (at_places (all_classes world.now) places.now)) }
 {
     let mut maps = Row::new(alloc);
     for place in places {
-        put_map(alloc, world, row, *place, &mut maps)?;
+        put_map(alloc, world, shown, *place, &mut maps)?;
     }
     Ok(maps)
 }
@@ -151,10 +152,16 @@ pub(crate) fn interface_maps<'a>(
     requires plain { is_interface (class_of class).flags ≡ false }
     requires tokens { (applets : Bool) × (tokens.now ≡ assigned applets world.now) }
     ensures { IfOk result (λ maps. maps
-        ≡ map (interface_map (all_classes world.now) (slots (line_at (all_classes world.now) (class_of class.entry))))
-        (known (interfaces_at (all_classes world.now) (class_of class.entry)))) }
+        ≡ map (interface_map (all_classes world.now) (shown_token (line_at (all_classes world.now)
+        (class_of class.entry)))) (known (interfaces_at (all_classes world.now) (class_of class.entry)))) }
 {
     let row = slots_of(alloc, world, tokens, class, number)?;
+    let told = told_at(alloc, world, class)?;
+    let shown = Shown {
+        row: &row,
+        methods: tokens.public_methods(number),
+        told: &told,
+    };
     let places = world.interfaces(alloc, class)?;
-    maps_at(alloc, world, &row, places.items())
+    maps_at(alloc, world, &shown, places.items())
 }

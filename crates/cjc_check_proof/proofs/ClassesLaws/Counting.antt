@@ -29,7 +29,7 @@ use Rattle.cjc_tokens.specs.Fields.{field_tokens}
 use Rattle.cjc_tokens.specs.Lines.{line_at}
 use Rattle.cjc_tokens.specs.Members.{Signature, is_initialiser, same, signature_of}
 use Rattle.cjc_tokens.specs.Methods.{class_method_tokens, interface_methods, interface_token, interfaces_at}
-use Rattle.cjc_tokens.specs.Slots.{hidden_slots, slots, token}
+use Rattle.cjc_tokens.specs.Slots.{hidden_slots, shown_token}
 use Rattle.cjc_tokens.specs.Tokens.{OfClass, assigned, classes_from, joined, method_tokens, of_class, one_more}
 use Rattle.cjc_tokens.proofs.Facts.{position-cons}
 use Rattle.cjc_vtable.specs.Tables.{interface_map, or_zero, table_of}
@@ -172,8 +172,8 @@ module _ (list : List ℕ) (p : Package) (sound : IsSound list p.files) where
       let long : length c.fields ≡ length fields = length-map t.fields field_of_class
       ∙ sym (fields_long ex t.fields 0 t.fields) in
       let tokens_are : method_tokens w ex c ≡ own =
-      ap (λ b. if b then own else class_method_tokens ex (slots (line_at w c)) (hidden_slots (line_at w c)) c.methods 0
-      c.methods ++ map (λ m. token (slots (line_at w c)) (signature_of m)) (added w c)) kind in
+      ap (λ b. if b then own else class_method_tokens ex (shown_token (line_at w c)) (hidden_slots (line_at w c)) c.methods 0
+      c.methods ++ map (λ m. shown_token (line_at w c) (signature_of m)) (added w c)) kind in
       let there : slice_get all.members (length c.fields + j) ≡ option_map (interface_token ss)
       (slice_get c.methods j) =
       ap (λ q. slice_get (fields ++ method_tokens w ex c) (q + j)) long ∙ get-behind fields (method_tokens w ex c) j
@@ -243,11 +243,11 @@ module _ (list : List ℕ) (p : Package) (sound : IsSound list p.files) where
     of_map c h m g =
         let table = table_of w c in
         let r = has-mapped (implemented (class_ref p)) m table.maps g in
-        let s = has-mapped (interface_map w (slots (line_at w c))) r.0 (known (interfaces_at w c)) r.1 in
+        let s = has-mapped (interface_map w (shown_token (line_at w c))) r.0 (known (interfaces_at w c)) r.1 in
         let i = s.0 in
         let named = own_name list p.files sound c h in
         let is = interface_is w (unbroken_is_acyclic list p.files sound.unbroken) c c.name i named s.1 in
-        let indices = length-map (interface_methods w i) (λ q. or_zero (token (slots (line_at w c)) q)) in
+        let indices = length-map (interface_methods w i) (λ q. or_zero (shown_token (line_at w c) q)) in
         ap (λ (q : ImplementedInterface). is_long_enough (whole p) (exports_of p) q.interface (length q.index)) (sym r.2
         ∙ ap (implemented (class_ref p)) (sym s.2))
         ∙ ap (is_long_enough (whole p) (exports_of p) (class_ref p i.name)) indices

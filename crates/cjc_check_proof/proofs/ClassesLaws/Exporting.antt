@@ -35,10 +35,11 @@ use Rattle.cjc_world.specs.Lookup.{member_at}
 use Rattle.cjc_world.specs.Order.{class_order, in_order, methods_of_class, written}
 use Rattle.cjc_tokens.specs.Fields.{field_token, field_tokens, is_constant, is_open_static, instance_token}
 use Rattle.cjc_tokens.specs.Lines.{line_at}
-use Rattle.cjc_tokens.specs.Members.{is_constructor, is_exposed, is_hidden, is_initialiser, is_shown, signature_of}
+use Rattle.cjc_tokens.specs.Members.{Signature, is_constructor, is_exposed, is_hidden, is_initialiser, is_shown}
+use Rattle.cjc_tokens.specs.Members.{signature_of}
 use Rattle.cjc_tokens.specs.Methods.{class_method_token, class_method_tokens, interface_methods, interface_token}
 use Rattle.cjc_tokens.specs.Methods.{is_open_bound, with_high_bit}
-use Rattle.cjc_tokens.specs.Slots.{Slots, hidden_slots, slots, token}
+use Rattle.cjc_tokens.specs.Slots.{Slots, hidden_slots, shown_token, token}
 use Rattle.cjc_tokens.specs.Tokens.{OfClass, assigned, classes_from, joined, method_tokens, of_class, token_of_class}
 use Rattle.cjc_vtable.proofs.Filed.{Has, at_front, behind, has-get}
 use Rattle.cjc_ncode.specs.CardSemantics.Machine.Classes.{number_of}
@@ -189,7 +190,7 @@ open_field fs i f e =
     then Some (count_by is_open_static (take i fs)) else None) s.0
     ∙ ap (λ b. if b then Some (count_by is_open_static (take i fs)) else None) e
 
-module _ (exported : Bool) (shown hidden : Slots) (ms : List Member) where
+module _ (exported : Bool) (shown : Signature → Option ℕ) (hidden : Slots) (ms : List Member) where
   method_row : (k : ℕ) (rest : List Member) (i : ℕ) (m : Member) → slice_get rest i ≡ Some m
       → slice_get (class_method_tokens exported shown hidden ms k rest) i
       ≡ Some (class_method_token exported shown hidden ms (k + i) m)
@@ -201,7 +202,7 @@ module _ (exported : Bool) (shown hidden : Slots) (ms : List Member) where
   method_row k (n ∷ rest) (suc i) m e = let s : k + 1 + i ≡ k + suc i = omega arith in method_row (k + 1) rest i m e
       ∙ ap (λ j. Some (class_method_token exported shown hidden ms j m)) s
 
-open_method : (shown hidden : Slots) (ms : List Member) (i : ℕ) (m : Member) → is_open_bound m ≡ true
+open_method : (shown : Signature → Option ℕ) (hidden : Slots) (ms : List Member) (i : ℕ) (m : Member) → is_open_bound m ≡ true
     → class_method_token true shown hidden ms i m ≡ Some (count_by is_open_bound (take i ms))
 unfolding class_method_token
 open_method shown hidden ms i m e =
@@ -210,7 +211,7 @@ open_method shown hidden ms i m e =
     (is_constructor m.name) (is_initialiser m.name) s.0 in
     let no_hidden : is_hidden m ≡ false = not_virtual (not (is_exposed m.flags)) (is_private m.flags)
     (is_static m.flags) (is_constructor m.name) (is_initialiser m.name) s.0 in
-    skip (token shown (signature_of m)) (option_map with_high_bit (token hidden (signature_of m))) _ (is_shown m)
+    skip (shown (signature_of m)) (option_map with_high_bit (token hidden (signature_of m))) _ (is_shown m)
     (is_hidden m) no_shown no_hidden
     ∙ ap (λ b. if b then Some (count_by is_open_bound (take i ms)) else None) e
   where
@@ -395,21 +396,21 @@ module _ (list : List ℕ) (p : Package) (sound : IsSound list p.files) (methods
         let z : 0 + i ≡ i = omega arith in
         let ex = is_exported w (has_applets p) c in
         let all = of_class w (has_applets p) n j t in
-        let shown = slots (line_at w c) in
+        let shown = shown_token (line_at w c) in
         let hidden = hidden_slots (line_at w c) in
         let fields = field_tokens ex t.fields 0 t.fields in
         let own = class_method_tokens ex shown hidden c.methods 0 c.methods in
         let long : length c.fields ≡ length fields = length-map t.fields field_of_class
         ∙ sym (fields_long ex t.fields 0 t.fields) in
-        let tokens_are : method_tokens w ex c ≡ own ++ map (λ q. token shown (signature_of q)) (added w c) =
+        let tokens_are : method_tokens w ex c ≡ own ++ map (λ q. shown (signature_of q)) (added w c) =
         ap (λ b. if b then map (interface_token (interface_methods w c)) c.methods else own
-        ++ map (λ q. token shown (signature_of q)) (added w c)) kind in
+        ++ map (λ q. shown (signature_of q)) (added w c)) kind in
         let there : slice_get all.members (length c.fields + i) ≡ Some (class_method_token ex shown hidden c.methods i
         m) =
         ap (λ q. slice_get (fields ++ method_tokens w ex c) (q + i)) long
         ∙ get-behind fields (method_tokens w ex c) i
         ∙ ap (λ ts. slice_get ts i) tokens_are
-        ∙ get-front own (map (λ q. token shown (signature_of q)) (added w c)) i (class_method_token ex shown hidden
+        ∙ get-front own (map (λ q. shown (signature_of q)) (added w c)) i (class_method_token ex shown hidden
         c.methods i m) (method_row ex shown hidden c.methods 0 c.methods i m e
         ∙ ap (λ q. Some (class_method_token ex shown hidden c.methods q m)) z) in
         ap (λ o. unwrap_or (option_and_then (λ (k : OfClass). joined (slice_get k.members (length c.fields + i))) o)

@@ -20,11 +20,13 @@ use Rattle.cjc_world.specs.Rules.{is_interface_of}
 use Rattle.cjc_world.proofs.Cycles.{class_named-name}
 use Rattle.cjc_tokens.specs.Lines.{Line, line_of}
 use Rattle.cjc_tokens.specs.Methods.{with_high_bit}
-use Rattle.cjc_tokens.specs.Slots.{hidden_slots, slots, token}
+use Rattle.cjc_tokens.specs.Members.{Signature}
+use Rattle.cjc_tokens.specs.Slots.{hidden_slots, shown_token, slots, token}
 use Rattle.cjc_vtable.specs.Calls.{finds_hidden}
 use Rattle.cjc_vtable.specs.Laws.{KeepsRules, TokensAreOnce, VirtualCallsAgree, below, itself}
 use Rattle.cjc_vtable.specs.Tables.{or_zero}
 use Rattle.cjc_vtable.proofs.Filed.{has-get}
+use Rattle.cjc_vtable.proofs.Worlds.{shown-place}
 use Rattle.cjc_vtable.specs.Meant.{PackageTokensMean, TokensMean}
 use Rattle.cjc_ncode.specs.ByLabel.{OnObject, OnSuper}
 use Rattle.cjc_ncode.specs.declared.narrow.PoolKey.{PoolKey}
@@ -75,13 +77,17 @@ module _ (list : List ℕ) (p : Package) (sound : IsSound list p.files) (are_sup
   abbrev w : List Class
   w = world p
 
+  place : (x : List ℕ) (c : Class) (s : Signature) → class_named w x ≡ Some c → is_interface c.flags ≡ false
+      → shown_token (line_of w x) s ≡ token (slots (line_of w x)) s
+  place x c s e class_here = shown-place w are_supertypes one_supertypes rules x c s e (λ far. class_here)
+
   -- a number that the class of a method has as a token of it, as has each line that finds the method alike and keeps
   -- its tokens
   record HasToken (m : MemberId) : Type 0 where
     number : ℕ
     there : has_virtual (whole p) (exports_of p) (class_ref p m.class) number ≡ true
     is : (line : Line) → finds_hidden line (signature m) ≡ finds_hidden (line_of w m.class) (signature m)
-        → ((t : ℕ) → token (slots (line_of w m.class)) (signature m) ≡ Some t → token (slots line) (signature m)
+        → ((t : ℕ) → token (slots (line_of w m.class)) (signature m) ≡ Some t → shown_token line (signature m)
         ≡ Some t)
         → ((t : ℕ) → token (hidden_slots (line_of w m.class)) (signature m) ≡ Some t
         → token (hidden_slots line) (signature m) ≡ Some t) → token_in line (signature m) ≡ number
@@ -98,7 +104,7 @@ module _ (list : List ℕ) (p : Package) (sound : IsSound list p.files) (are_sup
               (tokens m.class d (signature m) t known class_here e) r.method r.by_token;
           is = λ line alike open_same hidden_same.
               ap (λ b. if b then with_high_bit (or_zero (token (hidden_slots line) (signature m)))
-              else or_zero (token (slots line) (signature m))) (alike ∙ none)
+              else or_zero (shown_token line (signature m))) (alike ∙ none)
               ∙ ap or_zero (open_same t e);
         }
 
@@ -112,7 +118,7 @@ module _ (list : List ℕ) (p : Package) (sound : IsSound list p.files) (are_sup
               r.by_token;
           is = λ line alike open_same hidden_same.
               ap (λ b. if b then with_high_bit (or_zero (token (hidden_slots line) (signature m)))
-              else or_zero (token (slots line) (signature m))) (alike ∙ finds)
+              else or_zero (shown_token line (signature m))) (alike ∙ finds)
               ∙ ap (λ o. with_high_bit (or_zero o)) (hidden_same t e);
         }
 
@@ -127,8 +133,8 @@ module _ (list : List ℕ) (p : Package) (sound : IsSound list p.files) (are_sup
       → names_member (whole p) (exports_of p) (entry_of (names p) (keys.Virtual m)) ≡ true
   virtual_there m (on_object d known class_here plain sought) =
       let r = has_token m d known class_here sought in
-      ap (has_virtual (whole p) (exports_of p) (class_ref p m.class)) (r.is (line_of w m.class) refl (λ t e. e)
-      (λ t e. e)) ∙ r.there
+      ap (has_virtual (whole p) (exports_of p) (class_ref p m.class)) (r.is (line_of w m.class) refl
+      (λ t e. place m.class d (signature m) known class_here ∙ e) (λ t e. e)) ∙ r.there
 
   -- what is above a class of the package is its superclass
   above_is : (x super : List ℕ) (c : Class) → class_named w x ≡ Some c → c.is_imported ≡ false → is_interface c.flags
@@ -156,7 +162,8 @@ module _ (list : List ℕ) (p : Package) (sound : IsSound list p.files) (are_sup
       let keeps = once m.class super c d known class_here super_is (below c known listed itself) in
       above_is m.class super c known own class_here supers (virtual_token p m)
       ∙ ap (has_virtual (whole p) (exports_of p) (class_ref p super)) (r.is (line_of w m.class) alike
-      (keeps.inherited (signature m)) (keeps.hidden_inherited (signature m)))
+      (λ t e. place m.class c (signature m) known class_here ∙ keeps.inherited (signature m) t e)
+      (keeps.hidden_inherited (signature m)))
       ∙ r.there
 
   named_one : (key : PoolKey) → IsThere p key → NamesMember p key

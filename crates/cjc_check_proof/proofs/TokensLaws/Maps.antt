@@ -19,12 +19,13 @@ use Rattle.cjc_world.specs.Order.{in_order}
 use Rattle.cjc_tokens.specs.Lines.{line_at, line_in}
 use Rattle.cjc_tokens.specs.Members.{Signature}
 use Rattle.cjc_tokens.specs.Methods.{interface_methods, interfaces_at}
-use Rattle.cjc_tokens.specs.Slots.{slots, token}
+use Rattle.cjc_tokens.specs.Slots.{shown_token}
 use Rattle.cjc_tokens.proofs.Walks.{supertypes-known}
 use Rattle.cjc_vtable.specs.declared.table.InterfaceMap.{InterfaceMap}
 use Rattle.cjc_vtable.specs.Laws.{KeepsRules}
 use Rattle.cjc_vtable.specs.Tables.{interface_map, or_zero, table_of}
 use Rattle.cjc_vtable.proofs.Filed.{Has, get-has, has-get}
+use Rattle.cjc_vtable.proofs.Worlds.{shown-place}
 use Rattle.cjc_vtable.specs.Meant.{AskedHaveTokens, TokensMean}
 use Rattle.cjc_components.specs.Package.{Package, world}
 use Rattle.cjc_components.specs.Class.{class_entry, class_info, implemented}
@@ -79,13 +80,14 @@ module _ (list : List ℕ) (p : Package) (sound : IsSound list p.files) (are_sup
 
     -- an index of a map of this class
     index_there : (i : Class) → Has i (known (interfaces_at w c)) → (q : Signature) → Has q (interface_methods w i)
-        → is_index (whole p) (exports_of p) s (or_zero (token (slots (line_at w c)) q)) ≡ true
+        → is_index (whole p) (exports_of p) s (or_zero (shown_token (line_at w c) q)) ≡ true
     index_there i h q g =
         let j = has-get i (known (interfaces_at w c)) h in
         let n = has-get q (interface_methods w i) g in
         let t = asked c.name c named m.1 class_here j.0 i j.1 n.0 q n.1 in
-        let here : token (slots (line_at w c)) q ≡ Some t.0 = ap (λ x. token (slots (line_in w x)) q)
-        (sym (supertypes-known w are_supertypes one_supertypes c.name c named)) ∙ t.1 in
+        let here : shown_token (line_at w c) q ≡ Some t.0 = ap (λ x. shown_token (line_in w x) q)
+        (sym (supertypes-known w are_supertypes one_supertypes c.name c named))
+        ∙ shown-place w are_supertypes one_supertypes rules c.name c q named (λ far. class_here) ∙ t.1 in
         let low = tokens c.name c q t.0 named class_here t.1 in
         let other : (t.0 == 0xFF) ≡ false = grind (arith, nat_tests, low) in
         let is = mean c.name c named class_here q t.0 t.1 in
@@ -100,7 +102,7 @@ module _ (list : List ℕ) (p : Package) (sound : IsSound list p.files) (are_sup
     one_map at x h =
         let table = table_of w c in
         let entry = class_entry (class_ref p) p c in
-        let i = has-mapped (interface_map w (slots (line_at w c))) x (known (interfaces_at w c)) h in
+        let i = has-mapped (interface_map w (shown_token (line_at w c))) x (known (interfaces_at w c)) h in
         let y = implemented (class_ref p) x in
         let j = has-get y entry.interfaces (has-map (implemented (class_ref p)) x table.maps h) in
         none_in_both
@@ -109,7 +111,7 @@ module _ (list : List ℕ) (p : Package) (sound : IsSound list p.files) (are_sup
         (subst (λ (z : InterfaceMap). along (λ n. 1) (λ a n. unless (is_index (whole p) (exports_of p) s n)
         (in_info 6 a)) (at + 3) z.index ≡ []) i.2
         (none_along (λ n. 1) (λ a n. unless (is_index (whole p) (exports_of p) s n) (in_info 6 a))
-        (λ q. or_zero (token (slots (line_at w c)) q)) (at + 3) (interface_methods w i.0)
+        (λ q. or_zero (shown_token (line_at w c) q)) (at + 3) (interface_methods w i.0)
         (λ a q g. passes _ (in_info 6 a) (index_there i.0 i.1 q g))))
 
     class_maps : in_all_maps (whole p) (exports_of p) s (class_entry (class_ref p) p c) ≡ []

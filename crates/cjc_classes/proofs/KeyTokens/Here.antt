@@ -15,7 +15,7 @@ use Rattle.cjc_world.specs.Lookup.{is_called, member_at}
 use Rattle.cjc_tokens.specs.Lines.{line_at}
 use Rattle.cjc_tokens.specs.Members.{Signature, chosen, has, is_exposed, is_shown, is_virtual_by, same, signature_of}
 use Rattle.cjc_tokens.specs.Methods.{with_high_bit}
-use Rattle.cjc_tokens.specs.Slots.{got, hidden_slots, own, slots, token}
+use Rattle.cjc_tokens.specs.Slots.{got, hidden_slots, own, shown_token, token}
 use Rattle.cjc_tokens.specs.Tokens.{assigned, token_of_member}
 use Rattle.cjc_tokens.specs.Working.{member_of}
 use Rattle.cjc_tokens.proofs.Facts.{has-got_none, has-own_none, position-cons, same-true}
@@ -163,7 +163,7 @@ module _ (files : Files) (n : ℕ) (t : ClassTree) (there : slice_get files.clas
   shown_own applets i u plain e kept =
       let r = position-at (λ m. is_shown m && is_called name desc m) c.methods i e in
       let signed = same-true (signature_of r.0) s (second_of (is_shown r.0) (is_called name desc r.0) r.2) in
-      ap (token (slots (line_at (all_classes files) c))) (sym signed)
+      ap (shown_token (line_at (all_classes files) c)) (sym signed)
       ∙ sym (shown_kept files applets n t there plain i r.0 r.1 (first_of (is_shown r.0) (is_called name desc r.0) r.2))
       ∙ ap (token_of_member (assigned applets files)) (sym (behind_fields i))
       ∙ kept
@@ -199,7 +199,7 @@ module _ (files : Files) (n : ℕ) (t : ClassTree) (there : slice_get files.clas
             i e).0 = (let h : Some (member_of (named_by t.name m)) ≡ Some (position-at (λ m. is_called name desc m)
             (map member_of ids) i e).0 = g in cc) in
             let signed : signature_of m ≡ s = same-true (signature_of m) s (ap (is_called name desc) same_one ∙ is) in
-            ap (token (slots (line_at (all_classes files) c))) (sym signed)
+            ap (shown_token (line_at (all_classes files) c)) (sym signed)
             ∙ sym (got_kept files applets n t there plain i m f)
             ∙ ap (token_of_member (assigned applets files)) (sym (behind_methods i))
             ∙ kept

@@ -14,10 +14,10 @@ use Rattle.cjc_world.specs.Exported.{is_exported}
 use Rattle.cjc_world.specs.Lookup.{member_at}
 use Rattle.cjc_tokens.specs.Fields.{field_tokens}
 use Rattle.cjc_tokens.specs.Lines.{line_at}
-use Rattle.cjc_tokens.specs.Members.{is_hidden, is_shown, signature_of}
+use Rattle.cjc_tokens.specs.Members.{Signature, is_hidden, is_shown, signature_of}
 use Rattle.cjc_tokens.specs.Methods.{class_method_token, class_method_tokens, interface_methods, interface_token}
 use Rattle.cjc_tokens.specs.Methods.{with_high_bit}
-use Rattle.cjc_tokens.specs.Slots.{Slots, hidden_slots, slots, token}
+use Rattle.cjc_tokens.specs.Slots.{Slots, hidden_slots, shown_token, token}
 use Rattle.cjc_tokens.specs.Tokens.{OfClass, assigned, classes_from, joined, method_tokens, of_class, one_more}
 use Rattle.cjc_tokens.specs.Tokens.{token_of_member}
 use Rattle.cjc_tokens.proofs.Held.{at_front}
@@ -43,7 +43,7 @@ unfolding field_tokens
 fields_long exported fs i [] = refl
 fields_long exported fs i (f ∷ rest) = ap suc (fields_long exported fs (i + 1) rest)
 
-method_row : (exported : Bool) (shown hidden : Slots) (ms : List Member) (i : ℕ) (rest : List Member) (k : ℕ)
+method_row : (exported : Bool) (shown : Signature → Option ℕ) (hidden : Slots) (ms : List Member) (i : ℕ) (rest : List Member) (k : ℕ)
     (m : Member) → slice_get rest k ≡ Some m
     → slice_get (class_method_tokens exported shown hidden ms i rest) k ≡ Some (class_method_token exported shown hidden
     ms (i + k) m)
@@ -59,7 +59,7 @@ method_row exported shown hidden ms i (x ∷ rest) (suc k) m e =
     method_row exported shown hidden ms (i + 1) rest k m e
     ∙ ap (λ j. Some (class_method_token exported shown hidden ms j m)) s
 
-rows_long : (exported : Bool) (shown hidden : Slots) (ms : List Member) (i : ℕ) (rest : List Member)
+rows_long : (exported : Bool) (shown : Signature → Option ℕ) (hidden : Slots) (ms : List Member) (i : ℕ) (rest : List Member)
     → length (class_method_tokens exported shown hidden ms i rest) ≡ length rest
 unfolding class_method_tokens
 rows_long exported shown hidden ms i [] = refl
@@ -70,15 +70,15 @@ module _ (files : Files) (applets : Bool) (n : ℕ) (t : ClassTree) (there : sli
   abbrev c : Class
   c = declared n t
 
-  abbrev shown_slots : Slots
-  shown_slots = slots (line_at (all_classes files) c)
+  abbrev shown_ones : Signature → Option ℕ
+  shown_ones = shown_token (line_at (all_classes files) c)
 
   abbrev hidden_ones : Slots
   hidden_ones = hidden_slots (line_at (all_classes files) c)
 
   kept : (k : ℕ) (m : Member) → slice_get c.methods k ≡ Some m
       → (b : Bool) × (token_of_member (assigned applets files) (member_at c (length c.fields + k))
-      ≡ class_method_token b shown_slots hidden_ones c.methods k m)
+      ≡ class_method_token b shown_ones hidden_ones c.methods k m)
   unfolding assigned
   kept k m at =
       let w = all_classes files in
@@ -89,29 +89,29 @@ module _ (files : Files) (applets : Bool) (n : ℕ) (t : ClassTree) (there : sli
       let ex = is_exported w applets (declared n t) in
       let fields : length c.fields ≡ length (field_tokens ex t.fields 0 t.fields) = length-map t.fields field_of_class
       ∙ sym (fields_long ex t.fields 0 t.fields) in
-      let own = method_row ex shown_slots hidden_ones c.methods 0 c.methods k m at in
-      let methods : method_tokens w ex c ≡ class_method_tokens ex shown_slots hidden_ones c.methods 0 c.methods
-      ++ map (λ m. token shown_slots (signature_of m)) (added w c) =
-      ap (λ b. if b then map (interface_token (interface_methods w c)) c.methods else class_method_tokens ex shown_slots
-      hidden_ones c.methods 0 c.methods ++ map (λ m. token shown_slots (signature_of m)) (added w c)) plain in
+      let own = method_row ex shown_ones hidden_ones c.methods 0 c.methods k m at in
+      let methods : method_tokens w ex c ≡ class_method_tokens ex shown_ones hidden_ones c.methods 0 c.methods
+      ++ map (λ m. shown_ones (signature_of m)) (added w c) =
+      ap (λ b. if b then map (interface_token (interface_methods w c)) c.methods else class_method_tokens ex shown_ones
+      hidden_ones c.methods 0 c.methods ++ map (λ m. shown_ones (signature_of m)) (added w c)) plain in
       let member : slice_get (field_tokens ex t.fields 0 t.fields ++ method_tokens w ex c) (length c.fields + k)
-      ≡ Some (class_method_token ex shown_slots hidden_ones c.methods (0 + k) m) =
+      ≡ Some (class_method_token ex shown_ones hidden_ones c.methods (0 + k) m) =
       ap (λ j. slice_get (field_tokens ex t.fields 0 t.fields ++ method_tokens w ex c) (j + k)) fields
       ∙ get-behind (field_tokens ex t.fields 0 t.fields) (method_tokens w ex c) k
       ∙ ap (λ xs. slice_get xs k) methods
-      ∙ at_front (class_method_tokens ex shown_slots hidden_ones c.methods 0 c.methods)
-      (map (λ m. token shown_slots (signature_of m)) (added w c)) k _ own in (
+      ∙ at_front (class_method_tokens ex shown_ones hidden_ones c.methods 0 c.methods)
+      (map (λ m. shown_ones (signature_of m)) (added w c)) k _ own in (
         ex,
         ap (λ (o : Option OfClass). option_and_then (λ (x : OfClass). joined
             (slice_get x.members (length c.fields + k))) o) row
             ∙ ap joined member
-            ∙ ap (λ j. class_method_token ex shown_slots hidden_ones c.methods j m) zk,
+            ∙ ap (λ j. class_method_token ex shown_ones hidden_ones c.methods j m) zk,
       )
 
-  -- a public or protected virtual method has its slot's
+  -- a public or protected virtual method has its class's
   pub shown_kept : (k : ℕ) (m : Member) → slice_get c.methods k ≡ Some m → is_shown m ≡ true
       → token_of_member (assigned applets files) (member_at c (length c.fields + k))
-      ≡ token shown_slots (signature_of m)
+      ≡ shown_ones (signature_of m)
   unfolding class_method_token
   shown_kept k m at is = let r = kept k m at in r.1 ∙ first_of _ _ (is_shown m) is
     where
@@ -131,10 +131,10 @@ module _ (files : Files) (applets : Bool) (n : ℕ) (t : ClassTree) (there : sli
       second_of a b d false true e f = refl
       second_of a b d false false e f = cc
 
-  -- one that the class got has its slot's
+  -- one that the class got has its class's
   pub got_kept : (k : ℕ) (m : Member) → slice_get (added (all_classes files) c) k ≡ Some m
       → token_of_member (assigned applets files) (member_at c (length c.fields + length c.methods + k))
-      ≡ token shown_slots (signature_of m)
+      ≡ shown_ones (signature_of m)
   unfolding assigned
   got_kept k m at =
       let w = all_classes files in
@@ -143,22 +143,22 @@ module _ (files : Files) (applets : Bool) (n : ℕ) (t : ClassTree) (there : sli
       let row = r.1 ∙ ap (λ j. Some (of_class w applets r.0 j t)) z in
       let ex = is_exported w applets (declared n t) in
       let fs = field_tokens ex t.fields 0 t.fields in
-      let own = class_method_tokens ex shown_slots hidden_ones c.methods 0 c.methods in
-      let more = map (λ m. token shown_slots (signature_of m)) (added w c) in
+      let own = class_method_tokens ex shown_ones hidden_ones c.methods 0 c.methods in
+      let more = map (λ m. shown_ones (signature_of m)) (added w c) in
       let fields : length c.fields ≡ length fs = length-map t.fields field_of_class
       ∙ sym (fields_long ex t.fields 0 t.fields) in
-      let long : length own ≡ length c.methods = rows_long ex shown_slots hidden_ones c.methods 0 c.methods in
+      let long : length own ≡ length c.methods = rows_long ex shown_ones hidden_ones c.methods 0 c.methods in
       let methods : method_tokens w ex c ≡ own ++ more =
       ap (λ b. if b then map (interface_token (interface_methods w c)) c.methods else own ++ more) plain in
       let place : length c.fields + length c.methods + k ≡ length fs + (length own + k) = omega (arith, fields, long) in
       let member : slice_get (fs ++ method_tokens w ex c) (length c.fields + length c.methods + k)
-      ≡ Some (token shown_slots (signature_of m)) =
+      ≡ Some (shown_ones (signature_of m)) =
       ap (slice_get (fs ++ method_tokens w ex c)) place
       ∙ get-behind fs (method_tokens w ex c) (length own + k)
       ∙ ap (λ xs. slice_get xs (length own + k)) methods
       ∙ get-behind own more k
-      ∙ slice_get-map (λ m. token shown_slots (signature_of m)) (added w c) k
-      ∙ ap (option_map (λ m. token shown_slots (signature_of m))) at in
+      ∙ slice_get-map (λ m. shown_ones (signature_of m)) (added w c) k
+      ∙ ap (option_map (λ m. shown_ones (signature_of m))) at in
       ap (λ (o : Option OfClass). option_and_then (λ (x : OfClass). joined
       (slice_get x.members (length c.fields + length c.methods + k))) o) row
       ∙ ap joined member

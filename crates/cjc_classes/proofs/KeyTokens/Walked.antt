@@ -10,7 +10,7 @@ use Rattle.cjc_world.specs.Classes.{Class, all_classes, class_named, declared}
 use Rattle.cjc_world.specs.Supertypes.{AreSupertypes, Supertypes, supertypes, upwards}
 use Rattle.cjc_tokens.specs.Lines.{Declared, Imported, Line, Nowhere, line_at, line_in, line_of}
 use Rattle.cjc_tokens.specs.Members.{Signature}
-use Rattle.cjc_tokens.specs.Slots.{slots, token}
+use Rattle.cjc_tokens.specs.Slots.{shown_token}
 use Rattle.cjc_tokens.proofs.Supers.{class_at-number, line-known}
 use Rattle.cjc_tokens.proofs.Walks.{supertypes-unknown}
 use Rattle.cjc_components.specs.VTable.Calls.{finds_hidden}
@@ -29,8 +29,8 @@ HiddenSoFar files s n k = (c d : ClassTree) → slice_get files.classes n ≡ So
 
 abbrev pub ShownSoFar : Files → Signature → (first at : ℕ) → Type 0
 ShownSoFar files s n k = (c d : ClassTree) → slice_get files.classes n ≡ Some c → slice_get files.classes k ≡ Some d
-    → token (slots (line_at (all_classes files) (declared k d))) s
-    ≡ token (slots (line_at (all_classes files) (declared n c))) s
+    → shown_token (line_at (all_classes files) (declared k d)) s
+    ≡ shown_token (line_at (all_classes files) (declared n c)) s
 
 module _ (files : Files) (are_supertypes : (xs : List (List ℕ))
     → AreSupertypes (all_classes files) xs (supertypes (all_classes files) xs)) (one_supertypes : (xs : List (List ℕ))
@@ -112,32 +112,32 @@ module _ (files : Files) (are_supertypes : (xs : List (List ℕ))
   -- ---- public and protected methods
 
   pub shown_first : (n : ℕ) → ShownSoFar files s n n
-  shown_first n = λ c d e f. ap (λ (t : ClassTree). token (slots (line_at w (declared n t))) s)
+  shown_first n = λ c d e f. ap (λ (t : ClassTree). shown_token (line_at w (declared n t)) s)
       (same_there files.classes n d c f e)
 
-  above_it : (k : ℕ) (d : ClassTree) → IsShownHere w (declared k d) s None → token (slots (line_at w (declared k d))) s
-      ≡ token (slots (line_of w d.superclass)) s
+  above_it : (k : ℕ) (d : ClassTree) → IsShownHere w (declared k d) s None → shown_token (line_at w (declared k d)) s
+      ≡ shown_token (line_of w d.superclass) s
   above_it k d h = shown_above (declared k d) (added w (declared k d)) (line_of w d.superclass) s h.0 h.1
 
   pub shown_next : (n k m : ℕ) (d t : ClassTree) → ShownSoFar files s n k → slice_get files.classes k ≡ Some d
       → IsShownHere (all_classes files) (declared k d) s None → class_named (all_classes files) d.superclass
       ≡ Some (declared m t) → ShownSoFar files s n m
   shown_next n k m d t so f none named = λ c u e g.
-      ap (λ (x : Class). token (slots (line_at w x)) s) (by_number d.superclass m t u named g)
-      ∙ ap (λ (l : Line). token (slots l) s) (sym (known_line d.superclass (declared m t) named))
+      ap (λ (x : Class). shown_token (line_at w x) s) (by_number d.superclass m t u named g)
+      ∙ ap (λ (l : Line). shown_token l s) (sym (known_line d.superclass (declared m t) named))
       ∙ sym (above_it k d none)
       ∙ so c d e f
 
   pub shown_none : (n k : ℕ) (c d : ClassTree) → ShownSoFar files s n k → slice_get files.classes n ≡ Some c
       → slice_get files.classes k ≡ Some d → IsShownHere (all_classes files) (declared k d) s None
       → class_named (all_classes files) d.superclass ≡ None
-      → token (slots Nowhere) s ≡ token (slots (line_at (all_classes files) (declared n c))) s
-  shown_none n k c d so e f none named = ap (λ (l : Line). token (slots l) s) (sym (unknown_line d.superclass named))
+      → shown_token Nowhere s ≡ shown_token (line_at (all_classes files) (declared n c)) s
+  shown_none n k c d so e f none named = ap (λ (l : Line). shown_token l s) (sym (unknown_line d.superclass named))
       ∙ sym (above_it k d none) ∙ so c d e f
 
   pub shown_imported : (n k : ℕ) (c d : ClassTree) (x : Class) → ShownSoFar files s n k → slice_get files.classes n
       ≡ Some c → slice_get files.classes k ≡ Some d → IsShownHere (all_classes files) (declared k d) s None
       → class_named (all_classes files) d.superclass ≡ Some x
-      → token (slots (line_at (all_classes files) x)) s ≡ token (slots (line_at (all_classes files) (declared n c))) s
-  shown_imported n k c d x so e f none named = ap (λ (l : Line). token (slots l) s)
+      → shown_token (line_at (all_classes files) x) s ≡ shown_token (line_at (all_classes files) (declared n c)) s
+  shown_imported n k c d x so e f none named = ap (λ (l : Line). shown_token l s)
       (sym (known_line d.superclass x named)) ∙ sym (above_it k d none) ∙ so c d e f

@@ -1,14 +1,13 @@
-//! The token of a slot of an imported class. Called by `shown` and `keys`.
+//! The token of a virtual method of an imported class. Called by `shown` and `keys`.
 
 ghost use Rattle.std.specs.Prelude.{◌≡◌, true, Option, IfOk};
 ghost use Rattle.cjc_world.specs.Classes.{all_classes};
 ghost use Rattle.cjc_world.specs.Working.Known.{class_of};
 ghost use Rattle.cjc_tokens.specs.Lines.{line_at};
-ghost use Rattle.cjc_tokens.specs.Slots.{slots, token};
+ghost use Rattle.cjc_tokens.specs.Slots.{shown_token};
 ghost use Rattle.cjc_classes.specs.Walks.{called};
 
 use cjc_bytes::NoMemory;
-use cjc_tokens::{imported_slots, token};
 use cjc_world::{Known, World};
 use std::alloc::Global;
 
@@ -27,7 +26,7 @@ fn as_byte(token: Option<usize>) -> Result<Option<u8>, NoMemory>
     }
 }
 
-/// The token of the slot that an imported class has for a public or protected method.
+/// The token that an imported class has for a public or protected method.
 pub(crate) fn imported_token(
     alloc: Global,
     world: &World<'_>,
@@ -36,9 +35,9 @@ pub(crate) fn imported_token(
     desc: &[u8],
 ) -> Result<Option<u8>, NoMemory>
     requires { (class_of class).is_imported ≡ true }
-    ensures { IfOk result (λ t. t ≡ token (slots (line_at (all_classes world.now) (class_of class.entry)))
+    ensures { IfOk result (λ t. t ≡ shown_token (line_at (all_classes world.now) (class_of class.entry))
         (called name.now desc.now)) }
 {
-    let row = imported_slots(alloc, world, class)?;
-    as_byte(token(&row, name, desc))
+    let token = cjc_tokens::imported_token(alloc, world, class, name, desc)?;
+    as_byte(token)
 }

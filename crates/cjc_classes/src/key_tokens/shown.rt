@@ -1,4 +1,4 @@
-//! The slot that a class has for a public or protected method, by the nearest of it and its superclasses that
+//! The token that a class has for a public or protected method, by the nearest of it and its superclasses that
 //! declares it, got it or is imported. Called by `keys`.
 
 ghost use Rattle.std.specs.Prelude.{◌≡◌, ◌<◌, ◌&&◌, Bool, None, Some, length, map, position, slice_get, IfOk};
@@ -7,7 +7,7 @@ ghost use Rattle.cjc_world.specs.Classes.{all_classes, declared, method_of_class
 ghost use Rattle.cjc_world.specs.Lookup.{is_called};
 ghost use Rattle.cjc_tokens.specs.Lines.{line_at};
 ghost use Rattle.cjc_tokens.specs.Members.{is_shown};
-ghost use Rattle.cjc_tokens.specs.Slots.{slots, token};
+ghost use Rattle.cjc_tokens.specs.Slots.{shown_token};
 ghost use Rattle.cjc_tokens.specs.Tokens.{assigned};
 ghost use Rattle.cjc_classes.specs.Walks.{IsShownHere, called};
 
@@ -65,7 +65,7 @@ fn shown_here(
     Ok(Some(token))
 }
 
-/// The token of the slot that a class of the package has for a public or protected method: by the nearest of it and its
+/// The token that a class of the package has for a public or protected method: by the nearest of it and its
 /// superclasses that declares or got one, else by the imported class above them.
 pub(crate) fn shown_token(
     alloc: Global,
@@ -78,7 +78,7 @@ pub(crate) fn shown_token(
     requires tokens { (applets : Bool) × (tokens.now ≡ assigned applets world.now) }
     requires number { number < length world.now.classes }
     ensures { (c : Tree) → slice_get world.now.classes number ≡ Some c
-        → IfOk result (λ t. t ≡ token (slots (line_at (all_classes world.now) (declared number c)))
+        → IfOk result (λ t. t ≡ shown_token (line_at (all_classes world.now) (declared number c))
         (called name.now desc.now)) }
 {
     lookup_laws();

@@ -30,7 +30,7 @@ use Rattle.cjc_exported.specs.Tokens.Members.{Signature, is_initialiser, same, s
 use Rattle.cjc_exported.specs.Tokens.Methods.{class_method_tokens, interface_methods, interface_token, is_open_bound}
 use Rattle.cjc_exported.specs.Tokens.Rules.{at_class, breaks_from, breaks_where, has_high_method, has_high_token}
 use Rattle.cjc_exported.specs.Tokens.Rules.{token_breaks}
-use Rattle.cjc_exported.specs.Tokens.Slots.{hidden_slots, slots, token}
+use Rattle.cjc_exported.specs.Tokens.Slots.{hidden_slots, shown_token}
 use Rattle.cjc_exported.specs.Tokens.Tokens.{assigned, imports_of, joined, listed_field_token, listed_method_token}
 use Rattle.cjc_exported.specs.Tokens.Tokens.{method_tokens, of_class, of_import, token_of_member}
 use Rattle.cjc_narrow_proof.proofs.VTable.Filed.{Has, IsFiled, at_front, behind, filed, get-has, has-get, in_class_file}
@@ -197,9 +197,9 @@ module _ (files : Files) (applets : Bool) (unbroken : token_breaks applets files
             ∙ ap (option_and_then (λ k. joined (slice_get k.members (length d.fields + i)))) kept.1
             ∙ ap (λ k. joined (slice_get (fields ++ methods) (k + i))) counted
             ∙ ap joined (get_behind fields methods i)
-            ∙ ap (λ b. joined (slice_get (if b then listed else class_method_tokens exported (slots (line_at w d))
+            ∙ ap (λ b. joined (slice_get (if b then listed else class_method_tokens exported (shown_token (line_at w d))
             (hidden_slots (line_at w d)) d.methods 0 d.methods
-            ++ map (λ m. token (slots (line_at w d)) (signature_of m)) (added w d)) i)) interface
+            ++ map (λ m. shown_token (line_at w d) (signature_of m)) (added w d)) i)) interface
             ∙ ap joined (slice_get-map (interface_token (interface_methods w d)) d.methods i)
             ∙ ap (λ o. joined (option_map (interface_token (interface_methods w d)) o)) own.is_member
             ∙ one.1,

@@ -38,7 +38,7 @@ use Rattle.cjc_tokens.specs.Members.{signature_of, signatures}
 use Rattle.cjc_tokens.specs.Methods.{class_method_tokens, interface_methods, interface_row, interface_token}
 use Rattle.cjc_tokens.specs.Methods.{is_open_bound}
 use Rattle.cjc_tokens.specs.Rules.{has_high_method, has_high_token}
-use Rattle.cjc_tokens.specs.Slots.{hidden_slots, row, slots, token}
+use Rattle.cjc_tokens.specs.Slots.{hidden_slots, row, shown_token}
 use Rattle.cjc_tokens.specs.Tokens.{OfClass, assigned, joined, method_tokens, token_of_member}
 use Rattle.cjc_vtable.proofs.Filed.{Has, at-number, behind, get-has}
 use Rattle.cjc_vtable.proofs.Filed as filed
@@ -240,8 +240,8 @@ module _ (list : ListTree) (files : List (List ℕ)) (judged : Judged) (p : Pack
       let counted : fields ≡ length front = length-map u.fields field_of_class
       ∙ sym (fields_long ex u.fields 0 u.fields) in
       let as_own : method_tokens w ex c ≡ own =
-      ap (λ b. if b then own else class_method_tokens ex (slots (line_at w c)) (hidden_slots (line_at w c)) methods 0
-      methods ++ map (λ m. token (slots (line_at w c)) (signature_of m)) (added w c)) interface in
+      ap (λ b. if b then own else class_method_tokens ex (shown_token (line_at w c)) (hidden_slots (line_at w c)) methods 0
+      methods ++ map (λ m. shown_token (line_at w c) (signature_of m)) (added w c)) interface in
       ap (option_and_then (λ (x : OfClass). joined (slice_get x.members (fields + k)))) kept.1
       ∙ ap (λ i. joined (slice_get (front ++ method_tokens w ex c) (i + k))) counted
       ∙ ap joined (get-behind front (method_tokens w ex c) k)

@@ -19,7 +19,7 @@ use Rattle.cjc_shape_proof.proofs.WrittenLaws.FittingLaws.Exported.{is_bare, or_
 use Rattle.cjc_shape_proof.proofs.WrittenLaws.FittingLaws.Lists.{mapped_at}
 use Rattle.cjc_shape_proof.proofs.WrittenLaws.FittingLaws.Order.{has_cons, has_either, has_none}
 use Rattle.cjc_shape_proof.proofs.WrittenLaws.FittingLaws.OwnTokens.{Offers, added_token, offers_given, offers_shown}
-use Rattle.cjc_shape_proof.proofs.WrittenLaws.FittingLaws.OwnTokens.{shown_token, slot_there}
+use Rattle.cjc_shape_proof.proofs.WrittenLaws.FittingLaws.OwnTokens.{exposed_token, slot_there}
 use Rattle.cjc_shape_proof.proofs.WrittenLaws.FittingLaws.Rules as Rules
 use Rattle.cjc_shape_proof.proofs.WrittenLaws.FittingLaws.Standing.{IsInheritedAt, added_in, inherited_in, listed_in}
 use Rattle.cjc_token_proof.proofs.TablesLaws.Clean.{own_name}
@@ -33,13 +33,14 @@ use Rattle.cjc_tokens.specs.Lines.{Declared, Imported, line_at, line_in, line_of
 use Rattle.cjc_tokens.specs.Members.{Signature, is_constructor, is_exposed, is_initialiser, is_shown, is_virtual}
 use Rattle.cjc_tokens.specs.Members.{signature_of}
 use Rattle.cjc_tokens.specs.Methods.{interface_methods, interface_row}
-use Rattle.cjc_tokens.specs.Slots.{got, implementing, meant_by, own, row, slots, token}
+use Rattle.cjc_tokens.specs.Slots.{got, implementing, meant_by, own, row, shown_token, slots, token}
 use Rattle.cjc_world.proofs.UpwardLaws.Lines.{first_has, gathered_above, has-cons, line_named, listed_line}
 use Rattle.cjc_world.specs.Upwards.{IsOrdered}
 use Rattle.cjc_vtable.proofs.Filed.{Has, IsFiled, at-number, at_front, behind, filed, get-has, has-get, in_class_file}
 use Rattle.cjc_vtable.proofs.Filed.{in_export_file}
 use Rattle.cjc_vtable.proofs.SlotNames.{get-behind, position-at}
 use Rattle.cjc_vtable.proofs.Worlds.{told-class}
+use Rattle.cjc_vtable.specs.Calls.{IsTold}
 use Rattle.cjc_vtable.specs.Laws.{KeepsRules}
 use Rattle.cjc_world.proofs.Cycles.{class_named-name}
 use Rattle.cjc_world.proofs.Settled.{AreSupertypes-one, supertypes-AreSupertypes, supertypes-known}
@@ -305,16 +306,16 @@ module _ (list : List ℕ) (p : Package) (codes : List MethodCode) (settings : S
       same_line : line_of w t.name ≡ line_at w c
       same_line = ap (line_in w) (supertypes-known w ordered.acyclic t.name c named)
 
-      at_line : (s : Signature) (k : ℕ) → token (slots (line_at w c)) s ≡ Some k → token (slots (line_of w t.name)) s
-          ≡ Some k
-      at_line s k e = ap (λ l. token (slots l) s) same_line ∙ e
+      told : IsTold (line_of w t.name)
+      told = told-class w are_supertypes (AreSupertypes-one w) rules t.name c named (λ im. absurd (cc))
 
       at_slot : (s : Signature) (j : ℕ) → Offers p.files (has_applets p) n t there plain s
-          → tok j ≡ unwrap_or (token (slots (line_at w c)) s) 0xFF → token (slots (line_of w t.name)) s ≡ Some (tok j)
+          → tok j ≡ unwrap_or (shown_token (line_at w c) s) 0xFF → token (slots (line_of w t.name)) s ≡ Some (tok j)
       at_slot s j offers e =
           let r = slot_there p.files (has_applets p) n t there plain s offers in
           let same : tok j ≡ r.0 = e ∙ ap (λ q. unwrap_or q 0xFF) r.1 in
-          at_line s (tok j) (r.1 ∙ ap Some (sym same))
+          place_token (line_of w t.name) told (tok j) s (ap (λ l. slice_get (slots l) (tok j)) same_line
+          ∙ ap (slice_get (slots (line_at w c))) same ∙ r.2)
 
       listed_split : (i x a : Bool) → i ≡ false → ((i || x) && not a) ≡ true → (x ≡ true) × (a ≡ false)
       listed_split false true false e f = (refl, refl)
@@ -341,7 +342,7 @@ module _ (list : List ℕ) (p : Package) (codes : List MethodCode) (settings : S
             its_token = λ virtual.
                 let shown = both_true (is_exposed m.flags) (is_virtual m) l.0 virtual in
                 at_slot (signature_of m) (fields + k) (offers_shown p.files (has_applets p) n t there plain k m at
-                shown) (ap (λ q. unwrap_or q 0xFF) (shown_token p.files (has_applets p) n t there plain k m at
+                shown) (ap (λ q. unwrap_or q 0xFF) (exposed_token p.files (has_applets p) n t there plain k m at
                 shown));
           }
 
@@ -384,7 +385,6 @@ module _ (list : List ℕ) (p : Package) (codes : List MethodCode) (settings : S
               r.found means in
               let same : m.member ≡ r.member = same_member (sym m.meant ∙ r.meant) in
               let signature : signature_of r.member ≡ s = ap signature_of (sym same) ∙ m.signature in
-              let told = told-class w are_supertypes (AreSupertypes-one w) rules t.name c named (λ im. absurd (cc)) in
               let zero_more : 0 + r.place ≡ r.place = omega arith in
               record {
                 visible = ap (λ (y : Member). is_private y.flags) (sym same) ∙ m.visible;

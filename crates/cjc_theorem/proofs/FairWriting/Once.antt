@@ -1,55 +1,13 @@
 -- A signature has one slot at most, so the place of its slot is its token.
-use Rattle.std.proofs.Common.{◌≡◌, ℕ, zero, suc, refl, sym, ap, subst, ◌∙◌, Bool, true, false, List, [], ◌∷◌, ◌++◌}
-use Rattle.std.proofs.Common.{length, append-nil, inl, inr, ⊎_elim, append_assoc}
-use Rattle.std.specs.Prelude.{◌⊎◌, Some, if◌then◌else◌, slice_get, map}
-use Rattle.cjc_tokens.specs.Members.{Signature, signature_of, signatures, is_shown, all_methods}
-use Rattle.cjc_tokens.specs.Lines.{Line, Nowhere, Imported, Declared}
-use Rattle.cjc_tokens.specs.Slots.{Slots, has_slot, new_in, with_new, slots, token}
+use Rattle.std.proofs.Common.{◌≡◌, ℕ, ap, ◌∙◌}
+use Rattle.std.specs.Prelude.{Some, slice_get}
+use Rattle.cjc_tokens.specs.Members.{Signature}
+use Rattle.cjc_tokens.specs.Lines.{Line}
+use Rattle.cjc_tokens.specs.Slots.{slots, token}
 use Rattle.cjc_vtable.specs.Calls.{IsTold}
-use Rattle.cjc_tokens.proofs.Held.{shown-virtual, here-has_slot, token-slot, listed_slot}
+use Rattle.cjc_tokens.proofs.Held.{here-has_slot, token-slot}
 use Rattle.cjc_vtable.proofs.Calls.{token-some}
-
--- a signature has one slot at most
-abbrev IsOnce : Slots → Type 0
-IsOnce all = (j k : ℕ) (s : Signature) → slice_get all j ≡ Some (Some s) → slice_get all k ≡ Some (Some s) → j ≡ k
-
--- one more signature that had no slot
-once-more : (all : Slots) (u : Signature) → IsOnce all → has_slot all u ≡ false → IsOnce (all ++ Some u ∷ [])
-once-more all u once fresh j k s e f = ⊎_elim
-    (λ a. ⊎_elim (λ b. once j k s a b) (λ b. absurd (clash j s a b.1)) (at_end all u k s f))
-    (λ a. ⊎_elim (λ b. absurd (clash k s b a.1)) (λ b. a.0 ∙ sym b.0) (at_end all u k s f))
-    (at_end all u j s e)
-  where
-    at_end : (all : Slots) (u : Signature) (k : ℕ) (s : Signature) → slice_get (all ++ Some u ∷ []) k ≡ Some (Some s)
-        → (slice_get all k ≡ Some (Some s)) ⊎ ((k ≡ length all) × (u ≡ s))
-    at_end [] u zero s e = inr (refl, cc)
-    at_end [] u (suc k) s e = cc
-    at_end (slot ∷ all) u zero s e = inl e
-    at_end (slot ∷ all) u (suc k) s e = ⊎_elim (λ h. inl h) (λ h. inr (ap suc h.0, h.1)) (at_end all u k s e)
-
-    clash : (k : ℕ) (s : Signature) → slice_get all k ≡ Some (Some s) → u ≡ s → ⊥
-    clash k s h is = let yes' : has_slot all u ≡ true = ap (has_slot all) is ∙ here-has_slot all k s h in cc
-
-once-new : (known : Slots) (ss : List Signature) → IsOnce known → IsOnce (known ++ map Some (new_in known ss))
-once-new known [] once = subst IsOnce (sym (append-nil known)) once
-once-new known (u ∷ ss) once = by (has_slot known u) refl (once-new known ss) (once-new (known ++ Some u ∷ []) ss)
-  where
-    by : (b : Bool) → has_slot known u ≡ b → (IsOnce known → IsOnce (known ++ map Some (new_in known ss)))
-        → (IsOnce (known ++ Some u ∷ []) → IsOnce ((known ++ Some u ∷ [])
-        ++ map Some (new_in (known ++ Some u ∷ []) ss))) → IsOnce (known ++ map Some (if b then new_in known ss
-        else u ∷ new_in (known ++ Some u ∷ []) ss))
-    by true g old fresh = old once
-    by false g old fresh = subst IsOnce (append_assoc known (Some u ∷ []) (map Some (new_in (known ++ Some u ∷ []) ss)))
-        (fresh (once-more known u once g))
-
-slots-once : (line : Line) → IsTold line → IsOnce (slots line)
-slots-once Nowhere told = λ j k s e f. cc
-slots-once (Imported classes) told = λ j k s e f.
-    let a = listed_slot (all_methods classes) j s e in
-    let b = listed_slot (all_methods classes) k s f in
-    sym a.3 ∙ (told a.0 b.0 a.1 b.1 (shown-virtual a.0 a.2) (shown-virtual b.0 b.2)).1 (a.4 ∙ sym b.4) ∙ b.3
-slots-once (Declared c given above) told = once-new (with_new (slots above) (signatures is_shown c.methods))
-    (map signature_of given) (once-new (slots above) (signatures is_shown c.methods) (slots-once above told))
+use Rattle.cjc_vtable.proofs.Once.{slots-once}
 
 -- the token of a slot's signature is its place
 pub place_token : (line : Line) → IsTold line → (t : ℕ) (s : Signature) → slice_get (slots line) t ≡ Some (Some s)

@@ -13,8 +13,9 @@ use Rattle.cjc_card_semantics.specs.Machine.Classes.{imported_class, number_of, 
 use Rattle.cjc_card_semantics.specs.Machine.Loaded.{OfFile}
 use Rattle.cjc_ncode.specs.Lowering.Naming.{IsClass as MeansClass}
 use Rattle.cjc_tokens.specs.Lines.{line_at}
+use Rattle.cjc_tokens.specs.Members.{Signature}
 use Rattle.cjc_tokens.specs.Methods.{interfaces_at}
-use Rattle.cjc_tokens.specs.Slots.{Slots, slots}
+use Rattle.cjc_tokens.specs.Slots.{shown_token}
 use Rattle.cjc_vtable.specs.Tables.{interface_map}
 use Rattle.cjc_vtable.proofs.Filed.{Has, at_front, behind}
 use Rattle.cjc_world.specs.Classes.{Class, class_named}
@@ -73,7 +74,7 @@ name_lists [] d h = elim h [ ]
 name_lists (c ∷ cs) d at_front = foremost
 name_lists (c ∷ cs) d (behind h) = after (name_lists cs d h)
 
-implemented_are : (ref : List ℕ → ClassRef) (w : List Class) (all : Slots) (cs : List Class)
+implemented_are : (ref : List ℕ → ClassRef) (w : List Class) (all : Signature → Option ℕ) (cs : List Class)
     → map (λ m. m.interface) (map (implemented ref) (map (interface_map w all) cs)) ≡ map ref (map (λ c. c.name) cs)
 implemented_are ref w all [] = refl
 implemented_are ref w all (c ∷ cs) = ap (λ rs. ref c.name ∷ rs) (implemented_are ref w all cs)
@@ -287,7 +288,7 @@ module _ (list : List ℕ) (p : Package) (sound : IsSound list p.files) where
         of_package r.offset info (superclass c ∷ map (λ d. d.name) above_all)
         (ap (class_at p) (sym (class_named-name w x c e)) ∙ r.on_card)
         (r.info ∙ ap (λ b. Some (if b then IsInterface (interface_entry (class_ref p) w c) else info)) i)
-        (ap (λ rs. class_ref p (superclass c) ∷ rs) (implemented_are (class_ref p) w (slots (line_at w c))
+        (ap (λ rs. class_ref p (superclass c) ∷ rs) (implemented_are (class_ref p) w (shown_token (line_at w c))
         above_all))
         (class_told own) (class_listed own)
 

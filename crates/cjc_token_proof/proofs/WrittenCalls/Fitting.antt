@@ -18,7 +18,8 @@ use Rattle.cjc_token_proof.specs.Tables.Loading.{naming}
 use Rattle.cjc_tokens.proofs.Walks.{supertypes-known}
 use Rattle.cjc_tokens.specs.Lines.{Declared, Imported, line_in, line_of}
 use Rattle.cjc_tokens.specs.Methods.{with_high_bit}
-use Rattle.cjc_tokens.specs.Slots.{hidden_slots, slots, token}
+use Rattle.cjc_tokens.specs.Slots.{hidden_slots, shown_token, slots, token}
+use Rattle.cjc_vtable.proofs.Worlds.{shown-place}
 use Rattle.cjc_vtable.specs.Calls.{finds_hidden}
 use Rattle.cjc_vtable.specs.Tables.{or_zero}
 use Rattle.cjc_world.specs.Added.{added}
@@ -55,8 +56,9 @@ module _ (p : Package) (facts : Facts p) (tokens : KeepsTokens (world p)) where
       else Declared d (added w d) (line_in w (supertypes w d.supers))) import in
       let open_one : virtual_token p m ≡ or_zero (token (slots (line_of w m.class)) (signature m)) =
       ap (λ b. if b then with_high_bit (or_zero (token (hidden_slots (line_of w m.class)) (signature m)))
-      else or_zero (token (slots (line_of w m.class)) (signature m))) (ap (λ l. finds_hidden l (signature m)) line)
-      in
+      else or_zero (shown_token (line_of w m.class) (signature m))) (ap (λ l. finds_hidden l (signature m)) line)
+      ∙ ap or_zero (shown-place w facts.are_supertypes facts.one_supertypes facts.rules m.class d (signature m) known
+      (λ far. class_here)) in
       by (token (slots (line_of w m.class)) (signature m)) refl open_one
     where
       by : (o : Option ℕ) → token (slots (line_of w m.class)) (signature m) ≡ o

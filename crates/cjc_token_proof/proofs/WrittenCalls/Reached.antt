@@ -117,7 +117,7 @@ module _ (p : Package) (facts : Facts p) (subtypes : KeepsSubtypes (world p)) (t
       let s = class_stands p facts x c e not_interface in
       reaching.virtual_calls_reach p.files w n (method_offset p) place begins x s.foot (receiver_says p facts
       subtypes.climbs kinds x c e not_interface) (agrees x c e not_interface) m d r known class_here plain
-      (token_says p tokens m d known class_here (hidden_own m.class d (signature m) known) x c e not_interface
+      (token_says p facts tokens m d known class_here (hidden_own m.class d (signature m) known) x c e not_interface
       (inr made) sought) h is
 
   -- ---- arrays are receivers as java/lang/Object is
@@ -407,9 +407,9 @@ module _ (p : Package) (facts : Facts p) (subtypes : KeepsSubtypes (world p)) (t
             → finds_hidden (line_of w super) (signature m) ≡ false
             → n.dispatch_token m ≡ n.dispatch_token (of_class super m)
         open_same t is no_hidden =
-            dispatched_shown p tokens m c known class_here (hidden_alike ∙ no_hidden) t (once.inherited (signature m) t
+            dispatched_shown p facts tokens m c known class_here (hidden_alike ∙ no_hidden) t (once.inherited (signature m) t
             is)
-            ∙ sym (dispatched_shown p tokens (of_class super m) d super_is super_class no_hidden t is)
+            ∙ sym (dispatched_shown p facts tokens (of_class super m) d super_is super_class no_hidden t is)
 
         by : Rattle.cjc_token_proof.specs.WrittenCalls.Calls.IsSought w (of_class super m)
             → n.dispatch_token m ≡ n.dispatch_token (of_class super m)
@@ -422,9 +422,9 @@ module _ (p : Package) (facts : Facts p) (subtypes : KeepsSubtypes (world p)) (t
             let r = calls.package_method (signature m) finds in
             let at_super = hidden_own super d (signature m) super_is finds in
             let at_class = facts.own m.class c known own in
-            dispatched_hidden p tokens m at_class.offset (sym (ap (card_class p) (name_is w m.class c known))
+            dispatched_hidden p facts tokens m at_class.offset (sym (ap (card_class p) (name_is w m.class c known))
             ∙ at_class.on_card) (hidden_alike ∙ finds) r.0 (once.hidden_inherited (signature m) r.0 r.1)
-            ∙ sym (dispatched_hidden p tokens (of_class super m) at_super.0 at_super.1 finds r.0 r.1)
+            ∙ sym (dispatched_hidden p facts tokens (of_class super m) at_super.0 at_super.1 finds r.0 r.1)
         by (got t is no_hidden selects) = open_same t is no_hidden
 
     pub super_says : SaysSuper w n m super (let s = class_stands p facts super d super_is super_class in s.foot)
@@ -438,7 +438,7 @@ module _ (p : Package) (facts : Facts p) (subtypes : KeepsSubtypes (world p)) (t
               super c known own class_here supers) s.tower (super_fits p facts m.class super c d known own class_here
               supers super_is s);
           same_token = token_same;
-          token = token_says p tokens (of_class super m) d super_is super_class (hidden_own super d (signature m)
+          token = token_says p facts tokens (of_class super m) d super_is super_class (hidden_own super d (signature m)
               super_is) super d super_is super_class (inl refl) sought;
           imported = ap (λ y. first_imported (line w y)) itself_there ∙ s.imported;
           itself = itself_there;

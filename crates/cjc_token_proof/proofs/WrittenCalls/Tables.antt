@@ -19,7 +19,7 @@ use Rattle.cjc_token_proof.specs.Tables.Infos.{HasEntry, HasInfo}
 use Rattle.cjc_token_proof.specs.Tables.Loading.{loaded, naming}
 use Rattle.cjc_tokens.specs.Lines.{line_at}
 use Rattle.cjc_tokens.specs.Methods.{interfaces_at}
-use Rattle.cjc_tokens.specs.Slots.{slots}
+use Rattle.cjc_tokens.specs.Slots.{shown_token}
 use Rattle.cjc_vtable.specs.declared.table.InterfaceMap.{InterfaceMap}
 use Rattle.cjc_vtable.specs.Tables.{interface_map}
 use Rattle.cjc_world.specs.Classes.{Class, class_named}
@@ -62,11 +62,11 @@ module _ (p : Package) (facts : Facts p) where
   -- ---- tables
 
   mapped : (c : Class) (is : List Class) → ((k : ℕ) (i : Class) → slice_get is k ≡ Some i → class_named (world p) i.name
-      ≡ Some i) → (k : ℕ) (m : InterfaceMap) → slice_get (map (interface_map (world p) (slots (line_at (world p) c)))
+      ≡ Some i) → (k : ℕ) (m : InterfaceMap) → slice_get (map (interface_map (world p) (shown_token (line_at (world p) c)))
       is) k ≡ Some m → has_class (world p) m.interface ≡ true
   mapped c [] fine k m e = absurd (cc)
   mapped c (i ∷ is) fine zero m e =
-      let same : interface_map (world p) (slots (line_at (world p) c)) i ≡ m = cc in
+      let same : interface_map (world p) (shown_token (line_at (world p) c)) i ≡ m = cc in
       sym (ap (λ (q : InterfaceMap). has_class (world p) q.interface) same) ∙ ap is_some (fine 0 i refl)
   mapped c (i ∷ is) fine (suc k) m e = mapped c is (λ j o h. fine (suc j) o h) k m e
 

@@ -12,13 +12,15 @@ use Rattle.cjc_components.specs.Names.{class_at}
 use Rattle.cjc_components.specs.Package.{Package, world}
 use Rattle.cjc_token_proof.specs.Tables.Loading.{naming}
 use Rattle.cjc_tokens.specs.Lines.{line_of}
-use Rattle.cjc_tokens.specs.Slots.{hidden_slots, slots, token}
+use Rattle.cjc_tokens.specs.Slots.{hidden_slots, shown_token, slots, token}
 use Rattle.cjc_tokens.specs.Methods.{with_high_bit}
+use Rattle.cjc_vtable.proofs.Worlds.{shown-place}
 use Rattle.cjc_vtable.specs.Calls.{finds_hidden}
 use Rattle.cjc_vtable.specs.Tables.{or_zero}
 use Rattle.cjc_world.specs.Classes.{Class, class_named}
 use Rattle.cjc_token_proof.specs.WrittenCalls.Calls.{IsSought, KeepsTokens, hidden, shown}
 use Rattle.cjc_token_proof.specs.WrittenCalls.Calls as calls
+use Rattle.cjc_token_proof.proofs.WrittenCalls.Facts.{Facts}
 
 -- a token of seven bits is a public one
 open_token : (k : CardClass) (t : ℕ) → t < 128 → unwrap_or (token_of k t) (Open 0) ≡ Open t
@@ -34,9 +36,14 @@ hidden_token q offset t =
     let less : t + 128 - 128 ≡ t = omega arith in
     ap (λ b. if b then Open (t + 128) else Hidden q (t + 128 - 128)) large ∙ ap (Hidden q) less
 
-module _ (p : Package) (tokens : KeepsTokens (world p)) where
+module _ (p : Package) (facts : Facts p) (tokens : KeepsTokens (world p)) where
   abbrev w : List Class
   w = world p
+
+  place : (m : MemberId) (d : Class) → class_named w m.class ≡ Some d → is_interface d.flags ≡ false
+      → shown_token (line_of w m.class) (signature m) ≡ token (slots (line_of w m.class)) (signature m)
+  place m d known class_here = shown-place w facts.are_supertypes facts.one_supertypes facts.rules m.class d
+      (signature m) known (λ import. class_here)
 
   pub dispatched_shown : (m : MemberId) (d : Class) → class_named w m.class ≡ Some d → is_interface d.flags ≡ false
       → finds_hidden (line_of w m.class) (signature m) ≡ false → (t : ℕ)
@@ -44,8 +51,8 @@ module _ (p : Package) (tokens : KeepsTokens (world p)) where
   dispatched_shown m d known class_here no_hidden t is =
       ap (λ b. unwrap_or (token_of (class_at p m.class) (if b
       then with_high_bit (or_zero (token (hidden_slots (line_of w m.class)) (signature m)))
-      else or_zero (token (slots (line_of w m.class)) (signature m)))) (Open 0)) no_hidden
-      ∙ ap (λ o. unwrap_or (token_of (class_at p m.class) (or_zero o)) (Open 0)) is
+      else or_zero (shown_token (line_of w m.class) (signature m)))) (Open 0)) no_hidden
+      ∙ ap (λ o. unwrap_or (token_of (class_at p m.class) (or_zero o)) (Open 0)) (place m d known class_here ∙ is)
       ∙ open_token (class_at p m.class) t (tokens m.class d (signature m) t known class_here is)
 
   pub dispatched_hidden : (m : MemberId) (offset : ℕ) → class_at p m.class ≡ Own 0 offset
@@ -54,7 +61,7 @@ module _ (p : Package) (tokens : KeepsTokens (world p)) where
   dispatched_hidden m offset on_card is_hidden t is =
       ap (λ b. unwrap_or (token_of (class_at p m.class) (if b
       then with_high_bit (or_zero (token (hidden_slots (line_of w m.class)) (signature m)))
-      else or_zero (token (slots (line_of w m.class)) (signature m)))) (Open 0)) is_hidden
+      else or_zero (shown_token (line_of w m.class) (signature m)))) (Open 0)) is_hidden
       ∙ ap (λ o. unwrap_or (token_of (class_at p m.class) (or_zero o + 128)) (Open 0)) is
       ∙ ap (λ (k : CardClass). unwrap_or (token_of k (t + 128)) (Open 0)) on_card
       ∙ hidden_token 0 offset t

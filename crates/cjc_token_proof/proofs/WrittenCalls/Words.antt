@@ -234,7 +234,7 @@ module _ (p : Package) (facts : Facts p) (subtypes : KeepsSubtypes (world p)) (t
   selected_virtual m d known class_here plain sought s sig f sel =
       let stands = class_stands p facts m.class d known class_here in
       let calls = agrees p facts subtypes tokens keep kinds at begins m.class d known class_here in
-      ap (card.words_of (loaded p) true) (calls.virtual_call m d f known itself (token_says p tokens m d known
+      ap (card.words_of (loaded p) true) (calls.virtual_call m d f known itself (token_says p facts tokens m d known
       class_here (hidden_own p facts subtypes tokens keep kinds at begins m.class d (signature m) known) m.class d
       known class_here (inl refl) sought) sel (line_found p facts true m.name m.desc m.class f sel))
       ∙ selected_taken m.class m d known class_here plain s sig stands.foot f sel
@@ -280,7 +280,7 @@ module _ (p : Package) (facts : Facts p) (subtypes : KeepsSubtypes (world p)) (t
       let agree = dispatch_agrees w facts.are_supertypes facts.one_supertypes n (method_offset p) facts.low kinds
       stands.height m.class stands.foot stands.tower (height_fits p facts m.class d known stands) in
       ap (λ q. card.words_of (loaded p) true (dispatched (tower (loaded p) (n.class m.class)) q))
-      (dispatched_shown p tokens m d known class_here none t e)
+      (dispatched_shown p facts tokens m d known class_here none t e)
       ∙ ap (card.words_of (loaded p) true) (agree.open_method t r.method (signature m) r.by_token r.name)
       ∙ held_words m plain s sig stands.foot r.method (λ here. holder p facts (signature m) r.method here m.class d
       known class_here r.nearest)

@@ -21,9 +21,10 @@ use Rattle.cjc_tokens.specs.Lines.{line_at, line_in, line_of}
 use Rattle.cjc_tokens.specs.Members.{Signature, chosen, is_constructor, is_hidden, is_initialiser, is_shown, is_virtual}
 use Rattle.cjc_tokens.specs.Members.{signature_of}
 use Rattle.cjc_tokens.specs.Methods.{class_method_token, class_method_tokens, with_high_bit}
-use Rattle.cjc_tokens.specs.Slots.{Slots, hidden_slots, slots, token}
+use Rattle.cjc_tokens.specs.Slots.{Slots, hidden_slots, shown_token, slots, token}
 use Rattle.cjc_tokens.specs.Tokens.{OfClass, assigned, classes_from, joined, method_tokens, of_class, one_more}
 use Rattle.cjc_tokens.specs.Tokens.{token_of_member}
+use Rattle.cjc_vtable.proofs.Worlds.{shown-place}
 use Rattle.cjc_vtable.specs.Calls.{any_method}
 use Rattle.cjc_world.specs.Added.{added}
 use Rattle.cjc_world.specs.Classes.{Class, Member, class_named, declared, field_of_class}
@@ -64,7 +65,7 @@ get_front [] ys k x e = absurd (cc)
 get_front (z ∷ xs) ys zero x e = e
 get_front (z ∷ xs) ys (suc k) x e = get_front xs ys k x e
 
-module _ (exported : Bool) (shown hidden : Slots) (ms : List Member) where
+module _ (exported : Bool) (shown : Signature → Option ℕ) (hidden : Slots) (ms : List Member) where
   method_row : (k : ℕ) (rest : List Member) (i : ℕ) (m : Member) → slice_get rest i ≡ Some m
       → slice_get (class_method_tokens exported shown hidden ms k rest) i
       ≡ Some (class_method_token exported shown hidden ms (k + i) m)
@@ -76,10 +77,10 @@ module _ (exported : Bool) (shown hidden : Slots) (ms : List Member) where
   method_row k (n ∷ rest) (suc i) m e = let s : k + 1 + i ≡ k + suc i = omega arith in method_row (k + 1) rest i m e
       ∙ ap (λ j. Some (class_method_token exported shown hidden ms j m)) s
 
-  shown_token : (k : ℕ) (m : Member) → is_shown m ≡ true → class_method_token exported shown hidden ms k m
-      ≡ token shown (signature_of m)
+  open_token : (k : ℕ) (m : Member) → is_shown m ≡ true → class_method_token exported shown hidden ms k m
+      ≡ shown (signature_of m)
   unfolding class_method_token
-  shown_token k m e = skip _ _ (is_shown m) e
+  open_token k m e = skip _ _ (is_shown m) e
     where
       skip : (x y : Option ℕ) (a : Bool) → a ≡ true → (if a then x else y) ≡ x
       skip x y true f = refl
@@ -137,7 +138,7 @@ module _ (list : List ℕ) (p : Package) (sound : IsSound list p.files) (facts :
   module _ (x : List ℕ) (c : Class) (known : class_named w x ≡ Some c) (own : c.is_imported ≡ false)
       (class_here : is_interface c.flags ≡ false) (i : ℕ) (m : Member) (there : slice_get c.methods i ≡ Some m) where
     assigned_token : (exported : Bool) × (token_of_member (tokens p) (member_at c (length c.fields + i))
-        ≡ class_method_token exported (slots (line_at w c)) (hidden_slots (line_at w c)) c.methods i m)
+        ≡ class_method_token exported (shown_token (line_at w c)) (hidden_slots (line_at w c)) c.methods i m)
     unfolding assigned
     assigned_token =
         let f = own_filed p.files sound.classes sound.exports c (has_named w x c known) own in
@@ -151,24 +152,24 @@ module _ (list : List ℕ) (p : Package) (sound : IsSound list p.files) (facts :
         let no_interface : is_interface d.flags ≡ false = ap (λ (q : Class). is_interface q.flags) (sym f.3)
         ∙ class_here in
         let here : slice_get d.methods i ≡ Some m = ap (λ (q : Class). slice_get q.methods i) (sym f.3) ∙ there in
-        let shown = slots (line_at w d) in
+        let shown = shown_token (line_at w d) in
         let hidden = hidden_slots (line_at w d) in
         let row = of_class w (has_applets p) r.0 n t in
         let long : length d.fields ≡ length (field_tokens exported t.fields 0 t.fields) =
         length-map t.fields field_of_class ∙ sym (fields_long exported t.fields 0 t.fields) in
         let tail : method_tokens w exported d ≡ class_method_tokens exported shown hidden d.methods 0 d.methods
-        ++ map (λ q. token shown (signature_of q)) (added w d) =
+        ++ map (λ q. shown (signature_of q)) (added w d) =
         ap (λ b. if b
         then map (Rattle.cjc_tokens.specs.Methods.interface_token (Rattle.cjc_tokens.specs.Methods.interface_methods
         w d)) d.methods else class_method_tokens exported shown hidden d.methods 0 d.methods
-        ++ map (λ q. token shown (signature_of q)) (added w d)) no_interface in
+        ++ map (λ q. shown (signature_of q)) (added w d)) no_interface in
         let in_row : slice_get row.members (length d.fields + i) ≡ Some (class_method_token exported shown hidden
         d.methods i m) =
         ap (λ l. slice_get row.members (l + i)) long
         ∙ get_past (field_tokens exported t.fields 0 t.fields) (method_tokens w exported d) i
         ∙ ap (λ xs. slice_get xs i) tail
         ∙ get_front (class_method_tokens exported shown hidden d.methods 0 d.methods)
-        (map (λ q. token shown (signature_of q)) (added w d)) i (class_method_token exported shown hidden d.methods
+        (map (λ q. shown (signature_of q)) (added w d)) i (class_method_token exported shown hidden d.methods
         i m)
         (method_row exported shown hidden d.methods 0 d.methods i m here
         ∙ ap (λ j. Some (class_method_token exported shown hidden d.methods j m)) zi) in (
@@ -177,7 +178,7 @@ module _ (list : List ℕ) (p : Package) (sound : IsSound list p.files) (facts :
               ∙ ap (option_and_then (λ (k : OfClass). joined (slice_get k.members (length d.fields + i)))) (r.1
               ∙ ap (λ k. Some (of_class w (has_applets p) r.0 k t)) z)
               ∙ ap joined in_row
-              ∙ ap (λ (q : Class). class_method_token exported (slots (line_at w q)) (hidden_slots (line_at w q))
+              ∙ ap (λ (q : Class). class_method_token exported (shown_token (line_at w q)) (hidden_slots (line_at w q))
               q.methods i m) (sym f.3),
         )
 
@@ -212,8 +213,10 @@ module _ (list : List ℕ) (p : Package) (sound : IsSound list p.files) (facts :
         let a = assigned_token in
         let small : nat_lt t 128 ≡ true = grind (arith, nat_tests, low) in
         has_token virtual
-        ∙ ap (λ o. by_byte (unwrap_or o 0xFF)) (a.1 ∙ shown_token a.0 (slots (line_at w c)) (hidden_slots (line_at w c))
-        c.methods i m shown_here ∙ ap (λ l. token (slots l) (signature_of m)) (sym (line_same x c known)) ∙ is)
+        ∙ ap (λ o. by_byte (unwrap_or o 0xFF)) (a.1 ∙ open_token a.0 (shown_token (line_at w c)) (hidden_slots (line_at w c))
+        c.methods i m shown_here ∙ ap (λ l. shown_token l (signature_of m)) (sym (line_same x c known))
+        ∙ shown-place w facts.are_supertypes facts.one_supertypes facts.rules x c (signature_of m) known
+        (λ far. class_here) ∙ is)
         ∙ ap (λ b. if b then Some (Open t) else Some (Hidden 0 (t - 0x80))) small
 
     -- a package-visible one has it with the high bit
@@ -224,7 +227,7 @@ module _ (list : List ℕ) (p : Package) (sound : IsSound list p.files) (facts :
         let large : nat_lt (t + 128) 128 ≡ false = grind (arith, nat_tests) in
         let less : t + 128 - 128 ≡ t = omega arith in
         has_token virtual
-        ∙ ap (λ o. by_byte (unwrap_or o 0xFF)) (a.1 ∙ hidden_token a.0 (slots (line_at w c))
+        ∙ ap (λ o. by_byte (unwrap_or o 0xFF)) (a.1 ∙ hidden_token a.0 (shown_token (line_at w c))
         (hidden_slots (line_at w c)) c.methods i m not_shown (virtual_kinds m virtual not_shown)
         ∙ ap (λ l. option_map with_high_bit (token (hidden_slots l) (signature_of m))) (sym (line_same x c known))
         ∙ ap (option_map with_high_bit) is)

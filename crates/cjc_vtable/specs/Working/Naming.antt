@@ -5,7 +5,6 @@ use Rattle.cjc_world.specs.declared.found.Found.{Found}
 use Rattle.cjc_world.specs.Files.{Files}
 use Rattle.cjc_world.specs.Added.{added_at}
 use Rattle.cjc_tokens.specs.Members.{Signature}
-use Rattle.cjc_tokens.specs.Slots.{Slots, token}
 use Rattle.cjc_vtable.specs.Tables.{or_zero}
 
 abbrev pub signature_by : MemberId → Signature
@@ -15,7 +14,7 @@ signature_by m = record { name = m.name; desc = m.desc }
 abbrev pub ids_at : Files → Found → List MemberId
 ids_at files f = if f.imported then [] else added_at files f.class
 
--- the index of an interface's method in a class
-abbrev pub index_of : Slots → Option Signature → ℕ
-index_of all None = 0
-index_of all (Some s) = or_zero (token all s)
+-- the index of an interface's method in a class that has these tokens
+abbrev pub index_of : (Signature → Option ℕ) → Option Signature → ℕ
+index_of shown None = 0
+index_of shown (Some s) = or_zero (shown s)

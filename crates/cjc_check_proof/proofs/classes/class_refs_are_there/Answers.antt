@@ -19,7 +19,7 @@ use Rattle.cjc_world.specs.Interfaces.{known}
 use Rattle.cjc_world.proofs.Unbroken.{unbroken_is_acyclic}
 use Rattle.cjc_tokens.specs.Fields.{is_constant}
 use Rattle.cjc_tokens.specs.Lines.{line_at}
-use Rattle.cjc_tokens.specs.Slots.{slots}
+use Rattle.cjc_tokens.specs.Slots.{shown_token}
 use Rattle.cjc_tokens.specs.Methods.{interfaces_at}
 use Rattle.cjc_vtable.specs.declared.table.InterfaceMap.{InterfaceMap}
 use Rattle.cjc_vtable.specs.Tables.{interface_map, table_of}
@@ -100,7 +100,7 @@ module _ (list : List ℕ) (p : Package) (sound : IsSound list p.files) (found_t
       let table = table_of w c in
       none_along map_size (in_map test) (implemented (class_ref p)) (maps_begin at (class_entry (class_ref p) p c))
       table.maps (λ k m g.
-      let r = has-mapped (interface_map w (slots (line_at w c))) m (known (interfaces_at w c)) g in
+      let r = has-mapped (interface_map w (shown_token (line_at w c))) m (known (interfaces_at w c)) g in
       passes _ (in_info 6 k) (ap (λ (n : InterfaceMap). test (class_ref p n.interface)) (sym r.2)
       ∙ interfaces_there c h r.0 r.1))
 

@@ -16,7 +16,7 @@ use Rattle.cjc_world.specs.Rules.{is_interface_of}
 use Rattle.cjc_world.proofs.Cycles.{class_named-name}
 use Rattle.cjc_world.proofs.Unbroken.{unbroken_is_acyclic}
 use Rattle.cjc_tokens.specs.Lines.{line_at}
-use Rattle.cjc_tokens.specs.Slots.{slots}
+use Rattle.cjc_tokens.specs.Slots.{shown_token}
 use Rattle.cjc_tokens.specs.Methods.{interfaces_at}
 use Rattle.cjc_vtable.specs.declared.table.InterfaceMap.{InterfaceMap}
 use Rattle.cjc_vtable.specs.Tables.{interface_map, table_of}
@@ -66,7 +66,7 @@ module _ (list : List ℕ) (p : Package) (sound : IsSound list p.files) where
       let table = table_of w c in
       none_along map_size (in_map test) (implemented (class_ref p)) (maps_begin at (class_entry (class_ref p) p c))
       table.maps (λ k m g.
-      let r = has-mapped (interface_map w (slots (line_at w c))) m (known (interfaces_at w c)) g in
+      let r = has-mapped (interface_map w (shown_token (line_at w c))) m (known (interfaces_at w c)) g in
       passes _ (in_info 6 k) (ap (λ (n : InterfaceMap). test (class_ref p n.interface)) (sym r.2) ∙ one c h r.0 r.1))
 
   -- ---- superclasses

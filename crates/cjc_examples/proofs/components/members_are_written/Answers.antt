@@ -18,7 +18,7 @@ use Rattle.cjc_world.specs.Lookup.{first, own_field, find_field, own_method, fin
 use Rattle.cjc_world.specs.Added.{own_methods, methods_of, asked_by, has_open, lacking, added}
 use Rattle.cjc_world.specs.Order.{may_stand, next, lined_up, in_order, class_order, method_order}
 use Rattle.cjc_components.specs.Narrow.Rows.Resolved.{resolution}
-use Rattle.cjc_tokens.specs.Slots.{token, own, got}
+use Rattle.cjc_tokens.specs.Slots.{token, own, got, first_answer, taken_slots, token_among, shown_token}
 use Rattle.cjc_tokens.specs.Methods.{interfaces_at, interface_methods, class_method_token, class_method_tokens}
 use Rattle.cjc_components.specs.CheckRules.Spots.{placed}
 use Rattle.cjc_capwrite.specs.CapRead.Opcodes.{forms, form}
@@ -39,8 +39,9 @@ unfolding int_wrap repeated raw front digits each desc_of parts_of bad_at after 
     opcode_at wide_opcode_at behind_opcode behind_first instruction cut_rest cut marks starts unfit_code named all_named
     least decoding decoded classes_from all_classes class_named class_at supertypes_within supertypes line gathered
     known first own_field find_field own_method find_method own_methods methods_of asked_by has_open lacking added
-    may_stand next lined_up in_order class_order method_order resolution token own got interfaces_at interface_methods
-    placed forms form interface_bytes implemented_bytes class_entry_bytes class_info_bytes
+    may_stand next lined_up in_order class_order method_order resolution token own got first_answer taken_slots
+    token_among shown_token interfaces_at interface_methods placed forms form interface_bytes implemented_bytes
+    class_entry_bytes class_info_bytes
 returns-clause-class c = refl
 
 pub returns-clause-method : goal.returns-clause-method
@@ -48,8 +49,8 @@ unfolding int_wrap repeated raw front digits each desc_of parts_of bad_at after 
     opcode_at wide_opcode_at behind_opcode behind_first instruction cut_rest cut marks starts unfit_code named all_named
     least decoding decoded classes_from all_classes class_named class_at supertypes_within supertypes line gathered
     known first own_field find_field own_method find_method own_methods methods_of asked_by has_open lacking added
-    may_stand next lined_up in_order class_order method_order resolution token own got interfaces_at interface_methods
-    placed forms form meaning handler_bytes method_bytes
+    may_stand next lined_up in_order class_order method_order resolution token own got first_answer taken_slots
+    token_among shown_token interfaces_at interface_methods placed forms form meaning handler_bytes method_bytes
 returns-clause-method c = refl
 
 pub returns-clause-export : goal.returns-clause-export
@@ -57,10 +58,10 @@ unfolding int_wrap repeated raw front digits each desc_of parts_of bad_at after 
     opcode_at wide_opcode_at behind_opcode behind_first instruction cut_rest cut marks starts unfit_code named all_named
     least decoding decoded classes_from all_classes class_named class_at supertypes_within supertypes line gathered
     known first own_field find_field own_method find_method method_of_interface own_methods methods_of asked_by has_open
-    lacking added may_stand next lined_up in_order class_order method_order resolution token own got interfaces_at
-    interface_methods class_method_token class_method_tokens placed forms form is_exported is_subclass is_subtype
-    instance_token field_token field_tokens instance_tokens token_classes_from assigned exported_class_bytes
-    export_bytes
+    lacking added may_stand next lined_up in_order class_order method_order resolution token own got first_answer
+    taken_slots token_among shown_token interfaces_at interface_methods class_method_token class_method_tokens placed
+    forms form is_exported is_subclass is_subtype instance_token field_token field_tokens instance_tokens
+    token_classes_from assigned exported_class_bytes export_bytes
 returns-clause-export c = refl
 
 pub returns-clause-descriptor : goal.returns-clause-descriptor
@@ -68,10 +69,11 @@ unfolding int_wrap repeated raw front digits each desc_of parts_of bad_at after 
     opcode_at wide_opcode_at behind_opcode behind_first instruction cut_rest cut marks starts unfit_code named all_named
     least decoding decoded classes_from all_classes class_named class_at supertypes_within supertypes line gathered
     known first own_field find_field own_method find_method method_of_interface own_methods methods_of asked_by has_open
-    lacking added may_stand next lined_up in_order class_order method_order resolution token own got interfaces_at
-    interface_methods class_method_token class_method_tokens placed forms form is_exported is_subclass is_subtype
-    instance_token field_token field_tokens instance_tokens token_classes_from assigned meaning field_bytes code_bytes
-    method_descriptor_bytes class_descriptor_bytes type_bytes types_bytes descriptor_bytes
+    lacking added may_stand next lined_up in_order class_order method_order resolution token own got first_answer
+    taken_slots token_among shown_token interfaces_at interface_methods class_method_token class_method_tokens placed
+    forms form is_exported is_subclass is_subtype instance_token field_token field_tokens instance_tokens
+    token_classes_from assigned meaning field_bytes code_bytes method_descriptor_bytes class_descriptor_bytes type_bytes
+    types_bytes descriptor_bytes
 returns-clause-descriptor c = refl
 
 pub returns-clause-told : goal.returns-clause-told
@@ -79,7 +81,8 @@ unfolding int_wrap repeated raw front digits each desc_of parts_of bad_at after 
     opcode_at wide_opcode_at behind_opcode behind_first instruction cut_rest cut marks starts unfit_code named all_named
     least decoding decoded classes_from all_classes class_named class_at supertypes_within supertypes line gathered
     known first own_field find_field own_method find_method method_of_interface own_methods methods_of asked_by has_open
-    lacking added may_stand next lined_up in_order class_order method_order resolution token own got interfaces_at
-    interface_methods class_method_token class_method_tokens placed forms form is_exported is_subclass is_subtype
-    instance_token field_token field_tokens instance_tokens token_classes_from assigned
+    lacking added may_stand next lined_up in_order class_order method_order resolution token own got first_answer
+    taken_slots token_among shown_token interfaces_at interface_methods class_method_token class_method_tokens placed
+    forms form is_exported is_subclass is_subtype instance_token field_token field_tokens instance_tokens
+    token_classes_from assigned
 returns-clause-told c = refl

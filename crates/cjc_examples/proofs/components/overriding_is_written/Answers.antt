@@ -18,7 +18,7 @@ use Rattle.cjc_world.specs.Lookup.{first, own_field, find_field, own_method, fin
 use Rattle.cjc_world.specs.Added.{own_methods, methods_of, asked_by, has_open, lacking, added}
 use Rattle.cjc_world.specs.Order.{may_stand, next, lined_up, in_order, class_order, method_order}
 use Rattle.cjc_components.specs.Narrow.Rows.Resolved.{resolution}
-use Rattle.cjc_tokens.specs.Slots.{token, own, got}
+use Rattle.cjc_tokens.specs.Slots.{token, own, got, first_answer, taken_slots, token_among, shown_token}
 use Rattle.cjc_tokens.specs.Methods.{interfaces_at, interface_methods, class_method_token, class_method_tokens}
 use Rattle.cjc_components.specs.CheckRules.Spots.{placed}
 use Rattle.cjc_capwrite.specs.CapRead.Opcodes.{forms, form}
@@ -35,8 +35,9 @@ unfolding int_wrap repeated raw front digits each desc_of parts_of bad_at after 
     opcode_at wide_opcode_at behind_opcode behind_first instruction cut_rest cut marks starts unfit_code named all_named
     least decoding decoded classes_from all_classes class_named class_at supertypes_within supertypes line gathered
     known first own_field find_field own_method find_method own_methods methods_of asked_by has_open lacking added
-    may_stand next lined_up in_order class_order method_order resolution token own got interfaces_at interface_methods
-    placed forms form interface_bytes implemented_bytes class_entry_bytes class_info_bytes
+    may_stand next lined_up in_order class_order method_order resolution token own got first_answer taken_slots
+    token_among shown_token interfaces_at interface_methods placed forms form interface_bytes implemented_bytes
+    class_entry_bytes class_info_bytes
 returns-clause-class c = refl
 
 pub returns-clause-pool : goal.returns-clause-pool
@@ -44,9 +45,10 @@ unfolding int_wrap repeated raw front digits each desc_of parts_of bad_at after 
     opcode_at wide_opcode_at behind_opcode behind_first instruction cut_rest cut marks starts unfit_code named all_named
     least decoding decoded classes_from all_classes class_named class_at supertypes_within supertypes line gathered
     known first own_field find_field own_method find_method method_of_interface own_methods methods_of asked_by has_open
-    lacking added may_stand next lined_up in_order class_order method_order resolution token own got interfaces_at
-    interface_methods class_method_token class_method_tokens placed forms form is_exported is_subclass is_subtype
-    instance_token field_token field_tokens instance_tokens token_classes_from assigned
+    lacking added may_stand next lined_up in_order class_order method_order resolution token own got first_answer
+    taken_slots token_among shown_token interfaces_at interface_methods class_method_token class_method_tokens placed
+    forms form is_exported is_subclass is_subtype instance_token field_token field_tokens instance_tokens
+    token_classes_from assigned
 returns-clause-pool c = refl
 
 pub returns-clause-method : goal.returns-clause-method
@@ -54,9 +56,10 @@ unfolding int_wrap repeated raw front digits each desc_of parts_of bad_at after 
     opcode_at wide_opcode_at behind_opcode behind_first instruction cut_rest cut marks starts unfit_code named all_named
     least decoding decoded classes_from all_classes class_named class_at supertypes_within supertypes line gathered
     known first own_field find_field own_method find_method method_of_interface own_methods methods_of asked_by has_open
-    lacking added may_stand next lined_up in_order class_order method_order resolution token own got interfaces_at
-    interface_methods class_method_token class_method_tokens placed forms form is_exported is_subclass is_subtype
-    instance_token field_token field_tokens instance_tokens token_classes_from assigned meaning
+    lacking added may_stand next lined_up in_order class_order method_order resolution token own got first_answer
+    taken_slots token_among shown_token interfaces_at interface_methods class_method_token class_method_tokens placed
+    forms form is_exported is_subclass is_subtype instance_token field_token field_tokens instance_tokens
+    token_classes_from assigned meaning
 returns-clause-method c = refl
 
 pub returns-clause-export : goal.returns-clause-export
@@ -64,7 +67,8 @@ unfolding int_wrap repeated raw front digits each desc_of parts_of bad_at after 
     opcode_at wide_opcode_at behind_opcode behind_first instruction cut_rest cut marks starts unfit_code named all_named
     least decoding decoded classes_from all_classes class_named class_at supertypes_within supertypes line gathered
     known first own_field find_field own_method find_method method_of_interface own_methods methods_of asked_by has_open
-    lacking added may_stand next lined_up in_order class_order method_order resolution token own got interfaces_at
-    interface_methods class_method_token class_method_tokens placed forms form is_exported is_subclass is_subtype
-    instance_token field_token field_tokens instance_tokens token_classes_from assigned
+    lacking added may_stand next lined_up in_order class_order method_order resolution token own got first_answer
+    taken_slots token_among shown_token interfaces_at interface_methods class_method_token class_method_tokens placed
+    forms form is_exported is_subclass is_subtype instance_token field_token field_tokens instance_tokens
+    token_classes_from assigned
 returns-clause-export c = refl

@@ -34,9 +34,8 @@ use Rattle.cjc_subset.specs.Flags.{has_two_accesses, is_unfit_method}
 use Rattle.cjc_tokens.specs.Lines.{line_at}
 use Rattle.cjc_tokens.specs.Members.{Signature, is_constructor, is_initialiser, is_shown, signature_of}
 use Rattle.cjc_tokens.specs.Methods.{interface_methods, interface_row, is_open_bound}
-use Rattle.cjc_tokens.specs.Slots.{Slots, implementing, meant_by, row, slots, token}
+use Rattle.cjc_tokens.specs.Slots.{Slots, implementing, meant_by, row, shown_token, slots}
 use Rattle.cjc_vtable.proofs.Filed.{Has, at_front, behind}
-use Rattle.cjc_vtable.proofs.Once.{one_method}
 use Rattle.cjc_world.proofs.Settled.{AreSupertypes-one}
 use Rattle.cjc_world.specs.Added.{added}
 use Rattle.cjc_world.specs.Classes.{Class, Member, class_named, declared, method_of_class}
@@ -54,7 +53,7 @@ use Rattle.cjc_shape_proof.proofs.WrittenLaws.FittingLaws.Order.{has_either, has
 use Rattle.cjc_shape_proof.proofs.WrittenLaws.FittingLaws.OwnTokens.{Offers, added_token, both_apart, bound_token}
 use Rattle.cjc_shape_proof.proofs.WrittenLaws.FittingLaws.OwnTokens.{bound_unbound, given_apart, listed_kind}
 use Rattle.cjc_shape_proof.proofs.WrittenLaws.FittingLaws.OwnTokens.{offers_given, offers_shown, own_apart, own_there}
-use Rattle.cjc_shape_proof.proofs.WrittenLaws.FittingLaws.OwnTokens.{shown_token, shown_unbound, slot_there}
+use Rattle.cjc_shape_proof.proofs.WrittenLaws.FittingLaws.OwnTokens.{exposed_token, shown_unbound, slot_there}
 use Rattle.cjc_shape_proof.proofs.WrittenLaws.FittingLaws.Rules as Rules
 use Rattle.cjc_shape_proof.proofs.WrittenLaws.FittingLaws.Standing.{Alone, IsGood, IsInheritedAt, IsListedAt}
 use Rattle.cjc_shape_proof.proofs.WrittenLaws.FittingLaws.Standing.{added_alone, added_in, alone_append, apart_numbers}
@@ -231,13 +230,19 @@ module _ (list : ListTree) (files : List (List ℕ)) (judged : Judged) (p : Pack
 
   -- what the class declares or got has the place of its slot for a token
   at_slot : (s : Signature) (j : ℕ) → Offers p.files (has_applets p) n t there plain s
-      → tok j ≡ unwrap_or (token shown_slots s) 0xFF → (token shown_slots s ≡ Some (tok j)) × (tok j ≤ 127)
+      → tok j ≡ unwrap_or (shown_token (line_at w c) s) 0xFF
+      → (slice_get shown_slots (tok j) ≡ Some (Some s)) × (tok j ≤ 127)
   at_slot s j offers e =
       let r = slot_there p.files (has_applets p) n t there plain s offers in
       let same : tok j ≡ r.0 = e ∙ ap (λ q. unwrap_or q 0xFF) r.1 in
-      let lt = r.2 in
+      let lt = slice_get_within shown_slots r.0 (Some s) r.2 in
       let le = slots_few in
-      (r.1 ∙ ap (λ q. Some q) (sym same), omega (arith, same, lt, le))
+      (ap (slice_get shown_slots) same ∙ r.2, omega (arith, same, lt, le))
+
+  -- a slot is one method's
+  one_slot : (s u : Signature) (i : ℕ) → slice_get shown_slots i ≡ Some (Some s) → slice_get shown_slots i
+      ≡ Some (Some u) → s ≡ u
+  one_slot s u i e f = let both : Some (Some s) ≡ Some (Some u) = sym e ∙ f in cc
 
   -- ---- its own
 
@@ -267,12 +272,12 @@ module _ (list : ListTree) (files : List (List ℕ)) (judged : Judged) (p : Pack
   methods = let d = c in d.methods
 
   shown_at : (k : ℕ) (m : Member) → slice_get methods k ≡ Some m → is_shown m ≡ true
-      → (token shown_slots (signature_of m) ≡ Some (tok (fields + k))) × (tok (fields + k) ≤ 127)
+      → (slice_get shown_slots (tok (fields + k)) ≡ Some (Some (signature_of m))) × (tok (fields + k) ≤ 127)
   shown_at k m e s = at_slot (signature_of m) (fields + k) (offers_shown p.files (has_applets p) n t there plain k m e
-      s) (ap (λ q. unwrap_or q 0xFF) (shown_token p.files (has_applets p) n t there plain k m e s))
+      s) (ap (λ q. unwrap_or q 0xFF) (exposed_token p.files (has_applets p) n t there plain k m e s))
 
   given_at : (k : ℕ) (m : Member) → slice_get given k ≡ Some m
-      → (token shown_slots (signature_of m) ≡ Some (tok (fields + length methods + k)))
+      → (slice_get shown_slots (tok (fields + length methods + k)) ≡ Some (Some (signature_of m)))
       × (tok (fields + length methods + k) ≤ 127)
   given_at k m e = at_slot (signature_of m) (fields + length methods + k) (offers_given p.files (has_applets p) n t
       there plain k m e) (ap (λ q. unwrap_or q 0xFF) (added_token p.files (has_applets p) n t there plain k m e))
@@ -323,16 +328,16 @@ module _ (list : ListTree) (files : List (List ℕ)) (judged : Judged) (p : Pack
       by (inr a) (inr b) =
           apart_numbers (tok (fields + j)) (tok (fields + k)) (same_bool (is_unbound x.flags x.name)
           (is_unbound m.flags m.name))
-          (λ same. own_apart p.files (has_applets p) n t there plain own_once j k m x lt e f (one_method shown_slots
-          (signature_of m) (signature_of x) (tok (fields + j)) (shown_at j m e a).0 ((shown_at k x f b).0
-          ∙ ap (λ z. Some z) (sym same))))
+          (λ same. own_apart p.files (has_applets p) n t there plain own_once j k m x lt e f (one_slot
+          (signature_of m) (signature_of x) (tok (fields + j)) (shown_at j m e a).0 (ap (slice_get shown_slots) same
+          ∙ (shown_at k x f b).0)))
 
   given_pair : (j k : ℕ) (m x : Member) → j < k → slice_get given j ≡ Some m → slice_get given k ≡ Some x
       → tok (fields + length methods + j) ≡ tok (fields + length methods + k) → ⊥
   given_pair j k m x lt e f same =
-      given_apart p.files (has_applets p) n t there plain j k m x lt e f (one_method shown_slots (signature_of m)
-      (signature_of x) (tok (fields + length methods + j)) (given_at j m e).0 ((given_at k x f).0
-      ∙ ap (λ z. Some z) (sym same)))
+      given_apart p.files (has_applets p) n t there plain j k m x lt e f (one_slot (signature_of m)
+      (signature_of x) (tok (fields + length methods + j)) (given_at j m e).0 (ap (slice_get shown_slots) same
+      ∙ (given_at k x f).0))
 
   both_pair : (j k : ℕ) (m x : Member) → slice_get methods j ≡ Some m → is_listed c m ≡ true
       → slice_get given k ≡ Some x
@@ -348,9 +353,9 @@ module _ (list : ListTree) (files : List (List ℕ)) (judged : Judged) (p : Pack
       by (inr a) =
           apart_numbers (tok (fields + j)) (tok (fields + length methods + k))
           (same_bool (is_unbound (let y = as_added x in y.flags) x.name) (is_unbound m.flags m.name))
-          (λ same. both_apart p.files (has_applets p) n t there plain j k m x e a f (one_method shown_slots
-          (signature_of m) (signature_of x) (tok (fields + j)) (shown_at j m e a).0 ((given_at k x f).0
-          ∙ ap (λ z. Some z) (sym same))))
+          (λ same. both_apart p.files (has_applets p) n t there plain j k m x e a f (one_slot
+          (signature_of m) (signature_of x) (tok (fields + j)) (shown_at j m e a).0 (ap (slice_get shown_slots) same
+          ∙ (given_at k x f).0)))
 
   -- ---- what it inherits
 
@@ -361,7 +366,8 @@ module _ (list : ListTree) (files : List (List ℕ)) (judged : Judged) (p : Pack
   record IsOthers (e : ExportMethod) : Type 0 where
     good : IsGood e
     bound : is_unbound e.flags e.name ≡ false
-    free : (s : Signature) → Offers p.files (has_applets p) n t there plain s → token shown_slots s ≡ Some e.token → ⊥
+    free : (s : Signature) → Offers p.files (has_applets p) n t there plain s → slice_get shown_slots e.token
+        ≡ Some (Some s) → ⊥
 
   others : (e : ExportMethod) → Has e (inherited_from w c 0 its_row) → IsOthers e
   others e h = by (slot.0) slot.1 slot.2
@@ -373,8 +379,8 @@ module _ (list : ListTree) (files : List (List ℕ)) (judged : Judged) (p : Pack
           × (meant_by (implementing (line_at w c)) q ≡ Some r.found)
       slot = mapped_at (meant_by (implementing (line_at w c))) shown_slots r.place (Some r.found) r.there
 
-      free_of : (s : Signature) → Offers p.files (has_applets p) n t there plain s → token shown_slots s ≡ Some e.token
-          → ⊥
+      free_of : (s : Signature) → Offers p.files (has_applets p) n t there plain s → slice_get shown_slots e.token
+          ≡ Some (Some s) → ⊥
       free_of s offers at_it =
           let place_is : e.token ≡ r.place = (let z : 0 + r.place ≡ e.token = ap (λ (x : ExportMethod). x.token) r.is
           in omega (arith, z)) in
@@ -485,9 +491,9 @@ module _ (list : ListTree) (files : List (List ℕ)) (judged : Judged) (p : Pack
       ∙ both_pair r.place s.place r.member s.member r.there r.listed s.there
 
   free_pair : (x y : ExportMethod) (s : Signature) → IsOthers y → Offers p.files (has_applets p) n t there plain s
-      → token shown_slots s ≡ Some x.token → clashes x y ≡ false
+      → slice_get shown_slots x.token ≡ Some (Some s) → clashes x y ≡ false
   free_pair x y s others_one offers e = apart_numbers x.token y.token (same_bool (is_unbound y.flags y.name)
-      (is_unbound x.flags x.name)) (λ same. others_one.free s offers (e ∙ ap (λ z. Some z) same))
+      (is_unbound x.flags x.name)) (λ same. others_one.free s offers (ap (slice_get shown_slots) (sym same) ∙ e))
 
   own_others : (x y : ExportMethod) → Has x A → Has y C → clashes x y ≡ false
   own_others x y h g = ap (λ (z : ExportMethod). clashes z y) (sym r.is) ∙ by (kind r.place r.member r.there r.listed)

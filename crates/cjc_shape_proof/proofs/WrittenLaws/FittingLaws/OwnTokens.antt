@@ -6,7 +6,7 @@ use Rattle.std.specs.Prelude.{not, ◌&&◌, ◌||◌, ◌⊎◌, count_by, opti
 use Rattle.std.specs.Prelude.{if◌then◌else◌}
 use Rattle.std.specs.List.{list_any}
 use Rattle.std.proofs.lemmas.List.{length-map}
-use Rattle.std.proofs.lemmas.Option.{slice_get-map, slice_get_within}
+use Rattle.std.proofs.lemmas.Option.{slice_get-map}
 use Rattle.cjc_bytes.specs.AccessFlags.{is_interface, is_private, is_protected, is_public, is_static}
 use Rattle.cjc_classfile.specs.declared.tree.ClassTree.{ClassTree}
 use Rattle.cjc_classfile.specs.declared.tree.FieldTree.{FieldTree}
@@ -15,18 +15,17 @@ use Rattle.cjc_export.specs.Members.{is_unbound}
 use Rattle.cjc_narrow_proof.proofs.LawsLaws.Own.{first_here}
 use Rattle.cjc_subset.specs.Flags.{has_two_accesses}
 use Rattle.cjc_tokens.proofs.Facts.{has-got_none, has-own_none, same-refl}
-use Rattle.cjc_tokens.proofs.Held.{at_front, has_slot-append, offered-has_slot, token-slot}
+use Rattle.cjc_tokens.proofs.Held.{at_front}
 use Rattle.cjc_tokens.proofs.Means.{kept-at}
 use Rattle.cjc_tokens.specs.Fields.{field_tokens}
-use Rattle.cjc_tokens.specs.Lines.{line_at, line_in}
+use Rattle.cjc_tokens.specs.Lines.{Line, line_at, line_in}
 use Rattle.cjc_tokens.specs.Members.{Signature, has, is_constructor, is_exposed, is_hidden, is_initialiser, is_shown}
 use Rattle.cjc_tokens.specs.Members.{same, signature_of, signatures}
 use Rattle.cjc_tokens.specs.Methods.{class_method_token, class_method_tokens, interface_methods, interface_token}
 use Rattle.cjc_tokens.specs.Methods.{is_open_bound}
-use Rattle.cjc_tokens.specs.Slots.{Slots, got, has_slot, hidden_slots, implementing, new_in, own, row, slots, token}
-use Rattle.cjc_tokens.specs.Slots.{with_new}
+use Rattle.cjc_tokens.specs.Slots.{Slots, got, hidden_slots, implementing, own, row, shown_token, slots, token}
 use Rattle.cjc_tokens.specs.Tokens.{OfClass, assigned, joined, method_tokens, token_of_member}
-use Rattle.cjc_vtable.proofs.Calls.{token-some}
+use Rattle.cjc_vtable.proofs.Shown.{declared-token}
 use Rattle.cjc_vtable.proofs.SlotNames.{get-behind}
 use Rattle.cjc_vtable.proofs.Towers.{declared-own, row_at}
 use Rattle.cjc_vtable.specs.Tables.{is_own}
@@ -232,14 +231,14 @@ unfolding field_tokens
 fields_long exported fs i [] = refl
 fields_long exported fs i (f ∷ rest) = ap suc (fields_long exported fs (i + 1) rest)
 
-methods_long : (exported : Bool) (shown hidden : Slots) (ms : List Member) (i : ℕ) (rest : List Member)
+methods_long : (exported : Bool) (shown : Signature → Option ℕ) (hidden : Slots) (ms : List Member) (i : ℕ) (rest : List Member)
     → length (class_method_tokens exported shown hidden ms i rest) ≡ length rest
 unfolding class_method_tokens
 methods_long exported shown hidden ms i [] = refl
 methods_long exported shown hidden ms i (m ∷ rest) = ap suc (methods_long exported shown hidden ms (i + 1) rest)
 
-method_row : (exported : Bool) (shown hidden : Slots) (ms : List Member) (i : ℕ) (rest : List Member) (k : ℕ)
-    (m : Member) → slice_get rest k ≡ Some m
+method_row : (exported : Bool) (shown : Signature → Option ℕ) (hidden : Slots) (ms : List Member) (i : ℕ)
+    (rest : List Member) (k : ℕ) (m : Member) → slice_get rest k ≡ Some m
     → slice_get (class_method_tokens exported shown hidden ms i rest) k ≡ Some (class_method_token exported shown hidden
     ms (i + k) m)
 unfolding class_method_tokens
@@ -268,11 +267,14 @@ module _ (files : Files) (applets : Bool) (n : ℕ) (t : ClassTree) (there : sli
   abbrev shown_slots : Slots
   shown_slots = slots (line_at w c)
 
+  abbrev shown_ones : Signature → Option ℕ
+  shown_ones = shown_token (line_at w c)
+
   abbrev hidden_ones : Slots
   hidden_ones = hidden_slots (line_at w c)
 
-  abbrev above : Slots
-  above = slots (line_in w (supertypes w c.supers))
+  abbrev above : Line
+  above = line_in w (supertypes w c.supers)
 
   abbrev token_at : ℕ → Option ℕ
   token_at j = token_of_member (assigned applets files) (member_at c j)
@@ -289,32 +291,32 @@ module _ (files : Files) (applets : Bool) (n : ℕ) (t : ClassTree) (there : sli
       ∙ ap joined (get-behind fields (method_tokens w ex c) j)
 
   abbrev own_tokens : List (Option ℕ)
-  own_tokens = class_method_tokens (is_exported w applets c) shown_slots hidden_ones c.methods 0 c.methods
+  own_tokens = class_method_tokens (is_exported w applets c) shown_ones hidden_ones c.methods 0 c.methods
 
   abbrev slot_of : Member → Option ℕ
-  slot_of m = token shown_slots (signature_of m)
+  slot_of m = shown_ones (signature_of m)
 
   as_methods : method_tokens w (is_exported w applets c) c ≡ own_tokens ++ map slot_of given
   as_methods = ap (λ b. if b then map (interface_token (interface_methods w c)) c.methods else own_tokens
       ++ map slot_of given) plain
 
   own_token : (k : ℕ) (m : Member) → slice_get c.methods k ≡ Some m → token_at (length c.fields + k)
-      ≡ class_method_token (is_exported w applets c) shown_slots hidden_ones c.methods k m
+      ≡ class_method_token (is_exported w applets c) shown_ones hidden_ones c.methods k m
   own_token k m at =
       let zk : 0 + k ≡ k = omega arith in
       let ex = is_exported w applets c in
       in_row k
       ∙ ap (λ xs. joined (slice_get xs k)) as_methods
-      ∙ ap joined (at_front own_tokens (map slot_of given) k _ (method_row ex shown_slots hidden_ones c.methods 0
+      ∙ ap joined (at_front own_tokens (map slot_of given) k _ (method_row ex shown_ones hidden_ones c.methods 0
       c.methods k m at))
-      ∙ ap (λ j. class_method_token ex shown_slots hidden_ones c.methods j m) zk
+      ∙ ap (λ j. class_method_token ex shown_ones hidden_ones c.methods j m) zk
 
   pub added_token : (i : ℕ) (m : Member) → slice_get given i ≡ Some m
       → token_at (length c.fields + length c.methods + i) ≡ slot_of m
   added_token i m at =
       let moved : length c.fields + length c.methods + i ≡ length c.fields + (length c.methods + i) = omega arith in
       let counted : length c.methods ≡ length own_tokens =
-      sym (methods_long (is_exported w applets c) shown_slots hidden_ones c.methods 0 c.methods) in
+      sym (methods_long (is_exported w applets c) shown_ones hidden_ones c.methods 0 c.methods) in
       ap token_at moved
       ∙ in_row (length c.methods + i)
       ∙ ap (λ xs. joined (slice_get xs (length c.methods + i))) as_methods
@@ -323,10 +325,10 @@ module _ (files : Files) (applets : Bool) (n : ℕ) (t : ClassTree) (there : sli
       ∙ ap joined (slice_get-map slot_of given i)
       ∙ ap (λ o. joined (option_map slot_of o)) at
 
-  pub shown_token : (k : ℕ) (m : Member) → slice_get c.methods k ≡ Some m → is_shown m ≡ true
+  pub exposed_token : (k : ℕ) (m : Member) → slice_get c.methods k ≡ Some m → is_shown m ≡ true
       → token_at (length c.fields + k) ≡ slot_of m
   unfolding class_method_token
-  shown_token k m at is = own_token k m at ∙ front _ _ (is_shown m) is
+  exposed_token k m at is = own_token k m at ∙ front _ _ (is_shown m) is
     where
       front : (a b : Option ℕ) (q : Bool) → q ≡ true → (if q then a else b) ≡ a
       front a b true e = refl
@@ -358,27 +360,18 @@ module _ (files : Files) (applets : Bool) (n : ℕ) (t : ClassTree) (there : sli
   pub offers_given : (k : ℕ) (m : Member) → slice_get given k ≡ Some m → Offers (signature_of m)
   offers_given k m at = inr (has_given given k m at)
 
-  has_its : (s : Signature) → Offers s → has_slot shown_slots s ≡ true
-  has_its s h =
-      let first = with_new above (signatures is_shown c.methods) in
-      ⊎_elim
-      (λ e. has_slot-append first (map Some (new_in first (map signature_of given))) s (offered-has_slot above
-      (signatures is_shown c.methods) s e))
-      (λ e. offered-has_slot first (map signature_of given) s e)
-      h
-
   -- what it declares or got has a slot, whose place is its token
-  pub slot_there : (s : Signature) → Offers s → (i : ℕ) × (token shown_slots s ≡ Some i) × (i < length shown_slots)
-  slot_there s h = let r = token-some shown_slots s (has_its s h)
-      in (r.0, r.1, slice_get_within shown_slots r.0 (Some s) (token-slot shown_slots s r.0 r.1))
+  pub slot_there : (s : Signature) → Offers s → (i : ℕ) × (shown_ones s ≡ Some i)
+      × (slice_get shown_slots i ≡ Some (Some s))
+  slot_there s h = declared-token c given above s refl h
 
   -- the slot means its own method
-  pub own_there : (s : Signature) (i : ℕ) (f : Found) → Offers s → token shown_slots s ≡ Some i
+  pub own_there : (s : Signature) (i : ℕ) (f : Found) → Offers s → slice_get shown_slots i ≡ Some (Some s)
       → slice_get (row (line_at w c)) i ≡ Some (Some f) → is_own c.number (Some f) ≡ true
   own_there s i f h e at = by (own is_shown s c) refl (got given s c) refl
     where
       means : Some (Some f) ≡ Some (implementing (line_at w c) s)
-      means = sym at ∙ row_at (implementing (line_at w c)) shown_slots i s (token-slot shown_slots s i e)
+      means = sym at ∙ row_at (implementing (line_at w c)) shown_slots i s e
 
       last : Option Found
       last = implementing (line_in w (supertypes w c.supers)) s

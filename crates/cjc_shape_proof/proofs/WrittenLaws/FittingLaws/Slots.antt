@@ -1,19 +1,25 @@
 -- Where 413 is not broken, a class has at most 128 slots of either kind.
 use Rattle.std.proofs.Common.{◌≡◌, ℕ, zero, suc, ◌+◌, ◌<◌, ◌≤◌, refl, sym, ap, ◌∙◌, arith, Bool, true, false, List, []}
-use Rattle.std.proofs.Common.{◌∷◌, ◌++◌, length, map, append_assoc, append-nil, length-append, Some, None}
+use Rattle.std.proofs.Common.{◌∷◌, ◌++◌, length, map, append_assoc, append-nil, inl, inr, length-append, Option, Some}
+use Rattle.std.proofs.Common.{None}
 use Rattle.std.specs.Prelude.{◌&&◌, ◌||◌, not, nat_lt, option_map, position, if◌then◌else◌}
 use Rattle.std.specs.List.{AllByRecursion, list_any}
 use Rattle.std.proofs.lemmas.Bool.{ltb-false}
+use Rattle.std.proofs.lemmas.Bool.Decides.{nat_tests}
 use Rattle.std.proofs.lemmas.List.{length-map}
 use Rattle.cjc_bytes.specs.AccessFlags.{is_interface}
 use Rattle.cjc_tokens.proofs.Facts.{position-cons, same-refl}
 use Rattle.cjc_tokens.specs.Lines.{Declared, Imported, Line, line_at, line_in}
-use Rattle.cjc_tokens.specs.Members.{Signature, all_methods, is_exposed, is_hidden, is_shown, is_virtual, signature_of}
-use Rattle.cjc_tokens.specs.Members.{signatures}
+use Rattle.cjc_tokens.specs.Members.{In, Signature, all_methods, first_of, has, is_exposed, is_hidden, is_shown}
+use Rattle.cjc_tokens.specs.Members.{is_virtual, later, same, signature_of, signatures}
 use Rattle.cjc_tokens.specs.Methods.{virtual_token}
 use Rattle.cjc_tokens.specs.Rules.{has_high_method, is_above}
 use Rattle.cjc_tokens.specs.Slots.{Slots, has_slot, hidden_slots, holds, listed_slots, new_in, put, reserve, slots}
-use Rattle.cjc_tokens.specs.Slots.{token, with_new}
+use Rattle.cjc_tokens.specs.Slots.{shown_token, taken_slots, token, with_new}
+use Rattle.cjc_vtable.proofs.Calls.{token-some}
+use Rattle.cjc_vtable.proofs.Shown.{Offers, declared-token, offered-slot, token-least}
+use Rattle.cjc_vtable.proofs.SlotNames.{In-has}
+use Rattle.cjc_vtable.proofs.Told.{taken_slots-length}
 use Rattle.cjc_world.specs.Added.{added}
 use Rattle.cjc_world.specs.Classes.{Class, Member, class_named}
 use Rattle.cjc_world.specs.Supertypes.{End, AreSupertypes, Supertypes, Known, Lists, Unknown, after, ends, foremost}
@@ -76,25 +82,31 @@ none_second : (a b : Bool) → (a || b) ≡ false → b ≡ false
 none_second true b e = cc
 none_second false b e = e
 
-shown_low : (S H : Slots) (ms : List Member) → list_any (λ m. is_above 127 (virtual_token S H m)) ms ≡ false
+-- of methods whose low tokens are those of low slots
+shown_low : (T : Signature → Option ℕ) (S H : Slots) (ms : List Member) → ((m : Member) → In m ms → is_shown m ≡ true
+    → is_above 127 (T (signature_of m)) ≡ false → is_above 127 (token S (signature_of m)) ≡ false)
+    → list_any (λ m. is_above 127 (virtual_token T H m)) ms ≡ false
     → AllByRecursion (λ s. is_above 127 (token S s) ≡ false) (signatures is_shown ms)
-shown_low S H [] e = tt
-shown_low S H (m ∷ ms) e = by (is_shown m) (none_first _ _ e) (shown_low S H ms (none_second _ _ e))
+shown_low T S H [] slot e = tt
+shown_low T S H (m ∷ ms) slot e = by (is_shown m) refl (none_first _ _ e) (shown_low T S H ms (λ n i. slot n (later i))
+    (none_second _ _ e))
   where
-    by : (b : Bool) → is_above 127 (if b then token S (signature_of m) else if is_hidden m then token H (signature_of m)
-        else None) ≡ false → AllByRecursion (λ s. is_above 127 (token S s) ≡ false) (signatures is_shown ms)
+    by : (b : Bool) → is_shown m ≡ b → is_above 127 (if b then T (signature_of m) else if is_hidden m
+        then token H (signature_of m) else None) ≡ false
+        → AllByRecursion (λ s. is_above 127 (token S s) ≡ false) (signatures is_shown ms)
         → AllByRecursion (λ s. is_above 127 (token S s) ≡ false) (if b then signature_of m ∷ signatures is_shown ms
         else signatures is_shown ms)
-    by true f rest = (f, rest)
-    by false f rest = rest
+    by true g f rest = (slot m first_of g f, rest)
+    by false g f rest = rest
 
-hidden_low : (S H : Slots) (ms : List Member) → list_any (λ m. is_above 127 (virtual_token S H m)) ms ≡ false
+hidden_low : (T : Signature → Option ℕ) (H : Slots) (ms : List Member)
+    → list_any (λ m. is_above 127 (virtual_token T H m)) ms ≡ false
     → AllByRecursion (λ s. is_above 127 (token H s) ≡ false) (signatures is_hidden ms)
-hidden_low S H [] e = tt
-hidden_low S H (m ∷ ms) e = by (is_exposed m.flags) (is_virtual m) (none_first _ _ e)
-    (hidden_low S H ms (none_second _ _ e))
+hidden_low T H [] e = tt
+hidden_low T H (m ∷ ms) e = by (is_exposed m.flags) (is_virtual m) (none_first _ _ e)
+    (hidden_low T H ms (none_second _ _ e))
   where
-    by : (a b : Bool) → is_above 127 (if (a && b) then token S (signature_of m) else if (not a && b)
+    by : (a b : Bool) → is_above 127 (if (a && b) then T (signature_of m) else if (not a && b)
         then token H (signature_of m) else None) ≡ false → AllByRecursion (λ s. is_above 127 (token H s) ≡ false)
         (signatures is_hidden ms)
         → AllByRecursion (λ s. is_above 127 (token H s) ≡ false) (if (not a && b) then signature_of m
@@ -103,42 +115,74 @@ hidden_low S H (m ∷ ms) e = by (is_exposed m.flags) (is_virtual m) (none_first
     by false true f rest = (f, rest)
     by false false f rest = rest
 
-given_low : (S : Slots) (ms : List Member) → list_any (λ m. is_above 127 (token S (signature_of m))) ms ≡ false
+given_low : (T : Signature → Option ℕ) (S : Slots) (ms : List Member) → ((m : Member) → In m ms
+    → is_above 127 (T (signature_of m)) ≡ false → is_above 127 (token S (signature_of m)) ≡ false)
+    → list_any (λ m. is_above 127 (T (signature_of m))) ms ≡ false
     → AllByRecursion (λ s. is_above 127 (token S s) ≡ false) (map signature_of ms)
-given_low S [] e = tt
-given_low S (m ∷ ms) e = (none_first _ _ e, given_low S ms (none_second _ _ e))
+given_low T S [] slot e = tt
+given_low T S (m ∷ ms) slot e = (
+  slot m first_of (none_first _ _ e),
+  given_low T S ms (λ n i. slot n (later i)) (none_second _ _ e),
+)
+
+has_given : (ms : List Member) (m : Member) → In m ms → has (map signature_of ms) (signature_of m) ≡ true
+has_given [] m i = elim i [ ]
+has_given (n ∷ ms) m first_of = ap (λ b. b || has (map signature_of ms) (signature_of m)) (same-refl (signature_of m))
+has_given (n ∷ ms) m (later i) = ap (λ b. same (signature_of n) (signature_of m) || b) (has_given ms m i)
+    ∙ or_true (same (signature_of n) (signature_of m))
+  where
+    or_true : (b : Bool) → (b || true) ≡ true
+    or_true true = refl
+    or_true false = refl
 
 -- ---- a class of the package
 
-module _ (c : Class) (given : List Member) (above : Line) where
+module _ (c : Class) (given : List Member) (above : Line) (plain : c.is_imported ≡ false) where
   abbrev line : Line
   line = Declared c given above
 
-  own_few : list_any (λ m. is_above 127 (virtual_token (slots line) (hidden_slots line) m)) c.methods ≡ false
-      → list_any (λ m. is_above 127 (token (slots line) (signature_of m))) given ≡ false → length (slots above) ≤ 128
+  -- a method that the class declares or got has no greater token than the place of its first slot
+  slot_low : (s : Signature) → Offers c given above s → is_above 127 (shown_token line s) ≡ false
+      → is_above 127 (token (slots line) s) ≡ false
+  slot_low s offers e =
+      let r = declared-token c given above s plain offers in
+      let p = token-some (slots line) s (offered-slot c given above s offers) in
+      let below : nat_lt 127 r.0 ≡ false = sym (ap (is_above 127) r.1) ∙ e in
+      let le = ltb-false 127 r.0 below in
+      let least = token-least (slots line) s p.0 r.0 p.1 r.2 in
+      let low : nat_lt 127 p.0 ≡ false = grind (arith, nat_tests, le, least) in
+      ap (is_above 127) p.1 ∙ low
+
+  own_few : list_any (λ m. is_above 127 (virtual_token (shown_token line) (hidden_slots line) m)) c.methods ≡ false
+      → list_any (λ m. is_above 127 (shown_token line (signature_of m))) given ≡ false → length (slots above) ≤ 128
       → length (slots line) ≤ 128
-  own_few e f few =
-      let S = slots above in
+  own_few e f known =
+      let S = taken_slots c above (slots above) in
+      let same = taken_slots-length c above (slots above) in
+      let few : length S ≤ 128 = omega (arith, known, same) in
       let shown = signatures is_shown c.methods in
       let more = map Some (new_in (with_new S shown) (map signature_of given)) in
       let first = few_new (slots line) S shown more (append_assoc S (map Some (new_in S shown)) more)
-      (shown_low (slots line) (hidden_slots line) c.methods e) few in
+      (shown_low (shown_token line) (slots line) (hidden_slots line) c.methods
+      (λ m i g. slot_low (signature_of m) (inl (In-has is_shown c.methods m (signature_of m) i g refl))) e) few in
       let long = length_new S shown in
       let all : slots line ≡ with_new S shown ++ (more ++ []) = ap (λ (x : Slots). with_new S shown
       ++ x) (sym (append-nil more)) in
-      let second = few_new (slots line) (with_new S shown) (map signature_of given) [] all (given_low (slots line) given
-      f) (omega (arith, first, long)) in
+      let second = few_new (slots line) (with_new S shown) (map signature_of given) [] all (given_low (shown_token line)
+      (slots line) given (λ m i. slot_low (signature_of m) (inr (has_given given m i))) f) (omega (arith, first,
+      long)) in
       let longer = length_new (with_new S shown) (map signature_of given) in
       omega (arith, second, longer)
 
-  own_hidden_few : list_any (λ m. is_above 127 (virtual_token (slots line) (hidden_slots line) m)) c.methods ≡ false
+  own_hidden_few : list_any (λ m. is_above 127 (virtual_token (shown_token line) (hidden_slots line) m)) c.methods
+      ≡ false
       → length (hidden_slots above) ≤ 128 → length (hidden_slots line) ≤ 128
   own_hidden_few e few =
       let S = hidden_slots above in
       let hidden = signatures is_hidden c.methods in
       let all : hidden_slots line ≡ S ++ (map Some (new_in S hidden) ++ []) = ap (λ (x : Slots). S
       ++ x) (sym (append-nil (map Some (new_in S hidden)))) in
-      let r = few_new (hidden_slots line) S hidden [] all (hidden_low (slots line) (hidden_slots line) c.methods e) few
+      let r = few_new (hidden_slots line) S hidden [] all (hidden_low (shown_token line) (hidden_slots line) c.methods e) few
       in
       let long = length_new S hidden in
       omega (arith, r, long)
@@ -254,18 +298,18 @@ module _ (w : List Class) (are_supertypes : (xs : List (List ℕ)) → AreSupert
       by false im rest =
           let L = Declared c (added w c) (line_in w supers) in
           let none : HighAt L ≡ false = ap HighAt (sym (at_line im)) ∙ own.own im (plain x c foremost e) in
-          let a = none_first (list_any (λ m. is_above 127 (virtual_token (slots L) (hidden_slots L) m)) c.methods)
-          (list_any (λ m. is_above 127 (token (slots L) (signature_of m))) (added w c)) none in
-          let b = none_second (list_any (λ m. is_above 127 (virtual_token (slots L) (hidden_slots L) m)) c.methods)
-          (list_any (λ m. is_above 127 (token (slots L) (signature_of m))) (added w c)) none in (
-            own_few c (added w c) (line_in w supers) a b rest.0,
-            own_hidden_few c (added w c) (line_in w supers) a
+          let a = none_first (list_any (λ m. is_above 127 (virtual_token (shown_token L) (hidden_slots L) m)) c.methods)
+          (list_any (λ m. is_above 127 (shown_token L (signature_of m))) (added w c)) none in
+          let b = none_second (list_any (λ m. is_above 127 (virtual_token (shown_token L) (hidden_slots L) m))
+          c.methods) (list_any (λ m. is_above 127 (shown_token L (signature_of m))) (added w c)) none in (
+            own_few c (added w c) (line_in w supers) im a b rest.0,
+            own_hidden_few c (added w c) (line_in w supers) im a
                 rest.1,
           )
         where
           HighAt : Line → Bool
-          HighAt l = list_any (λ m. is_above 127 (virtual_token (slots l) (hidden_slots l) m)) c.methods
-              || list_any (λ m. is_above 127 (token (slots l) (signature_of m))) (added w c)
+          HighAt l = list_any (λ m. is_above 127 (virtual_token (shown_token l) (hidden_slots l) m)) c.methods
+              || list_any (λ m. is_above 127 (shown_token l (signature_of m))) (added w c)
 
           at_line : c.is_imported ≡ false → line_at w c ≡ Declared c (added w c) (line_in w supers)
           at_line im = ap (λ b. if b then Imported (c ∷ upwards (supertypes w c.supers))

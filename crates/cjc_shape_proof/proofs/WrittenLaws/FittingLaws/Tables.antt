@@ -27,7 +27,7 @@ use Rattle.cjc_tokens.specs.Members.{Signature, is_constructor, is_initialiser, 
 use Rattle.cjc_tokens.specs.Methods.{interface_methods, is_open_bound}
 use Rattle.cjc_tokens.specs.Rules.{at_class, breaks_from, breaks_where, has_high_method, has_high_token, token_breaks}
 use Rattle.cjc_tokens.specs.Slots.{Slots, has_slot, hidden_row, hidden_slots, implementing, implementing_hidden}
-use Rattle.cjc_tokens.specs.Slots.{meant_by, new_in, row, slots, token}
+use Rattle.cjc_tokens.specs.Slots.{meant_by, new_in, row, shown_token, slots}
 use Rattle.cjc_vtable.proofs.Filed.{Has, IsFiled, at_front, behind, filed, get-has, has-get, in_class_file}
 use Rattle.cjc_vtable.proofs.Filed.{in_export_file, of-imports}
 use Rattle.cjc_vtable.specs.Tables.{base, entries, interface_map, methods, of_package, or_zero, table_of}
@@ -265,18 +265,18 @@ module _ (list : List ℕ) (files : Files) (own_listed : length files.classes �
     there : class_named w t.name ≡ Some c
     there = class_by_name files list own_listed unbroken n t at
 
-    maps_few : (all : Slots) (is : List Class) → ((d : Class) → Has d is → length (interface_methods w d) ≤ 255)
+    maps_few : (all : Signature → Option ℕ) (is : List Class) → ((d : Class) → Has d is → length (interface_methods w d) ≤ 255)
         → AllByRecursion (λ (m : InterfaceMap). length m.index ≤ 255) (map (interface_map w all) is)
     maps_few all [] few = tt
     maps_few all (d ∷ is) few =
         let here = few d at_front in
-        let same = length-map (interface_methods w d) (λ (s : Signature). or_zero (token all s)) in (
+        let same = length-map (interface_methods w d) (λ (s : Signature). or_zero (all s)) in (
           (let z : length (let m = interface_map w all d in m.index) ≤ 255 = omega (arith, here, same) in z),
           maps_few all is (λ e h. few e (behind h)),
         )
 
     pub own_maps : AllByRecursion (λ (m : InterfaceMap). length m.index ≤ 255) (let u = table_of w c in u.maps)
-    own_maps = maps_few (slots (line_at w c)) (interfaces_of w c) (λ d h. let r = are_interfaces list files own_listed
+    own_maps = maps_few (shown_token (line_at w c)) (interfaces_of w c) (λ d h. let r = are_interfaces list files own_listed
         imports_listed unbroken acyclic are_supertypes t.name c d there h in interface_few r.1.0 d r.1.1 r.0)
 
     pub few_slots : is_interface t.flags ≡ false → length (slots (line_at w c)) ≤ 128

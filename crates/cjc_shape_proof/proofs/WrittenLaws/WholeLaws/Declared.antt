@@ -30,7 +30,7 @@ use Rattle.cjc_tokens.specs.Fields.{field_tokens}
 use Rattle.cjc_tokens.specs.Lines.{line_at}
 use Rattle.cjc_tokens.specs.Members.{Signature, is_initialiser, same, signature_of}
 use Rattle.cjc_tokens.specs.Methods.{class_method_tokens, interface_methods, interface_token}
-use Rattle.cjc_tokens.specs.Slots.{hidden_slots, new_in, slots, token}
+use Rattle.cjc_tokens.specs.Slots.{hidden_slots, new_in, shown_token}
 use Rattle.cjc_tokens.specs.Tokens.{assigned, imports_of, joined, listed_field_token, listed_method_token}
 use Rattle.cjc_tokens.specs.Tokens.{method_tokens, of_import, token_of_member}
 use Rattle.cjc_vtable.proofs.Filed.{Has, IsFiled, at_front, behind, filed, get-has, has-get, in_class_file}
@@ -205,8 +205,8 @@ module _ (list : List ℕ) (files : Files) (unbroken : breaks list files ≡ [])
       ∙ ap (option_and_then (λ k. joined (slice_get k.members (length d.fields + i)))) kept.1
       ∙ ap (λ k. joined (slice_get (fields ++ methods) (k + i))) counted
       ∙ ap joined (get_behind fields methods i)
-      ∙ ap (λ b. joined (slice_get (if b then listed else class_method_tokens exported (slots (line_at w d))
-      (hidden_slots (line_at w d)) d.methods 0 d.methods ++ map (λ m. token (slots (line_at w d)) (signature_of m))
+      ∙ ap (λ b. joined (slice_get (if b then listed else class_method_tokens exported (shown_token (line_at w d))
+      (hidden_slots (line_at w d)) d.methods 0 d.methods ++ map (λ m. shown_token (line_at w d) (signature_of m))
       (added w d)) i)) interface
       ∙ ap joined (slice_get-map (interface_token (interface_methods w d)) d.methods i)
       ∙ ap (λ o. joined (option_map (interface_token (interface_methods w d)) o)) own.is_member

@@ -21,4 +21,4 @@ returns c = λ t there.
     subst (λ (q : ClassTree). IfOk c.below.result (AreRowsOf (Declared (declared n q) (added w (declared n q))
     (line_in w (supertypes w (q.superclass ∷ [])))))) (got-same c.args.world.now.classes n x t there at)
     (c.below.ensures (line_in w (supertypes w (x.superclass ∷ []))) (added w (declared n x)) c.in_ok-above.ensures
-    named)
+    c.in_ok-told.ensures named)

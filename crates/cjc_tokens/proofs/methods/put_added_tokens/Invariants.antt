@@ -1,9 +1,8 @@
 use Rattle.std.proofs.Common.{◌≡◌, ◌++◌, take, map}
 use Rattle.cjc_tokens.specs.Members.{signature_of}
-use Rattle.cjc_tokens.specs.Slots.{token}
-use Rattle.cjc_tokens.specs.Working.{member_of, signs}
+use Rattle.cjc_tokens.specs.Working.{member_of, slot_token}
 use Rattle.cjc_tokens.proofs.methods.put_added_tokens.Given as goal
 
 abbrev pub invariant-loop-id : goal.invariant-loop-id
 invariant-loop-id l = l.tokens ≡ l.initial.tokens
-    ++ map (λ m. token (signs l.rows.shown.items) (signature_of (member_of m))) (take l.id-index l.added)
+    ++ map (λ m. slot_token l.shown (signature_of (member_of m))) (take l.id-index l.added)

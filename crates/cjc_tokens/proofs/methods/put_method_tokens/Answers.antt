@@ -3,7 +3,7 @@ use Rattle.std.proofs.Common.{append_assoc}
 use Rattle.std.specs.Prelude.{count_by}
 use Rattle.cjc_world.specs.Classes.{method_of_class}
 use Rattle.cjc_tokens.specs.Methods.{class_method_tokens, is_open_bound}
-use Rattle.cjc_tokens.specs.Working.{signs}
+use Rattle.cjc_tokens.specs.Working.{signs, slot_token}
 use Rattle.cjc_tokens.proofs.Sums.{count_next, count_before}
 use Rattle.cjc_tokens.proofs.Counts.{mapped-there, tokens-next}
 use Rattle.cjc_tokens.proofs.methods.put_method_tokens.Goals as goal
@@ -28,8 +28,8 @@ loop-place-preserved c =
     let at = mapped-there method_of_class c.args.methods.now c.loop-place.place c.index-methods-place.result
     c.loop-place-test.true c.index-methods-place.is in
     let ms = map method_of_class c.args.methods.now in
-    let shown = signs c.args.rows.now.shown.items in
-    let hidden = signs c.args.rows.now.hidden.items in
+    let shown = slot_token c.args.shown.now in
+    let hidden = signs c.args.hidden.now in
     let e = count_next is_open_bound ms c.loop-place.place (method_of_class c.index-methods-place.result) at.0 at.1 in
     record {
       tokens =

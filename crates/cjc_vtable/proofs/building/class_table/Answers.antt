@@ -6,7 +6,7 @@ use Rattle.cjc_bytes.specs.AccessFlags.{is_interface}
 use Rattle.cjc_world.specs.Interfaces.{known}
 use Rattle.cjc_tokens.specs.Lines.{line_at}
 use Rattle.cjc_tokens.specs.Methods.{interfaces_at}
-use Rattle.cjc_tokens.specs.Slots.{slots}
+use Rattle.cjc_tokens.specs.Slots.{shown_token}
 use Rattle.cjc_vtable.specs.Tables.{interface_map, methods}
 use Rattle.cjc_vtable.proofs.Assigned.{public-row, package-row}
 use Rattle.cjc_vtable.proofs.Tabled.{tabled}
@@ -43,5 +43,5 @@ returns c = λ t there.
     c.in_ok-package_base.ensures.base
     c.in_ok-package_base.ensures.entries
     (c.in_ok-package.ensures ∙ ap methods c.items-2.ensures)
-    (c.in_ok-maps.ensures ∙ ap (λ (q : Tree). map (interface_map w (slots (line_at w (declared n q))))
+    (c.in_ok-maps.ensures ∙ ap (λ (q : Tree). map (interface_map w (shown_token (line_at w (declared n q))))
     (known (interfaces_at w (declared n q)))) same)

@@ -5,9 +5,9 @@ use Rattle.std.proofs.lemmas.Result.{IfOk-weaker}
 use Rattle.cjc_world.specs.Classes.{all_classes, class_named, declared, imported}
 use Rattle.cjc_world.specs.Working.Known.{class_of}
 use Rattle.cjc_tokens.specs.Lines.{line_at}
-use Rattle.cjc_tokens.specs.Slots.{slots, token}
-use Rattle.cjc_tokens.proofs.Held.{token-nil}
+use Rattle.cjc_tokens.specs.Slots.{shown_token}
 use Rattle.cjc_classes.specs.Walks.{IsShownHere, called}
+use Rattle.cjc_classes.proofs.KeyTokens.Lines.{shown_nowhere}
 use Rattle.cjc_classes.proofs.KeyTokens.Walked.{number_within, shown_imported, shown_next, shown_none}
 use Rattle.cjc_classes.proofs.key_tokens.shown.shown_token.Goals as goal
 
@@ -21,7 +21,7 @@ returns-in-None c = λ d e.
     let k = c.loop.at in
     let x = get_or files.classes k d in
     let at = slice_get-get_or files.classes k d c.loop.invariant.at in
-    sym (token-nil s)
+    sym (shown_nowhere s)
     ∙ shown_none files are_supertypes one_supertypes s c.args.number k d x c.loop.invariant.so_far e at
     (subst (IsShownHere w (declared k x) s) c.in_default.is (c.in_ok-token.ensures x at))
     (sym (c.in-None.ensures x at))
@@ -38,8 +38,8 @@ returns-in-Some-Imported c = λ d e.
     let at = slice_get-get_or files.classes k d c.loop.invariant.at in
     let named = sym (c.in-Some-Imported.ensures x at) ∙ ap (λ q. Some (class_of q)) c.in-Some-Imported.field-0-is in
     let y = imported c.in-Some-Imported.super_number c.in-Some-Imported.class.now in
-    IfOk-weaker c.imported_token.result (λ t. t ≡ token (slots (line_at w y)) s) (λ t. t
-    ≡ token (slots (line_at w (declared c.args.number d))) s)
+    IfOk-weaker c.imported_token.result (λ t. t ≡ shown_token (line_at w y) s) (λ t. t
+    ≡ shown_token (line_at w (declared c.args.number d)) s)
     (λ t h. h ∙ shown_imported files are_supertypes one_supertypes s c.args.number k d x y c.loop.invariant.so_far e at
     (subst (IsShownHere w (declared k x) s) c.in_default.is (c.in_ok-token.ensures x at)) named)
     c.imported_token.ensures
