@@ -1,5 +1,7 @@
 pub mod Narrow
 pub mod Components
+pub mod Hierarchy
+pub mod Intervals
 -- Definitions of lower crates, for those above.
 pub use Rattle.cjc_bytes.specs as Bytes
 pub use Rattle.cjc_code.specs.ClassFile as ClassFile

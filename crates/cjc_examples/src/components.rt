@@ -34,6 +34,7 @@ ghost use Rattle.cjc_examples.specs.Components.Loads.{with_second};
 ghost use Rattle.cjc_examples.specs.Components.Packages.{files_of, lang};
 ghost use Rattle.cjc_examples.specs.Components.Packages.{adds, overrides, inherits, catching, installs, declares};
 ghost use Rattle.cjc_examples.specs.Components.Packages.{declared, wallet};
+ghost use Rattle.cjc_examples.specs.Components.Broken.{outcomes, wanted};
 
 /// One public class with one static method.
 pub fn one_method_is_written()
@@ -170,4 +171,10 @@ pub fn components_belong_to_class_files()
     ensures methods { broken_beside adds (files_of (lang ∷ []) with_second) ≡ Some (break_at 719 (in_info 11 8) ∷ []) }
     ensures classes { broken_beside adds (files_of (lang ∷ []) (class_t ++ class_t)) ≡ Some (break_at 719 (in_info 11 0)
         ∷ []) }
+{}
+
+/// Jumps out of a method, switches that are none, entries of the pool of other kinds or of what is not there, unknown
+/// opcodes, and what the end of a method cuts: by token the machine is stuck there.
+pub fn broken_components_are_stuck()
+    ensures { outcomes ≡ wanted }
 {}

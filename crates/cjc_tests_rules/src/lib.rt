@@ -1,7 +1,9 @@
-//! Tests of what no command shows of a package: look-up, tokens, class tables, static fields, types, intervals and the
-//! solver of flows.
+//! Calls that no command makes, each once where all is well, and files for other tests. Beside the files there is no
+//! code but tests: a crate with tests of its own is proved twice.
 #![tactic(auto)]
 
-pub mod initialisers;
-pub mod rules;
-pub mod tables;
+#[cfg(test)]
+mod calls;
+pub mod files;
+#[cfg(test)]
+mod flows;

@@ -1,65 +1,21 @@
-//! A command over a folder in memory, as all cases run it, and what it says. A folder is told by words: the name of an
-//! export file, the name of a class file, or `+CLASS` for an applet line. Files stand under their name with `.exp` or
-//! `.class`, and the lines of the list in the order of the words.
+//! Commands over a folder in memory: each once where all is well. Other tests make commands fail there.
 
-use cjc_run::bytes::{Bytes, NoMemory, Out, Row};
+use cjc_run::bytes::{Bytes, NoMemory, Row};
 use cjc_run::shelf::{MemShelf, MemSink};
 use cjc_run::{run, status_line};
-use cjc_tests_files::case_files::{FRAMEWORK, LANG, SUM, WALLET};
-use cjc_tests_files::cases::text;
+use cjc_tests_rules::files::{LANG, SUM};
 use std::alloc::Global;
+use std::test::*;
 
-/// The ending of a file's name, the first word of its line, and its bytes.
-fn file(name: &str) -> (&'static str, &'static str, &'static [u8]) {
-    match name {
-        "lang" => (".exp", "export ", LANG),
-        "framework" => (".exp", "export ", FRAMEWORK),
-        "sum" => (".class", "class ", SUM),
-        _ => (".class", "class ", WALLET),
-    }
-}
+const LIST: &[u8] = b"package p A000000001 1.0\nexport lang.exp\nclass T.class\n";
 
-/// The line of the list for a word.
-fn put_line(list: &mut Out, word: &str) -> Result<(), NoMemory> {
-    if let Some(class) = word.strip_prefix("+") {
-        list.put_slice(b"applet ")?;
-        list.put_slice(class.as_bytes())?;
-        return list.put_slice(b" A00000000101\n");
-    }
-    let (ending, kind, _) = file(word);
-    list.put_slice(kind.as_bytes())?;
-    list.put_slice(word.as_bytes())?;
-    list.put_slice(ending.as_bytes())?;
-    list.put_slice(b"\n")
-}
-
-fn list_of(alloc: Global, words: &str) -> Result<Bytes, NoMemory> {
-    let mut list = Out::new(alloc);
-    list.put_slice(b"package p A000000001 1.0\n")?;
-    for word in words.split(" ") {
-        put_line(&mut list, word)?;
-    }
-    Ok(list.finish())
-}
-
-/// Two pieces of text, one behind the other.
-pub(crate) fn joined(alloc: Global, front: &str, back: &str) -> Result<Bytes, NoMemory> {
-    let mut text = Out::new(alloc);
-    text.put_slice(front.as_bytes())?;
-    text.put_slice(back.as_bytes())?;
-    Ok(text.finish())
-}
-
-/// A folder with the files of these words, and their list. The calls with these numbers fail.
-pub(crate) fn folder(alloc: Global, words: &str, failing: Row<u32>) -> Result<MemShelf, NoMemory> {
+/// A folder of the list, what it names, and a script. The calls with these numbers fail.
+pub(crate) fn folder(alloc: Global, failing: Row<u32>) -> Result<MemShelf, NoMemory> {
     let mut shelf = MemShelf::new(alloc, failing);
-    let list = list_of(alloc, words)?;
-    shelf.add(b"list", list.items())?;
-    for word in words.split(" ") {
-        let (ending, _, bytes) = file(word);
-        let name = joined(alloc, word, ending)?;
-        shelf.add(name.items(), bytes)?;
-    }
+    shelf.add(b"list", LIST)?;
+    shelf.add(b"lang.exp", LANG)?;
+    shelf.add(b"T.class", SUM)?;
+    shelf.add(b"script", b"call p/T f(S)S 32767\n")?;
     Ok(shelf)
 }
 
@@ -70,20 +26,10 @@ pub(crate) fn sink(alloc: Global, failing: Row<u32>) -> Result<MemSink, NoMemory
     Ok(sink)
 }
 
-/// The lines of a part of a case, each with its line feed.
-pub(crate) fn lines_of(alloc: Global, part: &str) -> Result<Bytes, NoMemory> {
-    let mut text = Out::new(alloc);
-    for line in part.split(", ") {
-        text.put_slice(line.as_bytes())?;
-        text.put_slice(b"\n")?;
-    }
-    Ok(text.finish())
-}
-
 fn words_of(alloc: Global, words: &str) -> Result<Row<Bytes>, NoMemory> {
     let mut row = Row::new(alloc);
     for word in words.split(" ") {
-        row.push(text(alloc, word)?)?;
+        row.push(Bytes::copy_of(alloc, word.as_bytes())?)?;
     }
     Ok(row)
 }
@@ -104,8 +50,8 @@ pub(crate) fn line_of(
     }
 }
 
-/// Whether a command prints these lines and ends without one.
-pub(crate) fn says(
+/// Whether a command prints this and ends without a line.
+fn says(
     alloc: Global,
     shelf: &mut MemShelf,
     command: &str,
@@ -113,6 +59,40 @@ pub(crate) fn says(
 ) -> Result<bool, NoMemory> {
     let mut out = sink(alloc, Row::new(alloc))?;
     let errors = line_of(alloc, shelf, command, &mut out)?;
-    let wanted = lines_of(alloc, wanted)?;
-    Ok(errors.bytes().is_empty() && out.bytes() == wanted.items())
+    Ok(errors.bytes().is_empty() && out.bytes() == wanted.as_bytes())
+}
+
+/// Commands one after the other in one folder, and what they print.
+const COMMANDS: [(&str, &str); 6] = [
+    (
+        "convert list out",
+        "Header.cap 20\nDirectory.cap 36\nImport.cap 14\nConstantPool.cap 5\nClass.cap 15\nMethod.cap 10\n\
+        StaticField.cap 13\nRefLocation.cap 7\nExport.cap 10\nDescriptor.cap 29\np.exp 130\n",
+    ),
+    ("check list out", "ok\n"),
+    ("jvm list script 100", "result -32768\ndone\n"),
+    ("card list out script 100", "result -32768\ndone\n"),
+    ("compat lang.exp lang.exp", "ok\n"),
+    (
+        "make 7 3",
+        "classes 3\nmethods 9\nmethod bytes 100\ncalls 3\ninstructions 60 54\nlast 4491\nagree\n",
+    ),
+];
+
+/// The first command that says otherwise; nothing where there is none.
+fn first_wrong(alloc: Global) -> Result<&'static str, NoMemory> {
+    let mut shelf = folder(alloc, Row::new(alloc))?;
+    for (command, wanted) in COMMANDS {
+        if !says(alloc, &mut shelf, command, wanted)? {
+            return Ok(command);
+        }
+    }
+    Ok("")
+}
+
+#[test]
+fn each_command_is_run(rt: HostRuntime) -> Result<(), Fail> {
+    let wrong = first_wrong(rt.alloc())?;
+    assert_eq!(rt; wrong, "");
+    Ok(())
 }

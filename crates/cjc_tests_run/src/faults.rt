@@ -1,11 +1,8 @@
-//! Calls of the shelf that fail, and each put of the sink but the first, when the example is converted. A case is
-//! `shelf` or `put` with the number of the call, and ` = ` with how many of the written files stand then, how many
-//! bytes are printed, and the line at the end.
+//! Calls of the shelf that fail, and each put of the sink but the first, when a package is converted.
 
 use crate::commands::{folder, line_of, sink};
 use cjc_run::bytes::{NoMemory, Row};
 use cjc_run::shelf::{MemShelf, MemSink};
-use cjc_tests_files::cases::{cut, number, question_and_answer};
 use std::alloc::Global;
 use std::test::*;
 
@@ -24,31 +21,27 @@ const WRITTEN: [&[u8]; 11] = [
     b"out/p.exp",
 ];
 
-const FAULTS: &str = "\
-shelf 1 = 0 0 shelf fault lang.exp
-shelf 3 = 0 0 shelf fault out/Header.cap
-shelf 8 = 5 0 shelf fault out/Method.cap
-shelf 13 = 10 0 shelf fault out/p.exp
-put 1 = 11 14 sink fault
-put 2 = 11 31 sink fault
-put 3 = 11 45 sink fault
-put 4 = 11 64 sink fault
-put 5 = 11 77 sink fault
-put 6 = 11 91 sink fault
-put 7 = 11 110 sink fault
-put 8 = 11 128 sink fault
-put 9 = 11 142 sink fault
-put 10 = 11 160 sink fault";
+/// The number of the call of the shelf that fails, how many of the written files stand then, and the line at the end.
+const SHELF_FAULTS: [(u32, u32, &str); 4] = [
+    (1, 0, "shelf fault lang.exp\n"),
+    (3, 0, "shelf fault out/Header.cap\n"),
+    (8, 5, "shelf fault out/Method.cap\n"),
+    (13, 10, "shelf fault out/p.exp\n"),
+];
 
-/// The number of the call that fails, where it is one of this kind.
-fn failing(alloc: Global, fault: &str, kind: &str) -> Result<Row<u32>, NoMemory> {
-    let mut row = Row::new(alloc);
-    let (of, call) = cut(fault, " ");
-    if of == kind {
-        row.push(number(call)?)?;
-    }
-    Ok(row)
-}
+/// The number of the put of the sink that fails, and how many bytes are printed then.
+const SINK_FAULTS: [(u32, u32); 10] = [
+    (1, 14),
+    (2, 31),
+    (3, 45),
+    (4, 64),
+    (5, 77),
+    (6, 91),
+    (7, 110),
+    (8, 128),
+    (9, 142),
+    (10, 160),
+];
 
 /// Whether a file stands as it does where nothing fails, exactly where it is to stand.
 fn stands(shelf: &MemShelf, whole: &MemShelf, name: &[u8], is_to: bool) -> bool {
@@ -79,45 +72,55 @@ fn are_first(bytes: &[u8], whole: &[u8], length: u32) -> bool {
     }
 }
 
-/// Whether these bytes are a line.
-fn is_line(bytes: &[u8], line: &str) -> bool {
-    match bytes {
-        [front @ .., b'\n'] => front == line.as_bytes(),
-        _ => false,
-    }
+/// A number alone.
+fn just(alloc: Global, number: u32) -> Result<Row<u32>, NoMemory> {
+    let mut row = Row::new(alloc);
+    row.push(number)?;
+    Ok(row)
 }
 
-/// Whether a conversion with a fault is as wanted, beside one without.
-fn is_so(alloc: Global, whole: &MemShelf, printed: &MemSink, case: &str) -> Result<bool, NoMemory> {
-    let (fault, wanted) = question_and_answer(case);
-    let (count, wanted) = cut(wanted, " ");
-    let (length, end) = cut(wanted, " ");
-    let mut shelf = folder(alloc, "lang sum", failing(alloc, fault, "shelf")?)?;
-    let mut out = sink(alloc, failing(alloc, fault, "put")?)?;
+/// Whether a conversion with these calls that fail ends so, beside one where nothing fails.
+fn ends_so(
+    alloc: Global,
+    whole: (&MemShelf, &MemSink),
+    failing: (Row<u32>, Row<u32>),
+    wanted: (u32, u32, &str),
+) -> Result<bool, NoMemory> {
+    let (shelf_fails, sink_fails) = failing;
+    let mut shelf = folder(alloc, shelf_fails)?;
+    let mut out = sink(alloc, sink_fails)?;
     let line = line_of(alloc, &mut shelf, "convert list out", &mut out)?;
+    let (files, printed) = whole;
+    let (standing, length, end) = wanted;
     Ok(
-        stand_before(&shelf, whole, number(count)?)
-            && are_first(out.bytes(), printed.bytes(), number(length)?)
-            && is_line(line.bytes(), end),
+        stand_before(&shelf, files, standing)
+            && are_first(out.bytes(), printed.bytes(), length)
+            && line.bytes() == end.as_bytes(),
     )
 }
 
-/// The first case that goes otherwise; nothing where there is none.
-fn first_wrong(alloc: Global, cases: &'static str) -> Result<&'static str, NoMemory> {
-    let mut whole = folder(alloc, "lang sum", Row::new(alloc))?;
+/// Whether all calls that fail end as the tables say.
+fn end_so(alloc: Global) -> Result<bool, NoMemory> {
+    let mut files = folder(alloc, Row::new(alloc))?;
     let mut printed = sink(alloc, Row::new(alloc))?;
-    let _line = line_of(alloc, &mut whole, "convert list out", &mut printed)?;
-    for case in cases.lines() {
-        if !is_so(alloc, &whole, &printed, case)? {
-            return Ok(case);
+    let _line = line_of(alloc, &mut files, "convert list out", &mut printed)?;
+    let whole = (&files, &printed);
+    for (call, standing, end) in SHELF_FAULTS {
+        let failing = (just(alloc, call)?, Row::new(alloc));
+        if !ends_so(alloc, whole, failing, (standing, 0, end))? {
+            return Ok(false);
         }
     }
-    Ok("")
+    for (put, length) in SINK_FAULTS {
+        let failing = (Row::new(alloc), just(alloc, put)?);
+        if !ends_so(alloc, whole, failing, (11, length, "sink fault\n"))? {
+            return Ok(false);
+        }
+    }
+    Ok(true)
 }
 
 #[test]
-fn calls_fail(rt: HostRuntime) -> Result<(), Fail> {
-    let wrong = first_wrong(rt.alloc(), FAULTS)?;
-    assert_eq!(rt; wrong, "");
-    Ok(())
+fn calls_fail(rt: HostRuntime) {
+    assert!(rt; matches!(end_so(rt.alloc()), Ok(true)));
 }

@@ -1,0 +1,4 @@
+pub mod Drafts
+pub mod LookUp
+pub mod Adding
+pub mod Tokens
