@@ -6,4 +6,5 @@ pub mod ConsistentLaws
 pub mod PromisesLaws
 pub mod LimitsLaws
 -- Lemmas of lower crates, for those above.
-pub use Rattle.cjc_pool.proofs as Pool
+pub use Rattle.cjc_pool.proofs.PoolLaws.Entries as PoolEntries
+pub use Rattle.cjc_pool.proofs.PoolLaws.Keys as PoolKeys

@@ -2,4 +2,4 @@ mod Told
 mod OneAnswer
 pub mod ConversionLaws
 -- Lemmas of lower crates, for those above.
-pub use Rattle.cjc_shape_proof.proofs.Shape as Shape
+pub use Rattle.cjc_shape_proof.proofs.ShapeOne as ShapeOne

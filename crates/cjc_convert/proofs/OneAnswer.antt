@@ -12,15 +12,15 @@ use Rattle.cjc_captree.specs.Components.Components.{components_of}
 use Rattle.cjc_captree.specs.Components.ExportFile.{export_of}
 use Rattle.cjc_captree.specs.Components.Package.{Package}
 use Rattle.cjc_shape_proof.specs.ExportFile.Written.{written}
-use Rattle.cjc_shape_proof.proofs.Judge.Firsts.{one_spelling}
-use Rattle.cjc_shape_proof.proofs.Judge.OneRefusal.{one_first_of, one_on_levels, one_refusal}
-use Rattle.cjc_shape_proof.proofs.Judge.Places.{IsTold, class_files, place_at}
+use Rattle.cjc_shape_proof.proofs.JudgeFirsts.{one_spelling}
+use Rattle.cjc_shape_proof.proofs.JudgeOneRefusal.{one_first_of, one_on_levels, one_refusal}
+use Rattle.cjc_shape_proof.proofs.JudgePlaces.{IsTold, class_files, place_at}
 use Rattle.cjc_shape_proof.specs.Judge.Rules.{Breach, OnLevels, files_spelt, on_first, on_second}
 use Rattle.cjc_shape_proof.specs.Judge.Spelt.{FileTree, SpellTrees, classes_of, of_class, of_export}
 use Rattle.cjc_captree.specs.List.Listed.{ListTree}
 use Rattle.cjc_shape_proof.specs.Shape.Prepared.{tested}
-use Rattle.cjc_shape_proof.proofs.Shape.WholeLaws.One.{one_package}
-use Rattle.cjc_shape_proof.proofs.Shape.WholeLaws.Second.{package_is_draft}
+use Rattle.cjc_shape_proof.proofs.ShapeOne.{one_package}
+use Rattle.cjc_shape_proof.proofs.ShapeSecond.{package_is_draft}
 use Rattle.cjc_shape_proof.specs.Shape.Whole.Conversion.{BreaksWritten, IsDraft, IsRefused, of_form, of_size}
 use Rattle.cjc_captree.specs.World.Files.{Files}
 use Rattle.cjc_convert.proofs.ConversionLaws.Stops.{none_written}

@@ -9,7 +9,7 @@ use Rattle.std.proofs.lemmas.Option.{slice_get-map, slice_get_cases, slice_get_w
 use Rattle.cjc_shape_proof.specs.Bytes.Breaks.{Break, at, broken_at, class_spot, member_spot}
 use Rattle.cjc_shape_proof.specs.Bytes.Order.{file_of}
 use Rattle.cjc_shape_proof.specs.Bytes.Refused.{method_text}
-use Rattle.cjc_captree.proofs.ClassOrder.ClassesLaws.Declared.{order_declared}
+use Rattle.cjc_captree.proofs.ClassOrderDeclared.{order_declared}
 use Rattle.cjc_captree.specs.ClassOrder.Classes.Numbers.{declared_at}
 use Rattle.cjc_shape_proof.specs.ClassFile.declared.tree.ClassTree.{ClassTree}
 use Rattle.cjc_shape_proof.specs.ClassFile.declared.tree.MethodTree.{MethodTree}
@@ -20,13 +20,13 @@ use Rattle.cjc_captree.specs.Components.Limits.{has_many_words, in_class, is_too
 use Rattle.cjc_captree.specs.Components.Limits.{of_methods}
 use Rattle.cjc_captree.specs.Components.Limits.{order_breaks, size_breaks, spot_of_list, word_breaks}
 use Rattle.cjc_captree.specs.Components.Package.{LaidMethod, Package, world}
-use Rattle.cjc_shape_proof.proofs.Judge.Each.{Each, each_append, each_at, each_more, each_none}
-use Rattle.cjc_shape_proof.proofs.Judge.Places.{IsFileOf, IsTold, class_files, file_is_of, told_at_class}
-use Rattle.cjc_shape_proof.proofs.Judge.Places.{told_at_method, told_list}
+use Rattle.cjc_shape_proof.proofs.JudgeEach.{Each, each_append, each_at, each_more, each_none}
+use Rattle.cjc_shape_proof.proofs.JudgePlaces.{IsFileOf, IsTold, class_files, file_is_of, told_at_class}
+use Rattle.cjc_shape_proof.proofs.JudgePlaces.{told_at_method, told_list}
 use Rattle.cjc_captree.specs.Layout.Refusals.{least, overtaking}
-use Rattle.cjc_shape_proof.proofs.Tokens.Held.{at_front}
-use Rattle.cjc_shape_proof.proofs.VTable.Filed.{Has, get-has}
-use Rattle.cjc_shape_proof.proofs.VTable.Numbers.{at-tree}
+use Rattle.cjc_shape_proof.proofs.TokensHeld.{at_front}
+use Rattle.cjc_shape_proof.proofs.VTableFiled.{Has, get-has}
+use Rattle.cjc_shape_proof.proofs.VTableNumbers.{at-tree}
 use Rattle.cjc_captree.specs.World.Added.{added}
 use Rattle.cjc_captree.specs.World.Classes.{Class, Member, all_classes, class_at, declared, field_of_class}
 use Rattle.cjc_captree.specs.World.Classes.{method_of_class}

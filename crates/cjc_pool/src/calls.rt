@@ -23,7 +23,7 @@ fn add_call(calls: &mut Numbers, alloc: Global, insn: &NInsn) -> Result<(), NoMe
     }
 }
 
-#[tactic(auto, using(cjc_components::proofs::Narrow::KeysLaws::Walks::walk_next, cjc_components::proofs::Narrow::KeysLaws::Walks::walk_end))]
+#[tactic(auto, using(cjc_narrow::proofs::KeysLaws::Walks::walk_next, cjc_narrow::proofs::KeysLaws::Walks::walk_end))]
 fn add_calls(calls: &mut Numbers, alloc: Global, insns: &[NInsn]) -> Result<(), NoMemory>
     ensures { OnOk result (calls.new ≡ insert_all same_key calls.old (flat_map insn_calls insns.now)) }
 {
@@ -34,7 +34,7 @@ fn add_calls(calls: &mut Numbers, alloc: Global, insns: &[NInsn]) -> Result<(), 
 }
 
 /// The methods of interfaces that some invokeinterface names, as they are first met.
-#[tactic(auto, using(cjc_components::proofs::Narrow::KeysLaws::Walks::walk_next, cjc_components::proofs::Narrow::KeysLaws::Walks::walk_end))]
+#[tactic(auto, using(cjc_narrow::proofs::KeysLaws::Walks::walk_next, cjc_narrow::proofs::KeysLaws::Walks::walk_end))]
 pub(crate) fn called(alloc: Global, methods: &[NMethod]) -> Result<Numbers, NoMemory>
     ensures { IfOk result (λ calls. calls ≡ insert_all same_key [] (flat_map method_calls methods.now)) }
 {

@@ -4,4 +4,4 @@ pub mod FairExports
 pub mod FairWriting
 pub mod AlikeLaws
 -- Lemmas of lower crates, for those above.
-pub use Rattle.cjc_judge.proofs as Judge
+pub use Rattle.cjc_judge.proofs.Firsts as JudgeFirsts

@@ -1,11 +1,12 @@
 -- Where export files don't contradict one another the token of a method is the place of its slot.
 use Rattle.std.proofs.Common.{◌≡◌, ◌≤◌, ℕ, zero, suc, refl, sym, ap, ◌∙◌, arith, Bool, true, false, List, [], ◌∷◌}
-use Rattle.std.proofs.Common.{◌++◌, inl, inr, ⊎_elim}
-use Rattle.std.specs.Prelude.{◌⊎◌, Option, Some, None, if◌then◌else◌, not, slice_get, map, option_map}
+use Rattle.std.proofs.Common.{inl, inr, ⊎_elim}
+use Rattle.std.specs.Prelude.{◌⊎◌, ◌&&◌, Option, Some, None, if◌then◌else◌, not, slice_get, map, option_map}
 use Rattle.cjc_world.specs.declared.found.Found.{Found}
 use Rattle.cjc_world.specs.Classes.{Member, Class}
 use Rattle.cjc_world.specs.Lookup.{or_else}
-use Rattle.cjc_tokens.specs.Members.{Signature, signature_of, has, signatures, is_shown, all_methods, In, first_of, later}
+use Rattle.cjc_tokens.specs.Members.{Signature, signature_of, same, has, signatures, is_shown, all_methods, In, first_of}
+use Rattle.cjc_tokens.specs.Members.{later}
 use Rattle.cjc_tokens.specs.Lines.{Line, Nowhere, Imported, Declared}
 use Rattle.cjc_tokens.specs.Slots.{Slots, first_answer, got, has_slot, holds, implementing, is_of_package, is_slot_of, listed_token}
 use Rattle.cjc_tokens.specs.Slots.{nearer, new_in, or_next, own, row, shown_token, slots, taken_slots, told_by, told_in}
@@ -28,13 +29,11 @@ told-there : (s : Signature) (ms : List Member) (m : Member) → In m ms → is_
     → (t : ℕ) × (first_answer (told_by s) ms ≡ Some t)
 unfolding first_answer
 told-there s [] m i shown is = elim i [ ]
-told-there s (n ∷ ms) m first_of shown is = (m.token, ap (λ o. or_next o (first_answer (told_by s) ms)) one)
+told-there s (n ∷ ms) m first_of shown is = (n.token, ap (λ o. or_next o (first_answer (told_by s) ms)) one)
   where
-    one : told_by s m ≡ Some m.token
-    one = ap (λ (q : Signature). told_by q m) (sym is)
-        ∙ ap (λ b. if b then (if holds (Some (signature_of m)) (signature_of m) then Some m.token else None)
-        else None) shown
-        ∙ ap (λ b. if b then Some m.token else None) (same-refl (signature_of m))
+    one : told_by s n ≡ Some n.token
+    one = ap (λ b. if b && same (signature_of n) s then Some n.token else None) shown
+        ∙ ap (λ b. if b then Some n.token else None) (ap (λ q. same q s) is ∙ same-refl s)
 told-there s (n ∷ ms) m (later i) shown is = by (told_by s n) (told-there s ms m i shown is)
   where
     by : (o : Option ℕ) → (t : ℕ) × (first_answer (told_by s) ms ≡ Some t) → (t : ℕ)
@@ -183,7 +182,7 @@ module _ (line : Line) (s : Signature) (told : IsTold line) where
 pub shown_meant : (line : Line) (s : Signature) → shown_token line s ≡ token_meant (listed_token line s) (slots line)
     (implementing line s) s
 unfolding shown_token
-shown_meant line s = among-meant (listed_token line s) (slots line) (implementing line s) s
+shown_meant line s = among-meant (listed_token line s) (slots line) (implementing line) s
 
 -- the token is the least place of a slot
 pub token-least : (all : Slots) (s : Signature) (p q : ℕ) → token all s ≡ Some p → slice_get all q ≡ Some (Some s) → p ≤ q
@@ -194,14 +193,16 @@ token-least (slot ∷ all) s p zero e f =
     (token all s)) (ap (λ q. holds q s) is ∙ same-refl s)) ∙ e in
     let none : 0 ≡ p = cc in
     omega (arith, none)
-token-least (slot ∷ all) s p (suc q) e f = by (holds slot s) (token all s) refl (sym (token-cons slot all s) ∙ e)
+token-least (slot ∷ all) s p (suc q) e f = by (λ k g. token-least all s k q g f) (holds slot s) (token all s) refl
+    (sym (token-cons slot all s) ∙ e)
   where
-    by : (b : Bool) (o : Option ℕ) → token all s ≡ o → (if b then Some 0 else option_map suc o) ≡ Some p → p ≤ suc q
-    by true o g h = let none : 0 ≡ p = cc in omega (arith, none)
-    by false None g h = cc
-    by false (Some k) g h =
+    by : ((k : ℕ) → token all s ≡ Some k → k ≤ q) → (b : Bool) (o : Option ℕ) → token all s ≡ o
+        → (if b then Some 0 else option_map suc o) ≡ Some p → p ≤ suc q
+    by rest true o g h = let none : 0 ≡ p = cc in omega (arith, none)
+    by rest false None g h = cc
+    by rest false (Some k) g h =
         let next : suc k ≡ p = cc in
-        let least = token-least all s k q g f in
+        let least = rest k g in
         omega (arith, next, least)
 
 -- Where a class of the package has the method, the token is the place of a slot of it.

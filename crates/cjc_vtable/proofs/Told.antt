@@ -1,5 +1,5 @@
 -- Slots that methods take. Where export files don't contradict one another each method has its slot already.
-use Rattle.std.proofs.Common.{◌≡◌, ℕ, zero, suc, ◌≤◌, refl, sym, ap, subst, ◌∙◌, Bool, true, false, List, [], ◌∷◌, ◌++◌}
+use Rattle.std.proofs.Common.{◌≡◌, ℕ, zero, suc, refl, sym, ap, subst, ◌∙◌, Bool, true, false, List, [], ◌∷◌, ◌++◌}
 use Rattle.std.proofs.Common.{length, inl, inr, ⊎_elim, set, length-set}
 use Rattle.std.specs.Prelude.{◌⊎◌, ◌&&◌, ◌||◌, Option, Some, None, if◌then◌else◌, slice_get, map}
 use Rattle.cjc_world.specs.declared.found.Found.{Found}
@@ -8,12 +8,12 @@ use Rattle.cjc_world.specs.Lookup.{is_called}
 use Rattle.cjc_tokens.specs.Members.{Signature, signature_of, same, has, signatures, is_shown, all_methods, In, first_of}
 use Rattle.cjc_tokens.specs.Members.{later}
 use Rattle.cjc_tokens.specs.Lines.{Line, Nowhere, Imported, Declared}
-use Rattle.cjc_tokens.specs.Slots.{Slots, first_answer, has_slot, implementing, is_of_package, listed_slots}
-use Rattle.cjc_tokens.specs.Slots.{listed_token, meant_by, new_in, or_next, slots, taken_slots, told_by, told_in, token}
+use Rattle.cjc_tokens.specs.Slots.{Slots, first_answer, implementing, is_of_package, listed_slots}
+use Rattle.cjc_tokens.specs.Slots.{listed_token, meant_by, new_in, or_next, slots, taken_slots, told_by, told_in}
 use Rattle.cjc_tokens.specs.Slots.{with_all_taken, with_new, with_taken}
 use Rattle.cjc_vtable.specs.Calls.{IsOneToOne, IsTold}
 use Rattle.cjc_tokens.proofs.Facts.{same-refl, same-true}
-use Rattle.cjc_tokens.proofs.Held.{at_front, here-has_slot, In-slot, shown-virtual, token-slot}
+use Rattle.cjc_tokens.proofs.Held.{at_front, In-slot, shown-virtual}
 
 -- ---- slots that are taken
 
@@ -110,8 +110,8 @@ first-told s (n ∷ ms) t e = by (told_by s n) refl e (first-told s ms t)
         → (first_answer (told_by s) ms ≡ Some t → (m : Member) × In m ms × (is_shown m ≡ true)
         × (signature_of m ≡ s) × (m.token ≡ t)) → (m : Member) × In m (n ∷ ms) × (is_shown m ≡ true)
         × (signature_of m ≡ s) × (m.token ≡ t)
-    by None f e rest = let r = rest e in (r.0, later r.1, r.2)
-    by (Some k) f e rest = (n, first_of, told_by-some s n t (f ∙ e))
+    by None f e rest = let r = rest e in (r.0, later r.1, r.2, r.3, r.4)
+    by (Some k) f e rest = let q = told_by-some s n t (f ∙ e) in (n, first_of, q.0, q.1, q.2)
 
 In-front : (m : Member) (a b : List Member) → In m a → In m (a ++ b)
 In-front m [] b i = elim i [ ]
@@ -138,11 +138,19 @@ listed-method s (c ∷ cs) t e = by (told_in s c) refl e (listed-method s cs t)
         → (first_answer (told_in s) cs ≡ Some t → (m : Member) × In m (all_methods cs) × (is_shown m ≡ true)
         × (signature_of m ≡ s) × (m.token ≡ t)) → (m : Member) × In m (c.methods ++ all_methods cs)
         × (is_shown m ≡ true) × (signature_of m ≡ s) × (m.token ≡ t)
-    by None f e rest = let r = rest e in (r.0, In-behind r.0 c.methods (all_methods cs) r.1, r.2)
+    by None f e rest = let r = rest e in (
+      r.0,
+      In-behind r.0 c.methods (all_methods cs) r.1,
+      r.2,
+      r.3,
+      r.4,
+    )
     by (Some k) f e rest = let r = here c.is_imported t (f ∙ e) in (
       r.0,
       In-front r.0 c.methods (all_methods cs) r.1,
       r.2,
+      r.3,
+      r.4,
     )
 
 -- ---- where export files don't contradict one another

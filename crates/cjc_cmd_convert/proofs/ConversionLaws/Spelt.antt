@@ -1,7 +1,7 @@
 -- A package of a list and its files is of what the files spell.
 use Rattle.std.proofs.Common.{◌≡◌, ℕ, List, sym, ap, subst, ◌∙◌}
 use Rattle.cjc_theorem.specs.Components.Package.{Package}
-use Rattle.cjc_theorem.proofs.Judge.Firsts.{one_spelling}
+use Rattle.cjc_theorem.proofs.JudgeFirsts.{one_spelling}
 use Rattle.cjc_theorem.specs.Judge.Rules.{files_spelt}
 use Rattle.cjc_theorem.specs.Judge.Spelt.{FileTree, SpellTrees, exports_of}
 use Rattle.cjc_convert.specs.List.Listed.{ListTree}

@@ -5,7 +5,7 @@ use Rattle.cjc_shelf.specs.Command.Plan.{Verdict, complete, refused}
 use Rattle.cjc_shelf.specs.declared.command.status.Todo.{Todo}
 use Rattle.cjc_cmd_convert.specs.Conversion.Conversion.{Conversion, IsConverted, IsRefused}
 use Rattle.cjc_cmd_card.specs.Judge.Rules.{IsFirstRefused}
-use Rattle.cjc_cmd_card.proofs.CmdJvm.ReportLaws.OneAnswer.{one_refusal_of_runs, never_both as never_run_and_refused}
+use Rattle.cjc_cmd_card.proofs.CmdJvmOneAnswer.{one_refusal_of_runs, never_both as never_run_and_refused}
 use Rattle.cjc_cmd_convert.specs.List.Listed.{ListTree}
 use Rattle.cjc_cmd_card.specs.CmdJvm.Running.Ready.{Breaks}
 use Rattle.cjc_cmd_card.specs.CmdJvm.declared.running.input.Input.{Input}

@@ -3,10 +3,10 @@ use Rattle.std.proofs.Common.{◌≡◌, List, sym, subst}
 use Rattle.cjc_captree.specs.Components.Package.{codes, tokens}
 use Rattle.cjc_shape_proof.specs.Judge.Spelt.{IsRead}
 use Rattle.cjc_shape_proof.specs.Judge.declared.judged.Judged.{Judged}
-use Rattle.cjc_captree.proofs.Methods.LayoutsLaws.Kept.{codes_of}
+use Rattle.cjc_captree.proofs.MethodsKept.{codes_of}
 use Rattle.cjc_shape_proof.specs.NCode.declared.narrow.NMethod.{NMethod}
 use Rattle.cjc_captree.specs.Pool.Pool.{IsPool, PoolView}
-use Rattle.cjc_shape_proof.proofs.Shape.WholeLaws.Second.{package_is_draft}
+use Rattle.cjc_shape_proof.proofs.ShapeSecond.{package_is_draft}
 use Rattle.cjc_shape_proof.specs.Shape.Prepared.{BreaksNothing}
 use Rattle.cjc_shape_proof.specs.Shape.Whole.Conversion.{IsDraft}
 use Rattle.cjc_shape_proof.specs.Shape.Whole.Working.Shaped.{IsShaped, package_of}

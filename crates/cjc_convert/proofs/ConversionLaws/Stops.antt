@@ -15,9 +15,9 @@ use Rattle.cjc_shape_proof.specs.Shape.Prepared.{IsSound, tested}
 use Rattle.cjc_shape_proof.specs.Shape.Whole.Conversion.{BreaksWritten, IsDraft, IsPackageOf, IsRefused, of_form}
 use Rattle.cjc_shape_proof.specs.Shape.Whole.Conversion.{of_size}
 use Rattle.cjc_shape_proof.specs.Shape.Whole.Working.Shaped.{Stopped}
-use Rattle.cjc_shape_proof.proofs.Shape.WholeLaws.Drafts.{narrow_codes}
-use Rattle.cjc_shape_proof.proofs.Shape.WholeLaws.One.{one_package}
-use Rattle.cjc_shape_proof.proofs.Shape.WholeLaws.Second.{forms_are, fs, is_base, package_is_draft, words_are}
+use Rattle.cjc_shape_proof.proofs.ShapeDrafts.{narrow_codes}
+use Rattle.cjc_shape_proof.proofs.ShapeOne.{one_package}
+use Rattle.cjc_shape_proof.proofs.ShapeSecond.{forms_are, fs, is_base, package_is_draft, words_are}
 
 no_among : (b : Break) → Among b [] → ⊥
 no_among b among = elim among [ ]

@@ -17,7 +17,7 @@ use Rattle.cjc_narrow_proof.specs.Emit.Said.{CanBeSaid}
 use Rattle.cjc_judge.specs.declared.judged.Judged.{Judged}
 use Rattle.cjc_narrow_proof.specs.Narrow.Keys.Index.{index_of}
 use Rattle.cjc_narrow_proof.specs.Narrow.Keys.Working.Same.{same_member-Decides}
-use Rattle.cjc_methods.proofs.LowerLayout.Places.{all_wide}
+use Rattle.cjc_methods.proofs.LayoutPlaces.{all_wide}
 use Rattle.cjc_methods.specs.Layout.Forms.{HasForm}
 use Rattle.cjc_methods.specs.Layout.Layouts.{IsLayout, IsWhole}
 use Rattle.cjc_methods.specs.Layout.Sizes.{code_size}
@@ -34,7 +34,7 @@ use Rattle.cjc_methods.specs.NCode.declared.narrow.NMethod.{NMethod}
 use Rattle.cjc_methods.specs.NCode.declared.narrow.PoolKey.{PoolKey}
 use Rattle.cjc_methods.specs.NCode.declared.narrow.PoolKey.TheVariants as keys
 use Rattle.cjc_methods.specs.Pool.Pool.{IsPool, PoolView, calls, is_called, token_in, token_of}
-use Rattle.cjc_methods.proofs.Pool.PoolLaws.Keys.{names_there}
+use Rattle.cjc_methods.proofs.PoolKeys.{names_there}
 use Rattle.cjc_methods.specs.Pool.Named.{CallsHaveTokens, IsAmong}
 use Rattle.cjc_narrow_proof.proofs.SelectedLaws.Calls.{called_from}
 use Rattle.cjc_narrow_proof.proofs.SelectedLaws.Decoded.{one_of_all, operands_fit}

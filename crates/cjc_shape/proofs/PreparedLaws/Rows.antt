@@ -21,7 +21,7 @@ use Rattle.cjc_methods.specs.Types.declared.state.State.{State}
 use Rattle.cjc_methods.specs.Types.declared.table.TypeTable.{TypeTable}
 use Rattle.cjc_methods.specs.Types.Flow.{body_of}
 use Rattle.cjc_methods.specs.Types.Tables.{IsMethodOf, IsTypeTable, rows_of}
-use Rattle.cjc_methods.proofs.Types.Least.{one_least}
+use Rattle.cjc_methods.proofs.TypesLeast.{one_least}
 use Rattle.cjc_world.specs.Classes.{Class, all_classes, class_named, declared, method_of_class}
 use Rattle.cjc_world.specs.Files.{Files}
 use Rattle.cjc_world.specs.Lookup.{is_called}

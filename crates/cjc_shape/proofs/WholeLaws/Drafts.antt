@@ -35,7 +35,7 @@ use Rattle.cjc_methods.specs.Types.declared.state.State.{State}
 use Rattle.cjc_methods.specs.Types.declared.table.TypeTable.{TypeTable}
 use Rattle.cjc_methods.specs.Types.Flow.{body_of}
 use Rattle.cjc_methods.specs.Types.Tables.{IsLeastTable, IsMethodOf, rows_of}
-use Rattle.cjc_methods.proofs.Types.Least.{one_least}
+use Rattle.cjc_methods.proofs.TypesLeast.{one_least}
 use Rattle.cjc_world.specs.declared.found.Found.{Found}
 use Rattle.cjc_world.specs.declared.image.StaticImage.{StaticImage}
 use Rattle.cjc_world.specs.Classes.{all_classes}

@@ -5,7 +5,7 @@ use Rattle.std.specs.Prelude.{All, Option, Some, None, map, option_map, slice_ge
 use Rattle.std.proofs.lemmas.Option.{slice_get_within}
 use Rattle.cjc_world.specs.ClassFile.declared.tree.ClassTree.{ClassTree}
 use Rattle.cjc_methods.specs.ClassOrder.Classes.Numbers.{class_count, declared_at}
-use Rattle.cjc_methods.proofs.ClassOrder.ClassesLaws.Declared.{order_declared}
+use Rattle.cjc_methods.proofs.ClassOrderDeclared.{order_declared}
 use Rattle.cjc_methods.specs.Ready.{AreOrdered, IsOwn}
 use Rattle.cjc_methods.proofs.Ownership.{ordered_own}
 use Rattle.cjc_narrow_proof.proofs.VTable.Numbers.{own_listed}

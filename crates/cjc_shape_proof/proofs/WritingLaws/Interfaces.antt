@@ -22,8 +22,8 @@ use Rattle.cjc_components.specs.Package.{Package, has_applets, world}
 use Rattle.cjc_export.specs.Members.{not_special}
 use Rattle.cjc_export.specs.Writable.{EachAfter, MethodStands}
 use Rattle.cjc_export.specs.declared.tree.ExportMethod.{ExportMethod}
-use Rattle.cjc_shape.proofs.Exported.ExportLaws.Own.{IsOwn, own_class}
-use Rattle.cjc_shape.proofs.Exported.ExportLaws.Tokens.{low_tokens}
+use Rattle.cjc_shape.proofs.ExportedOwn.{IsOwn, own_class}
+use Rattle.cjc_shape.proofs.ExportedTokens.{low_tokens}
 use Rattle.cjc_shape.specs.Judge.declared.judged.Judged.{Judged}
 use Rattle.cjc_components.specs.List.Listed.{ListTree}
 use Rattle.cjc_narrow_proof.proofs.LawsLaws.Own.{class_by_name, first_here, own_kept}

@@ -14,8 +14,8 @@ use Rattle.cjc_theorem.proofs.FairExports.Listed.{names}
 use Rattle.cjc_theorem.proofs.SoundRuns.Placed.{sound_package}
 use Rattle.cjc_token_proof.specs.Tables.Sound.{IsSound as IsSoundPackage}
 use Rattle.cjc_vtable.specs.Kept.{ExportsAgree}
-use Rattle.cjc_shape_proof.proofs.Shape.PreparedLaws.Sound.{is_unbroken}
-use Rattle.cjc_shape_proof.proofs.Shape.WholeLaws.Drafts.{same_spelt}
+use Rattle.cjc_shape_proof.proofs.ShapeSound.{is_unbroken}
+use Rattle.cjc_shape_proof.proofs.ShapeDrafts.{same_spelt}
 use Rattle.cjc_shape_proof.specs.Shape.Whole.Conversion.{IsPackageOf}
 use Rattle.cjc_world.specs.Files.{Files}
 use Rattle.cjc_shape_proof.specs.Written.Converted.{ExportsArePlain, IsConverted}

@@ -9,7 +9,7 @@ use Rattle.cjc_components.specs.Exports.{exported_classes}
 use Rattle.cjc_components.specs.Package.{Package, world}
 use Rattle.cjc_export.specs.declared.tree.ExportClass.{ExportClass}
 use Rattle.cjc_export.specs.declared.tree.ExportTree.{ExportTree}
-use Rattle.cjc_shape_proof.proofs.Exported.ExportLaws.Own.{own_class}
+use Rattle.cjc_shape_proof.proofs.ExportedOwn.{own_class}
 use Rattle.cjc_subset.specs.Members.{imports}
 use Rattle.cjc_token_proof.proofs.TablesLaws.Clean.{own_name}
 use Rattle.cjc_token_proof.proofs.TablesLaws.Filed.{has-back, has-front, import_in, own_in}

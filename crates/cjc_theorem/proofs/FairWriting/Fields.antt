@@ -14,7 +14,7 @@ use Rattle.cjc_components.specs.Package.{Package, world}
 use Rattle.cjc_export.specs.declared.tree.ExportClass.{ExportClass}
 use Rattle.cjc_export.specs.declared.tree.ExportMethod.{ExportMethod}
 use Rattle.cjc_export.specs.declared.tree.ExportTree.{ExportTree}
-use Rattle.cjc_shape_proof.proofs.Exported.ExportLaws.Own.{IsOwn, own_class}
+use Rattle.cjc_shape_proof.proofs.ExportedOwn.{IsOwn, own_class}
 use Rattle.cjc_theorem.specs.FairExports.Fair.{ExportsAreFair, OfEach, OfMethods}
 use Rattle.cjc_shape_proof.proofs.WrittenLaws.FittingLaws.Lists.{mapped_at}
 use Rattle.cjc_world_proof.specs.Files.{IsImportedClass}

@@ -36,7 +36,7 @@ use Rattle.cjc_ncode.specs.ByLabel as labels
 use Rattle.cjc_ncode.specs.ByLabel.{Named}
 use Rattle.cjc_ncode.specs.Written.{narrow_method}
 use Rattle.cjc_ncode.specs.declared.narrow.NMethod.{NMethod}
-use Rattle.cjc_shape_proof.proofs.Shape.PreparedLaws.Sound.{are_ready, is_unbroken, no_image_break}
+use Rattle.cjc_shape_proof.proofs.ShapeSound.{are_ready, is_unbroken, no_image_break}
 use Rattle.cjc_shape_proof.specs.Shape.Prepared.{IsSound}
 use Rattle.cjc_narrow_proof.specs.Intervals.Frames.{RangeState}
 use Rattle.cjc_narrow_proof.specs.Intervals.Tables.{IsLeastRanges}
@@ -52,7 +52,7 @@ use Rattle.cjc_theorem.proofs.SoundRuns.Read.{read_files, whole_is}
 use Rattle.cjc_theorem.proofs.SoundRuns.Tabled.{has_least, no_first, only_coded, tabled_code, tables, types_are}
 use Rattle.cjc_narrow_proof.specs.Types.declared.state.State.{State}
 use Rattle.cjc_narrow_proof.specs.Types.Flow.{Body}
-use Rattle.cjc_shape_proof.proofs.Shape.WholeLaws.Drafts.{rows, rows_agree, rows_are, same_members, same_spelt}
+use Rattle.cjc_shape_proof.proofs.ShapeDrafts.{rows, rows_agree, rows_are, same_members, same_spelt}
 use Rattle.cjc_shape_proof.specs.Shape.Whole.Conversion.{IsDraft, IsSelected}
 use Rattle.cjc_world.specs.Classes.{all_classes}
 use Rattle.cjc_world.specs.Files.{Files}

@@ -23,7 +23,7 @@ use Rattle.cjc_judge.specs.Trees.{AllSpelt}
 use Rattle.cjc_judge.specs.declared.judged.Judged.{Judged}
 use Rattle.cjc_components.specs.List.Listed.{ListTree}
 use Rattle.cjc_narrow_proof.proofs.LawsLaws.Own.{class_by_name}
-use Rattle.cjc_shape_proof.proofs.Shape.PreparedLaws.Sound.{is_unbroken}
+use Rattle.cjc_shape_proof.proofs.ShapeSound.{is_unbroken}
 use Rattle.cjc_shape_proof.specs.Shape.Prepared.{IsSound}
 use Rattle.cjc_world_proof.proofs.SelectionLaws.Rules.{method_kept}
 use Rattle.cjc_theorem.proofs.SoundRuns.Read.{package_is, read_files}

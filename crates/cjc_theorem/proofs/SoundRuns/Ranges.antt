@@ -12,7 +12,7 @@ use Rattle.cjc_judge.specs.declared.groups.Group.TheVariants as groups
 use Rattle.cjc_judge.specs.declared.judged.Judged.{Judged}
 use Rattle.cjc_judge.specs.Rules.{BreaksAnyRange, files_spelt, method_break, of_group}
 use Rattle.cjc_judge.specs.Spelt.{FileTree, classes_of}
-use Rattle.cjc_shape_proof.proofs.Shape.JudgedLaws.Selected.{is_world, same_codes, same_world}
+use Rattle.cjc_shape_proof.proofs.ShapeSelected.{is_world, same_codes, same_world}
 use Rattle.cjc_components.specs.List.Listed.{ListTree}
 use Rattle.cjc_narrow.specs.Rows.Resolved.{constant_named}
 use Rattle.cjc_judge.specs.Flow.Tests.Answers.{IsFirstBroken}

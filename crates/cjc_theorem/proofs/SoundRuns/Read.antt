@@ -16,8 +16,8 @@ use Rattle.cjc_components.specs.List.Listed.{ListTree}
 use Rattle.cjc_shape_proof.specs.Whole.{AreTabled, IsWhole}
 use Rattle.cjc_narrow_proof.specs.Runs.Tables.{Tables}
 use Rattle.cjc_shape_proof.specs.Shape.Prepared.{IsSound}
-use Rattle.cjc_shape_proof.proofs.Shape.JudgedLaws.Selected.{judged_writable}
-use Rattle.cjc_shape_proof.proofs.Shape.PreparedLaws.Sound.{is_tested, is_unbroken}
+use Rattle.cjc_shape_proof.proofs.ShapeSelected.{judged_writable}
+use Rattle.cjc_shape_proof.proofs.ShapeSound.{is_tested, is_unbroken}
 use Rattle.cjc_world_proof.specs.Files.{AreReadFiles, ExportsAreSound}
 use Rattle.cjc_theorem.proofs.SoundRuns.Names.{class_name}
 use Rattle.cjc_world.specs.Files.{Files}

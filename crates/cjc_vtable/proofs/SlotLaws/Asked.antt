@@ -17,8 +17,8 @@ use Rattle.cjc_tokens.specs.Lines.{Declared, Imported, Line, line_in, line_of}
 use Rattle.cjc_tokens.specs.Methods.{interface_methods, interfaces_at}
 use Rattle.cjc_tokens.specs.Slots.{has_slot, new_in, slots, token, with_new}
 use Rattle.cjc_tokens.proofs.Facts.{chosen-In, chosen-passes, same-refl, same-true}
-use Rattle.cjc_tokens.proofs.Held.{has_slot-append, here-has_slot, offered-has_slot, token-slot}
-use Rattle.cjc_vtable.specs.Calls.{IsOneToOne, is_special, selects}
+use Rattle.cjc_tokens.proofs.Held.{has_slot-append, here-has_slot, token-slot}
+use Rattle.cjc_vtable.specs.Calls.{IsOneToOne, IsTold, is_special, selects}
 use Rattle.cjc_vtable.specs.Laws.{KeepsInterfaces, KeepsRules}
 use Rattle.cjc_vtable.proofs.Asked.{Among, among-split, at_head, further, has-here, method-asked, public-shown}
 use Rattle.cjc_vtable.proofs.Calls.{In-behind, In-front, token-some}
@@ -26,7 +26,9 @@ use Rattle.cjc_vtable.proofs.Given.{In-split}
 use Rattle.cjc_vtable.proofs.Once.{listed_token}
 use Rattle.cjc_vtable.proofs.Stood.{gathered-interface, gathered-named, in-interface}
 use Rattle.cjc_vtable.proofs.SlotNames.{In-has}
-use Rattle.cjc_vtable.proofs.Worlds.{line_of-declared, methods-behind, methods-front}
+use Rattle.cjc_vtable.proofs.Shown.{offered-slot}
+use Rattle.cjc_vtable.proofs.Told.{told-slots}
+use Rattle.cjc_vtable.proofs.Worlds.{line_of-declared, methods-behind, methods-front, told-line}
 use Rattle.cjc_vtable.specs.Meant.{HaveOneAccess}
 
 -- ---- members of lists
@@ -114,24 +116,22 @@ module _ (w : List Class) (are_supertypes : (xs : List (List ℕ)) → AreSupert
   one-class x c e class_here y d (after l) g = elim l [ ]
 
   -- what the superclass has a slot for, and what the class declares or gets
-  above-slot : (c : Class) (above : Line) (s : Signature) → has_slot (slots above) s ≡ true
+  above-slot : (c : Class) (above : Line) (s : Signature) → IsTold above → has_slot (slots above) s ≡ true
       → has_slot (slots (Declared c (added w c) above)) s ≡ true
-  above-slot c above s e =
+  above-slot c above s told e =
       let all = with_new (slots above) (signatures is_shown c.methods) in
-      has_slot-append all (map Some (new_in all (map signature_of (added w c)))) s (has_slot-append (slots above)
+      ap (λ q. has_slot q s) (told-slots c (added w c) above told)
+      ∙ has_slot-append all (map Some (new_in all (map signature_of (added w c)))) s (has_slot-append (slots above)
       (map Some (new_in (slots above) (signatures is_shown c.methods))) s e)
 
   declared-slot : (c : Class) (above : Line) (m : Member) (s : Signature) → In m c.methods → is_shown m ≡ true
       → signature_of m ≡ s → has_slot (slots (Declared c (added w c) above)) s ≡ true
-  declared-slot c above m s i shown is =
-      let all = with_new (slots above) (signatures is_shown c.methods) in
-      has_slot-append all (map Some (new_in all (map signature_of (added w c)))) s (offered-has_slot (slots above)
-      (signatures is_shown c.methods) s (In-has is_shown c.methods m s i shown is))
+  declared-slot c above m s i shown is = offered-slot c (added w c) above s (inl (In-has is_shown c.methods m s i shown
+      is))
 
   got-slot : (c : Class) (above : Line) (s : Signature) → has (map signature_of (added w c)) s ≡ true
       → has_slot (slots (Declared c (added w c) above)) s ≡ true
-  got-slot c above s e = offered-has_slot (with_new (slots above) (signatures is_shown c.methods))
-      (map signature_of (added w c)) s e
+  got-slot c above s e = offered-slot c (added w c) above s (inr e)
 
   -- an imported class that is no interface has a slot for each public or protected virtual method that it or a super
   -- lists
@@ -167,7 +167,8 @@ module _ (w : List Class) (are_supertypes : (xs : List (List ℕ)) → AreSupert
       by true f rest = listed-slot y c p g f (classes y c foremost g) sp m s here shown is
       by false f rest = ⊎_elim
           (λ j. declared-slot c (line_in w p) m s j shown is)
-          (λ j. let z = rules.single y c g f in above-slot c (line_in w p) s (rest z.0 z.1 j))
+          (λ j. let z = rules.single y c g f in above-slot c (line_in w p) s (told-line w are_supertypes
+          one_supertypes rules c.supers p sp (λ v d l h im. supers-classes y c g v d l h)) (rest z.0 z.1 j))
           (In-split m c.methods (all_methods (upwards p)) here)
   shown-slot xs k x m s (known_here g sp ip (unknown_here h b)) classes e i shown is = absurd (cc)
   shown-slot xs k x m s (known_here g sp ip (known_here h sp' ip' b)) classes e i shown is = absurd (cc)
@@ -261,7 +262,8 @@ module _ (w : List Class) (are_supertypes : (xs : List (List ℕ)) → AreSupert
     asked-slot x c s e takes plain asked rest = ⊎_elim
         (λ r. ⊎_elim
         (λ f. let m = declares x c s e plain f in declared-slot c above m.0 s m.1 m.2 m.3)
-        (λ f. above-slot c above s (rest f))
+        (λ f. above-slot c above s (told-line w are_supertypes one_supertypes rules c.supers (supertypes w c.supers)
+        (are_supertypes c.supers) (λ v d l h im. supers-classes x c e v d l h)) (rest f))
         (two (declares_open s.name s.desc c) (has_open s.name s.desc (supertypes w c.supers))
         (sym (ap (λ (q : Signature). declares_open q.name q.desc c
         || has_open q.name q.desc (supertypes w c.supers)) r.1) ∙ r.2)))
@@ -328,7 +330,9 @@ module _ (w : List Class) (are_supertypes : (xs : List (List ℕ)) → AreSupert
             in absurd (cc)
         by b f rest (inr (inr (inr d))) = absurd (cc)
         by false f rest (inl d) = let m = declares y c s g plain d in declared-slot c (line_in w p) m.0 s m.1 m.2 m.3
-        by false f rest (inr (inl d)) = let z = rules.single y c g f in above-slot c (line_in w p) s (rest z.0 z.1 d)
+        by false f rest (inr (inl d)) = let z = rules.single y c g f in above-slot c (line_in w p) s (told-line w
+            are_supertypes one_supertypes rules c.supers p sp (λ v d l h im. supers-classes y c g v d l h))
+            (rest z.0 z.1 d)
         by false f rest (inr (inr (inl d))) =
             let two = both (takes_added c) (is_one_of (asked_by p q) s.name s.desc) d in
             let z = rules.single y c g f in

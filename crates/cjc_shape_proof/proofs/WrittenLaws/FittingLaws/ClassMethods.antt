@@ -24,8 +24,8 @@ use Rattle.cjc_components.specs.Package.{Package, has_applets, world}
 use Rattle.cjc_export.specs.Members.{is_unbound, same_bool}
 use Rattle.cjc_export.specs.Writable.{EachAfter, MethodStands}
 use Rattle.cjc_export.specs.declared.tree.ExportMethod.{ExportMethod}
-use Rattle.cjc_shape.proofs.Exported.ExportLaws.Own.{IsOwn, own_class}
-use Rattle.cjc_shape.proofs.Exported.ExportLaws.Tokens.{counted}
+use Rattle.cjc_shape.proofs.ExportedOwn.{IsOwn, own_class}
+use Rattle.cjc_shape.proofs.ExportedTokens.{counted}
 use Rattle.cjc_shape.specs.Judge.Rules.{settings_of}
 use Rattle.cjc_shape.specs.Judge.declared.judged.Judged.{Judged}
 use Rattle.cjc_components.specs.List.Listed.{ListTree}

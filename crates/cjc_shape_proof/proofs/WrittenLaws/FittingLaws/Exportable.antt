@@ -27,7 +27,7 @@ use Rattle.cjc_export.specs.Members.{as_desc}
 use Rattle.cjc_export.specs.Pool.{aid_length}
 use Rattle.cjc_export.specs.Writable.{IsText}
 use Rattle.cjc_export.specs.Written.{constants}
-use Rattle.cjc_shape.proofs.Exported.ExportLaws.Own.{IsOwn, own_class}
+use Rattle.cjc_shape.proofs.ExportedOwn.{IsOwn, own_class}
 use Rattle.cjc_shape.specs.Exported.Exportable.{ClassIsRead, ClassStands, ClassesStand, IsExportable, ListIsRead}
 use Rattle.cjc_shape.specs.Judge.Rules.{settings_of}
 use Rattle.cjc_shape.specs.Judge.Spelt.{IsRead}

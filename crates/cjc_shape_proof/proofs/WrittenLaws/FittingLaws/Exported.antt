@@ -14,8 +14,8 @@ use Rattle.cjc_classfile.specs.declared.tree.MethodTree.{MethodTree}
 use Rattle.cjc_components.specs.Class.{fields_in, fields_of}
 use Rattle.cjc_components.specs.Exports.{exported_classes, open_methods}
 use Rattle.cjc_components.specs.Package.{Package, has_applets, world}
-use Rattle.cjc_shape.proofs.Exported.ExportLaws.Own.{IsOwn, own_class}
-use Rattle.cjc_shape.proofs.Exported.ExportLaws.Tokens.{few_statics, low_tokens}
+use Rattle.cjc_shape.proofs.ExportedOwn.{IsOwn, own_class}
+use Rattle.cjc_shape.proofs.ExportedTokens.{few_statics, low_tokens}
 use Rattle.cjc_check_proof.specs.Limits.Premises.{ExportsFew}
 use Rattle.cjc_subset.specs.Flags.{has_two_accesses, is_unfit_method}
 use Rattle.cjc_tokens.specs.Fields.{is_open_static}

@@ -21,7 +21,7 @@ use Rattle.cjc_components.specs.Layout.Layouts.{IsWhole}
 use Rattle.cjc_components.specs.Layout.Refusals.{least, overtaking}
 use Rattle.cjc_components.specs.Layout.Sizes.{widest_size}
 use Rattle.cjc_components.specs.List.Listed.{ListTree}
-use Rattle.cjc_shape.proofs.Methods.Alike.{IsFromCode, one_selected}
+use Rattle.cjc_shape.proofs.MethodsAlike.{IsFromCode, one_selected}
 use Rattle.cjc_shape.specs.Methods.Ready.{IsOwn}
 use Rattle.cjc_shape.specs.Methods.Ready as Ready
 use Rattle.cjc_components.specs.Narrow.Rows.Resolved.{resolution}

@@ -25,7 +25,7 @@ use Rattle.cjc_components.specs.Layout.Layouts.{IsLayout}
 use Rattle.cjc_components.specs.Layout.declared.layout.Layout.{Layout}
 use Rattle.cjc_components.specs.List.Listed.{ListTree}
 use Rattle.cjc_ncode.specs.Lowering.Naming.{Naming}
-use Rattle.cjc_shape.proofs.Methods.Alike.{one_selected}
+use Rattle.cjc_shape.proofs.MethodsAlike.{one_selected}
 use Rattle.cjc_shape.specs.Methods.Ready.{IsOwn}
 use Rattle.cjc_components.specs.Narrow.Rows.Selected.{near_fields}
 use Rattle.cjc_ncode.specs.PoolOrder.{pool_order, same_key}

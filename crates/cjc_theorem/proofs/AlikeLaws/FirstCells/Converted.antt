@@ -9,7 +9,7 @@ use Rattle.cjc_shape_proof.proofs.WrittenLaws.FittingLaws.Arrays.{arrays_fit}
 use Rattle.cjc_shape_proof.proofs.WrittenLaws.FittingLaws.Values.{values_fit}
 use Rattle.cjc_judge.specs.declared.judged.Judged.{Judged}
 use Rattle.cjc_components.specs.List.Listed.{ListTree}
-use Rattle.cjc_shape_proof.proofs.Shape.PreparedLaws.Sound as Sound
+use Rattle.cjc_shape_proof.proofs.ShapeSound as Sound
 use Rattle.cjc_world.specs.Files.{Files}
 use Rattle.cjc_shape_proof.proofs.WrittenLaws.Files.{own_image, same_files}
 use Rattle.cjc_shape_proof.specs.Written.Converted.{IsConverted}

@@ -17,7 +17,7 @@ use Rattle.cjc_judge.specs.declared.judged.Judged.{Judged}
 use Rattle.cjc_components.specs.List.Listed.{ListTree}
 use Rattle.cjc_theorem.proofs.AlikeLaws.NamedLaws.Sources.{HasHolder, holder}
 use Rattle.cjc_narrow_proof.specs.Laws.Unbroken.{IsInsnOf}
-use Rattle.cjc_shape_proof.proofs.Shape.PreparedLaws.Sound.{are_ready}
+use Rattle.cjc_shape_proof.proofs.ShapeSound.{are_ready}
 use Rattle.cjc_narrow_proof.specs.Types.Tables.{IsMethodOf}
 use Rattle.cjc_world.specs.declared.found.Found.{Found}
 use Rattle.cjc_world.specs.Files.{Files}

@@ -8,13 +8,13 @@ use Rattle.cjc_code.specs.declared.insn.JOp.TheVariants as jop
 use Rattle.cjc_components.specs.Package.{Package, world}
 use Rattle.cjc_judge.specs.Rules.{has_applets, settings_of}
 use Rattle.cjc_judge.specs.declared.judged.Judged.{Judged}
-use Rattle.cjc_shape_proof.proofs.Shape.JudgedLaws.Called.{resolved_declared, resolved_token}
+use Rattle.cjc_shape_proof.proofs.ShapeCalled.{resolved_declared, resolved_token}
 use Rattle.cjc_components.specs.List.Listed.{ListTree}
 use Rattle.cjc_narrow.specs.Rows.Resolved.{resolved_method}
 use Rattle.cjc_narrow_proof.proofs.LawsLaws.Instructions.{op_there}
 use Rattle.cjc_narrow_proof.specs.Laws.Unbroken.{IsInsnOf}
 use Rattle.cjc_ncode.specs.ByLabel.{OnInterface}
-use Rattle.cjc_shape_proof.proofs.Shape.PreparedLaws.Sound.{has_tokens}
+use Rattle.cjc_shape_proof.proofs.ShapeSound.{has_tokens}
 use Rattle.cjc_tokens.specs.Rules.{token_breaks}
 use Rattle.cjc_shape_proof.proofs.WrittenLaws.WholeLaws.Declared.{declared_place}
 use Rattle.cjc_world.proofs.Unbroken.{unbroken_is_acyclic}

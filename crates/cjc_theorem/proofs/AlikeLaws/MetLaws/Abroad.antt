@@ -8,7 +8,7 @@ use Rattle.cjc_bytes.specs.declared.fault.MemberId.{MemberId}
 use Rattle.cjc_jvm_semantics.specs.OnePackage.{is_initialiser, of_class}
 use Rattle.cjc_world_proof.proofs.CallsLaws.Own.{mapped_at}
 use Rattle.cjc_card_semantics.specs.Machine.Classes.{with_token}
-use Rattle.cjc_shape_proof.proofs.CheckProof.ClassesLaws.Lists.{get-behind, get-front}
+use Rattle.cjc_shape_proof.proofs.CheckProofLists.{get-behind, get-front}
 use Rattle.cjc_classfile.specs.declared.tree.ClassTree.{ClassTree}
 use Rattle.cjc_shape_proof.specs.CheckProof.Code.Members.{IsImportedClass, IsImportedMethod, classes_before}
 use Rattle.cjc_token_proof.specs.Components.Whole.{exports_of}

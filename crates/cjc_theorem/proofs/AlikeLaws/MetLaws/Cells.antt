@@ -9,7 +9,7 @@ use Rattle.cjc_bytes.specs.declared.fault.MemberId.{MemberId}
 use Rattle.cjc_token_proof.proofs.ByToken.Members.{behind_all, front_all, member_same}
 use Rattle.cjc_token_proof.specs.ByToken.Cells.{HasCells, fields, is_number, is_one_of, letter, letter_by}
 use Rattle.cjc_card_semantics.specs.Machine.ByToken.{letter_of}
-use Rattle.cjc_shape_proof.proofs.CheckProof.ClassesLaws.Lists.{has-flat, has-map}
+use Rattle.cjc_shape_proof.proofs.CheckProofLists.{has-flat, has-map}
 use Rattle.cjc_classfile.specs.declared.tree.ClassTree.{ClassTree}
 use Rattle.cjc_classfile.specs.declared.tree.FieldTree.{FieldTree}
 use Rattle.cjc_clinit.specs.Fields.{is_cell}

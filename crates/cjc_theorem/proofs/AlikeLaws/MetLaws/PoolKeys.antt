@@ -3,7 +3,7 @@
 use Rattle.std.proofs.Common.{◌≡◌, ⊎_elim, ℕ, sym, subst, Bool, true, false, not, List, [], ◌∷◌, ◌++◌}
 use Rattle.std.specs.Prelude.{Some, filter, flat_map, slice_get, if◌then◌else◌}
 use Rattle.std.specs.List.{list_any}
-use Rattle.cjc_shape_proof.proofs.CheckProof.ClassesLaws.Lists.{has-mapped, has-other}
+use Rattle.cjc_shape_proof.proofs.CheckProofLists.{has-mapped, has-other}
 use Rattle.cjc_components.specs.Package.{LaidMethod, Package, codes, pool}
 use Rattle.cjc_shape_proof.proofs.WrittenLaws.FittingLaws.Order.{has_cons, has_either, has_none}
 use Rattle.cjc_ncode.specs.PoolOrder.{any_exception, class_key, has_catch_type, insn_keys, is_field, method_keys, once}

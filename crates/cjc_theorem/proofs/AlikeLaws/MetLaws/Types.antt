@@ -5,7 +5,7 @@ use Rattle.std.specs.Str.{bytes_eq}
 use Rattle.std.specs.Prelude.{codes as bytes_of}
 use Rattle.std.proofs.lemmas.Option.{slice_get_within}
 use Rattle.cjc_bytes.specs.declared.fault.MemberId.{MemberId}
-use Rattle.cjc_shape_proof.proofs.CheckProof.ClassesLaws.Lists.{has-mapped}
+use Rattle.cjc_shape_proof.proofs.CheckProofLists.{has-mapped}
 use Rattle.cjc_shape_proof.specs.CheckProof.Classes.Premises.{is_known, types_known}
 use Rattle.cjc_classfile.specs.declared.tree.ClassTree.{ClassTree}
 use Rattle.cjc_classfile.specs.declared.tree.FieldTree.{FieldTree}

@@ -19,7 +19,7 @@ use Rattle.cjc_ncode.specs.PoolOrder.{any_exception, has_catch_type, is_field, i
 use Rattle.cjc_ncode.specs.declared.narrow.NCatch.{NCatch}
 use Rattle.cjc_ncode.specs.declared.narrow.PoolKey.{PoolKey}
 use Rattle.cjc_ncode.specs.declared.narrow.PoolKey.TheVariants as keys
-use Rattle.cjc_shape_proof.proofs.Pool.PoolLaws.Keys.{some_of}
+use Rattle.cjc_shape_proof.proofs.PoolKeys.{some_of}
 use Rattle.cjc_token_proof.specs.Tables.Loading.{naming}
 use Rattle.cjc_tokens.proofs.Facts.{position-cons}
 use Rattle.cjc_world.specs.Classes.{Class, class_named}

@@ -15,8 +15,8 @@ use Rattle.cjc_ncode.specs.declared.narrow.NCatch.{NCatch}
 use Rattle.cjc_ncode.specs.declared.narrow.NInsn.{NInsn}
 use Rattle.cjc_ncode.specs.declared.narrow.PoolKey.{PoolKey}
 use Rattle.cjc_ncode.specs.declared.narrow.PoolKey.TheVariants as keys
-use Rattle.cjc_shape_proof.proofs.Pool.PoolLaws.Entries.{all_held}
-use Rattle.cjc_shape_proof.proofs.Pool.PoolLaws.Keys.{same_itself}
+use Rattle.cjc_shape_proof.proofs.PoolEntries.{all_held}
+use Rattle.cjc_shape_proof.proofs.PoolKeys.{same_itself}
 use Rattle.cjc_token_proof.specs.Tables.Loading.{loaded, naming}
 
 -- ---- each kind of key

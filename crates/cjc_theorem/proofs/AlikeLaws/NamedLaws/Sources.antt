@@ -33,7 +33,7 @@ use Rattle.cjc_ncode.specs.Written.{catch_at, catches_at, place_in, reached}
 use Rattle.cjc_ncode.specs.declared.narrow.NCatch.{NCatch}
 use Rattle.cjc_ncode.specs.declared.narrow.NInsn.{NInsn}
 use Rattle.cjc_ncode.specs.declared.narrow.NMethod.{NMethod}
-use Rattle.cjc_shape_proof.proofs.Shape.PreparedLaws.Sound.{are_ready}
+use Rattle.cjc_shape_proof.proofs.ShapeSound.{are_ready}
 use Rattle.cjc_narrow_proof.proofs.SelectedLaws.Places.{reached_from}
 use Rattle.cjc_token_proof.proofs.TablesLaws.Filed.{own_filed}
 use Rattle.cjc_token_proof.proofs.TablesLaws.Order.{get-has, kind-in}

@@ -362,7 +362,7 @@ module _ (list : ListTree) (files : List (List ℕ)) (judged : Judged) (p : Pack
             (In-split k (let c = declared number class in c.methods) (all_methods (line w super))
             (subst (λ cs. In k (all_methods cs)) own_line i))
 
-        pub shown_there : HasShown w super s
+        shown_there : HasShown w super s
         unfolding line
         shown_there = ⊎_elim
             (λ h. listed h.0 h.1 h.2 h.3)

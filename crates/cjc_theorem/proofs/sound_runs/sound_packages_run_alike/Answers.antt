@@ -1,7 +1,7 @@
 use Rattle.cjc_judge.specs.Rules.{settings_of}
 use Rattle.cjc_theorem.proofs.SoundRuns.Alike.{draft_runs, own_tables, whole}
 use Rattle.cjc_theorem.proofs.sound_runs.sound_packages_run_alike.Goals as goal
-use Rattle.cjc_shape_proof.proofs.Shape.WholeLaws.Second.{package_is_draft}
+use Rattle.cjc_shape_proof.proofs.ShapeSecond.{package_is_draft}
 
 pub returns-clause-tabled : goal.returns-clause-tabled
 returns-clause-tabled c = λ list files judged of is sound. (

@@ -4,10 +4,10 @@ use Rattle.std.proofs.lemmas.Result.{IfOk-weaker}
 use Rattle.cjc_world.specs.Classes.{all_classes, class_named, declared}
 use Rattle.cjc_world.specs.Working.Known.{class_of}
 use Rattle.cjc_tokens.specs.Lines.{Line, line_at, line_of}
-use Rattle.cjc_tokens.proofs.Held.{token-nil}
 use Rattle.cjc_components.specs.VTable.Tables.{or_zero}
 use Rattle.cjc_components.specs.Names.{token_in}
 use Rattle.cjc_classes.specs.Walks.{called}
+use Rattle.cjc_classes.proofs.KeyTokens.Lines.{shown_nowhere}
 use Rattle.cjc_classes.proofs.KeyTokens.Walked.{named_there, number_within, unknown_line}
 use Rattle.cjc_classes.proofs.key_tokens.keys.virtual_token.Goals as goal
 
@@ -30,7 +30,7 @@ returns-in-None c =
     let s = called m.name m.desc in
     let none = ap (class_named w) (sym c.items.ensures) ∙ sym c.in-None.ensures.named in
     sym (ap (λ (l : Line). token_in l s) (unknown_line files (c.lookup_laws.ensures.are_supertypes w c.acyclic.ensures)
-    (c.lookup_laws.ensures.one_supertypes w) s m.class none) ∙ ap or_zero (token-nil s))
+    (c.lookup_laws.ensures.one_supertypes w) s m.class none) ∙ ap or_zero (shown_nowhere s))
 
 pub returns-in-Some-Declared : goal.returns-in-Some-Declared
 returns-in-Some-Declared c =

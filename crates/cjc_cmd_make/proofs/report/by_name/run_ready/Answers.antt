@@ -1,4 +1,4 @@
-use Rattle.cjc_cmd_card.proofs.CmdJvm.ReportLaws.Free.{no_initialiser_breaks}
+use Rattle.cjc_cmd_card.proofs.CmdJvmFree.{no_initialiser_breaks}
 use Rattle.cjc_cmd_make.proofs.report.by_name.run_ready.Goals as goal
 
 pub report_of-requires-clause-unbroken : goal.report_of-requires-clause-unbroken

@@ -2,7 +2,7 @@ use Rattle.cjc_judge.specs.Rules.{settings_of}
 use Rattle.cjc_theorem.proofs.AlikeLaws.Converted.{judged_checks, judged_package}
 use Rattle.cjc_theorem.proofs.SoundRuns.Alike.{selected_code}
 use Rattle.cjc_theorem.proofs.alike.halves.selected_code_behaves_alike.Goals as goal
-use Rattle.cjc_shape_proof.proofs.Shape.WholeLaws.Second.{package_is_draft}
+use Rattle.cjc_shape_proof.proofs.ShapeSecond.{package_is_draft}
 
 pub returns : goal.returns
 returns c = λ list files judged of is p laid.
