@@ -1,1 +1,2 @@
 pub mod Compat
+pub mod Subclasses

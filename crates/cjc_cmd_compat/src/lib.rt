@@ -3,6 +3,8 @@
 
 mod comparing;
 mod laws;
+mod subclasses;
 
 pub use comparing::gather_compat;
 pub use laws::one_answer;
+pub use subclasses::subclasses_keep_tokens;

@@ -117,14 +117,41 @@ still_listed new old e x h =
 -- ---- a class of the old version, and the one that has its token now
 
 -- What is kept of a class.
-record IsKept (old new : ExportClass) : Type 0 where
-  name : new.name ≡ old.name
-  token : new.token ≡ old.token
-  interface : is_interface new.flags ≡ is_interface old.flags
-  supers : lacks_one new.listed old.listed ≡ false
-  interfaces : lacks_one new.interfaces old.interfaces ≡ false
-  fields : (i : ℕ) (f : ExportField) → slice_get old.fields i ≡ Some f → is_lost_field new.fields f ≡ false
-  methods : (i : ℕ) (m : ExportMethod) → slice_get old.methods i ≡ Some m → is_lost_method new.methods m ≡ false
+pub record IsKept (old new : ExportClass) : Type 0 where
+  pub name : new.name ≡ old.name
+  pub token : new.token ≡ old.token
+  pub interface : is_interface new.flags ≡ is_interface old.flags
+  pub table : is_other_table old new ≡ false
+  pub supers : lacks_one new.listed old.listed ≡ false
+  pub interfaces : lacks_one new.interfaces old.interfaces ≡ false
+  pub fields : (i : ℕ) (f : ExportField) → slice_get old.fields i ≡ Some f → is_lost_field new.fields f ≡ false
+  pub methods : (i : ℕ) (m : ExportMethod) → slice_get old.methods i ≡ Some m → is_lost_method new.methods m ≡ false
+
+-- What is kept of a method.
+pub record IsKeptMethod (old new : ExportMethod) : Type 0 where
+  pub token : new.token ≡ old.token
+  pub name : new.name ≡ old.name
+  pub desc : new.desc ≡ old.desc
+  pub static : is_static new.flags ≡ is_static old.flags
+
+method_kept : (old new : ExportMethod) → is_method old new ≡ true → IsKeptMethod old new
+method_kept old new e =
+    let d = and_cases _ (same (is_static new.flags) (is_static old.flags)) e in
+    let c = and_cases _ (bytes_eq new.desc old.desc) d.0 in
+    let b = and_cases (new.token == old.token) (bytes_eq new.name old.name) c.0 in
+    record {
+      token = number_is new.token old.token b.0;
+      name = name_is new.name old.name b.1;
+      desc = name_is new.desc old.desc c.1;
+      static = same_true (is_static new.flags) (is_static old.flags) d.1;
+    }
+
+pub method_there : (old new : ExportClass) → IsKept old new → (i : ℕ) (m : ExportMethod) → slice_get old.methods i
+    ≡ Some m → (k : ℕ) × (x : ExportMethod) × (slice_get new.methods k ≡ Some x) × IsKeptMethod m x
+method_there old new is i m e =
+    let one = any_got (λ x. is_method m x) new.methods (not_false (list_any (λ x. is_method m x) new.methods)
+    (is.methods i m e)) in
+    (one.0, one.1, one.2, method_kept m one.1 one.3)
 
 kind_kept : (old new : ℕ) → is_of_kind old new ≡ true → is_interface new ≡ is_interface old
 kind_kept old new e = same_true (is_interface new) (is_interface old) (first_of_all (same (is_interface new)
@@ -152,6 +179,7 @@ kept f n old new token e =
       name = name_is new.name old.name (not_false _ class.0);
       token = token;
       interface = kind_kept old.flags new.flags (not_false _ class.1);
+      table = at_none (is_other_table old new) _ 744 table.1;
       supers = less.0;
       interfaces = less.1;
       fields = λ i m g. at_none (is_lost_field new.fields m) _ 743 (each_none_at (λ i m. at (is_lost_field new.fields m)
@@ -161,7 +189,7 @@ kept f n old new token e =
     }
 
 module _ (file : List ℕ) (old new : ExportTree) (e : breaks file old new ≡ []) where
-  classes_kept : (n : ℕ) (c : ExportClass) → slice_get old.classes n ≡ Some c → (k : ℕ) × (d : ExportClass)
+  pub classes_kept : (n : ℕ) (c : ExportClass) → slice_get old.classes n ≡ Some c → (k : ℕ) × (d : ExportClass)
       × (slice_get new.classes k ≡ Some d) × IsKept c d
   classes_kept n c g =
       let all = both_none _ (each_from (λ n c. class_breaks (new_file file) n c (with_token c.token new.classes)) 0
@@ -242,33 +270,20 @@ module _ (file : List ℕ) (old new : ExportTree) (e : breaks file old new ≡ [
       let there = classes_kept n c g in
       let d = there.1 in
       let is = there.3 in
-      let found = not_false (list_any (λ x. is_method m x) d.methods) (is.methods i m h) in
-      let one = any_got (λ x. is_method m x) d.methods found in
+      let one = method_there c d is i m h in
       let x = one.1 in
-      let kept = method_kept m x one.3 in
+      let kept = one.3 in
       let k : Kind = kind_of_method (is_interface c.flags) m in
       let kind : kind_of_method (is_interface d.flags) x ≡ k = ap (λ b. kind_of_method b x) is.interface
-      ∙ kind_same (is_interface c.flags) m x kept.1 kept.3 in
+      ∙ kind_same (is_interface c.flags) m x kept.name kept.static in
       subst (λ t. Resolves new (to_member t k m.token) (is_member c.name k m.name m.desc)) is.token
       (subst (λ z. Resolves new (to_member d.token k m.token) (is_member z k m.name m.desc)) is.name
-      (subst (λ t. Resolves new (to_member d.token k t) (is_member d.name k m.name m.desc)) kept.0
-      (subst (λ z. Resolves new (to_member d.token k x.token) (is_member d.name k z m.desc)) kept.1
-      (subst (λ z. Resolves new (to_member d.token k x.token) (is_member d.name k x.name z)) kept.2
+      (subst (λ t. Resolves new (to_member d.token k t) (is_member d.name k m.name m.desc)) kept.token
+      (subst (λ z. Resolves new (to_member d.token k x.token) (is_member d.name k z m.desc)) kept.name
+      (subst (λ z. Resolves new (to_member d.token k x.token) (is_member d.name k x.name z)) kept.desc
       (subst (λ k. Resolves new (to_member d.token k x.token) (is_member d.name k x.name x.desc)) kind
       (method there.0 d there.2 one.0 x one.2))))))
     where
-      method_kept : (old new : ExportMethod) → is_method old new ≡ true → (new.token ≡ old.token)
-          × (new.name ≡ old.name) × (new.desc ≡ old.desc) × (is_static new.flags ≡ is_static old.flags)
-      method_kept old new e =
-          let d = and_cases _ (same (is_static new.flags) (is_static old.flags)) e in
-          let c = and_cases _ (bytes_eq new.desc old.desc) d.0 in
-          let b = and_cases (new.token == old.token) (bytes_eq new.name old.name) c.0 in (
-            number_is new.token old.token b.0,
-            name_is new.name old.name b.1,
-            name_is new.desc old.desc c.1,
-            same_true (is_static new.flags) (is_static old.flags) d.1,
-          )
-
       kind_same : (b : Bool) (old new : ExportMethod) → new.name ≡ old.name → is_static new.flags ≡ is_static old.flags
           → kind_of_method b new ≡ kind_of_method b old
       kind_same true old new name static = refl

@@ -1,3 +1,4 @@
 pub mod NarrowLaws
 pub mod ComponentsLaws
+
 -- Lemmas of lower crates, for those above.

@@ -169,8 +169,11 @@ module _ (c : Class) (given : List Member) (above : Line) (plain : c.is_imported
       let all : slots line ≡ with_new S shown ++ (more ++ []) = ap (λ (x : Slots). with_new S shown
       ++ x) (sym (append-nil more)) in
       let second = few_new (slots line) (with_new S shown) (map signature_of given) [] all (given_low (shown_token line)
-      (slots line) given (λ m i. slot_low (signature_of m) (inr (has_given given m i))) f) (omega (arith, first,
-      long)) in
+      (slots line) given (λ m i. slot_low (signature_of m) (inr (has_given given m i))) f) (omega (
+        arith,
+        first,
+        long,
+      )) in
       let longer = length_new (with_new S shown) (map signature_of given) in
       omega (arith, second, longer)
 

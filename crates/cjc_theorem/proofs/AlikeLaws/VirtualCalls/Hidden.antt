@@ -20,16 +20,17 @@ use Rattle.cjc_subset.specs.Members.{imports}
 use Rattle.cjc_subset.specs.Overriding.{gets_hidden, hides_added, hides_one, is_open, is_out_of_sight}
 use Rattle.cjc_subset.specs.Overriding.{is_package_visible, is_superclass}
 use Rattle.cjc_subset.specs.Places.{at_class}
-use Rattle.cjc_tokens.specs.Lines.{Declared, Imported, line_in}
+use Rattle.cjc_tokens.specs.Lines.{Declared, Imported, Line, line_in}
 use Rattle.cjc_tokens.specs.Members.{In, Signature, all_methods, first_of, has, is_exposed, is_shown, later, same}
 use Rattle.cjc_tokens.specs.Members.{signature_of, signatures}
-use Rattle.cjc_tokens.specs.Slots.{has_slot, listed_slots, slots, with_new}
+use Rattle.cjc_tokens.specs.Slots.{Slots, has_slot, listed_slots, slots, taken_slots, with_new}
 use Rattle.cjc_tokens.proofs.Facts.{chosen-In, chosen-passes, chosen-some, same-refl, same-true}
-use Rattle.cjc_tokens.proofs.Held.{listed_slot}
+use Rattle.cjc_tokens.proofs.Held.{here-has_slot, listed_slot}
 use Rattle.cjc_vtable.proofs.Calls.{In-behind, In-front}
 use Rattle.cjc_vtable.proofs.Filed.{Has, IsFiled, at_front, behind, filed, get-has, in_class_file, in_export_file}
 use Rattle.cjc_vtable.proofs.Filed.{of-imports}
 use Rattle.cjc_vtable.proofs.Given.{slot-of, with_new-slot}
+use Rattle.cjc_vtable.proofs.Told.{taken_slots-either}
 use Rattle.cjc_vtable.proofs.Worlds.{methods-front}
 use Rattle.cjc_vtable.specs.Laws.{KeepsRules}
 use Rattle.cjc_world.specs.Added.{added, added_at, added_to, named_by}
@@ -43,6 +44,15 @@ use Rattle.cjc_world.specs.Upwards.{OnLine, here, up}
 use Rattle.cjc_world.proofs.Cycles.{class_named-name}
 use Rattle.cjc_world.proofs.Settled.{bytes-true}
 use Rattle.cjc_world.proofs.UpwardLaws.Lines.{line_is_below}
+
+-- ---- slots that are taken
+
+-- What has a slot where methods of a class take some had one before, or is of such a method.
+taken-slot : (c : Class) (above : Line) (all : Slots) (s : Signature) → has_slot (taken_slots c above all) s ≡ true
+    → (has_slot all s ≡ true) ⊎ (has (signatures is_shown c.methods) s ≡ true)
+taken-slot c above all s e =
+    let t = slot-of (taken_slots c above all) s e in
+    ⊎_elim (λ h. inl (here-has_slot all t.0 s h)) (λ h. inr h) (taken_slots-either c above all t.0 s t.1)
 
 -- ---- lists
 
@@ -242,6 +252,16 @@ module _ (w : List Class) (rules : KeepsRules w) where
           }))
           h
 
+      declares : has (signatures is_shown c.methods) s ≡ true
+          → IsListed (c.methods ++ all_methods (upwards p ++ upwards r)) s ⊎ IsGot x s
+      declares g = let m = chosen-some is_shown s c.methods g in let one = chosen-passes is_shown s c.methods m.0 m.1 in
+          inl (
+            m.0,
+            In-front m.0 c.methods (all_methods (upwards p ++ upwards r)) (chosen-In is_shown s c.methods m.0 m.1),
+            one.1,
+            one.0,
+          )
+
       by : (b : Bool) → c.is_imported ≡ b
           → has_slot (slots (if b then Imported (c ∷ upwards p) else Declared c (added w c) (line_in w p))) s ≡ true
           → ((z : List ℕ) → c.supers ≡ z ∷ [] → has_slot (slots (line_in w p)) s ≡ true
@@ -253,15 +273,12 @@ module _ (w : List Class) (rules : KeepsRules w) where
           inl (m.0, methods-front (c ∷ upwards p) (upwards r) m.0 m.1, m.2, m.4)
       by false is e rest = ⊎_elim
           (λ h. ⊎_elim
-          (λ g. let z = rules.single x c named is in above z.0 z.1 (rest z.0 z.1 g))
-          (λ g. let m = chosen-some is_shown s c.methods g in let one = chosen-passes is_shown s c.methods m.0 m.1
-          in inl (
-            m.0,
-            In-front m.0 c.methods (all_methods (upwards p ++ upwards r)) (chosen-In is_shown s c.methods m.0 m.1),
-            one.1,
-            one.0,
-          ))
-          (with_new-slot (slots (line_in w p)) (signatures is_shown c.methods) s h))
+          (λ g. ⊎_elim
+          (λ a. let z = rules.single x c named is in above z.0 z.1 (rest z.0 z.1 a))
+          (λ a. declares a)
+          (taken-slot c (line_in w p) (slots (line_in w p)) s g))
+          (λ g. declares g)
+          (with_new-slot (taken_slots c (line_in w p) (slots (line_in w p))) (signatures is_shown c.methods) s h))
           (λ h. inr (record {
             class = c;
             on = here named;
@@ -269,5 +286,5 @@ module _ (w : List Class) (rules : KeepsRules w) where
             own = is;
             given = h;
           }))
-          (with_new-slot (with_new (slots (line_in w p)) (signatures is_shown c.methods)) (map signature_of (added w c))
-          s e)
+          (with_new-slot (with_new (taken_slots c (line_in w p) (slots (line_in w p))) (signatures is_shown c.methods))
+          (map signature_of (added w c)) s e)
