@@ -1,0 +1,10 @@
+pub mod Types
+pub mod Known
+pub mod Acts
+pub mod Flow
+pub mod Tables
+pub mod Search
+pub mod Working
+-- Definitions of lower crates, for those above.
+pub use Rattle.cjc_types.specs as TypesByName
+pub use Rattle.cjc_types.specs.Fixpoint as Fixpoint
