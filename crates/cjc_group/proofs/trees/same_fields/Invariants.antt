@@ -1,0 +1,8 @@
+use Rattle.std.proofs.Common.{◌≡◌, drop}
+use Rattle.cjc_group.specs.Trees.{same_field}
+use Rattle.cjc_group.specs.Trees.{are_alike}
+use Rattle.cjc_group.proofs.trees.same_fields.Given as goal
+
+abbrev pub invariant-loop-place : goal.invariant-loop-place
+invariant-loop-place l =
+    are_alike same_field (drop l.place l.left) (drop l.place l.right) ≡ are_alike same_field l.left l.right
