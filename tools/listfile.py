@@ -3,7 +3,7 @@ import re
 
 NAME = re.compile(rb"[A-Za-z0-9_$]+(/[A-Za-z0-9_$]+)*\Z")
 FORMS = {b"package": "package NAME AID MAJOR.MINOR", b"applet": "applet CLASS AID", b"class": "class FILE",
-         b"export": "export FILE"}
+         b"export": "export FILE", b"int": "int"}
 LIMITS = {b"class": 1024, b"export": 128}
 
 
@@ -21,7 +21,7 @@ class Listing:
     def __init__(self, data):
         self.data, self.wrong = data, None
         self.package = self.aid = self.version = None
-        self.applets, self.classes, self.exports = [], [], []
+        self.applets, self.classes, self.exports, self.ints = [], [], [], False
         for line in lines_of(data):
             told = self.fault(line)
             if told:
@@ -42,6 +42,8 @@ class Listing:
             return [f"it has {len(line.words)} words; the form is: {FORMS[word]}"] + fault_of_words(line.words)
         if word == b"package" and self.package is not None:
             return ["it is a second package line; a list is of one package"]
+        if word == b"int" and self.ints:
+            return ["it is a second line `int`; one says it"]
         kept = {b"class": self.classes, b"export": self.exports}.get(word, [])
         if len(kept) >= LIMITS.get(word, 1 << 30):
             return [f"there are {len(kept)} {word.decode()} lines before it, and no list may have more"]
@@ -54,6 +56,8 @@ class Listing:
             self.version = tuple(int(part) for part in words[3].split("."))
         elif words[0] == "applet":
             self.applets.append((words[1], bytes.fromhex(words[2])))
+        elif words[0] == "int":
+            self.ints = True
         else:
             (self.classes if words[0] == "class" else self.exports).append(words[1])
 
@@ -96,13 +100,11 @@ def fault_of_text(text):
 
 def unknown_word(word):
     shown = word.decode("utf-8", "replace")
-    if word == b"int":
-        return "there is no line `int` yet: a package that needs the card's int can't be converted"
     if word.lower() in FORMS:
         return f"`{shown}` is written in small letters: {word.lower().decode()}"
     if word.startswith((b"//", b";", b"--")):
         return "a comment begins with `#`"
-    return f"`{shown}` begins no line; lines begin with package, applet, class or export"
+    return f"`{shown}` begins no line; lines begin with package, applet, class, export or int"
 
 
 def fault_of_words(words):

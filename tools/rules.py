@@ -26,7 +26,7 @@ def titles():
     """The groups of rules with what each rule is called, in the order of the page."""
     told = []
     for line in page():
-        if group := re.match(r"## (.*: \d+ to \d+)$", line):
+        if group := re.match(r"## (.*: \d+(?: to \d+)?)$", line):
             told.append((group[1], []))
         elif rule := re.match(r"### (\d+) (.*)$", line):
             told[-1][1].append((rule[1], rule[2]))

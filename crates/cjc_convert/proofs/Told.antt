@@ -14,7 +14,8 @@ use Rattle.cjc_captree.specs.ClassOrder.Classes.Numbers.{declared_at}
 use Rattle.cjc_shape_proof.specs.ClassFile.declared.tree.ClassTree.{ClassTree}
 use Rattle.cjc_shape_proof.specs.ClassFile.declared.tree.MethodTree.{MethodTree}
 use Rattle.cjc_captree.specs.Components.Descriptor.{as_added, method_in, methods_with_added, no_member}
-use Rattle.cjc_captree.specs.Components.Limits.{else_of, form_breaks, has_far_types, has_large_component}
+use Rattle.cjc_captree.specs.Components.Limits.{code_breaks, else_of, form_breaks, has_far_types, has_int_code}
+use Rattle.cjc_captree.specs.Components.Limits.{has_large_component, int_breaks}
 use Rattle.cjc_captree.specs.Components.Limits.{has_many_entries}
 use Rattle.cjc_captree.specs.Components.Limits.{has_many_words, in_class, is_too_long, layout_breaks, method_spot}
 use Rattle.cjc_captree.specs.Components.Limits.{of_methods}
@@ -261,5 +262,8 @@ module _ (p : Package) (counted : (let v = p.files in length v.classes ≡ class
   sizes_told = each_append Told (at (has_far_types p) (spot_of_list p) 411) (at (has_large_component p) (spot_of_list p)
       416) (at_list (has_far_types p) 411) (at_list (has_large_component p) 416)
 
-  pub written_told : Each Told (else_of (of_methods p (word_breaks p)) (form_breaks p))
-  written_told = each_else Told (of_methods p (word_breaks p)) (form_breaks p) words_told forms_told
+  codes_told : Each Told (code_breaks p)
+  codes_told = each_else Told (int_breaks p) (form_breaks p) (at_list (has_int_code p) 801) forms_told
+
+  pub written_told : Each Told (else_of (of_methods p (word_breaks p)) (code_breaks p))
+  written_told = each_else Told (of_methods p (word_breaks p)) (code_breaks p) words_told codes_told

@@ -84,7 +84,7 @@ fn components_with(
     components(alloc, &given, written.method, written.locations)
 }
 
-/// The components of a package that breaks none of the rules of its files and of 417, 311, 414 and 415.
+/// The components of a package that breaks none of the rules of its files and of 417, 801, 311, 414 and 415.
 ///
 /// # Errors
 ///

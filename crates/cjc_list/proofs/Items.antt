@@ -16,7 +16,7 @@ use Rattle.hex.specs.declared.error.FromHexError.{FromHexError}
 use Rattle.cjc_bytes.specs.Text.{decimal, decimal_from, is_digit}
 use Rattle.cjc_list.specs.declared.listing.List.{List as Listing}
 use Rattle.cjc_list.specs.declared.line.Item.{Item}
-use Rattle.cjc_list.specs.declared.line.Item.TheVariants.{Applet, File}
+use Rattle.cjc_list.specs.declared.line.Item.TheVariants.{Applet, File, Int}
 use Rattle.cjc_list.specs.Grammar.{◌>>=◌, is_name, fit_for_aid, aid_of, version_of, begun, package_of, applet_of}
 use Rattle.cjc_list.specs.Grammar.{item_of}
 use Rattle.cjc_list.specs.Spelling.{IsAid, IsVersion, SaysPackage, keyword, Says}
@@ -98,10 +98,19 @@ three_words true w class digits i is e =
     subst P (sym (is refl)) (applet_says class digits i e)
 three_words false w class digits i is e = absurd cc
 
+one_word : (is_int : Bool) (w : List ℕ) (i : Item) → (is_int ≡ true → w ≡ codes "int")
+    → cond is_int (Some Int) None ≡ Some i → Says i (w ∷ [])
+one_word true w i is e =
+    let P : Item → Type 0 = λ i. Says i (w ∷ []) in
+    let says : Says Int (w ∷ []) = ap (λ (k : List ℕ). k ∷ []) (is refl) in
+    let item : Int ≡ i = cc in
+    subst P item says
+one_word false w i is e = absurd cc
+
 pub item_says : (ws : List (List ℕ)) (i : Item) → item_of ws ≡ Some i → Says i ws
 unfolding item_of
 item_says [] i e = absurd cc
-item_says (a ∷ []) i e = absurd cc
+item_says (a ∷ []) i e = one_word (bytes_eq a (codes "int")) a i (is_word a (codes "int")) e
 item_says (a ∷ b ∷ []) i e = two_words (bytes_eq a (codes "class")) (bytes_eq a (codes "export")) a b i
     (is_word a (codes "class")) (is_word a (codes "export")) e
 item_says (a ∷ b ∷ c ∷ []) i e = three_words (bytes_eq a (codes "applet")) a b c i (is_word a (codes "applet")) e
@@ -119,6 +128,7 @@ item_of-says (Applet a) ws h =
     let aid : aid_of h.0 ≡ Some a.aid = aid_of-is h.0 a.aid h.3 in
     ap item_of h.1 ∙ rw (aid, h.2) refl
 item_of-says (File f) ws h = ap item_of h ∙ file_of f.class_file f.name
+item_of-says Int ws h = ap item_of h
 
 -- a byte that was found stands between what is before it and what is behind it
 found_parts : (c : ℕ) (text : List ℕ) (n : ℕ) → position (λ b. b == c) text ≡ Some n → text ≡ take n text

@@ -1,6 +1,6 @@
 -- What a text spells or breaks, as a relation and as a function.
 use Rattle.std.proofs.Common.{◌≡◌, ℕ, ◌⊎◌, inl, inr, Bool, false, List, [], ◌∷◌, ◌++◌, Result, Ok, Err, refl, sym, ap}
-use Rattle.std.proofs.Common.{◌∙◌, subst, arith}
+use Rattle.std.proofs.Common.{◌∙◌, subst, arith, ◌+◌, ◌≤◌, true, cond, ltb, ◌||◌, zero, suc}
 use Rattle.cjc_bytes.specs.Found.{◌>>=◌}
 use Rattle.cjc_bytes.specs.Text.{TextLine}
 use Rattle.cjc_bytes.specs.declared.settings.FileLine.{FileLine}
@@ -8,14 +8,44 @@ use Rattle.cjc_bytes.specs.declared.settings.AppletLine.{AppletLine}
 use Rattle.cjc_list.specs.declared.listing.List.{List as Listing}
 use Rattle.cjc_list.specs.Grammar.{package_of, with_line}
 use Rattle.cjc_list.specs.Listed.{said, with_lines, of_lines}
-use Rattle.cjc_list.specs.Spelling.{SaysPackage, Within, applets_of, files_of, Spelt, IsBeginning, IsMalformedAt}
+use Rattle.cjc_list.specs.Spelling.{SaysPackage, Within, applets_of, files_of, int_count, Spelt, IsBeginning}
+use Rattle.cjc_list.specs.Spelling.{IsMalformedAt}
 use Rattle.cjc_list.proofs.Items.{fresh, package_says, package_of-says}
 use Rattle.cjc_list.proofs.Wholes.{gathered, said_ok, said_is, said_err, onward_ok, with_lines_add, with_lines_are}
+use Rattle.cjc_list.proofs.Wholes.{IsOnce}
+
+-- lines `int` of which there is one at most, and whether there is one
+one_or_none : (n : ℕ) → n ≤ 1 → n ≡ cond (ltb 0 n) 1 0
+one_or_none zero h = refl
+one_or_none (suc zero) h = refl
+one_or_none (suc (suc n)) h = absurd (omega (arith, h))
+
+is_there : (b : Bool) → ltb 0 (cond b 1 0) ≡ b
+is_there true = refl
+is_there false = refl
+
+at_most_one : (b : Bool) → cond b 1 0 ≤ 1
+at_most_one true = omega arith
+at_most_one false = omega arith
+
+none_so_far : (n : ℕ) → n ≤ 1 → cond false 1 0 + n ≤ 1
+none_so_far n h = omega (arith, h)
+
+none_till_now : (n : ℕ) → cond false 1 0 + n ≤ 1 → n ≤ 1
+none_till_now n h = omega (arith, h)
+
+once_of : (begun t : Listing) (name : List ℕ) (n : ℕ) → begun ≡ fresh name begun → cond begun.ints 1 0 + n ≤ 1
+    → t.ints ≡ (begun.ints || ltb 0 n) → n ≡ cond t.ints 1 0
+once_of begun t name n none once is =
+    let no : begun.ints ≡ false = ap Listing.ints none in
+    let few : cond false 1 0 + n ≤ 1 = subst (λ (b : Bool). cond b 1 0 + n ≤ 1) no once in
+    let there : t.ints ≡ ltb 0 n = is ∙ ap (λ (b : Bool). b || ltb 0 n) no in
+    one_or_none n (none_till_now n few) ∙ ap (λ (b : Bool). cond b 1 0) (sym there)
 
 -- the lines spell the list that they are read as
 pub lines_spell : (name : List ℕ) (end : ℕ) (first : TextLine) (rest : List TextLine) (t : Listing)
     → of_lines name end (first ∷ rest) ≡ Ok t → Spelt name t first rest
-unfolding of_lines
+unfolding of_lines IsOnce
 lines_spell name end first rest t e =
     let one = onward_ok (said (package_of name) first) (λ list. with_lines list rest) t e in
     let begun : Listing = one.0 in
@@ -33,13 +63,13 @@ lines_spell name end first rest t e =
       applets = ap Listing.applets rest.is ∙ ap (λ (z : Listing). Listing.applets (gathered z rest.items)) says.1;
       files = ap Listing.lines rest.is ∙ ap (λ (z : Listing). Listing.lines (gathered z rest.items)) says.1;
       within = rest.within;
-      no_ints = ap Listing.ints rest.is ∙ ap Listing.ints says.1;
+      ints = once_of begun t name (int_count rest.items) says.1 rest.once (ap Listing.ints rest.is);
     }
 
 -- and are read as the list that they spell
 pub lines_are : (name : List ℕ) (end : ℕ) (first : TextLine) (rest : List TextLine) (t : Listing)
     → Spelt name t first rest → of_lines name end (first ∷ rest) ≡ Ok t
-unfolding of_lines
+unfolding of_lines IsOnce
 lines_are name end first rest t s =
     let begins = s.begins in
     let one : said (package_of name) first ≡ Ok (fresh name t) = said_is (package_of name) first begins.0 (fresh name t)
@@ -51,13 +81,15 @@ lines_are name end first rest t s =
       lines = f;
     } in
     let same : gathered (fresh name t) s.items ≡ t =
-    ap (λ (n : List ℕ). made n false (applets_of s.items) (files_of s.items)) (sym s.named)
-    ∙ ap (λ (b : Bool). made t.name b (applets_of s.items) (files_of s.items)) (sym s.no_ints)
+    ap (λ (n : List ℕ). made n (ltb 0 (int_count s.items)) (applets_of s.items) (files_of s.items)) (sym s.named)
+    ∙ ap (λ (n : ℕ). made t.name (ltb 0 n) (applets_of s.items) (files_of s.items)) s.ints
+    ∙ ap (λ (b : Bool). made t.name b (applets_of s.items) (files_of s.items)) (is_there t.ints)
     ∙ ap (λ (a : List AppletLine). made t.name t.ints a (files_of s.items)) (sym s.applets)
     ∙ ap (λ (f : List FileLine). made t.name t.ints t.applets f) (sym s.files) in
     let W : List FileLine → Type 0 = Within in
     let more : with_lines (fresh name t) rest ≡ Ok (gathered (fresh name t) s.items) =
-    with_lines_are (fresh name t) s.items rest s.says (subst W s.files s.within) in
+    with_lines_are (fresh name t) s.items rest s.says (subst W s.files s.within)
+    (none_so_far (int_count s.items) (subst (λ (n : ℕ). n ≤ 1) (sym s.ints) (at_most_one t.ints))) in
     rw one (more ∙ ap Ok same)
 
 bind_same : (one : Result Listing ℕ) (f g h : Listing → Result Listing ℕ) → ((t : Listing) → f t ≡ (g t >>= h))

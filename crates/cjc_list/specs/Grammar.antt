@@ -10,7 +10,7 @@ use Rattle.cjc_bytes.specs.Text.{is_filled, is_digit, decimal}
 use Rattle.cjc_bytes.specs.declared.settings.FileLine.{FileLine}
 use Rattle.cjc_list.specs.declared.listing.List.{List as Listing}
 use Rattle.cjc_list.specs.declared.line.Item.{Item}
-use Rattle.cjc_list.specs.declared.line.Item.TheVariants.{Applet, File}
+use Rattle.cjc_list.specs.declared.line.Item.TheVariants.{Applet, File, Int}
 
 -- the value behind it, where there is one
 infixl 10 ◌>>=◌
@@ -77,6 +77,7 @@ applet_of class digits = do
 
 -- what the words of a line behind the package line say
 unfoldable pub item_of : List (List ℕ) → Option Item
+item_of (keyword ∷ []) = if bytes_eq keyword (codes "int") then Some Int else None
 item_of (keyword ∷ file ∷ []) =
     if bytes_eq keyword (codes "class") then Some (File (record { class_file = true; name = file }))
     else if bytes_eq keyword (codes "export") then Some (File (record { class_file = false; name = file }))
@@ -97,11 +98,12 @@ abbrev pub has_room : Bool → List FileLine → Bool
 has_room true files = nat_lt (class_count files) 1024
 has_room false files = nat_lt (export_count files) 128
 
--- the list with what a further line says, where that line is within the limits
+-- the list with what a further line says, where that line is within the limits; int is allowed once
 unfoldable pub with_item : Listing → Item → Option Listing
 with_item list (Applet a) = Some (record list { applets = list.applets ++ a ∷ [] })
 with_item list (File f) = if has_room f.class_file list.lines then Some (record list { lines = list.lines ++ f ∷ [] })
     else None
+with_item list Int = if list.ints then None else Some (record list { ints = true })
 
 -- the list with one line more
 unfoldable pub with_line : Listing → List (List ℕ) → Option Listing

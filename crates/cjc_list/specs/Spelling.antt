@@ -1,5 +1,6 @@
 -- Which lists a text spells, and where it breaks the grammar.
-use Rattle.std.specs.Prelude.{◌≡◌, Bool, true, false, ◌⊎◌, ◌<◌, ◌≤◌, ℕ, List, [], ◌∷◌, ◌++◌, length, codes, Some, Ok}
+use Rattle.std.specs.Prelude.{◌≡◌, Bool, true, false, if◌then◌else◌, ◌⊎◌, ◌<◌, ◌≤◌, ℕ, ◌+◌, List, [], ◌∷◌, ◌++◌, length}
+use Rattle.std.specs.Prelude.{codes, Some, Ok}
 use Rattle.hex.specs.Hex.{decode_of}
 use Rattle.cjc_bytes.specs.Text.{TextLine, words, decimal, kept_lines}
 use Rattle.cjc_bytes.specs.Refused.{refusal}
@@ -10,7 +11,7 @@ use Rattle.cjc_bytes.specs.declared.settings.FileLine.{FileLine}
 use Rattle.cjc_bytes.specs.declared.settings.AppletLine.{AppletLine}
 use Rattle.cjc_list.specs.declared.listing.List.{List as Listing}
 use Rattle.cjc_list.specs.declared.line.Item.{Item}
-use Rattle.cjc_list.specs.declared.line.Item.TheVariants.{Applet, File}
+use Rattle.cjc_list.specs.declared.line.Item.TheVariants.{Applet, File, Int}
 use Rattle.cjc_list.specs.Grammar.{is_name, class_count, export_count}
 
 -- The hexadecimal digits spell the AID, which has 5 to 16 bytes.
@@ -32,11 +33,12 @@ abbrev pub keyword : Bool → List ℕ
 keyword true = codes "class"
 keyword false = codes "export"
 
--- The words are `applet CLASS AID`, `class FILE` or `export FILE`, and say this.
+-- The words are `applet CLASS AID`, `class FILE`, `export FILE` or `int`, and say this.
 abbrev pub Says : Item → List (List ℕ) → Type 0
 Says (Applet a) ws = (digits : List ℕ) × (ws ≡ codes "applet" ∷ a.class ∷ digits ∷ []) × (is_name a.class ≡ true)
     × IsAid a.aid digits
 Says (File f) ws = ws ≡ keyword f.class_file ∷ f.name ∷ []
+Says Int ws = ws ≡ codes "int" ∷ []
 
 -- The words of the line have the property.
 abbrev pub HasWords : TextLine → (List (List ℕ) → Type 0) → Type 0
@@ -54,19 +56,29 @@ abbrev pub applets_of : List Item → List AppletLine
 applets_of [] = []
 applets_of (Applet a ∷ is) = a ∷ applets_of is
 applets_of (File f ∷ is) = applets_of is
+applets_of (Int ∷ is) = applets_of is
 
 -- the class and export lines among the items, in order
 abbrev pub files_of : List Item → List FileLine
 files_of [] = []
 files_of (Applet a ∷ is) = files_of is
 files_of (File f ∷ is) = f ∷ files_of is
+files_of (Int ∷ is) = files_of is
+
+-- how many lines `int` are among the items
+abbrev pub int_count : List Item → ℕ
+int_count [] = 0
+int_count (Applet a ∷ is) = int_count is
+int_count (File f ∷ is) = int_count is
+int_count (Int ∷ is) = int_count is + 1
 
 -- At most 1,024 class files and 128 export files are named.
 pub record Within (files : List FileLine) : Type 0 where
   pub classes : class_count files ≤ 1024
   pub exports : export_count files ≤ 128
 
--- A package line and the lines behind it spell the list of this name, with class lines or without.
+-- A package line and the lines behind it spell the list of this name, with class lines or without. At most one line is
+-- `int`, and the list allows int where one is.
 pub record Spelt (name : List ℕ) (list : Listing) (first : TextLine) (rest : List TextLine) : Type 0 where
   pub items : List Item
   pub named : list.name ≡ name
@@ -75,7 +87,7 @@ pub record Spelt (name : List ℕ) (list : Listing) (first : TextLine) (rest : L
   pub applets : list.applets ≡ applets_of items
   pub files : list.lines ≡ files_of items
   pub within : Within list.lines
-  pub no_ints : list.ints ≡ false
+  pub ints : int_count items ≡ (if list.ints then 1 else 0)
 
 -- The lines are the beginning of some list.
 abbrev pub IsBeginning : List ℕ → List TextLine → Type 0

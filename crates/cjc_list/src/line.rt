@@ -17,6 +17,8 @@ use std::alloc::Global;
 pub(crate) enum Item {
     Applet(AppletLine),
     File(FileLine),
+    /// The card has the type int.
+    Int,
 }
 
 /// Whether the byte is a letter, a digit, `_` or `$`.
@@ -167,6 +169,7 @@ fn read_item(alloc: Global, at: u32, words: &[Word<'_>]) -> Result<Item, Stop>
             class.bytes(),
             digits.bytes(),
         ),
+        [keyword] if keyword.bytes() == b"int".as_slice() => Ok(Item::Int),
         _ => Err(Stop::Broken(at)),
     }
 }
@@ -209,6 +212,12 @@ fn add(list: List, at: u32, item: Item) -> Result<List, Stop>
                 return Err(Stop::Broken(at));
             }
             list.lines.push(file)?;
+        }
+        Item::Int => {
+            if list.ints {
+                return Err(Stop::Broken(at));
+            }
+            list.ints = true;
         }
     }
     Ok(list)

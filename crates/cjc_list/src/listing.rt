@@ -15,7 +15,7 @@ pub struct List {
     /// The version of the package.
     pub major: u8,
     pub minor: u8,
-    /// Whether the type int is allowed. No line says so yet.
+    /// Whether the type int is allowed, as a line `int` says.
     pub ints: bool,
     /// The applets, in the order of their lines.
     pub applets: Row<AppletLine>,

@@ -25,6 +25,7 @@ use Rattle.cjc_components.specs.Narrow.Rows.Selected.{selected_code}
 use Rattle.cjc_components.specs.Narrow.Written.Rows.{has_rows, rows_by}
 use Rattle.cjc_components.specs.Narrow.Select.Select.{IsSelectable}
 use Rattle.cjc_components.specs.Layout.Layouts.{IsWhole}
+use Rattle.cjc_components.specs.Subset.Ints.{code_works_on_int}
 
 -- ---- classes and members
 
@@ -50,12 +51,13 @@ pub record IsDecoded (class : ClassTree) (method : MethodTree) (tree : CodeTree)
   pub insns : List JInsn
   pub decodes : decoding class method tree ≡ Ok insns
 
--- The table is of the types of the method, and what is selected by it can be laid out, whichever field instructions
--- have an index of one byte.
+-- The table is of the types of the method, which can be selected where it does not work on int; and what is selected by
+-- the table can be laid out, whichever field instructions have an index of one byte.
 pub record IsReady (files : Files) (code : MethodCode) (class : ClassTree) (method : MethodTree) (tree : CodeTree)
     (table : TypeTable) : Type 0 where
   pub types : IsTypeTable (all_classes files) (body_of class method tree code.insns) table
-  pub selectable : IsSelectable method tree code.insns (has_rows (states code class method tree table))
+  pub selectable : code_works_on_int files code ≡ false → IsSelectable method tree code.insns (has_rows (states code
+      class method tree table))
   pub whole : (near : List MemberId)
       → IsWhole (selected_code files near class method tree code.insns
       (rows_by (has_rows (states code class method tree table))))

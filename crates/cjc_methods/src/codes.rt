@@ -1,11 +1,12 @@
 //! The narrow code of all methods of a package. Which field instructions have an index of one byte depends on the pool,
 //! and the pool on what code names: so code is selected once to know the pool, and again by the indices that it has.
 
-ghost use Rattle.std.specs.Prelude.{◌≡◌, List, Option, All, map, IfOk};
+ghost use Rattle.std.specs.Prelude.{◌≡◌, List, Option, false, All, map, IfOk};
 ghost use Rattle.cjc_types.specs.declared.state.State.{State as Before};
 ghost use Rattle.cjc_components.specs.JvmSemantics.Linked.{Method};
 ghost use Rattle.cjc_ncode.specs.PoolOrder.{pool_order};
 ghost use Rattle.cjc_components.specs.Narrow.Rows.Selected.{near_fields};
+ghost use Rattle.cjc_components.specs.Subset.Ints.{any_works_on_int};
 ghost use Rattle.cjc_components.specs.Written.{code_at};
 ghost use Rattle.cjc_methods.specs.Ready.{AreReady, AreRows, IsOwn};
 ghost use Rattle.cjc_methods.specs.Words.{HasRoom};
@@ -22,7 +23,7 @@ use std::alloc::Global;
 
 /// The narrow code of these members of the package, which are its methods in the order of Method: each with the
 /// short form of a field instruction exactly where the field has an index of one byte in the pool of all.
-/// Abstract methods and those that a class gets from its interfaces have no instructions.
+/// Abstract methods and those that a class gets from its interfaces have no instructions. None with code works on int.
 pub fn narrow_codes(
     alloc: Global,
     world: &World<'_>,
@@ -31,6 +32,7 @@ pub fn narrow_codes(
     members: &[Found],
 ) -> Result<Row<NMethod>, NoMemory>
     requires ready { AreReady world.now codes.now types.now }
+    requires free { any_works_on_int world.now codes.now ≡ false }
     requires own { All (IsOwn world.now) members.now }
     requires room { All (HasRoom world.now) members.now }
     ensures { (rows : Method → List (Option Before)) → AreRows world.now codes.now types.now rows

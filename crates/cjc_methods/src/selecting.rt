@@ -15,6 +15,7 @@ ghost use Rattle.cjc_components.specs.Narrow.Rows.Selected.{near_fields, selecte
 ghost use Rattle.cjc_components.specs.Narrow.Written.Rows.{has_rows, rows_by};
 ghost use Rattle.cjc_components.specs.Descriptor.{method_in};
 ghost use Rattle.cjc_components.specs.Limits.{has_many_words};
+ghost use Rattle.cjc_components.specs.Subset.Ints.{any_works_on_int, code_works_on_int};
 ghost use Rattle.cjc_components.specs.Written.{code_at, no_code};
 ghost use Rattle.cjc_methods.specs.Ready.{AreReady, AreRows, IsOwn, IsReady, states};
 ghost use Rattle.cjc_methods.specs.Words.{HasRoom};
@@ -43,6 +44,7 @@ fn selected(
     requires code { IsOfPackage world.now code.now }
     requires ready { (c : ClassFile) (m : ClassMethod) (t : CodeTree) → IsMethodOf world.now code.now c m t
         → IsReady world.now code.now c m t types.now }
+    requires free { code_works_on_int world.now code.now ≡ false }
     ensures { (c : ClassFile) (m : ClassMethod) (t : CodeTree) → IsMethodOf world.now code.now c m t
         → IfOk result (λ n. n ≡ selected_code world.now (near_fields pool.now) c m t code.now.insns
         (rows_by (has_rows (states code.now c m t types.now)))) }
@@ -100,6 +102,7 @@ fn code_at(
     member: Found,
 ) -> Result<NMethod, NoMemory>
     requires ready { AreReady world.now sources.codes.now sources.types.now }
+    requires free { any_works_on_int world.now sources.codes.now ≡ false }
     requires places { sources.places.now ≡ class_places 0 world.now.classes }
     requires own { IsOwn world.now member }
     requires room { HasRoom world.now member }
@@ -136,6 +139,7 @@ pub(crate) fn codes_at(
     members: &[Found],
 ) -> Result<Row<NMethod>, NoMemory>
     requires ready { AreReady world.now sources.codes.now sources.types.now }
+    requires free { any_works_on_int world.now sources.codes.now ≡ false }
     requires places { sources.places.now ≡ class_places 0 world.now.classes }
     requires own { All (IsOwn world.now) members.now }
     requires room { All (HasRoom world.now) members.now }

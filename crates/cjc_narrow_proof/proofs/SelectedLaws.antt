@@ -4,6 +4,7 @@ pub mod Leads
 pub mod Sizes
 pub mod Whole
 pub mod Limits
+pub mod IntFree
 pub mod Words
 pub mod Selectable
 pub mod Run

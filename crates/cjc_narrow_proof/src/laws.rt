@@ -109,7 +109,7 @@ pub fn instructions_name_what_is_there()
 pub fn methods_have_word_types()
     ensures own { (list : List ℕ) (files : Files) (codes : List MethodCode) (settings : Settings)
         → IsUnbroken list files codes settings → (code : MethodCode) (class : ClassTree) (method : MethodTree)
-        (tree : CodeTree) → IsMethodOf files code class method tree
+        (tree : CodeTree) → IsMethodOf files code class method tree → Contains codes code
         → (d : Parts) → length method.desc < 2 ^ 32 → desc_of method.desc ≡ Some d → d.is_method ≡ true
         → IsWordDesc method.desc }
     ensures called { (list : List ℕ) (files : Files) (codes : List MethodCode) (settings : Settings)

@@ -1,5 +1,5 @@
 -- Packages that break no rule of their files.
-use Rattle.std.specs.Prelude.{◌≡◌, ℕ, List, [], ◌∷◌, false}
+use Rattle.std.specs.Prelude.{◌≡◌, ℕ, List, [], ◌∷◌}
 use Rattle.cjc_judge.specs.declared.groups.Group.{Group}
 use Rattle.cjc_judge.specs.declared.groups.Group.TheVariants as groups
 use Rattle.cjc_judge.specs.declared.judged.Judged.{Judged}
@@ -12,11 +12,10 @@ use Rattle.cjc_judge.specs.List.Listed.{ListTree}
 abbrev pub tested : List Group
 tested = groups.Unsupported ∷ groups.Initialisers ∷ groups.Limits ∷ groups.Tokens ∷ groups.Ranges ∷ []
 
--- The package of a list and its files breaks none of these rules, and may not name int.
+-- The package of a list and its files breaks none of these rules.
 pub record IsSound (list : ListTree) (files : List (List ℕ)) (judged : Judged) : Type 0 where
   pub judged_by : IsJudged list files tested judged
   pub are_files : AreFiles files
-  pub no_int : list.ints ≡ false
 
 -- The files of its list break none of these rules.
 abbrev pub BreaksNothing : Judged → Type 0

@@ -1,6 +1,7 @@
 //! What judging promises of a package is what selecting its methods, laying them out and emitting them ask. For whoever
 //! converts a package. It has definitions and laws alone; nothing here runs.
-ghost use Rattle.std.specs.Prelude.{◌≡◌, ◌≤◌, ℕ, Bool, List, slice_get, Some};
+ghost use Rattle.std.specs.Prelude.{◌≡◌, ◌≤◌, ℕ, Bool, false, List, slice_get, Some};
+ghost use Rattle.cjc_methods.specs.Components.Subset.Ints.{code_works_on_int};
 ghost use Rattle.cjc_world.specs.Bytes.declared.fault.MemberId.{MemberId as Member};
 ghost use Rattle.cjc_world.specs.ClassFile.Code.{CodeTree};
 ghost use Rattle.cjc_world.specs.ClassFile.declared.tree.ClassTree.{ClassTree};
@@ -25,13 +26,13 @@ ghost use Rattle.cjc_shape.specs.Judged.Tested.{IsOne, IsTested, states};
 
 use cjc_narrow_proof::emit::emit_laws::layouts_can_be_said;
 
-/// Each method of a package that breaks no rule of limits and types, and may not name int, can be selected, of
-/// the instructions that its table reaches; and what is selected can be laid out, whichever field instructions
-/// have an index of one byte.
+/// Each method of a package that breaks no rule of limits and types can be selected, where it does not work on int, of
+/// the instructions that its table reaches; and what is selected can be laid out, whichever field instructions have an
+/// index of one byte.
 pub fn judged_methods_are_selected()
     ensures selectable { (list : ListTree) (files : List (List ℕ)) (judged : Judged) → IsTested list files judged
         → (code : MethodCode) (class : ClassTree) (method : MethodTree) (tree : CodeTree) (table : TypeTable)
-        → IsOne judged code class method tree table
+        → IsOne judged code class method tree table → code_works_on_int judged.world code ≡ false
         → IsSelectable method tree code.insns (has_rows (states code class method tree table)) }
     ensures whole { (list : ListTree) (files : List (List ℕ)) (judged : Judged) → IsTested list files judged
         → (code : MethodCode) (class : ClassTree) (method : MethodTree) (tree : CodeTree) (table : TypeTable)

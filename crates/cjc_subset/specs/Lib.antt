@@ -8,6 +8,7 @@ pub mod Exports
 pub mod Applets
 pub mod Limits
 pub mod Checks
+pub mod Ints
 pub mod Working
 -- Definitions of lower crates, for those above.
 pub use Rattle.cjc_code.specs.Range as Range

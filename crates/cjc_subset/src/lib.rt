@@ -13,6 +13,7 @@ mod checking;
 mod exports;
 mod flags;
 mod interfaces;
+mod ints;
 mod kinds;
 mod limits;
 mod members;
@@ -22,6 +23,7 @@ mod places;
 mod types;
 
 pub use checking::{check, first_broken};
+pub use ints::any_works_on_int;
 pub use naming::names;
 pub use places::{class_spot, method_spot};
 pub use types::is_int_desc;

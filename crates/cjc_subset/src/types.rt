@@ -12,7 +12,7 @@ use cjc_bytes::{Desc, Kind, MemberId};
 use cjc_code::{JOp, jvm};
 
 /// The type number of int in a newarray.
-const T_INT: u8 = 10;
+pub(crate) const T_INT: u8 = 10;
 
 // ---- 301
 

@@ -47,11 +47,9 @@ pub record ExportsAreSound (files : Files) : Type 0 where
   pub roots : (n : ℕ) (c : ExportClass) → slice_get (imports files.exports) n ≡ Some c → is_interface c.flags ≡ false
       → is_below (all_classes files) c.name object ≡ true
 
--- A package of read files that breaks none of 201 to 204, 207, 208, 301 to 307, 309, 310 and 401 to 409, and may not
--- name int.
+-- A package of read files that breaks none of 201 to 204, 207, 208, 301 to 307, 309, 310 and 401 to 409.
 pub record IsClean (list : List ℕ) (files : Files) (codes : List MethodCode) (settings : Settings) : Type 0 where
   pub world : breaks list files ≡ []
   pub checks : check_breaks list files codes settings ≡ []
-  pub no_int : settings.ints ≡ false
   pub read : AreReadFiles files
   pub sound : ExportsAreSound files

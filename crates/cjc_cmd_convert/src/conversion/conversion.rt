@@ -22,7 +22,7 @@ use std::alloc::Global;
 /// # Errors
 ///
 /// The first rule that the files break: 101 to 104, else one of 201 to 208, 301 to 310, 401 to 409 and 413, 501
-/// to 503, 601 to 609; where they break none, 417; else 311, 414 or 415; else 411 or 416.
+/// to 503, 601 to 609; where they break none, 417; else 801; else 311, 414 or 415; else 411 or 416.
 pub fn convert(alloc: Global, list: &List, files: &Row<Bytes>) -> Result<Converted, Fault>
     requires read { IsRead list.now }
     requires count { length files.now ≡ length list.now.lines }

@@ -8,7 +8,6 @@ use Rattle.cjc_shape_proof.specs.Judge.Spelt.{IsRead}
 use Rattle.cjc_shape_proof.specs.Judge.declared.judged.Judged.{Judged}
 use Rattle.cjc_captree.specs.List.Listed.{ListTree}
 use Rattle.cjc_shape_proof.specs.Shape.Prepared.{BreaksNothing, IsSound, tested}
-use Rattle.cjc_shape_proof.proofs.WrittenLaws.FittingLaws.Listed.{spelt}
 
 each_short : (files : List (List ℕ)) → All (λ bytes. length bytes ≤ 2 ^ 29) files → (k : ℕ) (bytes : List ℕ)
     → slice_get files k ≡ Some bytes → length bytes ≤ 2 ^ 29
@@ -27,10 +26,8 @@ pub breaks_nothing : (list : ListTree) (files : List (List ℕ)) (judged : Judge
     → All (λ bytes. length bytes ≤ 2 ^ 29) files → judged.list.now ≡ list → judged.files.now ≡ files
     → IsJudged list files tested judged → BreaksNothing judged
 breaks_nothing list files judged read bytes short e f is =
-    let by = spelt list read in
     let sound : IsSound list files judged = record {
       judged_by = is;
       are_files = λ k b g. (bytes k b g, each_short files short k b g);
-      no_int = by.no_ints;
     } in
     moved (λ l fs. IsSound l fs judged) list judged.list.now files judged.files.now (sym e) (sym f) sound

@@ -4,7 +4,7 @@ use Rattle.cjc_shape_proof.specs.Bytes.Breaks.{Among, Break, IsFirst, IsFirstRef
 use Rattle.cjc_shape_proof.specs.Bytes.Order.{NotAfter}
 use Rattle.cjc_shape_proof.specs.Bytes.declared.fault.Fault.{Fault}
 use Rattle.cjc_shape_proof.specs.Bytes.declared.fault.Refusal.{Refusal}
-use Rattle.cjc_captree.specs.Components.Limits.{else_of, form_breaks, limit_breaks, of_methods, size_breaks}
+use Rattle.cjc_captree.specs.Components.Limits.{code_breaks, else_of, limit_breaks, of_methods, size_breaks}
 use Rattle.cjc_captree.specs.Components.Limits.{word_breaks}
 use Rattle.cjc_captree.specs.Components.Package.{Package}
 use Rattle.cjc_shape_proof.specs.Judge.Judged.{IsStopped}
@@ -17,7 +17,8 @@ use Rattle.cjc_shape_proof.specs.Shape.Whole.Conversion.{of_size}
 use Rattle.cjc_shape_proof.specs.Shape.Whole.Working.Shaped.{Stopped}
 use Rattle.cjc_shape_proof.proofs.ShapeDrafts.{narrow_codes}
 use Rattle.cjc_shape_proof.proofs.ShapeOne.{one_package}
-use Rattle.cjc_shape_proof.proofs.ShapeSecond.{forms_are, fs, is_base, package_is_draft, words_are}
+use Rattle.cjc_shape_proof.proofs.ShapeSecond.{both_none, coded_are, fs, is_base, package_is_draft}
+use Rattle.cjc_shape_proof.proofs.ShapeSecond.{words_are}
 
 no_among : (b : Break) → Among b [] → ⊥
 no_among b among = elim among [ ]
@@ -47,7 +48,7 @@ module _ (list : ListTree) (files : List (List ℕ)) where
   -- ---- 411 and 416
 
   module _ (judged : Judged) (is : IsSound list files judged) (p : Package) (whole : IsPackageOf list files p)
-      (d : IsDraft list files p) (none : of_methods p (word_breaks p) ≡ []) (fine : form_breaks p ≡ []) where
+      (d : IsDraft list files p) (none : of_methods p (word_breaks p) ≡ []) (fine : code_breaks p ≡ []) where
     no_words : (q : Package) → IsDraft list files q → of_methods q (word_breaks q) ≡ []
     no_words q e =
         words_are list judged.world (fs list files judged is) (narrow_codes list files judged is) q
@@ -56,17 +57,17 @@ module _ (list : ListTree) (files : List (List ℕ)) where
         (is_base list files judged is p d))
         ∙ none
 
-    no_forms : (q : Package) → IsDraft list files q → form_breaks q ≡ []
+    no_forms : (q : Package) → IsDraft list files q → code_breaks q ≡ []
     no_forms q e =
-        forms_are list judged.world (fs list files judged is) (narrow_codes list files judged is) q
+        coded_are list judged.world (fs list files judged is) (narrow_codes list files judged is) q
         (is_base list files judged is q e)
-        ∙ sym (forms_are list judged.world (fs list files judged is) (narrow_codes list files judged is) p
+        ∙ sym (coded_are list judged.world (fs list files judged is) (narrow_codes list files judged is) p
         (is_base list files judged is p d))
         ∙ fine
 
     of_sizes : (a : Break) → BreaksWritten list files a → Among a (size_breaks p)
     of_sizes a (of_form q e among) =
-        absurd (no_among a (subst (λ bs. Among a bs) (ap (λ bs. else_of bs (form_breaks q)) (no_words q e)
+        absurd (no_among a (subst (λ bs. Among a bs) (ap (λ bs. else_of bs (code_breaks q)) (no_words q e)
         ∙ no_forms q e) among))
     of_sizes a (of_size q of_package n f among) = subst (λ r. Among a (size_breaks r)) (one_package list files judged is
         q p of_package whole) among
@@ -96,20 +97,16 @@ module _ (list : ListTree) (files : List (List ℕ)) where
     )
 
     pub keeps_limits : size_breaks p ≡ [] → limit_breaks p ≡ []
-    keeps_limits small = ap (λ bs. else_of bs (else_of (form_breaks p) (size_breaks p))) none
+    keeps_limits small = ap (λ bs. else_of bs (else_of (code_breaks p) (size_breaks p))) none
         ∙ ap (λ bs. else_of bs (size_breaks p)) fine ∙ small
 
 -- ---- nothing of what is written
-
-both_none : (xs ys : List Break) → else_of xs ys ≡ [] → (xs ≡ []) × (ys ≡ [])
-both_none [] ys e = (refl, e)
-both_none (x ∷ xs) ys e = cc
 
 -- a package that breaks no limit breaks nothing of the second level
 pub none_written : (list : ListTree) (files : List (List ℕ)) (judged : Judged) → IsSound list files judged
     → (p : Package) → IsPackageOf list files p → limit_breaks p ≡ [] → (a : Break) → BreaksWritten list files a → ⊥
 none_written list files judged is p whole none a broken =
-    let one = both_none (of_methods p (word_breaks p)) (else_of (form_breaks p) (size_breaks p)) none in
-    let two = both_none (form_breaks p) (size_breaks p) one.1 in
+    let one = both_none (of_methods p (word_breaks p)) (else_of (code_breaks p) (size_breaks p)) none in
+    let two = both_none (code_breaks p) (size_breaks p) one.1 in
     no_among a (subst (λ bs. Among a bs) two.1 (of_sizes list files judged is p whole (package_is_draft list files p
     whole) one.0 two.0 a broken))

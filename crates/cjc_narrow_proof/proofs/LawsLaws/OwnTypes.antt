@@ -1,6 +1,7 @@
 -- The descriptors of methods that a package has and calls.
 use Rattle.std.proofs.Common.{◌≡◌, ℕ, ◌<◌, ◌^◌, refl, sym, ap, subst, ◌∙◌, Bool, true, false, List, ◌++◌, length}
 use Rattle.std.specs.Prelude.{not, ◌&&◌, ◌||◌, Some, is_some, slice_get}
+use Rattle.std.specs.List.{Contains}
 use Rattle.cjc_bytes.specs.AccessFlags.{is_interface}
 use Rattle.cjc_bytes.specs.Breaks.{Break, RulePlace, at, broken_at, foremost}
 use Rattle.cjc_bytes.specs.Descriptor.{Parts}
@@ -15,13 +16,13 @@ use Rattle.cjc_code.specs.declared.method_code.MethodCode.{MethodCode}
 use Rattle.cjc_narrow_proof.specs.Laws.Unbroken.{IsInsnOf, IsUnbroken}
 use Rattle.cjc_narrow_proof.proofs.LawsLaws.Instructions.{op_fit}
 use Rattle.cjc_narrow_proof.proofs.LawsLaws.WordTypes.{word_desc}
-use Rattle.cjc_narrow_proof.proofs.SelectedLaws.Limits.{insn_fine, own_desc}
+use Rattle.cjc_narrow_proof.proofs.SelectedLaws.IntFree.{code_free, op_free, own_desc}
 use Rattle.cjc_subset.specs.Checks.{check_breaks, method_breaks}
 use Rattle.cjc_subset.specs.Flags.{is_unfit_method}
 use Rattle.cjc_subset.specs.Limits.{has_deep_stack, has_many_locals}
 use Rattle.cjc_subset.specs.Places.{at_method}
-use Rattle.cjc_subset.specs.Types.{is_unsupported_desc, is_unsupported_name, is_int_desc, is_int_name}
-use Rattle.cjc_subset.specs.Types.{names_unsupported, names_int}
+use Rattle.cjc_subset.specs.Ints.{works_on_int}
+use Rattle.cjc_subset.specs.Types.{is_unsupported_desc, is_unsupported_name, is_int_desc, names_unsupported}
 use Rattle.cjc_narrow_proof.specs.Tables.Calls.{IsWordDesc}
 use Rattle.cjc_types.specs.Tables.{IsMethodOf}
 use Rattle.cjc_vtable.specs.Kept.{IsUnbroken as HasNone}
@@ -57,21 +58,19 @@ module _ (list : List ℕ) (files : Files) (codes : List MethodCode) (settings :
       go s B C D E true h = absurd (h (broken_at s 301) foremost refl)
       go s B C D E false h = refl
 
-  -- 301 and 302 of a method itself
+  -- 301 of a method itself, which does not work on int
   pub own_word_desc : (code : MethodCode) (class : ClassTree) (method : MethodTree) (tree : CodeTree)
-      → IsMethodOf files code class method tree → (d : Parts) → length method.desc < 2 ^ 32
+      → IsMethodOf files code class method tree → Contains codes code → (d : Parts) → length method.desc < 2 ^ 32
       → desc_of method.desc ≡ Some d → d.is_method ≡ true → IsWordDesc method.desc
-  own_word_desc code class method tree of d short e m =
+  own_word_desc code class method tree of listed d short e m =
       word_desc method.desc d short e m (own_types class method code.class code.method of.is_class of.is_method)
-      (own_desc list files codes settings is.checks code class method tree of is.no_int)
+      (own_desc files code class method tree of (code_free files codes is.no_int code listed))
 
-  -- 301 and 302 of a method that is called
+  -- 301 of a method that is called
   pub called_word_desc : (class : ClassTree) (op : ℕ) (id : MemberId) → IsInsnOf files codes class (jop.Call op id)
       → (d : Parts) → length id.desc < 2 ^ 32 → desc_of id.desc ≡ Some d → d.is_method ≡ true → IsWordDesc id.desc
-  unfolding names_unsupported names_int
+  unfolding names_unsupported works_on_int
   called_word_desc class op id at d short e m =
       let unsupported = (op_fit list files codes settings is class (jop.Call op id) at).0 in
-      let int = insn_fine list files codes settings is.checks at.code class at.method at.tree at.of_package is.no_int
-      at.listed at.place at.insn at.is_insn in
       word_desc id.desc d short e m (or_right (is_unsupported_name id.class) (is_unsupported_desc id.desc) unsupported)
-      (or_right (is_int_name id.class) (is_int_desc id.desc) (ap names_int (sym at.is_op) ∙ int))
+      (op_free files codes is.no_int class (jop.Call op id) at)

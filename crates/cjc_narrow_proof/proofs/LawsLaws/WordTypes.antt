@@ -10,7 +10,9 @@ use Rattle.cjc_bytes.specs.Spots.{desc_of, part_of}
 use Rattle.cjc_bytes.specs.declared.descriptor.Kind.{Kind}
 use Rattle.cjc_bytes.specs.declared.descriptor.Kind.TheVariants as kinds
 use Rattle.cjc_bytes.proofs.DescriptorTypes.{desc_read, desc_spelt}
-use Rattle.cjc_script.specs.Sorts.{array_by, reference_to, shape_named, sort_by, sort_of}
+use Rattle.cjc_script.specs.Sorts.{Boolean, Byte, Int, NoValue, Reference, Short, Sort, array_by, reference_to}
+use Rattle.cjc_script.specs.Sorts.{shape_named, sort_by, sort_of}
+use Rattle.cjc_narrow_proof.specs.Selection.Objects.{has_values}
 use Rattle.cjc_narrow_proof.specs.Selection.Rows.{is_word_sort}
 use Rattle.cjc_subset.specs.Types.{is_any_unsupported, is_any_int, is_unsupported_desc, is_unsupported_element}
 use Rattle.cjc_subset.specs.Types.{is_unsupported_name, is_unsupported_part, is_int, is_int_desc, is_int_name}
@@ -87,6 +89,21 @@ number_word b kind e = by_letter (λ c k. is_other k ≡ false → is_int k ≡ 
     (λ f g. refl) (λ f g. absurd cc) (λ f g. refl) (λ f g. refl) b kind e
     (λ unsupported f g. (let clash = sym (other_kind b kind e unsupported) ∙ f in absurd cc))
 
+-- int is no word, but has values
+number_value : (b : ℕ) (kind : Kind) → base_kind b ≡ Some kind → is_other kind ≡ false
+    → has_values (sort_by kind []) ≡ true
+number_value b kind e = by_letter (λ c k. is_other k ≡ false → has_values (sort_by k []) ≡ true) (λ f. refl) (λ f. refl)
+    (λ f. refl) (λ f. refl) b kind e (λ unsupported f. (let clash = sym (other_kind b kind e unsupported) ∙ f in absurd
+    cc))
+
+word_values : (s : Sort) → is_word_sort s ≡ true → has_values s ≡ true
+word_values Boolean e = refl
+word_values Byte e = refl
+word_values Short e = refl
+word_values Int e = refl
+word_values (Reference shape) e = refl
+word_values NoValue e = e
+
 -- an array by its elements
 element_word : {p : Part} (bytes : List ℕ) → IsType p bytes → is_unsupported_element bytes ≡ false
     → is_word_sort (reference_to (shape_named (91 ∷ bytes))) ≡ true
@@ -104,6 +121,14 @@ type_word (base {b = b} {kind = kind} e) f g = number_word b kind e (or_left (is
     (or_left (is_int kind) (is_int_name []) g)
 type_word (object {name = name} spelt) f g = ap (λ o. is_word_sort (reference_to o)) (class_read name spelt).class
 type_word (array {bytes = bytes} t) f g = element_word bytes t f
+
+-- 301 of a type, int counted
+pub type_values : {p : Part} {bytes : List ℕ} → IsType p bytes → is_unsupported_part p ≡ false → has_values (sort_of p)
+    ≡ true
+type_values (base {b = b} {kind = kind} e) f = number_value b kind e
+    (or_left (is_other kind) (is_unsupported_name []) f)
+type_values (object {name = name} spelt) f = ap (λ o. has_values (reference_to o)) (class_read name spelt).class
+type_values (array {bytes = bytes} t) f = word_values (reference_to (shape_named (91 ∷ bytes))) (element_word bytes t f)
 
 -- ---- a descriptor
 

@@ -214,10 +214,10 @@ module _ (files : Files) (image : StaticImage) (near : List MemberId) (tables : 
       go : IsFound files l tables id → IsScripted by l w (analysis files image near tables) id
       go (converted.no_method not_called not_sent) = whole_package.no_method (record {
         not_called = not_called;
-        not_sent = λ kind. not_sent (shape_name kind);
+        not_sent = λ kind made. not_sent kind made;
         narrow_not_called = ap (option_map (start_of (narrow_codes files near tables))) not_called;
-        narrow_not_sent = λ kind. ap (option_map (start_of (narrow_codes files near tables)))
-            (not_sent (shape_name kind));
+        narrow_not_sent = λ kind made. ap (option_map (start_of (narrow_codes files near tables)))
+            (not_sent kind made);
       })
       go (converted.a_member h) = whole_package.methods (entered id h)
 

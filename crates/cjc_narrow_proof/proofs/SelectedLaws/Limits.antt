@@ -1,22 +1,17 @@
 -- What the rules of a package say of one of its methods where none is broken.
-use Rattle.std.proofs.Common.{◌≡◌, ℕ, zero, suc, ◌+◌, ◌≤◌, refl, sym, ap, ◌∙◌, arith, Bool, true, false, not, ◌&&◌}
+use Rattle.std.proofs.Common.{◌≡◌, ℕ, zero, suc, ◌+◌, ◌≤◌, refl, sym, ap, ◌∙◌, arith, Bool, true, false}
 use Rattle.std.proofs.Common.{List, [], ◌∷◌, ◌++◌, slice_get, Some}
-use Rattle.std.specs.List.{Contains}
 use Rattle.std.proofs.lemmas.Bool.{ltb-false}
-use Rattle.std.proofs.lemmas.Option.{slice_get-get_or}
 use Rattle.cjc_bytes.specs.Breaks.{Break, RulePlace, at, each_from}
-use Rattle.cjc_bytes.specs.Order.{FilePlace, file_of}
+use Rattle.cjc_bytes.specs.Order.{file_of}
 use Rattle.cjc_bytes.specs.declared.settings.Settings.{Settings}
 use Rattle.cjc_code.specs.ClassFile.Code.{CodeTree}
 use Rattle.cjc_code.specs.ClassFile.declared.tree.ClassTree.{ClassTree}
 use Rattle.cjc_code.specs.ClassFile.declared.tree.MethodTree.{MethodTree}
-use Rattle.cjc_code.specs.declared.insn.JInsn.{JInsn}
 use Rattle.cjc_code.specs.declared.method_code.MethodCode.{MethodCode}
-use Rattle.cjc_subset.specs.Checks.{check_breaks, class_breaks, code_breaks, insn_breaks, list_breaks, method_breaks}
+use Rattle.cjc_subset.specs.Checks.{check_breaks, class_breaks, code_breaks, list_breaks, method_breaks}
 use Rattle.cjc_subset.specs.Checks.{field_breaks, own_breaks}
 use Rattle.cjc_subset.specs.Limits.{has_deep_stack, has_many_locals}
-use Rattle.cjc_subset.specs.Places.{of_class, of_method}
-use Rattle.cjc_subset.specs.Types.{is_int_desc, names_int}
 use Rattle.cjc_types.specs.Tables.{IsMethodOf}
 use Rattle.cjc_world.specs.Files.{Files}
 
@@ -65,9 +60,6 @@ module _ (list : List ℕ) (files : Files) (codes : List MethodCode) (settings :
   abbrev by_codes : List Break
   by_codes = each_from (λ _ c. code_breaks files settings c) 0 codes
 
-  abbrev insns_breaks : FilePlace → ClassTree → MethodTree → List Break
-  insns_breaks f c m = each_from (λ _ insn. insn_breaks files settings f c code.method m insn) 0 code.insns
-
   -- the method's own breaks
   own_unbroken : method_breaks settings (file_of files.lines code.class) class code.method method ≡ []
   unfolding check_breaks class_breaks
@@ -85,35 +77,6 @@ module _ (list : List ℕ) (files : Files) (codes : List MethodCode) (settings :
       let three : own ++ fields ++ methods ≡ [] = none_left (own ++ fields ++ methods) _ here in
       each_at (λ i m. method_breaks settings f class i m) code.method class.methods method (none_right (own
       ++ fields) methods three) is.is_method
-
-  module _ (no_int : settings.ints ≡ false) where
-    -- int is not named
-    unnamed : (b : Bool) → (not settings.ints && b) ≡ false → b ≡ false
-    unnamed b e = go settings.ints no_int e
-      where
-        go : (ints : Bool) → ints ≡ false → (not ints && b) ≡ false → b ≡ false
-        go false f e = e
-        go true f e = absurd cc
-
-    pub own_desc : is_int_desc method.desc ≡ false
-    unfolding method_breaks
-    own_desc = unnamed (is_int_desc method.desc)
-        (not_broken _ _ 302 (none_right _ _ (none_left _ _ (none_left _ _ (none_left _ _ own_unbroken)))))
-
-    pub insn_fine : Contains codes code → (k : ℕ) (i : JInsn) → slice_get code.insns k ≡ Some i → names_int i.op ≡ false
-    unfolding check_breaks code_breaks insn_breaks
-    insn_fine (n, lt, same) k i e =
-        let all : by_codes ≡ [] = none_right (list_breaks list files settings ++ by_classes) by_codes unbroken in
-        let there : slice_get codes n ≡ Some code = slice_get-get_or codes n code lt ∙ ap Some same in
-        let here : code_breaks files settings code ≡ [] = each_at (λ _ c. code_breaks files settings c) n codes code all
-        there in
-        let f = file_of files.lines code.class in
-        let mine : each_from (λ _ insn. insn_breaks files settings f class code.method method insn) 0 code.insns ≡ [] =
-        sym (ap (of_method insns_breaks f class) is.is_method)
-        ∙ sym (ap (of_class insns_breaks f code.method) is.is_class) ∙ here in
-        let own = each_at (λ _ insn. insn_breaks files settings f class code.method method insn) k code.insns i mine e
-        in
-        unnamed (names_int i.op) (not_broken _ _ 302 (none_right _ _ (none_left _ _ own)))
 
   pub few_locals : tree.max_locals ≤ 255
   unfolding method_breaks

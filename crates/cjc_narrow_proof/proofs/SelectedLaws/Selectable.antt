@@ -24,7 +24,8 @@ use Rattle.cjc_narrow.specs.Rows.Resolved.{argument_words}
 use Rattle.cjc_narrow.specs.Written.Operands.{CanBeSaid, IsByte}
 use Rattle.cjc_narrow.specs.Written.Rows.{has_rows}
 use Rattle.cjc_narrow.specs.Select.Select.{IsSelectable}
-use Rattle.cjc_subset.specs.Types.{is_int_desc, is_int_name, names_int}
+use Rattle.cjc_subset.specs.Ints.{works_on_int}
+use Rattle.cjc_subset.specs.Types.{is_int_desc}
 use Rattle.cjc_types.specs.declared.cell.Cell.{Cell}
 use Rattle.cjc_types.specs.declared.state.Stack.{Stack}
 use Rattle.cjc_types.specs.declared.state.Stack.TheVariants.{Cells, Clash}
@@ -39,7 +40,8 @@ use Rattle.cjc_types.specs.TypeLaws.Places.{local_of}
 use Rattle.cjc_types.proofs.TypeLaws.Standing.{local_there}
 use Rattle.cjc_narrow_proof.specs.Selected.Keeps.{IsSpelt, KeepsRules}
 use Rattle.cjc_narrow_proof.proofs.SelectedLaws.Cuts.{decoded}
-use Rattle.cjc_narrow_proof.proofs.SelectedLaws.Limits.{few_locals, insn_fine, low_stack, own_desc}
+use Rattle.cjc_narrow_proof.proofs.SelectedLaws.IntFree.{insn_free, own_desc}
+use Rattle.cjc_narrow_proof.proofs.SelectedLaws.Limits.{few_locals, low_stack}
 use Rattle.cjc_narrow_proof.proofs.SelectedLaws.Words.{call_short, desc_short, nargs_are, params_counted, words_few}
 
 or_left : (a b : Bool) → (a || b) ≡ false → a ≡ false
@@ -101,9 +103,9 @@ said_by jop.Throw h g = tt
 said_by (jop.CheckCast class) h g = tt
 said_by (jop.InstanceOf class) h g = tt
 
-unnamed : (m : MemberId) → names_int (jop.Call 0xB9 m) ≡ false → is_int_desc m.desc ≡ false
-unfolding names_int
-unnamed m e = or_right (is_int_name m.class) (is_int_desc m.desc) e
+unnamed : (m : MemberId) → works_on_int (jop.Call 0xB9 m) ≡ false → is_int_desc m.desc ≡ false
+unfolding works_on_int
+unnamed m e = e
 
 -- ---- a method
 
@@ -121,7 +123,7 @@ module _ (files : Files) (code : MethodCode) (class : ClassTree) (method : Metho
       let room = ltb-false tree.max_locals (arguments method) (is_or_not (nat_lt tree.max_locals (arguments method))
       no_more) in
       let words = words_few method.desc (desc_short files code class method tree is bytes spelt)
-      (own_desc list files codes settings keeps.unbroken code class method tree is keeps.no_int) in
+      (own_desc files code class method tree is keeps.no_int) in
       omega (arith, few, room, words)
 
   interface_said : (k : ℕ) (i : JInsn) (x : State) → slice_get code.insns k ≡ Some i → HasRow rows k x → (m : MemberId)
@@ -134,9 +136,8 @@ module _ (files : Files) (code : MethodCode) (class : ClassTree) (method : Metho
       let taken : takes i.op ≡ length (parts m.desc).params + 1 = ap takes kind in
       let stack = low_stack list files codes settings keeps.unbroken code class method tree is in
       let short = call_short files code class method tree is bytes spelt k 0xB9 i m e kind in
-      let fine : names_int i.op ≡ false = insn_fine list files codes settings keeps.unbroken code class method tree is
-      keeps.no_int keeps.listed k i e in
-      let no_int = unnamed m (sym (ap names_int kind) ∙ fine) in
+      let fine : works_on_int i.op ≡ false = insn_free files code class method tree is keeps.no_int k i e in
+      let no_int = unnamed m (sym (ap works_on_int kind) ∙ fine) in
       let words = words_few m.desc short no_int in
       let params = params_counted m.desc short in
       let nargs = nargs_are m in

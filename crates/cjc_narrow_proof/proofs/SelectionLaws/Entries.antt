@@ -29,7 +29,7 @@ use Rattle.cjc_jvm_semantics.specs.Machine as named
 use Rattle.cjc_jvm_semantics.specs.Effects.{type_of}
 use Rattle.cjc_narrow_proof.specs.Selection.Relation.{OnBoth, no_cell, a_range, a_reference as both_reference, Kind}
 use Rattle.cjc_narrow_proof.specs.Selection.Relation.{Range, Refers, Heap, Agrees, number, null, object, Stacks, bottom}
-use Rattle.cjc_narrow_proof.specs.Selection.Relation.{cell, shown}
+use Rattle.cjc_narrow_proof.specs.Selection.Relation.{cell, shown, IsMadeOf}
 use Rattle.cjc_narrow_proof.specs.Selection.Rows.{kind_of, is_word_sort}
 use Rattle.cjc_narrow_proof.specs.Selection.Calls.{NState, NTurn, Frames, first_locals, IsNarrowed}
 use Rattle.cjc_narrow_proof.specs.Selection.Throws.{nheap}
@@ -284,23 +284,25 @@ module _ (by : Linked) (l : Named) (narrowed : Method → Start NMethod) (params
   -- by what is at the receiver's place
   none_there : (o : Option Thing) (p : Option (HeapObject (List ℕ) MemberId)) (fit : Bool) (words : Option (List Value))
       → ((thing : Thing) → o ≡ Some thing → by.sent (type_of thing) e.method ≡ None)
+      → ((h : HeapObject (List ℕ) MemberId) → p ≡ Some h → IsMadeOf l (shape h))
       → Ends (entry_begins by (sent_to by o e.method) fit e entries s) (narrow.entered_by (by_label l)
       (narrow.sent_to (by_label l) p e.method) words e entries t)
   unfolding by_label
-  none_there o p fit words off =
+  none_there o p fit words off made =
       subst (λ m. Ends (entry_begins by m fit e entries s) (narrow.entered_by (by_label l) (narrow.sent_to (by_label l)
       p e.method) words e entries t)) (sym (by_none o off))
       (subst (λ m. Ends (entry_begins by None fit e entries s) (narrow.entered_by (by_label l) m words e entries t))
-      (sym (narrow_none p)) (no_method fit words))
+      (sym (narrow_none p made)) (no_method fit words))
     where
       by_none : (o : Option Thing) → ((thing : Thing) → o ≡ Some thing → by.sent (type_of thing) e.method ≡ None)
           → sent_to by o e.method ≡ None
       by_none None off = refl
       by_none (Some thing) off = off thing refl
 
-      narrow_none : (p : Option (HeapObject (List ℕ) MemberId)) → narrow.sent_to (by_label l) p e.method ≡ None
-      narrow_none None = refl
-      narrow_none (Some thing) = none.narrow_not_sent (shape thing)
+      narrow_none : (p : Option (HeapObject (List ℕ) MemberId)) → ((h : HeapObject (List ℕ) MemberId) → p ≡ Some h
+          → IsMadeOf l (shape h)) → narrow.sent_to (by_label l) p e.method ≡ None
+      narrow_none None made = refl
+      narrow_none (Some thing) made = none.narrow_not_sent (shape thing) (made thing refl)
 
   none_sent : (args : List Value) (fit : Bool) (words : Option (List Value))
       → Ends (entry_begins by (sent_on by (heap_of s) e.method args) fit e entries s) (narrow.entered_by (by_label l)
@@ -312,16 +314,20 @@ module _ (by : Linked) (l : Named) (narrowed : Method → Start NMethod) (params
   none_sent (Obj k ∷ args) fit words = none_there (slice_get (heap_of s) k) (slice_get (nheap t) k) fit words
       (λ thing there. off thing (let stores = agree.stores in sym (ap (λ h. slice_get h k) stores.heap
       ∙ get_map (shown l) (nheap t) k) ∙ there))
+      made
     where
+      made : (h : HeapObject (List ℕ) MemberId) → slice_get (nheap t) k ≡ Some h → IsMadeOf l (shape h)
+      made h there = let stores = agree.stores in made_there l h (stores.heap_fits k h there)
+
       off : (thing : Thing) → option_as (shown l) (slice_get (nheap t) k) ≡ Some thing
           → by.sent (type_of thing) e.method ≡ None
-      off thing there = go (slice_get (nheap t) k) there
+      off thing there = go (slice_get (nheap t) k) refl there
         where
-          go : (o : Option (HeapObject (List ℕ) MemberId)) → option_as (shown l) o ≡ Some thing
-              → by.sent (type_of thing) e.method ≡ None
-          go None is = cc
-          go (Some h) is = let same : shown l h ≡ thing = cc in ap (λ x. by.sent (type_of x) e.method) (sym same)
-              ∙ ap (λ n. by.sent n e.method) (type_shown l h) ∙ none.not_sent (shape h)
+          go : (o : Option (HeapObject (List ℕ) MemberId)) → slice_get (nheap t) k ≡ o → option_as (shown l) o
+              ≡ Some thing → by.sent (type_of thing) e.method ≡ None
+          go None at is = cc
+          go (Some h) at is = let same : shown l h ≡ thing = cc in ap (λ x. by.sent (type_of x) e.method) (sym same)
+              ∙ ap (λ n. by.sent n e.method) (type_shown l h) ∙ none.not_sent (shape h) (made h at)
 
   none_by : (on : Bool) (fit : Bool) (words : Option (List Value))
       → Ends (entry_begins by (if on then sent_on by (heap_of s) e.method e.args else by.entry e.method) fit e entries

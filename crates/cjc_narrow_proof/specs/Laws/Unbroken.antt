@@ -12,14 +12,15 @@ use Rattle.cjc_code.specs.declared.insn.JOp.{JOp}
 use Rattle.cjc_code.specs.declared.method_code.MethodCode.{MethodCode}
 use Rattle.cjc_world.specs.ExportFile.declared.tree.ExportClass.{ExportClass}
 use Rattle.cjc_subset.specs.Checks.{check_breaks}
+use Rattle.cjc_subset.specs.Ints.{any_works_on_int}
 use Rattle.cjc_subset.specs.Members.{imports}
 use Rattle.cjc_subset.specs.Names.{name_breaks}
 use Rattle.cjc_types.specs.Tables.{IsMethodOf}
 use Rattle.cjc_world.specs.Files.{Files}
 use Rattle.cjc_world.specs.Rules.{breaks}
 
--- The list names each class file, and the package breaks none of 201 to 208, 301 to 307, 309, 310 and 401 to 409, and
--- may not name int.
+-- The list names each class file, and the package breaks none of 201 to 208, 301 to 307, 309, 310 and 401 to 409; none
+-- of its methods with code works on int.
 pub record IsUnbroken (list : List ℕ) (files : Files) (codes : List MethodCode) (settings : Settings) : Type 0 where
   pub listed : length files.classes ≤ class_count files.lines
   -- 201 to 204, 207 and 208
@@ -28,7 +29,7 @@ pub record IsUnbroken (list : List ℕ) (files : Files) (codes : List MethodCode
   pub names : name_breaks files codes ≡ []
   -- the others
   pub checks : check_breaks list files codes settings ≡ []
-  pub no_int : settings.ints ≡ false
+  pub no_int : any_works_on_int files codes ≡ false
 
 -- The name of the package and those of the classes in export files are spelt as a class's name is.
 pub record AreSpelt (files : Files) : Type 0 where

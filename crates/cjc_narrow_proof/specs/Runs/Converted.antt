@@ -47,10 +47,11 @@ pub record IsMember (files : Files) (l : Named) (tables : Tables) (id : MemberId
       → sent_named files (all_classes files) (shape_name kind) id ≡ Some m
       → is_subtype (all_classes files) (shape_name kind) (let id = m.id in id.class) ≡ true
 
--- It is one of these, or no method is found for it.
+-- It is one of these, or no method is found for it, on no type of which something may be there.
 pub data IsFound (files : Files) (l : Named) (tables : Tables) (id : MemberId) : Type 0 where
   no_method : entry_named files (all_classes files) id ≡ None
-      → ((type : List ℕ) → sent_named files (all_classes files) type id ≡ None) → IsFound files l tables id
+      → ((kind : Shape (List ℕ)) → IsMadeOf l kind → sent_named files (all_classes files) (shape_name kind) id ≡ None)
+      → IsFound files l tables id
   a_member : IsMember files l tables id → IsFound files l tables id
 
 -- ---- what the image says

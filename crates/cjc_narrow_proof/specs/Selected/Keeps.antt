@@ -10,6 +10,7 @@ use Rattle.cjc_code.specs.declared.method_code.MethodCode.{MethodCode}
 use Rattle.cjc_narrow.specs.Rows.Package.{flags_of}
 use Rattle.cjc_narrow.specs.Rows.Resolved.{method_found}
 use Rattle.cjc_subset.specs.Checks.{check_breaks}
+use Rattle.cjc_subset.specs.Ints.{code_works_on_int}
 use Rattle.cjc_types.specs.declared.state.State.{State}
 use Rattle.cjc_types.specs.Flow.{Body}
 use Rattle.cjc_types.specs.Tables.{Breach}
@@ -22,12 +23,12 @@ pub record IsSpelt (class : ClassTree) (bytes : List ℕ) : Type 0 where
   pub short : length bytes ≤ 2 ^ 29
   pub spelt : FileSpells class_file class bytes
 
--- The package breaks none of 301 to 310 and 401 to 409, and may not name int; and no instruction of the method that its
--- table reaches breaks one of 501 to 503.
+-- The package breaks none of 301 to 310 and 401 to 409; the method does not work on int, and no instruction of it that
+-- its table reaches breaks one of 501 to 503.
 pub record KeepsRules (list : List ℕ) (files : Files) (codes : List MethodCode) (settings : Settings)
     (code : MethodCode) (b : Body) (rows : List (Option State)) : Type 0 where
   pub unbroken : check_breaks list files codes settings ≡ []
-  pub no_int : settings.ints ≡ false
+  pub no_int : code_works_on_int files code ≡ false
   pub listed : Contains codes code
   pub typed : (place rule : ℕ) → Breach (all_classes files) b rows place rule → ⊥
 

@@ -56,12 +56,12 @@ pub data MayEnter (by : Linked) (l : Named) (id : MemberId) : (virtual_call : Bo
   is_sent : {m : Method} (kind : Shape (List ℕ)) → IsMadeOf l kind → by.sent (shape_name kind) id ≡ Some m
       → MayEnter by l id true m
 
--- A member for which neither side finds a method of the package.
+-- A member for which neither side finds a method of the package, on no type of which something may be there.
 pub record IsNoEntry (by : Linked) (l : Named) (id : MemberId) : Type 0 where
   pub not_called : by.entry id ≡ None
-  pub not_sent : (kind : Shape (List ℕ)) → by.sent (shape_name kind) id ≡ None
+  pub not_sent : (kind : Shape (List ℕ)) → IsMadeOf l kind → by.sent (shape_name kind) id ≡ None
   pub narrow_not_called : l.called id ≡ None
-  pub narrow_not_sent : (kind : Shape (List ℕ)) → l.sent kind id ≡ None
+  pub narrow_not_sent : (kind : Shape (List ℕ)) → IsMadeOf l kind → l.sent kind id ≡ None
 
 -- Both machines begin a method that the entry's member stands for, after the same acts and with these notes, with
 -- arguments that agree;

@@ -43,6 +43,8 @@ use Rattle.cjc_narrow_proof.proofs.SelectedLaws.Numbers.{all_fit}
 use Rattle.cjc_narrow_proof.proofs.SelectedLaws.Places.{reached_from}
 use Rattle.cjc_narrow_proof.proofs.SelectedLaws.Said.{all_said}
 use Rattle.cjc_narrow_proof.specs.Selected.Operands.{IndexFits, IsSmall, NumbersFit, OperandsFit}
+use Rattle.cjc_narrow_proof.proofs.Subset.Any.{any_off}
+use Rattle.cjc_narrow_proof.specs.Subset.Ints.{code_works_on_int}
 use Rattle.cjc_narrow_proof.specs.Subset.Names.{names_missing, names_unfit, names_unfound}
 use Rattle.cjc_exported.specs.Tokens.Tokens.{assigned}
 use Rattle.cjc_methods.specs.Types.declared.table.TypeTable.{TypeTable}
@@ -162,8 +164,11 @@ module _ (list : ListTree) (files : List (List ℕ)) (judged : Judged) (is : IsT
     said : (k : ℕ) (i : JInsn) → slice_get kept k ≡ Some i → IsSaid i.op
     said k i e =
         let from = reached_from of.code.insns (rows_by flags) k i e in
-        (judged_selectable list files judged is of.code of.class of.method of.tree of.table of.one).said from.0 i from.2
-        (is_reached flags from.0 from.1 from.3)
+        let one = of.one in
+        let free = any_off (λ (x : MethodCode). code_works_on_int judged.world x) judged.codes one.place of.code
+        pooled.no_int one.is_code in
+        (judged_selectable list files judged is of.code of.class of.method of.tree of.table of.one free).said from.0 i
+        from.2 (is_reached flags from.0 from.1 from.3)
 
     fits : m.widest ≤ 32767 → (k : ℕ) (i : JInsn) → slice_get kept k ≡ Some i → OperandsFit i.op
     fits short k i e =

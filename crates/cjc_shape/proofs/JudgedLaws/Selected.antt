@@ -1,5 +1,5 @@
 -- The methods of a package that was tested keep the rules that selection rests on.
-use Rattle.std.proofs.Common.{◌≡◌, ℕ, zero, suc, refl, sym, ap, subst, ◌∙◌, List, [], ◌∷◌, slice_get, Some}
+use Rattle.std.proofs.Common.{◌≡◌, ℕ, zero, suc, refl, sym, ap, subst, ◌∙◌, List, [], ◌∷◌, slice_get, Some, false}
 use Rattle.std.proofs.lemmas.Option.{get_or_from_slice_get, slice_get_within}
 use Rattle.cjc_world.specs.Bytes.Breaks.{Among, Break, foremost}
 use Rattle.cjc_world.specs.Bytes.Format.{FileSpells}
@@ -27,6 +27,7 @@ use Rattle.cjc_narrow_proof.specs.Selected.Keeps.{KeepsRules}
 use Rattle.cjc_narrow_proof.proofs.SelectedLaws.Selectable.{selectable}
 use Rattle.cjc_narrow_proof.proofs.SelectedLaws.Whole.{selected_whole}
 use Rattle.cjc_narrow_proof.specs.Subset.Checks.{check_breaks}
+use Rattle.cjc_narrow_proof.specs.Subset.Ints.{code_works_on_int}
 use Rattle.cjc_narrow_proof.specs.Subset.Names.{name_breaks}
 use Rattle.cjc_methods.specs.Types.declared.table.TypeTable.{TypeTable}
 use Rattle.cjc_methods.specs.Types.Flow.{body_of}
@@ -172,11 +173,11 @@ module _ (list : ListTree) (files : List (List ℕ)) (judged : Judged) (is : IsT
     least : IsLeastTable (body_of class method tree code.insns) (states code class method tree table)
     least = types.stands.least
 
-    keeps : KeepsRules list.name judged.world judged.codes (settings_of list) code (body_of class method tree
-        code.insns) (states code class method tree table)
-    keeps = record {
+    keeps : code_works_on_int judged.world code ≡ false → KeepsRules list.name judged.world judged.codes
+        (settings_of list) code (body_of class method tree code.insns) (states code class method tree table)
+    keeps free = record {
       unbroken = judged_checks;
-      no_int = is.no_int;
+      no_int = free;
       listed = (
         one.place,
         slice_get_within judged.codes one.place code one.is_code,
@@ -186,8 +187,9 @@ module _ (list : ListTree) (files : List (List ℕ)) (judged : Judged) (is : IsT
       typed = types.unbroken;
     }
 
-    pub judged_selectable : IsSelectable method tree code.insns (has_rows (states code class method tree table))
-    judged_selectable =
+    pub judged_selectable : code_works_on_int judged.world code ≡ false → IsSelectable method tree code.insns
+        (has_rows (states code class method tree table))
+    judged_selectable free =
         let there : slice_get (classes_of trees) code.class ≡ Some class =
         sym (ap (λ cs. slice_get cs code.class) is.judged_by.read.classes) ∙ one.is_method.is_class in
         let found = class_spelt list.lines files trees code.class class is.judged_by.read.spelt there in
@@ -197,7 +199,7 @@ module _ (list : ListTree) (files : List (List ℕ)) (judged : Judged) (is : IsT
           short = file.1;
           spelt = found.3;
         })
-        list.name judged.codes (settings_of list) (states code class method tree table) least keeps
+        list.name judged.codes (settings_of list) (states code class method tree table) least (keeps free)
 
     pub judged_whole : (near : List MemberId) → IsWhole (selected_code judged.world near class method tree code.insns
         (rows_by (has_rows (states code class method tree table))))

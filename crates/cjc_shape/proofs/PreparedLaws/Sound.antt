@@ -30,6 +30,7 @@ use Rattle.cjc_methods.specs.Ready.{AreReady, IsDecoded}
 use Rattle.cjc_narrow_proof.specs.Laws.Unbroken.{IsUnbroken}
 use Rattle.cjc_narrow_proof.proofs.LawsLaws.Own.{flags_by_name}
 use Rattle.cjc_narrow_proof.proofs.SelectedLaws.Limits.{each_at}
+use Rattle.cjc_narrow_proof.specs.Subset.Ints.{any_works_on_int}
 use Rattle.cjc_narrow_proof.specs.Subset.Places.{at_method, of_class, of_method}
 use Rattle.cjc_exported.specs.Tokens.Rules.{FewCells, FewExported, tested_breaks, token_breaks}
 use Rattle.cjc_methods.specs.Types.declared.table.TypeTable.{TypeTable}
@@ -83,7 +84,6 @@ module _ (list : ListTree) (files : List (List ℕ)) (judged : Judged) (is : IsS
     limits = (2, refl);
     types = refl;
     are_files = is.are_files;
-    no_int = is.no_int;
   }
 
   abbrev trees : List FileTree
@@ -93,22 +93,23 @@ module _ (list : ListTree) (files : List (List ℕ)) (judged : Judged) (is : IsS
   unfolding is_tested
   same = same_world list files judged is_tested
 
-  world_unbroken : breaks list.name judged.world ≡ []
+  pub world_unbroken : breaks list.name judged.world ≡ []
   unfolding is_tested
   world_unbroken = ap (breaks list.name) same ∙ (is_world list files judged is_tested).1
 
-  listed : (let w = judged.world in length w.classes ≤ class_count w.lines)
+  pub listed : (let w = judged.world in length w.classes ≤ class_count w.lines)
   listed =
       let few = lines_few list.lines files trees is.judged_by.read.spelt in
       subst (λ (w : Files). length w.classes ≤ class_count w.lines) (sym same) few
 
-  pub is_unbroken : IsUnbroken list.name judged.world judged.codes (settings_of list)
-  is_unbroken = record {
+  pub is_unbroken : any_works_on_int judged.world judged.codes ≡ false
+      → IsUnbroken list.name judged.world judged.codes (settings_of list)
+  is_unbroken free = record {
     listed = listed;
     world = world_unbroken;
     names = judged_names list files judged is_tested;
     checks = judged_checks list files judged is_tested;
-    no_int = is.no_int;
+    no_int = free;
   }
 
   -- ---- 401, 406 and 413

@@ -30,7 +30,7 @@ use Rattle.cjc_methods.specs.NCode.declared.narrow.NMethod.{NMethod}
 use Rattle.cjc_methods.specs.NCode.declared.narrow.PoolKey.{PoolKey}
 use Rattle.cjc_shape.specs.Prepared.{IsSound}
 use Rattle.cjc_shape.proofs.PreparedLaws.Rows.{are_rows, rows_in}
-use Rattle.cjc_shape.proofs.PreparedLaws.Sound.{are_ready, is_tested, is_unbroken}
+use Rattle.cjc_shape.proofs.PreparedLaws.Sound.{are_ready, is_tested, listed, world_unbroken}
 use Rattle.cjc_methods.specs.Types.declared.state.State.{State}
 use Rattle.cjc_methods.specs.Types.declared.table.TypeTable.{TypeTable}
 use Rattle.cjc_methods.specs.Types.Flow.{body_of}
@@ -95,9 +95,9 @@ module _ (list : ListTree) (files : List (List ℕ)) (judged : Judged) (is : IsS
 
   pub rows_are : AreRows world judged.codes judged.types rows
   rows_are =
-      let u = is_unbroken list files judged is in
       let all = are_ready list files judged is in
-      are_rows world list.name u.listed u.world judged.codes judged.types is.judged_by.of_package
+      are_rows world list.name (listed list files judged is) (world_unbroken list files judged is) judged.codes
+      judged.types is.judged_by.of_package
       (λ k c q e f d m t of. (all.each k c q e f d m t of).types)
 
   -- ---- the narrow code
@@ -114,7 +114,7 @@ module _ (list : ListTree) (files : List (List ℕ)) (judged : Judged) (is : IsS
   narrow_is = by_own_pool world rows fs [] first_codes narrow_codes refl refl
 
   owned : All (IsOwn world) fs
-  owned = all_own world (is_unbroken list files judged is).listed
+  owned = all_own world (listed list files judged is)
 
   -- code that is selected by its own pool, whichever rows the types stand for
   pub only_codes : (ns : List NMethod) (others : Method → List (Option State))

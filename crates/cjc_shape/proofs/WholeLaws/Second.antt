@@ -11,8 +11,8 @@ use Rattle.cjc_world.specs.Bytes.declared.fault.Fault.{Fault}
 use Rattle.cjc_world.specs.Bytes.declared.fault.Fault.TheVariants as faults
 use Rattle.cjc_world.specs.Bytes.declared.fault.Refusal.{Refusal}
 use Rattle.cjc_methods.specs.Components.ExportFile.{export_of}
-use Rattle.cjc_methods.specs.Components.Limits.{else_of, form_breaks, in_class, layout_breaks, of_methods, size_breaks}
-use Rattle.cjc_methods.specs.Components.Limits.{spot_of_list, word_breaks}
+use Rattle.cjc_methods.specs.Components.Limits.{code_breaks, else_of, form_breaks, in_class, int_breaks, layout_breaks}
+use Rattle.cjc_methods.specs.Components.Limits.{limit_breaks, of_methods, size_breaks, spot_of_list, word_breaks}
 use Rattle.cjc_methods.specs.Components.Package.{LaidMethod, Package, codes, pool, world}
 use Rattle.cjc_world.specs.ExportFile.Written.{constants}
 use Rattle.cjc_world.specs.ExportFile.declared.tree.ExportTree.{ExportTree}
@@ -79,6 +79,23 @@ export_by : (p : Package) → export_of p ≡ export_of (base p.list p.files)
 unfolding base
 export_by p = refl
 
+pub else_same : (xs bs cs ds : List Break) → xs ≡ bs → cs ≡ ds → else_of xs cs ≡ else_of bs ds
+else_same xs bs cs ds e f = ap (λ ys. else_of ys cs) e ∙ ap (else_of bs) f
+
+-- nothing of the first, and so of the second
+pub both_none : (xs ys : List Break) → else_of xs ys ≡ [] → (xs ≡ []) × (ys ≡ [])
+both_none [] ys e = (refl, e)
+both_none (x ∷ xs) ys e = cc
+
+pub forms_of : (p : Package) → code_breaks p ≡ [] → form_breaks p ≡ []
+forms_of p none = (both_none (int_breaks p) (form_breaks p) none).1
+
+pub ints_of : (p : Package) → limit_breaks p ≡ [] → int_breaks p ≡ []
+ints_of p none =
+    let behind_words = both_none (of_methods p (word_breaks p)) (else_of (code_breaks p) (size_breaks p)) none in
+    let codes = both_none (code_breaks p) (size_breaks p) behind_words.1 in
+    (both_none (int_breaks p) (form_breaks p) codes.0).0
+
 module _ (list : ListTree) (files : Files) (members : List Found) (narrow : List NMethod) where
   pub words : List Break
   words = zipped (word_breaks (base list files)) (all_classes files) members narrow
@@ -126,13 +143,24 @@ module _ (list : ListTree) (files : Files) (members : List Found) (narrow : List
       ∙ ap (λ b. layouts ++ at (nat_lt 16383 (length (pool_order narrow))
       || nat_lt 16383 (length (constants (export_of b)))) (spot_of_list b) 414) (based p is)
 
+  pub ints : List Break
+  ints = int_breaks (base list files)
+
+  pub ints_are : (p : Package) → Is p → int_breaks p ≡ ints
+  unfolding ints base
+  ints_are p is = ap int_breaks (based p is)
+
+  unfoldable pub coded : List Break
+  coded = else_of ints forms
+
+  pub coded_are : (p : Package) → Is p → code_breaks p ≡ coded
+  unfolding coded
+  coded_are p is = else_same _ _ _ _ (ints_are p is) (forms_are p is)
+
 -- ---- what is broken at the second level
 
 no_among : (b : Break) → Among b [] → ⊥
 no_among b among = elim among [ ]
-
-else_same : (xs bs cs ds : List Break) → xs ≡ bs → cs ≡ ds → else_of xs cs ≡ else_of bs ds
-else_same xs bs cs ds e f = ap (λ ys. else_of ys cs) e ∙ ap (else_of bs) f
 
 pub package_is_draft : (list : ListTree) (files : List (List ℕ)) (p : Package) → IsPackageOf list files p
     → IsDraft list files p
@@ -152,7 +180,7 @@ module _ (list : ListTree) (files : List (List ℕ)) (judged : Judged) (is : IsS
   W = words list judged.world fs (narrow_codes list files judged is)
 
   abbrev pub F : List Break
-  F = forms list judged.world fs (narrow_codes list files judged is)
+  F = coded list judged.world fs (narrow_codes list files judged is)
 
   pub is_base : (p : Package) → IsDraft list files p → Is list judged.world fs (narrow_codes list files judged is) p
   is_base p d = record {
@@ -162,9 +190,9 @@ module _ (list : ListTree) (files : List (List ℕ)) (judged : Judged) (is : IsS
     by_codes = same_narrow list files judged is p d;
   }
 
-  both : (p : Package) → IsDraft list files p → else_of (of_methods p (word_breaks p)) (form_breaks p) ≡ else_of W F
+  both : (p : Package) → IsDraft list files p → else_of (of_methods p (word_breaks p)) (code_breaks p) ≡ else_of W F
   both p d = else_same _ _ _ _ (words_are list judged.world fs (narrow_codes list files judged is) p (is_base p d))
-      (forms_are list judged.world fs (narrow_codes list files judged is) p (is_base p d))
+      (coded_are list judged.world fs (narrow_codes list files judged is) p (is_base p d))
 
   only : (b a : Break) → Among b (else_of W F) → BreaksWritten list files a → Among a (else_of W F)
   only b a some (of_form p d among) = subst (λ bs. Among a bs) (both p d) among
@@ -186,7 +214,7 @@ module _ (list : ListTree) (files : List (List ℕ)) (judged : Judged) (is : IsS
       by a (on_first breach) = absurd (is.judged_by.unbroken a breach)
       by a (on_second none written) = first.least a (only b a first.among written)
 
-  -- the first of rules 417, 311, 414 and 415
+  -- the first of rules 417, 801, 311, 414 and 415
   pub form_refused : (e : Fault) → IsFirstRefusal (else_of W F) e → Stopped list files e
   form_refused e (inl memory) = inl memory
   form_refused e (inr (b, first, is_refused)) = inr (

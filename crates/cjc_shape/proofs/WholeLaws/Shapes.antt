@@ -6,7 +6,7 @@ use Rattle.cjc_world.specs.Bytes.declared.fault.Fault.{Fault}
 use Rattle.cjc_judge.specs.Clinit.Image.{IsImage}
 use Rattle.cjc_narrow_proof.specs.Bytecode.PackageCodes.{all_codes}
 use Rattle.cjc_methods.specs.Components.ExportFile.{export_of}
-use Rattle.cjc_methods.specs.Components.Limits.{else_of, form_breaks, of_methods, word_breaks}
+use Rattle.cjc_methods.specs.Components.Limits.{code_breaks, else_of, form_breaks, int_breaks, of_methods, word_breaks}
 use Rattle.cjc_methods.specs.Components.Package.{LaidMethod, Package, codes}
 use Rattle.cjc_methods.specs.Components.Written.{code_at}
 use Rattle.cjc_world.specs.ExportFile.Written.{constants}
@@ -28,7 +28,8 @@ use Rattle.cjc_shape.specs.Whole.Working.Shaped.{IsShaped, Stopped, package_of}
 use Rattle.cjc_shape.specs.declared.whole.shaping.Shaped.{Shaped}
 use Rattle.cjc_shape.proofs.WholeLaws.Drafts.{draft, is_draft, narrow_codes, narrow_is, only_codes, rows, rows_are}
 use Rattle.cjc_shape.proofs.WholeLaws.Drafts.{spelt_by}
-use Rattle.cjc_shape.proofs.WholeLaws.Second.{F, W, form_refused, fs, forms_are, is_base, package_is_draft, words_are}
+use Rattle.cjc_shape.proofs.WholeLaws.Second.{F, W, coded, coded_are, else_same, form_refused, forms, forms_are, fs}
+use Rattle.cjc_shape.proofs.WholeLaws.Second.{ints, ints_are, is_base, package_is_draft, words_are}
 
 no_among : (b : Break) → Among b [] → ⊥
 no_among b among = elim among [ ]
@@ -55,16 +56,42 @@ module _ (list : ListTree) (files : List (List ℕ)) (judged : Judged) (is : IsS
       (subst (λ bs. IsFirstRefusal bs e) (words_are list judged.world (fs list files judged is) (narrow_codes list files
       judged is) d (is_base list files judged is d of_draft)) refused))
 
-  pub forms_refused : (e : Fault) → of_methods d (word_breaks d) ≡ [] → IsFirstRefusal (form_breaks d) e
+  -- what the code's own rules refuse, where 417 is unbroken
+  codes_refused : (e : Fault) → of_methods d (word_breaks d) ≡ [] → IsFirstRefusal (F list files judged is) e
       → Stopped list files e
-  forms_refused e none refused =
+  codes_refused e none refused =
       let base = is_base list files judged is d of_draft in
       let empty : W list files judged is ≡ [] = sym (words_are list judged.world (fs list files judged is)
       (narrow_codes list files judged is) d base) ∙ none in
+      form_refused list files judged is e (subst (λ bs. IsFirstRefusal (else_of bs (F list files judged is)) e)
+      (sym empty) refused)
+
+  -- 801, and behind it 311, 414 and 415
+  abbrev I : List Break
+  I = ints list judged.world (fs list files judged is) (narrow_codes list files judged is)
+
+  abbrev G : List Break
+  G = forms list judged.world (fs list files judged is) (narrow_codes list files judged is)
+
+  pub ints_refused : (e : Fault) → of_methods d (word_breaks d) ≡ [] → IsFirstRefusal (int_breaks d) e
+      → Stopped list files e
+  unfolding coded
+  ints_refused e none refused =
+      let base = is_base list files judged is d of_draft in
+      let here = subst (λ bs. IsFirstRefusal bs e) (ints_are list judged.world (fs list files judged is)
+      (narrow_codes list files judged is) d base) refused in
+      codes_refused e none (else_first I G e here)
+
+  pub forms_refused : (e : Fault) → of_methods d (word_breaks d) ≡ [] → int_breaks d ≡ []
+      → IsFirstRefusal (form_breaks d) e → Stopped list files e
+  unfolding coded
+  forms_refused e none free refused =
+      let base = is_base list files judged is d of_draft in
+      let empty : I ≡ [] = sym (ints_are list judged.world (fs list files judged is) (narrow_codes list files judged is)
+      d base) ∙ free in
       let here = subst (λ bs. IsFirstRefusal bs e) (forms_are list judged.world (fs list files judged is)
       (narrow_codes list files judged is) d base) refused in
-      form_refused list files judged is e (subst (λ bs. IsFirstRefusal (else_of bs (F list files judged is)) e)
-      (sym empty) here)
+      codes_refused e none (subst (λ bs. IsFirstRefusal (else_of bs G) e) (sym empty) here)
 
   -- ---- what is told of the draft
 
@@ -108,8 +135,9 @@ module _ (j : Judged) (is : BreaksNothing j) where
       → AreOf j.world members narrow s.methods
       → ((p : Package) → p.list ≡ j.list.now → p.files ≡ j.world → s.export ≡ export_of p)
       → (let d = draft j.list.now j.files.now j is in of_methods d (word_breaks d) ≡ [])
+      → int_breaks (draft j.list.now j.files.now j is) ≡ []
       → form_breaks (draft j.list.now j.files.now j is) ≡ [] → IsShaped j s
-  shaped s members narrow f g tokens image are export none fine =
+  shaped s members narrow f g tokens image are export none free fine =
       let list = j.list.now in
       let files = j.files.now in
       let p = package_of j s in
@@ -125,11 +153,12 @@ module _ (j : Judged) (is : BreaksNothing j) where
       let own = is_base list files j is (draft list files j is) (is_draft list files j is) in
       let w = fs list files j is in
       let n = narrow_codes list files j is in
+      let both : code_breaks (draft list files j is) ≡ [] = else_same _ [] _ [] free fine in
       record {
         is_package = whole;
         by_tokens = tokens;
         laid = are.laid;
         by_export = export p refl refl;
         words = words_are list j.world w n p base ∙ sym (words_are list j.world w n (draft list files j is) own) ∙ none;
-        forms = forms_are list j.world w n p base ∙ sym (forms_are list j.world w n (draft list files j is) own) ∙ fine;
+        forms = coded_are list j.world w n p base ∙ sym (coded_are list j.world w n (draft list files j is) own) ∙ both;
       }

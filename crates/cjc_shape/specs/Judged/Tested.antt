@@ -21,14 +21,13 @@ abbrev pub AreFiles : List (List ℕ) → Type 0
 AreFiles files = (k : ℕ) (bytes : List ℕ) → slice_get files k ≡ Some bytes → AllByRecursion (λ b. b < 256) bytes
     × (length bytes ≤ 2 ^ 29)
 
--- The package breaks no rule of the groups, among which are limits and types, and may not name int.
+-- The package breaks no rule of the groups, among which are limits and types.
 pub record IsTested (list : ListTree) (files : List (List ℕ)) (judged : Judged) : Type 0 where
   pub tested : List Group
   pub judged_by : IsJudged list files tested judged
   pub limits : (i : ℕ) × (slice_get tested i ≡ Some groups.Limits)
   pub types : list_any asks_types tested ≡ true
   pub are_files : AreFiles files
-  pub no_int : list.ints ≡ false
 
 -- One of its methods with code, and the types that were found for it.
 pub record IsOne (judged : Judged) (code : MethodCode) (class : ClassTree) (method : MethodTree) (tree : CodeTree)

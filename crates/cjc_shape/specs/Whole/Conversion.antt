@@ -12,7 +12,7 @@ use Rattle.cjc_world.specs.ClassFile.declared.tree.ClassTree.{ClassTree}
 use Rattle.cjc_world.specs.ClassFile.declared.tree.MethodTree.{MethodTree}
 use Rattle.cjc_narrow_proof.specs.Bytecode.PackageCodes.{all_codes}
 use Rattle.cjc_narrow_proof.specs.Bytecode.declared.method_code.MethodCode.{MethodCode}
-use Rattle.cjc_methods.specs.Components.Limits.{else_of, form_breaks, of_methods, size_breaks, word_breaks}
+use Rattle.cjc_methods.specs.Components.Limits.{code_breaks, else_of, of_methods, size_breaks, word_breaks}
 use Rattle.cjc_methods.specs.Components.Package.{LaidMethod, Package, pool}
 use Rattle.cjc_methods.specs.Components.Written.{IsPackage, code_at, is_abstract_at}
 use Rattle.cjc_judge.specs.Rules.{AreWorld, Breach, IsFirstRefused, OnLevels, files_spelt}
@@ -68,11 +68,11 @@ pub record IsPackageOf (list : ListTree) (files : List (List ℕ)) (p : Package)
 
 -- ---- rules that speak of what is written
 
--- 417; where none breaks that, 311, 414 and 415; where nothing breaks these, 411 and 416.
+-- 417; where none breaks that, 801; where that is unbroken, 311, 414 and 415; where nothing breaks these, 411 and 416.
 pub data BreaksWritten (list : ListTree) (files : List (List ℕ)) (b : Break) : Type 0 where
-  of_form : (p : Package) → IsDraft list files p → Among b (else_of (of_methods p (word_breaks p)) (form_breaks p))
+  of_form : (p : Package) → IsDraft list files p → Among b (else_of (of_methods p (word_breaks p)) (code_breaks p))
       → BreaksWritten list files b
-  of_size : (p : Package) → IsPackageOf list files p → of_methods p (word_breaks p) ≡ [] → form_breaks p ≡ []
+  of_size : (p : Package) → IsPackageOf list files p → of_methods p (word_breaks p) ≡ [] → code_breaks p ≡ []
       → Among b (size_breaks p) → BreaksWritten list files b
 
 -- The refusal is that of the first rule that the files break, or where they break none, that what is written for them

@@ -1,9 +1,11 @@
-//! A package by its methods, laid out. The rules that speak of them are tested here: 417, then 311, 414 and 415.
+//! A package by its methods, laid out. The rules that speak of them are tested here: 417, then 801, then 311, 414 and
+//! 415.
 
-ghost use Rattle.std.specs.Prelude.{◌≡◌, All, IfOk, IfErr};
+ghost use Rattle.std.specs.Prelude.{◌≡◌, [], All, IfOk, IfErr, OnOk};
 ghost use Rattle.cjc_methods.specs.Ready.{IsOwn};
 ghost use Rattle.cjc_shape.specs.Prepared.{BreaksNothing};
-ghost use Rattle.cjc_shape.specs.Whole.Working.Shaped.{IsShaped, Stopped};
+ghost use Rattle.cjc_shape.specs.Whole.Working.Shaped.{IsShaped, Stopped, has_int_code, int_breaks};
+ghost use Rattle.cjc_world.specs.Bytes.Breaks.{IsFirstRefusal};
 ghost use Rattle.cjc_world.specs.Classes.{all_classes};
 ghost use Rattle.cjc_world.specs.Order.{method_order};
 
@@ -15,7 +17,8 @@ use cjc_methods::layouts::{Methods, lay_out, methods_are_of_a_package};
 use cjc_methods::{
     method_order, methods_are_own, methods_can_be_laid_out, narrow_codes, test_words,
 };
-use cjc_world::bytes::{Fault, NoMemory, Row};
+use cjc_subset::any_works_on_int;
+use cjc_world::bytes::{Fault, NoMemory, Row, RulePlace, answer, broken};
 use cjc_world::export_file::{ExportTree, pool_size};
 use cjc_world::{Found, StaticImage, World};
 use std::alloc::Global;
@@ -52,11 +55,28 @@ fn members_of(alloc: Global, world: &World<'_>) -> Result<Row<Found>, NoMemory>
     method_order(alloc, world, order.items())
 }
 
+/// Whether the list allows int, and a method with code works on it.
+fn has_int_code(judged: &Judged<'_>) -> bool
+    ensures { result ≡ has_int_code judged.now }
+{
+    judged.list.ints && any_works_on_int(&judged.world, judged.codes.items())
+}
+
+/// Rule 801: the list allows int, and a method with code works on it, for which nothing can be written yet.
+fn test_ints(alloc: Global, judged: &Judged<'_>) -> Result<(), Fault>
+    ensures unbroken { OnOk result (int_breaks judged.now ≡ []) }
+    ensures refused { IfErr result (IsFirstRefusal (int_breaks judged.now)) }
+{
+    let spot = RulePlace::of_list(judged.list.name.items());
+    answer(alloc, broken(has_int_code(judged), spot, 801))
+}
+
 /// The package with its methods laid out, of one that breaks no rule of its files.
 ///
 /// # Errors
 ///
-/// The first of these: 417; where no method breaks it, 311, 414 or 415, in the order of refusals.
+/// The first of these: 417; where no method breaks it, 801; where that is unbroken, 311, 414 or 415, in the order of
+/// refusals.
 pub fn shape(alloc: Global, judged: &Judged<'_>) -> Result<Shaped, Fault>
     requires { BreaksNothing judged.now }
     ensures shaped { IfOk result (IsShaped judged.now) }
@@ -66,6 +86,7 @@ pub fn shape(alloc: Global, judged: &Judged<'_>) -> Result<Shaped, Fault>
     methods_are_of_a_package();
     let members = members_of(alloc, &judged.world)?;
     test_words(alloc, &judged.world, members.items())?;
+    test_ints(alloc, judged)?;
     let tokens = tokens_of(alloc, judged.list, &judged.world)?;
     let image = image_of(alloc, &judged.world, &judged.codes)?;
     let codes = narrow_codes(

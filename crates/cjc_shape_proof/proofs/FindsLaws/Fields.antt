@@ -34,7 +34,7 @@ use Rattle.cjc_shape_proof.proofs.FindsLaws.Descs.{read_of}
 use Rattle.cjc_shape_proof.proofs.FindsLaws.Receivers.{made_class, named_of, plain_class, receiver_of}
 use Rattle.cjc_narrow_proof.specs.Laws.Unbroken.{IsInsnOf, IsUnbroken}
 use Rattle.cjc_narrow_proof.proofs.LawsLaws.Instructions.{field_there, op_fit, op_there}
-use Rattle.cjc_narrow_proof.proofs.LawsLaws.WordTypes.{type_word}
+use Rattle.cjc_narrow_proof.proofs.LawsLaws.WordTypes.{type_values, type_word}
 use Rattle.cjc_narrow_proof.specs.Runs.Names.{IsFieldOf, IsWordField}
 use Rattle.cjc_narrow_proof.specs.Runs.Tables.{Tables, look_ups}
 use Rattle.cjc_components.specs.Narrow.Rows.Package.{named}
@@ -42,8 +42,9 @@ use Rattle.cjc_ncode.specs.ByLabel.{Named}
 use Rattle.cjc_ncode.specs.PoolOrder.{same_member}
 use Rattle.cjc_ncode.specs.Script.Sorts.{Booleans, Bytes, Ints, Shorts, OfClass, OfNumbers, OfReferences, Shape}
 use Rattle.cjc_ncode.specs.Script.Sorts.{shape_name}
-use Rattle.cjc_ncode.specs.Script.Sorts.{sort_of, sort_or_none}
-use Rattle.cjc_narrow_proof.proofs.SelectedLaws.Limits.{insn_fine}
+use Rattle.cjc_ncode.specs.Script.Sorts.{field_sort, sort_of, sort_or_none}
+use Rattle.cjc_narrow_proof.specs.Selection.Objects.{has_values}
+use Rattle.cjc_narrow_proof.proofs.SelectedLaws.IntFree.{op_free}
 use Rattle.cjc_narrow_proof.specs.Selection.Relation.{HasObjects, IsMadeOf, bare, made}
 use Rattle.cjc_narrow_proof.specs.Selection.Rows.{HasField, is_word_sort, lists}
 use Rattle.cjc_world_proof.specs.Files.{AreReadFiles}
@@ -53,8 +54,8 @@ use Rattle.cjc_subset.specs.Members as subset
 use Rattle.cjc_subset.proofs.Fits.{field_fits}
 use Rattle.cjc_subset.specs.Names.{is_constant_found, is_hidden, is_other_kind, is_unfit_field, names_unfit}
 use Rattle.cjc_subset.specs.Types.{is_any_unsupported, is_any_int, is_unsupported_desc, is_unsupported_name}
-use Rattle.cjc_subset.specs.Types.{is_unsupported_part, is_int_desc, is_int_name, is_int_part, names_unsupported}
-use Rattle.cjc_subset.specs.Types.{names_int}
+use Rattle.cjc_subset.specs.Types.{is_unsupported_part, is_int_desc, is_int_part, names_unsupported}
+use Rattle.cjc_subset.specs.Ints.{works_on_int}
 use Rattle.cjc_narrow_proof.specs.Types.declared.cell.Cell.{Cell}
 use Rattle.cjc_narrow_proof.specs.Types.declared.cell.Cell.TheVariants.{Refs}
 use Rattle.cjc_narrow_proof.specs.Types.Types.{no_parts, parts, parts_or_none}
@@ -141,6 +142,21 @@ word_field desc d short is is_field no_unsupported no_int =
         → is_any_int (Some d) ≡ false → is_word_sort (sort_of d.result) ≡ true
     by (field {p = p} t) m f g = type_word t (or_left (is_unsupported_part p) false f) (or_left (is_int_part p) false g)
     by (method ts t) m f g = absurd cc
+
+-- and one that may name int is of a type that values are of
+pub value_field : (desc : List ℕ) (d : Parts) → length desc < 2 ^ 32 → desc_of desc ≡ Some d → d.is_method ≡ false
+    → is_unsupported_desc desc ≡ false → has_values (field_sort desc) ≡ true
+unfolding is_unsupported_desc
+value_field desc d short is is_field no_unsupported =
+    let fits : nat_lt (length desc) (2 ^ 32) ≡ true = lt-ltb (length desc) (2 ^ 32) short in
+    let f : is_any_unsupported (Some d) ≡ false = ap is_any_unsupported (sym is)
+    ∙ ap (λ b. b && is_any_unsupported (desc_of desc)) (sym fits) ∙ no_unsupported in
+    ap (λ o. has_values (sort_or_none o)) is ∙ by (desc_spelt d desc is) is_field f
+  where
+    by : {d : Parts} {bytes : List ℕ} → IsDescriptor d bytes → d.is_method ≡ false → is_any_unsupported (Some d) ≡ false
+        → has_values (sort_of d.result) ≡ true
+    by (field {p = p} t) m f = type_values t (or_left (is_unsupported_part p) false f)
+    by (method ts t) m f = absurd cc
 
 abbrev pub tested : Class → Member → subset.ResolvedMember
 tested d m = record { owner = d; flags = m.flags }
@@ -320,7 +336,7 @@ module _ (list : List ℕ) (files : Files) (codes : List MethodCode) (settings :
       → (cell : Cell) → ((names : List (List ℕ)) → cell ≡ Refs names → list_all (λ name. is_subtype w name id.class)
       names ≡ true)
       → (m : Method) → (f : MemberId) × IsFieldOf files image near tables m id f cell
-  unfolding names_unsupported names_int
+  unfolding names_unsupported works_on_int
   field_is class put id at cell accepts_one m =
       let k = known_field class put id at in
       let d = k.owner in
@@ -337,12 +353,9 @@ module _ (list : List ℕ) (files : Files) (codes : List MethodCode) (settings :
       let short : length x.desc < 2 ^ 32 = (let s = one.desc in omega (arith, s)) in
       let parsed = (let r = read_of files read d.number u t.1 in r.fields) p.place x c.1 in
       let unsupported = (op_fit list files codes settings is class (jop.Field put id) at).0 in
-      let int = insn_fine list files codes settings is.checks at.code class at.method at.tree at.of_package is.no_int
-      at.listed at.place at.insn at.is_insn in
       let no_unsupported : is_unsupported_desc id.desc ≡ false = or_right (is_unsupported_name id.class)
       (is_unsupported_desc id.desc) unsupported in
-      let no_int : is_int_desc id.desc ≡ false = or_right (is_int_name id.class) (is_int_desc id.desc)
-      (ap names_int (sym at.is_op) ∙ int) in (
+      let no_int : is_int_desc id.desc ≡ false = op_free files codes is.no_int class (jop.Field put id) at in (
         of_class d.name id,
         record {
           desc = word_field id.desc parsed.0 (subst (λ v. length v < 2 ^ 32) desc_is short) (ap desc_of (sym desc_is)

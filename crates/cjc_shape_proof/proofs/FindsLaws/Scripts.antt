@@ -12,7 +12,7 @@ use Rattle.cjc_world_proof.specs.JvmSemantics.OnePackage.{entry_in, entry_named,
 use Rattle.cjc_world_proof.specs.JvmSemantics.OnePackage.{is_sendable}
 use Rattle.cjc_world_proof.specs.JvmSemantics.OnePackage.{method_at, method_hit, select_in, sent_by, sent_named}
 use Rattle.cjc_world_proof.specs.Calls.Solid.{IsSolid}
-use Rattle.cjc_world_proof.specs.Calls.Targets.{IsReceiver, IsSentTo}
+use Rattle.cjc_world_proof.specs.Calls.Targets.{IsOwnCode, IsReceiver, IsSentTo}
 use Rattle.cjc_world_proof.proofs.CallsLaws.Own.{own_at}
 use Rattle.cjc_world_proof.proofs.CallsLaws.Scripts.{called_method, sent_method, then_some}
 use Rattle.cjc_world_proof.proofs.CallsLaws.Selects.{own_tree}
@@ -22,6 +22,7 @@ use Rattle.cjc_classfile.specs.Fits as fits
 use Rattle.cjc_classfile.specs.declared.tree.ClassTree.{ClassTree}
 use Rattle.cjc_classfile.specs.declared.tree.MethodTree.{MethodTree}
 use Rattle.cjc_subset.specs.Bytecode.declared.method_code.MethodCode.{MethodCode}
+use Rattle.cjc_subset.specs.Types.{is_int_desc}
 use Rattle.cjc_shape_proof.specs.Whole.{AreTabled}
 use Rattle.cjc_shape_proof.proofs.FindsLaws.Begun.{begun, declarer}
 use Rattle.cjc_shape_proof.proofs.FindsLaws.Callees.{params_there}
@@ -31,6 +32,7 @@ use Rattle.cjc_narrow_proof.specs.Laws.Unbroken.{AreSpelt, IsUnbroken}
 use Rattle.cjc_narrow_proof.proofs.LawsLaws.Own.{class_by_name, own_kept}
 use Rattle.cjc_world_proof.proofs.SelectionLaws.Rules.{method_kept}
 use Rattle.cjc_narrow_proof.proofs.LawsLaws.WordTypes.{word_desc}
+use Rattle.cjc_narrow_proof.proofs.SelectedLaws.IntFree.{code_free, own_desc}
 use Rattle.cjc_narrow_proof.specs.Runs.Converted.{IsFound, IsMember, a_member, no_method}
 use Rattle.cjc_narrow_proof.specs.Runs.Tables.{Tables, look_ups}
 use Rattle.cjc_narrow_proof.specs.Runs.Types.{IsThere}
@@ -248,15 +250,31 @@ module _ (list : List ℕ) (files : Files) (codes : List MethodCode) (settings :
       let one = all_at fits.MethodFits t.methods k method few.methods is_method in
       let short = one.desc in omega (arith, short)
 
-  member_is : (id : MemberId) → IsOwnNamed files id → IsMember files l tables id
-  member_is id o =
+  -- what is sent to what may be there
+  sent_to : (id : MemberId) (kind : Shape (List ℕ)) (m : Method) → IsMadeOf l kind → sent_named files w
+      (shape_name kind) id ≡ Some m → IsSentTo files (receiver (shape_name kind)) id m
+  sent_to id kind m made e = sent_method files solid (shape_name kind) (receiver_of files image near tables solid root
+      kind made) id m e
+
+  -- a method with code that is no initialiser does not name int
+  code_free_of : (id : MemberId) → is_initialiser id.name ≡ false → (m : Method) → IsOwnCode files id m
+      → is_int_desc id.desc ≡ false
+  code_free_of id plain m code =
+      let k = code.method in
+      let h = tabled.own code.class k code.tree code.own (ap is_initialiser code.name ∙ plain) code.is_code in
+      let same : k.desc ≡ (let n = h.method in n.desc) = ap (λ (x : Method). let i = x.id in i.desc) h.is in
+      let free = own_desc files h.code h.class h.method h.tree h.of_package (code_free files codes is.no_int h.code
+      h.listed) in
+      ap is_int_desc (sym code.desc ∙ same) ∙ free
+
+  member_is : (id : MemberId) → IsOwnNamed files id → is_int_desc id.desc ≡ false → IsMember files l tables id
+  member_is id o no_int =
       let t = o.class in
       let k = o.method in
       let short = own_short o.number o.place t k o.is_class o.is_method in
       let parsed = (let r = read_of files read o.number t o.is_class in r.methods) o.place k o.is_method in
-      let fine = method_kept list files codes settings is.checks is.no_int o.number t o.is_class o.place k o.is_method
-      in
-      let words = word_desc k.desc parsed.0 short parsed.1 parsed.2 fine.0 fine.1 in
+      let fine = method_kept list files codes settings is.checks o.number t o.is_class o.place k o.is_method in
+      let words = word_desc k.desc parsed.0 short parsed.1 parsed.2 fine.0 (ap is_int_desc o.desc ∙ no_int) in
       let kept = own_kept files list is.listed is.world o.number t o.is_class in
       let there = (kept.methods o.place k o.is_method).1 in
       record {
@@ -266,26 +284,31 @@ module _ (list : List ℕ) (files : Files) (codes : List MethodCode) (settings :
             words.is_desc there);
         is_called = λ m e. (let r = called_method files solid id m e in begun list files codes settings is spelt tables
             tabled false id (called_plain files w id m e) m r.0 r.1);
-        is_sent = λ kind m made e. (let s = sent_to kind m made e in begun list files codes settings is spelt tables
+        is_sent = λ kind m made e. (let s = sent_to id kind m made e in begun list files codes settings is spelt tables
             tabled true id (sent_plain files w (shape_name kind) id m e) m s.code s.on_object);
-        receives = λ kind m made e. (let s = sent_to kind m made e in let code = s.code in let own = code.own in
+        receives = λ kind m made e. (let s = sent_to id kind m made e in let code = s.code in let own = code.own in
             let open_name = solid.plain (let c = code.class in c.name) _ (class_by_name files list is.listed is.world
             own.number code.class own.is_class) in
             subst (λ n. is_subtype w (shape_name kind) n ≡ true) (sym (declarer list files codes settings is spelt
             tables tabled id m code)) (below_type w (shape_name kind) (let c = code.class in c.name) open_name
             s.below));
       }
-    where
-      sent_to : (kind : Shape (List ℕ)) (m : Method) → IsMadeOf l kind → sent_named files w (shape_name kind) id
-          ≡ Some m → IsSentTo files (receiver (shape_name kind)) id m
-      sent_to kind m made e = sent_method files solid (shape_name kind) (receiver_of files image near tables solid root
-          kind made) id m e
+
+  -- no method with code has a descriptor that names int
+  int_is : (id : MemberId) → is_int_desc id.desc ≡ true → IsFound files l tables id
+  int_is id int = no_method
+      (none_where (entry_named files w id) (λ m e. true_not_false (is_int_desc id.desc) int
+      (code_free_of id (called_plain files w id m e) m (called_method files solid id m e).0)))
+      (λ kind made. none_where (sent_named files w (shape_name kind) id) (λ m e. true_not_false (is_int_desc id.desc)
+      int (code_free_of id (sent_plain files w (shape_name kind) id m e) m (let s = sent_to id kind m made e in s.code))))
 
   pub found_is : (id : MemberId) → IsFound files l tables id
-  found_is id = ⊎_elim
-      (λ yes. a_member (member_is id (declared_one files id yes)))
+  found_is id = ⊎_elim (int_is id)
+      (λ no_int. ⊎_elim
+      (λ yes. a_member (member_is id (declared_one files id yes) no_int))
       (λ no. no_method
       (none_where (entry_named files w id) (λ m e. declared_none files id no (called_own files solid id m e)))
-      (λ type. none_where (sent_named files w type id) (λ m e. declared_none files id no (sent_own files solid type id m
-      e))))
-      (true_or_false (list_any (λ t. declares id t) files.classes))
+      (λ kind made. none_where (sent_named files w (shape_name kind) id) (λ m e. declared_none files id no
+      (sent_own files solid (shape_name kind) id m e))))
+      (true_or_false (list_any (λ t. declares id t) files.classes)))
+      (true_or_false (is_int_desc id.desc))

@@ -45,7 +45,6 @@ module _ (list : List ℕ) (files : Files) (codes : List MethodCode) (settings :
   clean = record {
     world = (let u = whole.unbroken in u.world);
     checks = (let u = whole.unbroken in u.checks);
-    no_int = (let u = whole.unbroken in u.no_int);
     read = whole.read;
     sound = whole.sound;
   }

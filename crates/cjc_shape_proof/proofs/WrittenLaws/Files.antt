@@ -34,6 +34,7 @@ use Rattle.cjc_narrow_proof.proofs.TablesLaws.Spelt.{class_read}
 use Rattle.cjc_token_proof.specs.Tables.Sound.{AreFieldDescs, IsSound, export_count}
 use Rattle.cjc_vtable.specs.Kept.{AreRead, BreaksNone, IsKept}
 use Rattle.cjc_shape.proofs.WholeLaws.Drafts.{same_spelt}
+use Rattle.cjc_shape.proofs.WholeLaws.Ints.{package_free}
 use Rattle.cjc_shape.proofs.WholeLaws.Second.{package_is_draft}
 use Rattle.cjc_world.specs.Files.{Files}
 use Rattle.cjc_world.specs.Rules.{breaks}
@@ -107,7 +108,7 @@ module _ (list : ListTree) (files : List (List ℕ)) (judged : Judged) (p : Pack
   -- by its own files
   pub own_unbroken : IsUnbroken list.name p.files judged.codes (settings_of list)
   own_unbroken = subst (λ (w : Files). IsUnbroken list.name w judged.codes (settings_of list)) (sym same_files)
-      (is_unbroken list files judged is.sound)
+      (is_unbroken list files judged is.sound (package_free list files judged is.sound p is.is_package is.forms))
 
   abbrev trees : List FileTree
   trees = is.sound.judged_by.read.trees

@@ -46,6 +46,7 @@ use Rattle.cjc_narrow_proof.specs.Types.declared.table.TypeTable.{TypeTable}
 use Rattle.cjc_vtable.proofs.Numbers.{at-tree}
 use Rattle.cjc_shape.proofs.WholeLaws.Drafts.{rows_agree}
 use Rattle.cjc_shape.proofs.WholeLaws.Ordered.{all_own}
+use Rattle.cjc_shape.proofs.WholeLaws.Second.{forms_of}
 use Rattle.cjc_world.specs.Classes.{all_classes, class_at, declared}
 use Rattle.cjc_world.specs.Files.{Files}
 use Rattle.cjc_world.specs.Order.{method_order}
@@ -117,7 +118,7 @@ module _ (list : ListTree) (files : List (List ℕ)) (judged : Judged) (p : Pack
   pub ordered_at : (k : ℕ) (m : LaidMethod) → slice_get p.methods k ≡ Some m → IsOrdered m.code
   ordered_at k m e =
       let none = none_of_method list files judged is.sound p is.is_package (layout_breaks p)
-      (none_front (of_methods p (layout_breaks p)) _ is.forms) k m e in
+      (none_front (of_methods p (layout_breaks p)) _ (forms_of p is.forms)) k m e in
       ordered_by m.code _ (none_front _ _ none)
 
   -- ---- where a method is of its class file

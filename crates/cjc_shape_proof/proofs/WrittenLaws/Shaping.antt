@@ -29,7 +29,7 @@ use Rattle.cjc_ncode.specs.declared.narrow.PoolKey.TheVariants as keys
 use Rattle.cjc_check_proof.specs.Pool.Pool.{IsPool, PoolView, calls, is_called, token_of}
 use Rattle.cjc_tokens.proofs.Facts.{position-cons}
 use Rattle.cjc_tokens.specs.Tokens.{Assigned, joined}
-use Rattle.cjc_shape.proofs.PreparedLaws.Sound.{is_unbroken}
+use Rattle.cjc_shape.proofs.PreparedLaws.Sound.{listed}
 use Rattle.cjc_shape.proofs.WholeLaws.Drafts.{same_spelt}
 use Rattle.cjc_shape.proofs.WholeLaws.Ordered.{all_own}
 use Rattle.cjc_shape.specs.Prepared.{IsSound}
@@ -213,7 +213,7 @@ module _ (list : ListTree) (files : List (List ℕ)) (judged : Judged) (is : IsS
       ∙ slice_get-map (λ (x : LaidMethod). x.member) p.methods k ∙ ap (option_map (λ (x : LaidMethod). x.member)) e in
       let owned : All (IsOwn p.files) (method_order (world p)) =
       subst (λ (w : Files). All (IsOwn w) (method_order (all_classes w))) (sym same_world)
-      (all_own judged.world (is_unbroken list files judged is).listed) in
+      (all_own judged.world (listed list files judged is)) in
       all_in (IsOwn p.files) (method_order (world p)) k m.member owned there
 
   -- nothing of a method

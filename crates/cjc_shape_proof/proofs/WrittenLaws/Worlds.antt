@@ -48,7 +48,7 @@ both_then true false c e f g = cc
 both_then false b c e f g = cc
 
 module _ (files : Files) (solid : IsSolid files) (list : List ℕ) (codes : List MethodCode) (settings : Settings)
-    (unbroken : check_breaks list files codes settings ≡ []) (no_int : settings.ints ≡ false) where
+    (unbroken : check_breaks list files codes settings ≡ []) where
   static_initialises : (n k : ℕ) (t : ClassTree) (m : MethodTree) → slice_get files.classes n ≡ Some t
       → slice_get t.methods k ≡ Some m → is_interface t.flags ≡ true → is_static m.flags ≡ true → is_initialiser m.name
       ≡ true
@@ -71,7 +71,7 @@ module _ (files : Files) (solid : IsSolid files) (list : List ℕ) (codes : List
       by : (b : Bool) → is_abstract m.flags ≡ b → is_initialiser m.name ≡ true
       by true g = clash (is_static m.flags) static (solid.bound t m own g).0
       by false g = let tree = solid.coded t m own g in coded (is_some m.code) (ap is_some tree.1)
-          (method_kept list files codes settings unbroken no_int n t e k m f).2
+          (method_kept list files codes settings unbroken n t e k m f).2
 
   pub none_static : NoStaticMethods (all_classes files)
   none_static x c e own interface k m f static =
@@ -88,7 +88,6 @@ module _ (list : ListTree) (files : List (List ℕ)) (judged : Judged) (p : Pack
   clean = let u = own_unbroken list files judged p is in record {
     world = u.world;
     checks = u.checks;
-    no_int = u.no_int;
     read = read_files list files judged p is;
     sound = is.exports;
   }
@@ -107,7 +106,7 @@ module _ (list : ListTree) (files : List (List ℕ)) (judged : Judged) (p : Pack
 
   pub no_static_methods : NoStaticMethods (world p)
   no_static_methods = let u = own_unbroken list files judged p is in none_static p.files own_solid list.name
-      judged.codes (settings_of list) u.checks u.no_int
+      judged.codes (settings_of list) u.checks
 
   pub own_subtypes : KeepsSubtypes (world p)
   own_subtypes = keeps_subtypes (world p) own_ordered plain_names

@@ -2,7 +2,7 @@
 use Rattle.std.specs.Prelude.{◌≡◌, ℕ, List, [], Some, true, false, ◌&&◌, slice_get}
 use Rattle.cjc_world_proof.specs.JvmSemantics.OnePackage.{is_initialiser}
 use Rattle.cjc_bytes.specs.AccessFlags.{is_interface, is_private, is_static}
-use Rattle.cjc_components.specs.Limits.{form_breaks, of_methods, size_breaks, word_breaks}
+use Rattle.cjc_components.specs.Limits.{code_breaks, of_methods, size_breaks, word_breaks}
 use Rattle.cjc_components.specs.Package.{Package, world}
 use Rattle.cjc_export.specs.declared.tree.ExportClass.{ExportClass}
 use Rattle.cjc_export.specs.declared.tree.ExportMethod.{ExportMethod}
@@ -30,15 +30,15 @@ pub record ExportsArePlain (files : Files) : Type 0 where
       → (k : ℕ) (m : ExportMethod) → slice_get c.methods k ≡ Some m → is_initialiser m.name ≡ true
       → is_static m.flags ≡ true
 
--- The package of a list that was read and of its files. It breaks no rule: none of its files, neither 417, 311, 414
--- and 415, nor 411 and 416. Its export files say of their classes what a platform has, and don't contradict one
+-- The package of a list that was read and of its files. It breaks no rule: none of its files, neither 417, 801, 311,
+-- 414 and 415, nor 411 and 416. Its export files say of their classes what a platform has, and don't contradict one
 -- another.
 pub record IsConverted (list : ListTree) (files : List (List ℕ)) (judged : Judged) (p : Package) : Type 0 where
   pub read : IsRead list
   pub sound : IsSound list files judged
   pub is_package : IsPackageOf list files p
   pub words : of_methods p (word_breaks p) ≡ []
-  pub forms : form_breaks p ≡ []
+  pub forms : code_breaks p ≡ []
   pub sizes : size_breaks p ≡ []
   pub exports : ExportsAreSound p.files
   pub plain : ExportsArePlain p.files

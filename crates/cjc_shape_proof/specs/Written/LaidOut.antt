@@ -5,7 +5,7 @@ use Rattle.cjc_bytes.specs.AccessFlags.{is_interface}
 use Rattle.cjc_bytes.specs.declared.settings.AppletLine.{AppletLine}
 use Rattle.cjc_components.specs.ExportFile.{export_class}
 use Rattle.cjc_components.specs.Exports.{exported_classes}
-use Rattle.cjc_components.specs.Limits.{form_breaks, of_methods, word_breaks}
+use Rattle.cjc_components.specs.Limits.{code_breaks, of_methods, word_breaks}
 use Rattle.cjc_components.specs.Package.{Package}
 use Rattle.cjc_export.specs.ExportFile.{method_count}
 use Rattle.cjc_export.specs.Writable.{EachAfter, MethodStands}
@@ -20,15 +20,15 @@ use Rattle.cjc_world.specs.Classes.{Class}
 abbrev pub AidsAreShort : ListTree → Type 0
 AidsAreShort list = AllByRecursion (λ (a : AppletLine). length a.aid ≤ 16) list.applets
 
--- The package of a list that was read and of its files, which break no rule; and it breaks neither 417, 311, 414 nor
--- 415.
+-- The package of a list that was read and of its files, which break no rule; and it breaks neither 417, 801, 311, 414
+-- nor 415.
 pub record IsLaidOut (list : ListTree) (files : List (List ℕ)) (judged : Judged) (p : Package) : Type 0 where
   pub read : IsRead list
   pub aids : AidsAreShort list
   pub sound : IsSound list files judged
   pub is_package : IsPackageOf list files p
   pub words : of_methods p (word_breaks p) ≡ []
-  pub forms : form_breaks p ≡ []
+  pub forms : code_breaks p ≡ []
 
 -- The methods of a class of an export file can be counted, and each can stand behind those before it: its token is its
 -- own, and no name of an interface's method begins as <init> does.

@@ -3,7 +3,7 @@
 
 ghost use Rattle.std.specs.Prelude.{◌≡◌, [], ℕ, All, List, map, false, Some};
 ghost use Rattle.cjc_vtable.specs.ClassOrder.Classes.Numbers.{IsOfKind, declared_at};
-ghost use Rattle.cjc_components.specs.Limits.{form_breaks};
+ghost use Rattle.cjc_components.specs.Limits.{code_breaks};
 ghost use Rattle.cjc_components.specs.Package.{Package, codes, tokens, world};
 ghost use Rattle.cjc_shape.specs.Judge.declared.judged.Judged.{Judged};
 ghost use Rattle.cjc_components.specs.List.Listed.{ListTree};
@@ -17,12 +17,12 @@ ghost use Rattle.cjc_world.specs.Order.{in_order, method_order};
 
 use cjc_shape::judged::pooled_methods_are_emittable;
 
-/// Each method of a package that breaks no rule of its files, nor 311, 414 and 415, can be emitted by the pool that
-/// its methods need, with the names that its components have: indices are places in the pool, and the token of
+/// Each method of a package that breaks no rule of its files, nor 801, 311, 414 and 415, can be emitted by the pool
+/// that its methods need, with the names that its components have: indices are places in the pool, and the token of
 /// a method of an interface is its place among the interface's methods.
 pub fn converted_methods_are_emittable()
     ensures { (list : ListTree) (files : List (List ℕ)) (judged : Judged) → IsSound list files judged
-        → (p : Package) → IsPackageOf list files p → form_breaks p ≡ []
+        → (p : Package) → IsPackageOf list files p → code_breaks p ≡ []
         → (pool : PoolView) → IsPool judged.world (tokens p) (codes p) pool → AreEmittable p pool }
 {
     pooled_methods_are_emittable();

@@ -1,7 +1,7 @@
 -- A package that breaks no rule, nor does what is written for it, is one that is converted.
 use Rattle.std.proofs.Common.{◌≡◌, ℕ, refl, sym, subst, List, [], ◌∷◌}
 use Rattle.cjc_bytes.specs.Breaks.{Break}
-use Rattle.cjc_components.specs.Limits.{else_of, form_breaks, limit_breaks, of_methods, size_breaks, word_breaks}
+use Rattle.cjc_components.specs.Limits.{code_breaks, else_of, limit_breaks, of_methods, size_breaks, word_breaks}
 use Rattle.cjc_components.specs.Package.{Package, world}
 use Rattle.cjc_judge.specs.Rules.{settings_of}
 use Rattle.cjc_judge.specs.Spelt.{IsRead}
@@ -14,7 +14,8 @@ use Rattle.cjc_theorem.proofs.FairExports.Listed.{names}
 use Rattle.cjc_theorem.proofs.SoundRuns.Placed.{sound_package}
 use Rattle.cjc_token_proof.specs.Tables.Sound.{IsSound as IsSoundPackage}
 use Rattle.cjc_vtable.specs.Kept.{ExportsAgree}
-use Rattle.cjc_shape_proof.proofs.ShapeSound.{is_unbroken}
+use Rattle.cjc_shape_proof.proofs.ShapeSelected.{judged_checks as tested_checks}
+use Rattle.cjc_shape_proof.proofs.ShapeSound.{is_tested}
 use Rattle.cjc_shape_proof.proofs.ShapeDrafts.{same_spelt}
 use Rattle.cjc_shape_proof.specs.Shape.Whole.Conversion.{IsPackageOf}
 use Rattle.cjc_world.specs.Files.{Files}
@@ -35,7 +36,7 @@ module _ (list : ListTree) (files : List (List ℕ)) (judged : Judged) (of : IsR
 
   -- no rule of the card's language and of limits is broken
   pub judged_checks : check_breaks list.name judged.world judged.codes (settings_of list) ≡ []
-  judged_checks = let u = is_unbroken list files judged is in u.checks
+  judged_checks = tested_checks list files judged (is_tested list files judged is)
 
   pub own_checks : check_breaks list.name p.files judged.codes (settings_of list) ≡ []
   own_checks = subst (λ (w : Files). check_breaks list.name w judged.codes (settings_of list) ≡ []) (sym same_files)
@@ -51,14 +52,14 @@ module _ (list : ListTree) (files : List (List ℕ)) (judged : Judged) (of : IsR
   pub is_converted : limit_breaks p ≡ [] → ExportsAreSound p.files → ExportsArePlain p.files → ExportsAgree (world p)
       → IsConverted list files judged p
   is_converted limits exports plain agree =
-      let rest = back_nil (of_methods p (word_breaks p)) (else_of (form_breaks p) (size_breaks p)) limits in
+      let rest = back_nil (of_methods p (word_breaks p)) (else_of (code_breaks p) (size_breaks p)) limits in
       record {
         read = of;
         sound = is;
         is_package = laid;
-        words = front_nil (of_methods p (word_breaks p)) (else_of (form_breaks p) (size_breaks p)) limits;
-        forms = front_nil (form_breaks p) (size_breaks p) rest;
-        sizes = back_nil (form_breaks p) (size_breaks p) rest;
+        words = front_nil (of_methods p (word_breaks p)) (else_of (code_breaks p) (size_breaks p)) limits;
+        forms = front_nil (code_breaks p) (size_breaks p) rest;
+        sizes = back_nil (code_breaks p) (size_breaks p) rest;
         exports = exports;
         plain = plain;
         agree = agree;

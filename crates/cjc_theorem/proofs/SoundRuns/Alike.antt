@@ -36,7 +36,8 @@ use Rattle.cjc_ncode.specs.ByLabel as labels
 use Rattle.cjc_ncode.specs.ByLabel.{Named}
 use Rattle.cjc_ncode.specs.Written.{narrow_method}
 use Rattle.cjc_ncode.specs.declared.narrow.NMethod.{NMethod}
-use Rattle.cjc_shape_proof.proofs.ShapeSound.{are_ready, is_unbroken, no_image_break}
+use Rattle.cjc_shape_proof.proofs.ShapeSound.{are_ready, listed, no_image_break, world_unbroken}
+use Rattle.cjc_subset.specs.Ints.{any_works_on_int}
 use Rattle.cjc_shape_proof.specs.Shape.Prepared.{IsSound}
 use Rattle.cjc_narrow_proof.specs.Intervals.Frames.{RangeState}
 use Rattle.cjc_narrow_proof.specs.Intervals.Tables.{IsLeastRanges}
@@ -109,8 +110,9 @@ module _ (list : ListTree) (files : List (List ℕ)) (judged : Judged) (is : IsS
   }
 
   module _ (of : IsRead list) (sound : ExportsAreSound judged.world) where
-    pub whole : IsWhole list.name judged.world judged.codes (settings_of list) own_tables
-    whole = whole_is list files judged is of sound own_tables are_tabled
+    pub whole : any_works_on_int judged.world judged.codes ≡ false
+        → IsWhole list.name judged.world judged.codes (settings_of list) own_tables
+    whole free = whole_is list files judged is of sound own_tables are_tabled free
 
     -- ---- what stands for its methods in Method is the narrow code by its tables
 
@@ -168,9 +170,8 @@ module _ (list : ListTree) (files : List (List ℕ)) (judged : Judged) (is : IsS
       by_draft : (x : Method) → is_initialiser (let id = x.id in id.name) ≡ false → IsOfFile judged.world x
           → laid_from judged.world near p.methods x ≡ code_of judged.world near draft.rows x
       by_draft x plain o =
-          let u = is_unbroken list files judged is in
-          by (let m = o.method in m.code) refl (told_among judged.world list.name u.listed u.world near draft.rows x o
-          p.methods each)
+          by (let m = o.method in m.code) refl (told_among judged.world list.name (listed list files judged is)
+          (world_unbroken list files judged is) near draft.rows x o p.methods each)
         where
           by : (c : Option CodeTree) → (let m = o.method in m.code) ≡ c
               → (laid_from judged.world near p.methods x ≡ code_of judged.world near draft.rows x)
@@ -213,11 +214,11 @@ module _ (list : ListTree) (files : List (List ℕ)) (judged : Judged) (is : IsS
       first : (x : Method) → is_initialiser (let id = x.id in id.name) ≡ true → IsOfFile judged.world x
           → narrow_codes judged.world near own_tables x ≡ laid_from judged.world near p.methods x
       first x g o =
-          let u = is_unbroken list files judged is in
           by_rows x [] (no_first judged.world judged.codes judged.types ready own_rows (rows_are list files judged is)
           least x g)
           ∙ bare_code judged.world near x
-          ∙ sym (none_among judged.world list.name u.listed u.world near draft.rows x o p.methods none)
+          ∙ sym (none_among judged.world list.name (listed list files judged is) (world_unbroken list files judged is)
+          near draft.rows x o p.methods none)
         where
           none : (k : ℕ) (m : LaidMethod) (y : Method) → slice_get p.methods k ≡ Some m
               → method_at judged.world m.member ≡ Some y → y.id ≡ x.id → ⊥

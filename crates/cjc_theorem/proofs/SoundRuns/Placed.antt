@@ -23,7 +23,8 @@ use Rattle.cjc_judge.specs.Trees.{AllSpelt}
 use Rattle.cjc_judge.specs.declared.judged.Judged.{Judged}
 use Rattle.cjc_components.specs.List.Listed.{ListTree}
 use Rattle.cjc_narrow_proof.proofs.LawsLaws.Own.{class_by_name}
-use Rattle.cjc_shape_proof.proofs.ShapeSound.{is_unbroken}
+use Rattle.cjc_shape_proof.proofs.ShapeSelected.{judged_checks}
+use Rattle.cjc_shape_proof.proofs.ShapeSound.{is_tested, listed, world_unbroken}
 use Rattle.cjc_shape_proof.specs.Shape.Prepared.{IsSound}
 use Rattle.cjc_world_proof.proofs.SelectionLaws.Rules.{method_kept}
 use Rattle.cjc_theorem.proofs.SoundRuns.Read.{package_is, read_files}
@@ -246,13 +247,12 @@ module _ (list : ListTree) (files : List (List ℕ)) (judged : Judged) (is : IsS
 
   pub sound_package : IsSoundPackage list.name judged.world
   sound_package =
-      let u = is_unbroken list files judged is in
       let read = is.judged_by.read in
       let files_read = read_files list files judged is in
       let few : length (exports_of read.trees) ≤ export_count list.lines = exports_few list.lines files read.trees
       read.spelt in
       record {
-        classes = u.listed;
+        classes = listed list files judged is;
         exports = subst (λ ts. length ts ≤ export_count world.lines) (sym read.exports)
             (subst (λ ls. length (exports_of read.trees) ≤ export_count ls)
             (sym (ap (λ (v : Files). v.lines) is.judged_by.world)) few);
@@ -262,7 +262,7 @@ module _ (list : ListTree) (files : List (List ℕ)) (judged : Judged) (is : IsS
           exports = files_read.exports;
         };
         names = λ k c e. no_array c.name (names k c e);
-        unbroken = u.world;
+        unbroken = world_unbroken list files judged is;
       }
 
   -- 304
@@ -270,9 +270,8 @@ module _ (list : ListTree) (files : List (List ℕ)) (judged : Judged) (is : IsS
       ≡ Some class → slice_get class.methods i ≡ Some method → method.code ≡ Some tree → is_initialiser method.name
       ≡ false → is_interface class.flags ≡ false
   no_interface n i class method tree e f g plain =
-      let u = is_unbroken list files judged is in
-      let kept = (method_kept list.name judged.world judged.codes (settings_of list) u.checks u.no_int n class e i
-      method f).2 in
+      let checks = judged_checks list files judged (is_tested list files judged is) in
+      let kept = (method_kept list.name judged.world judged.codes (settings_of list) checks n class e i method f).2 in
       let code : is_some method.code ≡ true = ap is_some g in
       let last : (is_interface class.flags && is_some method.code && not (is_initialiser method.name)) ≡ false =
       right ((is_unfit_method_kind method.flags || (is_abstract method.flags && (is_constructor method.name
@@ -289,9 +288,8 @@ module _ (list : ListTree) (files : List (List ℕ)) (judged : Judged) (is : IsS
   stands n i class method tree e f g plain =
       let w = all_classes judged.world in
       let c = declared n class in
-      let u = is_unbroken list files judged is in
-      let there : Has c w = has_named w class.name c (class_by_name judged.world list.name u.listed u.world n class e)
-      in
+      let there : Has c w = has_named w class.name c (class_by_name judged.world list.name (listed list files judged is)
+      (world_unbroken list files judged is) n class e) in
       let ordered : Has c (in_order w false) = kind-has list.name judged.world sound_package false c there refl
       (ap not (no_interface n i class method tree e f g plain)) in
       let member : slice_get c.methods i ≡ Some (method_of_class method) = slice_get-map method_of_class class.methods i

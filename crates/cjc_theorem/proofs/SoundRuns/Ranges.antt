@@ -39,7 +39,6 @@ module _ (list : ListTree) (files : List (List ℕ)) (judged : Judged) (is : IsS
     limits = (2, refl);
     types = refl;
     are_files = is.are_files;
-    no_int = is.no_int;
   }
 
   -- 601 to 609

@@ -52,7 +52,7 @@ use Rattle.cjc_script.specs.Sorts.{Short, Shorts, Sort, array_by, array_name, ar
 use Rattle.cjc_script.specs.Sorts.{shape_name, sort_by, sort_or_none, zero_of}
 use Rattle.cjc_narrow_proof.specs.Selection.Relation.{CellFits, Heap, SlotsFit, a_boolean, a_byte, a_null, a_short}
 use Rattle.cjc_narrow_proof.specs.Selection.Relation.{an_int, an_object, element_range, no_slots, slot}
-use Rattle.cjc_narrow_proof.specs.Selection.Rows.{is_word_sort}
+use Rattle.cjc_narrow_proof.specs.Selection.Objects.{has_values}
 use Rattle.cjc_narrow_proof.proofs.SelectionLaws.Items.{all_with, long_with}
 use Rattle.cjc_narrow_proof.proofs.SelectionLaws.Replies.{held_if}
 use Rattle.cjc_world.specs.declared.image.ArrayCell.{ArrayCell}
@@ -145,11 +145,11 @@ module _ (l : Named) (heap : Heap) where
           at 73 kinds.Int refl k (an_int (held_if (negsuc 2147483647) (pos 2147483647) z e))
       by false false false false f g h k e = absurd cc
 
-  pub zero_cell : (s : Sort) → is_word_sort s ≡ true → CellFits l heap s (zero_of s)
+  pub zero_cell : (s : Sort) → has_values s ≡ true → CellFits l heap s (zero_of s)
   zero_cell Boolean e = a_boolean (held_if (pos 0) (pos 1) (pos 0) refl)
   zero_cell Byte e = a_byte (held_if (negsuc 127) (pos 127) (pos 0) refl)
   zero_cell Short e = a_short (held_if (negsuc 32767) (pos 32767) (pos 0) refl)
-  zero_cell Int e = absurd cc
+  zero_cell Int e = an_int (held_if (negsuc 2147483647) (pos 2147483647) (pos 0) refl)
   zero_cell (Reference shape) e = a_null
   zero_cell NoValue e = absurd cc
 

@@ -23,7 +23,7 @@ use Rattle.cjc_script.specs.declared.value.Value.TheVariants.{Num, Obj}
 use Rattle.cjc_script.specs.declared.report.FieldValue.{FieldValue}
 use Rattle.cjc_script.specs.Sorts.{OfNumbers, Reference, field_sort, shape_name}
 use Rattle.cjc_narrow_proof.specs.Selection.Relation.{CellFits, Heap, SlotsFit, an_object, no_slots, slot}
-use Rattle.cjc_narrow_proof.specs.Selection.Rows.{is_word_sort}
+use Rattle.cjc_narrow_proof.specs.Selection.Objects.{has_values}
 use Rattle.cjc_theorem.proofs.WholeRuns.First.{AreItems, IsArray, IsNumbers, all_append, initialised_arrays}
 use Rattle.cjc_theorem.proofs.WholeRuns.First.{number_fits, zero_cell}
 use Rattle.cjc_theorem.proofs.WholeRuns.Puts.{NumberFits, classes_fit, puts_fit}
@@ -109,7 +109,7 @@ append_none (x ∷ xs) ys e = ap (λ zs. x ∷ zs) (append_none xs ys e)
 
 module _ (files : Files) (codes : List MethodCode) (image : StaticImage) (is : IsImage files codes image)
     (words : (n k : ℕ) (c : ClassTree) (f : FieldTree) → slice_get files.classes n ≡ Some c → slice_get c.fields k
-    ≡ Some f → is_word_sort (field_sort f.desc) ≡ true)
+    ≡ Some f → has_values (field_sort f.desc) ≡ true)
     (values : (n k : ℕ) (c : ClassTree) (f : FieldTree) → slice_get files.classes n ≡ Some c → slice_get c.fields k
     ≡ Some f → has_unfit_value f ≡ false)
     (near : List MemberId) (tables : Tables) where
@@ -161,7 +161,7 @@ module _ (files : Files) (codes : List MethodCode) (image : StaticImage) (is : I
       (subst (λ s. CellFits l heap s (Obj h.place)) (sym sort)
       (an_object (first_array a) there (reflexive (all_classes files) (shape_name (OfNumbers el)))))
 
-  cell_fits : (id : MemberId) → is_word_sort (field_sort id.desc) ≡ true
+  cell_fits : (id : MemberId) → has_values (field_sort id.desc) ≡ true
       → CellFits l heap (field_sort id.desc) (or_zero id (array_place 0 image.arrays id) (number_place image.others id))
   cell_fits id word = by (array_place 0 image.arrays id) (number_place image.others id) refl refl
     where
@@ -172,7 +172,7 @@ module _ (files : Files) (codes : List MethodCode) (image : StaticImage) (is : I
       by None None e f = zero_cell l heap (field_sort id.desc) word
 
   class_fits : (class : List ℕ) (fs : List FieldTree) → ((k : ℕ) (f : FieldTree) → slice_get fs k ≡ Some f
-      → is_word_sort (field_sort f.desc) ≡ true) → SlotsFit l heap (map first_cell (cells_in image class fs))
+      → has_values (field_sort f.desc) ≡ true) → SlotsFit l heap (map first_cell (cells_in image class fs))
   class_fits class [] h = no_slots
   class_fits class (f ∷ fs) h = by (is_cell f) (class_fits class fs (λ k g e. h (suc k) g e))
     where
@@ -186,7 +186,7 @@ module _ (files : Files) (codes : List MethodCode) (image : StaticImage) (is : I
       by false rest = rest
 
   all_fit : (cs : List ClassTree) → ((n k : ℕ) (c : ClassTree) (f : FieldTree) → slice_get cs n ≡ Some c
-      → slice_get c.fields k ≡ Some f → is_word_sort (field_sort f.desc) ≡ true)
+      → slice_get c.fields k ≡ Some f → has_values (field_sort f.desc) ≡ true)
       → SlotsFit l heap (map first_cell (cells image cs))
   all_fit [] h = no_slots
   all_fit (c ∷ cs) h =

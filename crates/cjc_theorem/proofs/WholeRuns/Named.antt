@@ -31,8 +31,9 @@ use Rattle.cjc_narrow_proof.specs.Runs.Tables.{Tables, look_ups}
 use Rattle.cjc_code.specs.ReadLaws.Instructions.{IsInstruction, has_opcode}
 use Rattle.cjc_code.proofs.ReadLaws.Decoded.{decoded_instruction}
 use Rattle.cjc_narrow_proof.proofs.SelectedLaws.Cuts.{decoded as is_decoded}
-use Rattle.cjc_narrow_proof.proofs.SelectedLaws.Limits.{insn_fine}
-use Rattle.cjc_subset.specs.Types.{is_unsupported_number, names_unsupported, names_int}
+use Rattle.cjc_narrow_proof.proofs.SelectedLaws.IntFree.{op_free}
+use Rattle.cjc_subset.specs.Ints.{works_on_int}
+use Rattle.cjc_subset.specs.Types.{is_unsupported_number, names_unsupported}
 use Rattle.cjc_narrow_proof.specs.Tables.Arrays.{arraylength}
 use Rattle.cjc_narrow_proof.specs.Tables.Calls.{count_of}
 use Rattle.cjc_narrow_proof.specs.Tables.Supported as plain
@@ -44,7 +45,7 @@ use Rattle.cjc_narrow_proof.specs.Types.Rules.{accepts, is_of, receiver_class}
 use Rattle.cjc_narrow_proof.specs.Types.Search.{cells_of}
 use Rattle.cjc_narrow_proof.specs.Types.Steps.{operand, receivers, takes}
 use Rattle.cjc_narrow_proof.specs.Types.Tables.{IsMethodOf, rows_of}
-use Rattle.cjc_theorem.proofs.WholeRuns.Objects.{objects_have_words}
+use Rattle.cjc_theorem.proofs.WholeRuns.Objects.{objects_have_values}
 use Rattle.cjc_theorem.proofs.WholeRuns.Operations.{arith_plain, if_plain, load_is, narrow_plain, one_of, return_is}
 use Rattle.cjc_theorem.proofs.WholeRuns.Operations.{stack_plain, store_is}
 use Rattle.cjc_theorem.proofs.WholeRuns.Statics.{static_is as static_field_is}
@@ -79,10 +80,8 @@ module _ (list : List ℕ) (files : Files) (codes : List MethodCode) (settings :
     unsupported_not : (op : JOp) → IsInsnOf files codes class op → names_unsupported op ≡ false
     unsupported_not op at = (op_fit list files codes settings unbroken class op at).0
 
-    int_not : (op : JOp) → IsInsnOf files codes class op → names_int op ≡ false
-    int_not op at = ap names_int (sym at.is_op) ∙ insn_fine list files codes settings (let u = whole.unbroken
-        in u.checks) at.code class at.method at.tree at.of_package (let u = whole.unbroken in u.no_int) at.listed
-        at.place at.insn at.is_insn
+    int_not : (op : JOp) → IsInsnOf files codes class op → works_on_int op ≡ false
+    int_not op at = op_free files codes (let u = whole.unbroken in u.no_int) class op at
 
     holds : (name : List ℕ) (cell : Cell) → is_of w name cell ≡ true → HoldsFor files name cell
     holds name cell e = λ names on. ap (is_of w name) (sym on) ∙ e
@@ -121,7 +120,7 @@ module _ (list : List ℕ) (files : Files) (codes : List MethodCode) (settings :
         on_object k h = a_call_on_receiver (subst (λ c. IsReceiverOn files (look_ups files image near tables) tables c
             stack k id) (sym own) h)
 
-    -- 301 and 302
+    -- 301, and what does not work on int
     array_named : (n : ℕ) → IsInstruction (jop.NewArray n) → is_unsupported_number n ≡ false → (n == 10) ≡ false
         → Named (jop.NewArray n)
     array_named n h = one_of (λ k. is_unsupported_number k ≡ false → (k == 10) ≡ false → Named (jop.NewArray k)) n (4
@@ -138,7 +137,7 @@ module _ (list : List ℕ) (files : Files) (codes : List MethodCode) (settings :
         h.numbers
 
     op_named : (op : JOp) → IsInsnOf files codes class op → IsInstruction op → Fits op → Named op
-    unfolding names_unsupported names_int
+    unfolding names_unsupported works_on_int
     op_named jop.Nop at h fits = names_nothing plain.nop
     op_named jop.Null at h fits = names_nothing plain.aconst_null
     op_named (jop.Number z) at h fits = names_nothing (plain.number h.numbers)
@@ -166,8 +165,8 @@ module _ (list : List ℕ) (files : Files) (codes : List MethodCode) (settings :
     op_named (jop.Call op id) at h fits = call_named op id h.opcode at fits
     op_named (jop.New name) at h fits =
         let ok = op_there list files codes settings unbroken class (jop.New name) at in
-        a_class (object_fields w name) (new_fields files class name ok.0 ok.2) (objects_have_words list files codes
-        settings (let u = whole.unbroken in u.checks) (let u = whole.unbroken in u.no_int) whole.read
+        a_class (object_fields w name) (new_fields files class name ok.0 ok.2) (objects_have_values list files codes
+        settings (let u = whole.unbroken in u.checks) whole.read
         (is_solid list files codes settings tables whole) name)
     op_named (jop.NewArray n) at h fits = array_named n h (unsupported_not (jop.NewArray n) at)
         (int_not (jop.NewArray n) at)

@@ -1,4 +1,5 @@
--- The fields of the package's classes are of one word, and so those of its objects.
+-- The fields of the package's classes are of types that values are of, and so those of its objects; those that are not
+-- int are of one word.
 use Rattle.std.proofs.Common.{◌≡◌, ℕ, zero, suc, ◌<◌, ◌^◌, refl, sym, ap, subst, ◌∙◌, arith, Bool, true, false, List}
 use Rattle.std.proofs.Common.{[], ◌∷◌, ◌++◌, length, reverse, ⊎_elim}
 use Rattle.std.specs.Prelude.{◌&&◌, Some, slice_get, if◌then◌else◌}
@@ -17,14 +18,14 @@ use Rattle.cjc_classfile.specs.declared.tree.ClassTree.{ClassTree}
 use Rattle.cjc_classfile.specs.declared.tree.FieldTree.{FieldTree}
 use Rattle.cjc_code.specs.declared.method_code.MethodCode.{MethodCode}
 use Rattle.cjc_shape_proof.proofs.FindsLaws.Descs.{read_of}
-use Rattle.cjc_shape_proof.proofs.FindsLaws.Fields.{word_field}
+use Rattle.cjc_shape_proof.proofs.FindsLaws.Fields.{value_field, word_field}
 use Rattle.cjc_narrow_proof.specs.Runs.Names.{IsWordField}
-use Rattle.cjc_script.specs.Sorts.{Boolean, Byte, Int, NoValue, Reference, Short, Sort, field_sort}
+use Rattle.cjc_script.specs.Sorts.{field_sort}
 use Rattle.cjc_narrow_proof.specs.Selection.Objects.{has_values, is_field}
-use Rattle.cjc_narrow_proof.specs.Selection.Rows.{is_word_sort}
 use Rattle.cjc_world_proof.specs.Files.{AreReadFiles}
 use Rattle.cjc_world_proof.proofs.SelectionLaws.Rules.{field_kept}
 use Rattle.cjc_subset.specs.Checks.{check_breaks}
+use Rattle.cjc_subset.specs.Types.{is_int_desc}
 use Rattle.cjc_world.specs.Upwards.{Has, after, foremost}
 use Rattle.cjc_world.proofs.UpwardLaws.Lines.{has-cons, has-either, line_named, of_line}
 use Rattle.cjc_world.specs.Classes.{Class, Member, all_classes, class_named, field_of_class}
@@ -56,14 +57,6 @@ of_reverse x (y ∷ xs) h = ⊎_elim (λ g. after (of_reverse x xs g)) (λ g. �
 
 -- ---- fields
 
-word_values : (s : Sort) → is_word_sort s ≡ true → has_values s ≡ true
-word_values Boolean e = refl
-word_values Byte e = refl
-word_values Short e = refl
-word_values Int e = refl
-word_values (Reference shape) e = refl
-word_values NoValue e = e
-
 of_objects : (class : List ℕ) (ms : List Member) → ((i : ℕ) (m : Member) → slice_get ms i ≡ Some m
     → has_values (field_sort m.desc) ≡ true) → list_all is_field (instance_fields class ms) ≡ true
 of_objects class [] h = refl
@@ -76,18 +69,30 @@ of_objects class (m ∷ ms) h = by (is_static m.flags) (of_objects class ms (λ 
     by false q = ap (λ x. x && list_all is_field (instance_fields class ms)) (h 0 m refl) ∙ q
 
 module _ (list : List ℕ) (files : Files) (codes : List MethodCode) (settings : Settings) (unbroken : check_breaks list
-    files codes settings ≡ []) (no_int : settings.ints ≡ false) (read : AreReadFiles files) where
-  -- 301 and 302 of a field of a class file
+    files codes settings ≡ []) (read : AreReadFiles files) where
+  -- 301 of a field of a class file, which is not int
   pub own_field_word : (n k : ℕ) (t : ClassTree) (x : FieldTree) → slice_get files.classes n ≡ Some t
-      → slice_get t.fields k ≡ Some x → IsWordField x.desc
-  own_field_word n k t x is_class is_field =
-      let kept = field_kept list files codes settings unbroken no_int n t is_class k x is_field in
+      → slice_get t.fields k ≡ Some x → is_int_desc x.desc ≡ false → IsWordField x.desc
+  own_field_word n k t x is_class is_field no_int =
+      let kept = field_kept list files codes settings unbroken n t is_class k x is_field in
       let bytes = read.classes n t is_class in
       let few = spelt_fits t bytes.0 bytes.1 bytes.2 in
       let one = all_at fits.FieldFits t.fields k x few.fields is_field in
       let short : length x.desc < 2 ^ 32 = (let s = one.desc in omega (arith, s)) in
       let parsed = (let r = read_of files read n t is_class in r.fields) k x is_field in
-      word_field x.desc parsed.0 short parsed.1 parsed.2 kept.0 kept.1
+      word_field x.desc parsed.0 short parsed.1 parsed.2 kept.0 no_int
+
+  -- 301 of a field of a class file
+  pub own_field_values : (n k : ℕ) (t : ClassTree) (x : FieldTree) → slice_get files.classes n ≡ Some t
+      → slice_get t.fields k ≡ Some x → has_values (field_sort x.desc) ≡ true
+  own_field_values n k t x is_class is_field =
+      let kept = field_kept list files codes settings unbroken n t is_class k x is_field in
+      let bytes = read.classes n t is_class in
+      let few = spelt_fits t bytes.0 bytes.1 bytes.2 in
+      let one = all_at fits.FieldFits t.fields k x few.fields is_field in
+      let short : length x.desc < 2 ^ 32 = (let s = one.desc in omega (arith, s)) in
+      let parsed = (let r = read_of files read n t is_class in r.fields) k x is_field in
+      value_field x.desc parsed.0 short parsed.1 parsed.2 kept.0
 
   module _ (solid : IsSolid files) where
     abbrev w : List Class
@@ -104,11 +109,9 @@ module _ (list : List ℕ) (files : Files) (codes : List MethodCode) (settings :
             of_objects c.name c.fields (λ i m e.
             (let x = mapped_at field_of_class (let u = t.0 in u.fields) i m (ap (λ (v : Class). slice_get v.fields i)
             (sym t.2) ∙ e) in
-            let word = own_field_word c.number i t.0 x.0 t.1 x.1 in
-            word_values (field_sort m.desc) (ap (λ (v : Member). is_word_sort (field_sort v.desc)) x.2
-            ∙ word.one_word)))
+            ap (λ (v : Member). has_values (field_sort v.desc)) x.2 ∙ own_field_values c.number i t.0 x.0 t.1 x.1))
 
     -- the fields of an object of a class
-    pub objects_have_words : (name : List ℕ) → list_all is_field (object_fields w name) ≡ true
-    objects_have_words name = all_flat is_field declared_fields (reverse (line w name)) (λ c h. declared_are c
+    pub objects_have_values : (name : List ℕ) → list_all is_field (object_fields w name) ≡ true
+    objects_have_values name = all_flat is_field declared_fields (reverse (line w name)) (λ c h. declared_are c
         (line_named w name c (of_line w solid.ordered.acyclic name c (of_reverse c (line w name) h))))

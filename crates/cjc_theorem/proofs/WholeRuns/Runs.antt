@@ -20,7 +20,7 @@ use Rattle.cjc_narrow_proof.specs.Runs.Tables.{Tables, look_ups}
 use Rattle.cjc_subset.specs.Places.{at_class}
 use Rattle.cjc_theorem.proofs.WholeRuns.Memory.{first_is}
 use Rattle.cjc_theorem.proofs.WholeRuns.Named.{converted}
-use Rattle.cjc_theorem.proofs.WholeRuns.Objects.{own_field_word}
+use Rattle.cjc_theorem.proofs.WholeRuns.Objects.{own_field_values}
 use Rattle.cjc_world.specs.declared.image.StaticImage.{StaticImage}
 use Rattle.cjc_world.specs.Files.{Files}
 
@@ -54,8 +54,8 @@ module _ (list : List ℕ) (files : Files) (codes : List MethodCode) (settings :
 
   pub image_is : IsFirst (look_ups files image near tables) files image
   image_is = first_is files codes image is
-      (λ n k c f e g. (let word = own_field_word list files codes settings (let u = whole.unbroken
-      in u.checks) (let u = whole.unbroken in u.no_int) whole.read n k c f e g in word.one_word))
+      (λ n k c f e g. own_field_values list files codes settings (let u = whole.unbroken in u.checks) whole.read n k c f
+      e g)
       values_fit near tables
 
   pub whole_is : IsConverted files image near tables

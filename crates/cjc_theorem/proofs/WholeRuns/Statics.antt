@@ -47,6 +47,9 @@ use Rattle.cjc_subset.proofs.Fits.{field_fits}
 use Rattle.cjc_subset.specs.Names.{is_constant_found, is_hidden, is_other_kind, is_unfit_field, names_unfit}
 use Rattle.cjc_narrow_proof.specs.Types.declared.cell.Cell.{Cell}
 use Rattle.cjc_narrow_proof.specs.Types.declared.cell.Cell.TheVariants.{Number}
+use Rattle.cjc_narrow_proof.proofs.SelectedLaws.IntFree.{op_free}
+use Rattle.cjc_subset.specs.Ints.{works_on_int}
+use Rattle.cjc_subset.specs.Types.{is_int_desc}
 use Rattle.cjc_narrow_proof.specs.Types.Types.{no_parts, parts, parts_or_none, result_of}
 use Rattle.cjc_world.specs.Upwards.{Has, after, foremost}
 use Rattle.cjc_world.proofs.UpwardLaws.Lines.{field_found_above, has-back, has-front}
@@ -247,16 +250,17 @@ module _ (list : List ℕ) (files : Files) (codes : List MethodCode) (settings :
         → slice_get files.classes n ≡ Some t → slice_get t.fields (let p = k.at in p.place) ≡ Some x
         → k.owner ≡ declared n t → (let p = k.at in p.member) ≡ field_of_class x
         → constant_at files (member_at k.owner (let p = k.at in p.place)) ≡ None → (may_be_constant x.flags x.desc
-        && is_some x.constant) ≡ false
+        && is_some x.constant) ≡ false → is_int_desc id.desc ≡ false
         → IsNamed files image near tables m stack (jop.Static put id)
-    cell_is put id k n t x is_class is_field owner member constant open_one =
+    cell_is put id k n t x is_class is_field owner member constant open_one no_int =
         let d = k.owner in
         let p = k.at in
         let q = p.member in
         let static : is_static x.flags ≡ true = sym (ap (λ (v : Member). is_static v.flags) member) ∙ k.static in
         let name : x.name ≡ id.name = sym (ap (λ (v : Member). v.name) member) ∙ p.has_name in
         let desc : x.desc ≡ id.desc = sym (ap (λ (v : Member). v.desc) member) ∙ p.has_desc in
-        let word = own_field_word list files codes settings is.checks is.no_int read n p.place t x is_class is_field in
+        let word = own_field_word list files codes settings is.checks read n p.place t x is_class is_field
+        (ap is_int_desc desc ∙ no_int) in
         let cell : is_cell x ≡ true = ap (λ b. b && not (may_be_constant x.flags x.desc && is_some x.constant)) static
         ∙ ap not open_one in
         let told = cells_told image files.classes n t (record { class = t.name; name = x.name; desc = x.desc }) is_class
@@ -274,9 +278,10 @@ module _ (list : List ℕ) (files : Files) (codes : List MethodCode) (settings :
         })
 
     of_own : (put : Bool) (id : MemberId) (k : IsKnown put id) (n : ℕ) (t : ClassTree) → slice_get files.classes n
-        ≡ Some t → k.owner ≡ declared n t → IsNamed files image near tables m stack (jop.Static put id)
+        ≡ Some t → k.owner ≡ declared n t → is_int_desc id.desc ≡ false
+        → IsNamed files image near tables m stack (jop.Static put id)
     unfolding subset.is_constant
-    of_own put id k n t is_class owner = by (may_be_constant (let y = x0.0 in y.flags) (let y = x0.0 in y.desc))
+    of_own put id k n t is_class owner no_int = by (may_be_constant (let y = x0.0 in y.flags) (let y = x0.0 in y.desc))
         (let y = x0.0 in y.constant) refl refl at_is tested_is
       where
         pl : ℕ
@@ -307,9 +312,9 @@ module _ (list : List ℕ) (files : Files) (codes : List MethodCode) (settings :
             ∙ constant_typed y.flags y.desc f) ((let r = read_of files read n t is_class in r.constants) pl y z x0.1
             g)
         by true None f g at is_so = cell_is put id k n t x0.0 is_class x0.1 owner x0.2 at (ap (λ b. b
-            && is_some (let y = x0.0 in y.constant)) f ∙ ap is_some g)
+            && is_some (let y = x0.0 in y.constant)) f ∙ ap is_some g) no_int
         by false o f g at is_so = cell_is put id k n t x0.0 is_class x0.1 owner x0.2 at (ap (λ b. b
-            && is_some (let y = x0.0 in y.constant)) f)
+            && is_some (let y = x0.0 in y.constant)) f) no_int
 
     of_export : (put : Bool) (id : MemberId) (k : IsKnown put id) (n : ℕ) (t : ExportClass)
         → slice_get (imports files.exports) n ≡ Some t → k.owner ≡ imported n t
@@ -377,11 +382,13 @@ module _ (list : List ℕ) (files : Files) (codes : List MethodCode) (settings :
 
     pub static_is : (class : ClassTree) (put : Bool) (id : MemberId) → IsInsnOf files codes class (jop.Static put id)
         → IsNamed files image near tables m stack (jop.Static put id)
+    unfolding works_on_int
     static_is class put id at =
         let k = known_static class put id at in
-        by put id k k.owner refl (filed files (let d = k.owner in d.name) k.owner k.named)
+        by put id k k.owner refl (op_free files codes is.no_int class (jop.Static put id) at)
+        (filed files (let d = k.owner in d.name) k.owner k.named)
       where
-        by : (put : Bool) (id : MemberId) (k : IsKnown put id) (d : Class) → k.owner ≡ d → IsFiled files d
-            → IsNamed files image near tables m stack (jop.Static put id)
-        by put id k _ same (in_class_file n t at) = of_own put id k n t at same
-        by put id k _ same (in_export_file n t at) = of_export put id k n t at same
+        by : (put : Bool) (id : MemberId) (k : IsKnown put id) (d : Class) → k.owner ≡ d → is_int_desc id.desc ≡ false
+            → IsFiled files d → IsNamed files image near tables m stack (jop.Static put id)
+        by put id k _ same no_int (in_class_file n t at) = of_own put id k n t at same no_int
+        by put id k _ same no_int (in_export_file n t at) = of_export put id k n t at same

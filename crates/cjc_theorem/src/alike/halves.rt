@@ -4,7 +4,7 @@
 
 ghost use Rattle.std.specs.Prelude.{◌≡◌, ◌≤◌, ℕ, Bool, List, []};
 ghost use Rattle.cjc_components.specs.Components.{components_of};
-ghost use Rattle.cjc_components.specs.Limits.{limit_breaks};
+ghost use Rattle.cjc_components.specs.Limits.{int_breaks, limit_breaks};
 ghost use Rattle.cjc_components.specs.Package.{Package};
 ghost use Rattle.cjc_judge.specs.Spelt.{IsRead};
 ghost use Rattle.cjc_judge.specs.declared.judged.Judged.{Judged};
@@ -23,11 +23,11 @@ use crate::sound_runs::sound_packages_run_alike;
 use cjc_narrow_proof::intervals::range_laws::least_ranges_exist;
 
 /// Of a list that was read, and files that break no rule that is tested before a package is written: the narrow code
-/// that Method has is what is selected, and it behaves as the class files do.
+/// that Method has is what is selected, and it behaves as the class files do, where 801 is unbroken.
 pub fn selected_code_behaves_alike()
     ensures { (list : ListTree) (files : List (List ℕ)) (judged : Judged) → IsRead list
         → IsSound list files judged
-        → (p : Package) → IsPackageOf list files p → CodeBehavesAlike p }
+        → (p : Package) → IsPackageOf list files p → int_breaks p ≡ [] → CodeBehavesAlike p }
 {
     fair_exports_are_sound();
     least_ranges_exist();

@@ -274,12 +274,8 @@ each_at : {A : Type 0} (breaks : ℕ → A → List Break) (k : ℕ) (xs : List 
 each_at breaks k xs x e is = let place : k ≡ 0 + k = omega arith in ap (λ m. breaks m x) place
     ∙ each_none breaks 0 k xs x e is
 
-unnamed : (ints b : Bool) → ints ≡ false → (not ints && b) ≡ false → b ≡ false
-unnamed false b f e = e
-unnamed true b f e = absurd cc
-
 module _ (list : List ℕ) (files : Files) (codes : List MethodCode) (settings : Settings) (unbroken : check_breaks list
-    files codes settings ≡ []) (no_int : settings.ints ≡ false) (n : ℕ) (t : ClassTree)
+    files codes settings ≡ []) (n : ℕ) (t : ClassTree)
     (is_class : slice_get files.classes n ≡ Some t) where
   abbrev f : FilePlace
   f = file_of files.lines n
@@ -307,7 +303,8 @@ module _ (list : List ℕ) (files : Files) (codes : List MethodCode) (settings :
 
   -- 301, 302 and 304 of a field
   pub field_kept : (k : ℕ) (m : FieldTree) → slice_get t.fields k ≡ Some m → (is_unsupported_desc m.desc ≡ false)
-      × (is_int_desc m.desc ≡ false) × (is_unfit_field (is_interface t.flags) m.flags ≡ false)
+      × ((not settings.ints && is_int_desc m.desc) ≡ false)
+      × (is_unfit_field (is_interface t.flags) m.flags ≡ false)
   unfolding class_breaks field_breaks
   field_kept k m e =
       let here = each_at (λ i m. field_breaks settings f t i m) k t.fields m (none_right own by_fields (none_left (own
@@ -316,14 +313,15 @@ module _ (list : List ℕ) (files : Files) (codes : List MethodCode) (settings :
       let B = at (not settings.ints && is_int_desc m.desc) (at_field f t k m) 302 in
       let C = at (is_unfit_field (is_interface t.flags) m.flags) (at_field f t k m) 304 in (
         not_broken (is_unsupported_desc m.desc) (at_field f t k m) 301 (none_left A B (none_left (A ++ B) C here)),
-        unnamed settings.ints (is_int_desc m.desc) no_int (not_broken (not settings.ints && is_int_desc m.desc)
-            (at_field f t k m) 302 (none_right A B (none_left (A ++ B) C here))),
+        not_broken (not settings.ints && is_int_desc m.desc) (at_field f t k m) 302 (none_right A B (none_left (A
+            ++ B) C here)),
         not_broken (is_unfit_field (is_interface t.flags) m.flags) (at_field f t k m) 304 (none_right (A ++ B) C here),
       )
 
   -- 301, 302 and 304 of a method
   pub method_kept : (k : ℕ) (m : MethodTree) → slice_get t.methods k ≡ Some m → (is_unsupported_desc m.desc ≡ false)
-      × (is_int_desc m.desc ≡ false) × (is_unfit_method (is_interface t.flags) m.flags m.name (is_some m.code) ≡ false)
+      × ((not settings.ints && is_int_desc m.desc) ≡ false)
+      × (is_unfit_method (is_interface t.flags) m.flags m.name (is_some m.code) ≡ false)
   unfolding class_breaks method_breaks
   method_kept k m e =
       let here = each_at (λ i m. method_breaks settings f t i m) k t.methods m (none_right (own ++ by_fields) by_methods
@@ -336,8 +334,7 @@ module _ (list : List ℕ) (files : Files) (codes : List MethodCode) (settings :
       let E = at (has_deep_stack m.code) s 405 in
       let three = none_left (A ++ B ++ C) D (none_left (A ++ B ++ C ++ D) E here) in (
         not_broken (is_unsupported_desc m.desc) s 301 (none_left A B (none_left (A ++ B) C three)),
-        unnamed settings.ints (is_int_desc m.desc) no_int (not_broken (not settings.ints && is_int_desc m.desc) s 302
-            (none_right A B (none_left (A ++ B) C three))),
+        not_broken (not settings.ints && is_int_desc m.desc) s 302 (none_right A B (none_left (A ++ B) C three)),
         not_broken (is_unfit_method (is_interface t.flags) m.flags m.name (is_some m.code)) s 304 (none_right (A
             ++ B) C three),
       )

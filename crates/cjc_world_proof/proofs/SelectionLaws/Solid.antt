@@ -197,7 +197,7 @@ module _ (list : List ℕ) (files : Files) (codes : List MethodCode) (settings :
 
   fit : (class : ClassTree) (method : MethodTree) → IsOwn files class method → FitsMethod method.flags method.name
   fit class method is = fits_method (is_interface class.flags) method.flags method.name (is_some method.code)
-      (method_kept list files codes settings clean.checks clean.no_int is.number class is.is_class is.place method
+      (method_kept list files codes settings clean.checks is.number class is.is_class is.place method
       is.is_method).2
 
   coded : (class : ClassTree) (method : MethodTree) → IsOwn files class method → is_abstract method.flags ≡ false
@@ -220,7 +220,7 @@ module _ (list : List ℕ) (files : Files) (codes : List MethodCode) (settings :
       → slice_get class.fields k ≡ Some f → is_interface class.flags ≡ true → is_static f.flags ≡ true
   static_fields n k class f at there is = by (has_two_accesses f.flags) (is_interface class.flags) (is_static f.flags)
       (has f.flags acc_volatile) (has f.flags acc_transient) is (field_kept list files codes settings clean.checks
-      clean.no_int n class at k f there).2
+      n class at k f there).2
     where
       by : (o i s x y : Bool) → i ≡ true → (o || (i && not s) || x || y) ≡ false → s ≡ true
       by o true true x y e f = refl
@@ -322,7 +322,7 @@ module _ (list : List ℕ) (files : Files) (codes : List MethodCode) (settings :
           let members : slice_get (declared 0 t).methods i ≡ Some m = ap (λ (v : Class). slice_get v.methods i) (sym is
           ∙ same) ∙ there in
           by_rule t (declared 0 t) i m (sym (ap is_abstract flags) ∙ concrete.no_abstract) (own_coded list files codes
-          settings clean.checks clean.no_int c.number t at) members
+          settings clean.checks c.number t at) members
           (⊎_elim (λ a. inl a) (λ b. inr (ap (λ (v : Class). is_interface v.flags) (sym is ∙ same) ∙ b)) asks)
           plain_name
       by t at flags is above false f filed_one = of_file d filed_one there asks above f

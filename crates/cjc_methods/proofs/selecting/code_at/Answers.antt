@@ -7,7 +7,9 @@ use Rattle.cjc_world.specs.Classes.{all_classes}
 use Rattle.cjc_components.specs.Narrow.Rows.Resolved.{argument_words}
 use Rattle.cjc_components.specs.Narrow.Rows.Selected.{near_fields}
 use Rattle.cjc_components.specs.Descriptor.{method_in}
+use Rattle.cjc_components.specs.Subset.Ints.{code_works_on_int}
 use Rattle.cjc_components.specs.Written.{no_code}
+use Rattle.cjc_subset.proofs.Any.{any_off}
 use Rattle.cjc_methods.proofs.Coded.{with_code, without_code}
 use Rattle.cjc_methods.proofs.Members.{at_is}
 use Rattle.cjc_methods.proofs.Own.{few_words, has_none, has_place, if_more, place_is, tree_at, with_read, words_like}
@@ -86,6 +88,23 @@ selected-requires-clause-ready c = λ k m tr of.
     (slice_get-get_or codes c.in-Some.place c.index-sources-place.result within)
     (slice_get-get_or types c.in-Some.place c.index-sources-place-in-Some.result (subst (λ n. c.in-Some.place < n)
     (sym c.requires.ready.count) within)) k m tr of
+
+pub selected-requires-clause-free : goal.selected-requires-clause-free
+selected-requires-clause-free c =
+    let files = c.args.world.now in
+    let f = c.args.member in
+    let codes = c.args.sources.codes.now in
+    let types = c.args.sources.types.now in
+    let (t, is, same) = tree_at files f c.requires.own in
+    let tree = at_is c.items.result.now files.classes f.class c.index-items-member.result t (c.items.ensures
+    ∙ c.classes.ensures) is c.index-items-member.is in
+    let place = place_is f.member c.saturating_sub-method.result c.items-2.result.now c.index-items-member.result t
+    c.saturating_sub-method.ensures c.items-2.ensures tree in
+    let h = has_place files codes types f.class c.saturating_sub-method.result (f.member - length t.fields) t
+    c.args.sources.places.now c.requires.ready is place c.requires.places c.in-Some.place c.in-Some.ensures in
+    let within = slice_get_within codes c.in-Some.place h.code h.is_code in
+    any_off (λ (x : MethodCode). code_works_on_int files x) codes c.in-Some.place _ c.requires.free
+    (slice_get-get_or codes c.in-Some.place c.index-sources-place.result within)
 
 pub overflow_cast-words : goal.overflow_cast-words
 overflow_cast-words c =

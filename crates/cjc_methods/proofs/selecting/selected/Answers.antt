@@ -27,7 +27,7 @@ select-requires c =
     selectable_here method of.1 c.in-Some.tree of.2 c.items-insns.result.now code.insns c.items-in-Some.result.now
     (has_rows (states code of.0 of.1 of.2 c.args.types.now))
     same.1 tree c.items-insns.ensures (c.items-in-Some.ensures ∙ c.in_ok-reaches-in-Some.ensures of.0 of.1 of.2 of.3)
-    (c.requires.ready of.0 of.1 of.2 of.3).selectable
+    ((c.requires.ready of.0 of.1 of.2 of.3).selectable c.requires.free)
 
 pub unreachable-requires : goal.unreachable-requires
 unreachable-requires c =

@@ -35,6 +35,7 @@ use Rattle.cjc_shape.specs.Judge.declared.judged.Judged.{Judged}
 use Rattle.cjc_components.specs.List.Listed.{ListTree}
 use Rattle.cjc_narrow_proof.proofs.LawsLaws.Own.{own_kept}
 use Rattle.cjc_shape.proofs.PreparedLaws.Sound as Sound
+use Rattle.cjc_shape.proofs.WholeLaws.Second.{forms_of}
 use Rattle.cjc_narrow_proof.specs.Range.Span.{Holds, full}
 use Rattle.cjc_subset.proofs.Bytecode.ReadLaws.Members.{read_class}
 use Rattle.cjc_subset.specs.Bytecode.ReadLaws.Members.{IsDescOf}
@@ -160,7 +161,8 @@ module _ (list : ListTree) (files : List (List ℕ)) (judged : Judged) (p : Pack
     few_entries =
         let le = ltb-false 16383 (length (constants (export_of p))) (or_second (nat_lt 16383 (length (pool p)))
         (nat_lt 16383 (length (constants (export_of p)))) (off (has_many_entries p)
-        (back (of_methods p (layout_breaks p)) (at (has_many_entries p) (spot_of_list p) 414) is.forms))) in
+        (back (of_methods p (layout_breaks p)) (at (has_many_entries p) (spot_of_list p) 414)
+        (forms_of p is.forms)))) in
         omega (arith, le)
       where
         back : {A : Type 0} (xs ys : List A) → xs ++ ys ≡ [] → ys ≡ []

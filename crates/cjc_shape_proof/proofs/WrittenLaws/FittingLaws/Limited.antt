@@ -17,7 +17,7 @@ use Rattle.cjc_classfile.specs.declared.tree.MethodTree.{MethodTree}
 use Rattle.cjc_components.specs.Class.{interfaces_of}
 use Rattle.cjc_components.specs.ExportFile.{export_class, export_of}
 use Rattle.cjc_components.specs.Exports.{exported_classes}
-use Rattle.cjc_components.specs.Limits.{else_of, form_breaks, limit_breaks, size_breaks}
+use Rattle.cjc_components.specs.Limits.{code_breaks, else_of, limit_breaks, size_breaks}
 use Rattle.cjc_components.specs.Methods.{handler_count}
 use Rattle.cjc_components.specs.Package.{LaidMethod, Package, has_applets, world}
 use Rattle.cjc_export.specs.Writable.{IsWritable}
@@ -38,7 +38,8 @@ use Rattle.cjc_tokens.specs.Methods.{is_open_bound}
 use Rattle.cjc_tokens.specs.Rules.{FewExported, token_breaks}
 use Rattle.cjc_vtable.proofs.Filed.{get-has}
 use Rattle.cjc_shape.proofs.WholeLaws.Drafts as Drafts
-use Rattle.cjc_shape.proofs.WholeLaws.Second.{package_is_draft}
+use Rattle.cjc_shape.proofs.WholeLaws.Ints.{package_free}
+use Rattle.cjc_shape.proofs.WholeLaws.Second.{forms_of, package_is_draft}
 use Rattle.cjc_world.proofs.Settled.{AreSupertypes-one, supertypes-AreSupertypes}
 use Rattle.cjc_world.proofs.Unbroken.{unbroken_is_acyclic}
 use Rattle.cjc_world.specs.Classes.{Class, declared, method_of_class}
@@ -74,7 +75,7 @@ module _ (list : ListTree) (files : List (List ℕ)) (judged : Judged) (p : Pack
 
     pub unbroken : IsUnbroken list.name p.files judged.codes (settings_of list)
     unbroken = subst (λ (v : Files). IsUnbroken list.name v judged.codes (settings_of list)) (sym by_files)
-        (is_unbroken list files judged is.sound)
+        (is_unbroken list files judged is.sound (package_free list files judged is.sound p is.is_package is.forms))
 
     by_lines : (let v = p.files in v.lines) ≡ list.lines
     by_lines = ap (λ (v : Files). v.lines) (by_files ∙ is.sound.judged_by.world)
@@ -188,7 +189,7 @@ module _ (list : ListTree) (files : List (List ℕ)) (judged : Judged) (p : Pack
         omega (arith, all, kept)
 
     none_broken : size_breaks p ≡ [] → limit_breaks p ≡ []
-    none_broken sizes = ap (λ bs. else_of bs (else_of (form_breaks p) (size_breaks p))) is.words
+    none_broken sizes = ap (λ bs. else_of bs (else_of (code_breaks p) (size_breaks p))) is.words
         ∙ ap (λ bs. else_of bs (size_breaks p)) is.forms ∙ sizes
 
     -- ---- methods of interfaces
@@ -225,7 +226,7 @@ module _ (list : ListTree) (files : List (List ℕ)) (judged : Judged) (p : Pack
         u.listed u.world) is.is_package.is_package.image
 
     pub methods_short : (k : ℕ) (m : LaidMethod) → slice_get p.methods k ≡ Some m → MethodIsShort m
-    methods_short k m e = is_short list files judged is.sound p is.is_package k m e is.forms
+    methods_short k m e = is_short list files judged is.sound p is.is_package k m e (forms_of p is.forms)
 
     pub limited : ((q : Package) → FewExported (has_applets q) q.files
         → (let t = export_of q in length t.classes < 256))

@@ -30,7 +30,8 @@ use Rattle.cjc_ncode.specs.PoolOrder.{pool_order}
 use Rattle.cjc_ncode.specs.Written.{place_in, reached}
 use Rattle.cjc_ncode.specs.declared.narrow.NInsn.{NInsn}
 use Rattle.cjc_ncode.specs.declared.narrow.NMethod.{NMethod}
-use Rattle.cjc_shape.proofs.PreparedLaws.Sound.{are_ready, is_tested, is_unbroken}
+use Rattle.cjc_shape.proofs.PreparedLaws.Sound.{are_ready, is_tested}
+use Rattle.cjc_shape.proofs.PreparedLaws.Sound as Sound
 use Rattle.cjc_shape.specs.Prepared.{IsSound}
 use Rattle.cjc_narrow_proof.proofs.SelectedLaws.Formed.{all_have_forms}
 use Rattle.cjc_shape.proofs.WholeLaws.Drafts.{narrow_codes, narrow_is, rows, rows_are, same_members, same_narrow}
@@ -130,7 +131,7 @@ module _ (list : ListTree) (files : List (List ℕ)) (judged : Judged) (is : IsS
         ap (λ (fs : List Found). slice_get fs k) (sym (same_members list files judged is p d))
         ∙ slice_get-map (λ (x : LaidMethod). x.member) p.methods k ∙ ap (option_map (λ (x : LaidMethod). x.member))
         there in
-        all_at (IsOwn v) (method_order (all_classes v)) k m.member (all_own v (is_unbroken list files judged is).listed)
+        all_at (IsOwn v) (method_order (all_classes v)) k m.member (all_own v (Sound.listed list files judged is))
         listed
 
     -- where it has an instruction it is selected

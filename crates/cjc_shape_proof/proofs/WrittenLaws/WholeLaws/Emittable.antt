@@ -9,7 +9,7 @@ use Rattle.std.proofs.lemmas.Option.{slice_get-map}
 use Rattle.cjc_bytes.specs.Breaks.{Break, at}
 use Rattle.cjc_bytes.specs.declared.fault.MemberId.{MemberId}
 use Rattle.cjc_world_proof.specs.JvmSemantics.Linked.{Method}
-use Rattle.cjc_components.specs.Limits.{form_breaks, has_many_entries, layout_breaks, of_methods, spot_of_list}
+use Rattle.cjc_components.specs.Limits.{code_breaks, has_many_entries, layout_breaks, of_methods, spot_of_list}
 use Rattle.cjc_components.specs.Names.{names, token_in_interface}
 use Rattle.cjc_components.specs.Package.{LaidMethod, Package, codes, has_applets, tokens}
 use Rattle.cjc_components.specs.Package as packages
@@ -33,7 +33,8 @@ use Rattle.cjc_ncode.specs.declared.narrow.NInsn.{NInsn}
 use Rattle.cjc_ncode.specs.declared.narrow.NMethod.{NMethod}
 use Rattle.cjc_ncode.specs.declared.narrow.PoolKey.{PoolKey}
 use Rattle.cjc_check_proof.specs.Pool.Pool.{IsPool, PoolView, is_called, token_in, token_of}
-use Rattle.cjc_shape.proofs.PreparedLaws.Sound.{are_ready, has_tokens, is_tested, is_unbroken}
+use Rattle.cjc_shape.proofs.PreparedLaws.Sound.{are_ready, has_tokens, is_tested, listed}
+use Rattle.cjc_shape.proofs.PreparedLaws.Sound.{world_unbroken}
 use Rattle.cjc_shape.specs.Prepared.{IsSound}
 use Rattle.cjc_tokens.specs.Methods.{interface_methods}
 use Rattle.cjc_tokens.specs.Rules.{token_breaks}
@@ -41,8 +42,9 @@ use Rattle.cjc_tokens.specs.Tokens.{assigned}
 use Rattle.cjc_narrow_proof.specs.Types.declared.state.State.{State}
 use Rattle.cjc_vtable.specs.Tables.{or_zero}
 use Rattle.cjc_shape.proofs.WholeLaws.Drafts.{narrow_codes, narrow_is, rows, rows_are, same_narrow, same_spelt}
+use Rattle.cjc_shape.proofs.WholeLaws.Ints.{package_free}
 use Rattle.cjc_shape.proofs.WholeLaws.Ordered.{all_own}
-use Rattle.cjc_shape.proofs.WholeLaws.Second.{package_is_draft}
+use Rattle.cjc_shape.proofs.WholeLaws.Second.{forms_of, package_is_draft}
 use Rattle.cjc_shape.specs.Whole.Conversion.{IsPackageOf}
 use Rattle.cjc_world.specs.Classes.{Class, all_classes, class_named}
 use Rattle.cjc_world.specs.Files.{Files}
@@ -80,7 +82,7 @@ mapped_at f (x ∷ xs) (suc k) y e = mapped_at f xs k y e
 -- ---- the package
 
 module _ (list : ListTree) (files : List (List ℕ)) (judged : Judged) (is : IsSound list files judged) (p : Package)
-    (whole : IsPackageOf list files p) (forms : form_breaks p ≡ [])
+    (whole : IsPackageOf list files p) (forms : code_breaks p ≡ [])
     (pool : PoolView) (made : IsPool judged.world (tokens p) (codes p) pool) where
   abbrev tested : IsTested list files judged
   tested = is_tested list files judged is
@@ -107,7 +109,7 @@ module _ (list : ListTree) (files : List (List ℕ)) (judged : Judged) (is : IsS
   few : length pool.keys ≤ 16383
   few =
       let none : at (has_many_entries p) (spot_of_list p) 414 ≡ [] = none_right (of_methods p (layout_breaks p))
-      (at (has_many_entries p) (spot_of_list p) 414) forms in
+      (at (has_many_entries p) (spot_of_list p) 414) (forms_of p forms) in
       let small = or_left _ _ (none_at (has_many_entries p) (spot_of_list p) 414 none) in
       subst (λ (ks : List PoolKey). length ks ≤ 16383) (sym made.keys) (ltb-false 16383 (length (packages.pool p))
       small)
@@ -124,13 +126,13 @@ module _ (list : ListTree) (files : List (List ℕ)) (judged : Judged) (is : IsS
   each_selected : (k : ℕ) (narrow : NMethod) → slice_get (codes p) k ≡ Some narrow → (place : ℕ) (insn : NInsn)
       → slice_get narrow.insns place ≡ Some insn → IsSelected judged (near_fields pool.keys) narrow
   each_selected k narrow e place insn f =
-      let listed : slice_get (map (code_at world near (rows list files judged is)) (method_order (all_classes world))) k
+      let there : slice_get (map (code_at world near (rows list files judged is)) (method_order (all_classes world))) k
       ≡ Some narrow =
       ap (λ (ns : List NMethod). slice_get ns k) (sym (same_codes ∙ narrow_is list files judged is)) ∙ e in
       let m = mapped_at (code_at world near (rows list files judged is)) (method_order (all_classes world)) k narrow
-      listed in
+      there in
       let own = all_at (IsOwn world) (method_order (all_classes world)) k m.0
-      (all_own world (is_unbroken list files judged is).listed) m.1 in
+      (all_own world (listed list files judged is)) m.1 in
       let from = one_selected world judged.codes judged.types (are_ready list files judged is) (rows list files judged
       is) (rows list files judged is) (rows_are list files judged is) (rows_are list files judged is) near m.0 own
       place insn
@@ -147,7 +149,13 @@ module _ (list : ListTree) (files : List (List ℕ)) (judged : Judged) (is : IsS
       })
 
   pub pooled : ArePooled judged applets (codes p) pool
-  pooled = record { tokens = all_tokens; few = few; is_pool = is_pool; each = each_selected }
+  pooled = record {
+    tokens = all_tokens;
+    no_int = package_free list files judged is p whole forms;
+    few = few;
+    is_pool = is_pool;
+    each = each_selected;
+  }
 
   -- ---- the names that components have
 
@@ -162,9 +170,8 @@ module _ (list : ListTree) (files : List (List ℕ)) (judged : Judged) (is : IsS
       by false called f = cc
       by true called f =
           let declared = calls_are_declared list files judged tested applets (codes p) pool pooled id called in
-          let u = is_unbroken list files judged is in
-          let place = declared_place list.name world u.world (judged_writable list files judged tested) applets id
-          declared t f in
+          let place = declared_place list.name world (world_unbroken list files judged is) (judged_writable list files
+          judged tested) applets id declared t f in
           ap (λ (fs : Files). token_in_interface (all_classes fs) (record { name = id.name; desc = id.desc })
           (class_named (all_classes fs) id.class)) same_files
           ∙ ap (token_in_interface (all_classes world) (record { name = id.name; desc = id.desc })) place.1
@@ -185,4 +192,4 @@ module _ (list : ListTree) (files : List (List ℕ)) (judged : Judged) (is : IsS
       let w = whole.is_package.methods k m e in
       subst (λ v. IsEmittable pool.keys (token_in pool) (names p) m.code v) (layout_wide m.code m.wide)
       (law (names p) named k m.code here (layout_for m.code m.wide) (layout_is m.code m.wide w.wide)
-      (short_at list files judged is p whole forms k m e))
+      (short_at list files judged is p whole (forms_of p forms) k m e))

@@ -4,6 +4,7 @@ use Rattle.cjc_components.specs.Emit.Emitted.{CanBeWritten, placed_at}
 use Rattle.std.proofs.lemmas.Option.{slice_get-map}
 use Rattle.cjc_components.specs.Package.{LaidMethod, codes, has_applets, tokens}
 use Rattle.cjc_shape.proofs.PreparedLaws.Sound.{is_tested}
+use Rattle.cjc_shape.proofs.WholeLaws.Second.{forms_of}
 use Rattle.cjc_token_proof.specs.Tables.Loading.{naming}
 use Rattle.cjc_shape_proof.proofs.WrittenLaws.WholeLaws.Emittable.{pooled}
 use Rattle.cjc_shape_proof.proofs.WrittenLaws.Made.{whole_at, written_at}
@@ -24,6 +25,6 @@ returns c = λ list files judged p is there k m e.
     (naming p) (record { index = λ key i f. named.index key i f; token = λ id t f. named.token id t f }) k m.code
     (slice_get-map (λ (x : LaidMethod). x.code) p.methods k ∙ ap (option_map (λ (x : LaidMethod). x.code)) e)
     (layout_for m.code m.wide) (layout_is m.code m.wide w.wide)
-    (short_at list files judged is.sound p is.is_package is.forms k m e)).written in
+    (short_at list files judged is.sound p is.is_package (forms_of p is.forms) k m e)).written in
     one_ready (naming p) m (subst (λ v. CanBeWritten (naming p) (placed_at 0 m.code v)) (layout_wide m.code m.wide) can)
     whole.lies (λ j i f. there.names k m e j i f) (λ j d f. there.catches k m e j d f)

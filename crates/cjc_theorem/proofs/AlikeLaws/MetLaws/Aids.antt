@@ -48,11 +48,19 @@ file_kept list t true lines e short = let same : record list { lines = lines } �
     in subst (AllByRecursion IsShort) (ap (λ (l : ListTree). l.applets) same) short
 file_kept list t false lines e short = absurd cc
 
+-- and so does a line `int`
+int_kept : (list t : ListTree) (b : Bool) → (if b then None else Some (record list { ints = true })) ≡ Some t
+    → AllByRecursion IsShort list.applets → AllByRecursion IsShort t.applets
+int_kept list t true e short = absurd cc
+int_kept list t false e short = let same : record list { ints = true } ≡ t = cc
+    in subst (AllByRecursion IsShort) (ap (λ (l : ListTree). l.applets) same) short
+
 line_short : (list : ListTree) (ws : List (List ℕ)) (t : ListTree) → with_line list ws ≡ Some t
     → AllByRecursion IsShort list.applets → AllByRecursion IsShort t.applets
 unfolding with_line item_of applet_of with_item
 line_short list [] t e short = absurd cc
-line_short list (a ∷ []) t e short = absurd cc
+line_short list (keyword ∷ []) t e short = int_kept list t list.ints (if_then (bytes_eq keyword (codes "int")) _
+    (with_item list) t e) short
 line_short list (keyword ∷ file ∷ []) t e short =
     ⊎_elim
     (λ class. file_kept list t (has_room true list.lines) _ class short)

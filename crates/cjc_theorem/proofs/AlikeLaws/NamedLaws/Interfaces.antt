@@ -44,7 +44,7 @@ pub record IsOpen (m : Member) : Type 0 where
   pub no_constructor : is_constructor m.name ≡ false
 
 module _ (list : List ℕ) (files : Files) (methods : List MethodCode) (settings : Settings) (unbroken : check_breaks list
-    files methods settings ≡ []) (no_int : settings.ints ≡ false) (solid : IsSolid files) (plain : ExportsArePlain
+    files methods settings ≡ []) (solid : IsSolid files) (plain : ExportsArePlain
     files)
     (writable : (e : ℕ) (t : ExportTree) → slice_get files.exports e ≡ Some t → IsWritable t) where
   own_abstract : (n k : ℕ) (t : ClassTree) (m : MethodTree) → slice_get files.classes n ≡ Some t → slice_get t.methods k
@@ -68,7 +68,7 @@ module _ (list : List ℕ) (files : Files) (methods : List MethodCode) (settings
       by true g = g
       by false g = (let tree = solid.coded t m own g
           in absurd (clash (is_some m.code) (ap is_some tree.1) (without (method_kept list files methods settings
-          unbroken no_int n t e k m f).2)))
+          unbroken n t e k m f).2)))
 
   pub interface_open : (d : Class) → class_named (all_classes files) d.name ≡ Some d → is_interface d.flags ≡ true
       → (k : ℕ) (m : Member) → slice_get d.methods k ≡ Some m → is_initialiser m.name ≡ false → IsOpen m

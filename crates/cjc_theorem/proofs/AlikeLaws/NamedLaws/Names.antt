@@ -104,7 +104,7 @@ module _ (list : ListTree) (files : List (List ℕ)) (judged : Judged) (p : Pack
           ≡ false
       by false e = e
       by true e =
-          let open_one = interface_open list.name p.files judged.codes (settings_of list) u.checks u.no_int solid
+          let open_one = interface_open list.name p.files judged.codes (settings_of list) u.checks solid
           is.plain (let r = read_files list files judged p is in r.exports) n.owner n.named e (let a = n.at
           in a.place) (let a = n.at in a.member) (let a = n.at in a.is_member) at_named in
           absurd (none (is_static (let a = n.at in let m = a.member in m.flags)) (is_private (let a = n.at

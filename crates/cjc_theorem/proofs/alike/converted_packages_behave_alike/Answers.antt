@@ -3,13 +3,14 @@ use Rattle.cjc_components.specs.Paired.Naming.{loaded_of}
 use Rattle.cjc_judge.specs.Rules.{has_applets, settings_of}
 use Rattle.cjc_jvm_semantics.specs.ByName.{run as run_by_name}
 use Rattle.cjc_theorem.proofs.AlikeLaws.Agreeing.{agree_also}
+use Rattle.cjc_shape_proof.proofs.ShapeSecond.{ints_of}
 use Rattle.cjc_theorem.proofs.AlikeLaws.Converted.{is_converted, own_checks, own_package}
 use Rattle.cjc_theorem.proofs.alike.converted_packages_behave_alike.Goals as goal
 use Rattle.cjc_theorem.specs.Alike.Halves.{run_by_label}
 
 pub returns-clause-alike : goal.returns-clause-alike
 returns-clause-alike c = λ list files judged of is p laid limits fair.
-    let code = c.selected_code_behaves_alike.ensures list files judged of is p laid in
+    let code = c.selected_code_behaves_alike.ensures list files judged of is p laid (ints_of p limits) in
     let run = c.components_run_as_selected_code.ensures list files judged of is p laid limits fair in
     record {
       image = p.image;

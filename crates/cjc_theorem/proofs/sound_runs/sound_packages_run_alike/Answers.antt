@@ -4,22 +4,22 @@ use Rattle.cjc_theorem.proofs.sound_runs.sound_packages_run_alike.Goals as goal
 use Rattle.cjc_shape_proof.proofs.ShapeSecond.{package_is_draft}
 
 pub returns-clause-tabled : goal.returns-clause-tabled
-returns-clause-tabled c = λ list files judged of is sound. (
+returns-clause-tabled c = λ list files judged of is free sound. (
   own_tables list files judged is c.least_ranges_exist.ensures,
-  whole list files judged is c.least_ranges_exist.ensures of sound,
+  whole list files judged is c.least_ranges_exist.ensures of sound free,
 )
 
 pub returns-clause-drafts : goal.returns-clause-drafts
-returns-clause-drafts c = λ list files judged of is sound p draft image script.
+returns-clause-drafts c = λ list files judged of is free sound p draft image script.
     draft_runs list files judged is c.least_ranges_exist.ensures of sound p draft
     (c.whole_packages_run_alike.ensures.runs list.name judged.world judged.codes (settings_of list)
     (own_tables list files judged is c.least_ranges_exist.ensures) (whole list files judged is
-    c.least_ranges_exist.ensures of sound)) image script
+    c.least_ranges_exist.ensures of sound free)) image script
 
 pub returns-clause-packages : goal.returns-clause-packages
-returns-clause-packages c = λ list files judged of is sound p laid script.
+returns-clause-packages c = λ list files judged of is free sound p laid script.
     (let written = laid.is_package in
     draft_runs list files judged is c.least_ranges_exist.ensures of sound p (package_is_draft list files p laid)
     (c.whole_packages_run_alike.ensures.runs list.name judged.world judged.codes (settings_of list)
     (own_tables list files judged is c.least_ranges_exist.ensures) (whole list files judged is
-    c.least_ranges_exist.ensures of sound)) written.image script)
+    c.least_ranges_exist.ensures of sound free)) written.image script)

@@ -5,7 +5,7 @@ pub returns-clause-tested : goal.returns-clause-tested
 returns-clause-tested c = λ list files judged is. is_tested list files judged is
 
 pub returns-clause-unbroken : goal.returns-clause-unbroken
-returns-clause-unbroken c = λ list files judged is. is_unbroken list files judged is
+returns-clause-unbroken c = λ list files judged is free. is_unbroken list files judged is free
 
 pub returns-clause-ready : goal.returns-clause-ready
 returns-clause-ready c = λ list files judged is. are_ready list files judged is

@@ -14,8 +14,10 @@ use Rattle.cjc_methods.specs.NCode.PoolOrder.{pool_order}
 use Rattle.cjc_methods.specs.NCode.declared.narrow.NMethod.{NMethod}
 use Rattle.cjc_shape.proofs.PreparedLaws.Sound.{are_ready, few_cells, few_exported, has_tokens, no_image_break}
 use Rattle.cjc_shape.proofs.WholeLaws.Drafts.{draft, is_draft, narrow_codes, narrow_is, rows, rows_are}
+use Rattle.cjc_shape.proofs.WholeLaws.Ints.{draft_ints, draft_refused, free_here}
 use Rattle.cjc_shape.proofs.WholeLaws.Second.{fs, is_base}
-use Rattle.cjc_shape.proofs.WholeLaws.Shapes.{forms_refused, is_narrow, selected, shaped, told, words_refused}
+use Rattle.cjc_shape.proofs.WholeLaws.Shapes.{forms_refused, ints_refused, is_narrow, selected, shaped, told}
+use Rattle.cjc_shape.proofs.WholeLaws.Shapes.{words_refused}
 use Rattle.cjc_shape.proofs.whole.shaping.shape.Goals as goal
 
 pub tokens_of-requires-clause-exported : goal.tokens_of-requires-clause-exported
@@ -33,6 +35,10 @@ image_of-requires c = let j = c.args.judged.now in no_image_break j.list.now j.f
 pub narrow_codes-requires-clause-ready : goal.narrow_codes-requires-clause-ready
 narrow_codes-requires-clause-ready c = let j = c.args.judged.now in rw (c.items-2.ensures, c.items-3.ensures)
     (are_ready j.list.now j.files.now j c.requires)
+
+pub narrow_codes-requires-clause-free : goal.narrow_codes-requires-clause-free
+narrow_codes-requires-clause-free c = let j = c.args.judged.now in rw c.items-2.ensures (free_here j c.requires
+    c.in_ok-test_ints.ensures.unbroken)
 
 pub lay_out-requires-clause-whole : goal.lay_out-requires-clause-whole
 lay_out-requires-clause-whole c =
@@ -70,6 +76,19 @@ returns-in_err-test_words-clause-refused c =
     rw (e.1, e.2) (words_refused list files j c.requires _ (c.in_err-test_words.ensures.refused d base.by_files
     (base.by_members ∙ sym (c.items.ensures ∙ c.in_ok-members.ensures.made))))
 
+pub returns-in_err-test_ints-clause-refused : goal.returns-in_err-test_ints-clause-refused
+returns-in_err-test_ints-clause-refused c =
+    let j = c.args.judged.now in
+    let list = j.list.now in
+    let files = j.files.now in
+    let d = draft list files j c.requires in
+    let base = is_base list files j c.requires d (is_draft list files j c.requires) in
+    let none = c.in_ok-test_words.ensures.unbroken d base.by_files (base.by_members ∙ sym (c.items.ensures
+    ∙ c.in_ok-members.ensures.made)) in
+    let e = err_from_is_err_and c.from_residual-in_err-test_ints.result c.from_residual-in_err-test_ints.ensures.1 in
+    rw (e.1, e.2) (ints_refused list files j c.requires _ none (draft_refused j c.requires _
+    c.in_err-test_ints.ensures.refused))
+
 pub returns-in_err-methods-clause-refused : goal.returns-in_err-methods-clause-refused
 returns-in_err-methods-clause-refused c =
     let j = c.args.judged.now in
@@ -88,7 +107,8 @@ returns-in_err-methods-clause-refused c =
     let none = c.in_ok-test_words.ensures.unbroken d base.by_files (base.by_members ∙ sym (c.items.ensures
     ∙ c.in_ok-members.ensures.made)) in
     let e = err_from_is_err_and c.from_residual-in_err-methods.result c.from_residual-in_err-methods.ensures.1 in
-    rw (e.1, e.2) (forms_refused list files j c.requires _ none (c.in_err-methods.ensures.refused d is_told))
+    let free = draft_ints j c.requires ∙ c.in_ok-test_ints.ensures.unbroken in
+    rw (e.1, e.2) (forms_refused list files j c.requires _ none free (c.in_err-methods.ensures.refused d is_told))
 
 pub returns-clause-shaped : goal.returns-clause-shaped
 returns-clause-shaped c =
@@ -109,5 +129,6 @@ returns-clause-shaped c =
     let none = c.in_ok-test_words.ensures.unbroken d base.by_files (base.by_members ∙ sym (c.items.ensures
     ∙ c.in_ok-members.ensures.made)) in
     shaped j c.requires _ c.items-6.result.now codes members narrow c.in_ok-tokens.ensures c.in_ok-image.ensures
-    c.in_ok-methods.ensures.laid (λ p e f. c.in_ok-export.ensures p e f) none (c.in_ok-methods.ensures.unbroken d
-    is_told)
+    c.in_ok-methods.ensures.laid (λ p e f. c.in_ok-export.ensures p e f) none
+    (draft_ints j c.requires ∙ c.in_ok-test_ints.ensures.unbroken)
+    (c.in_ok-methods.ensures.unbroken d is_told)

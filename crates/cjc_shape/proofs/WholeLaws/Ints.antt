@@ -1,0 +1,78 @@
+-- No method of a package works on int whose list does not allow int, or that does not break 801.
+use Rattle.std.proofs.Common.{◌≡◌, ℕ, refl, sym, ap, subst, ◌∙◌, Bool, true, false, ◌&&◌, List, []}
+use Rattle.cjc_world.specs.Bytes.Breaks.{IsFirstRefusal, at, list_spot}
+use Rattle.cjc_world.specs.Bytes.declared.fault.Fault.{Fault}
+use Rattle.cjc_judge.specs.List.Listed.{ListTree}
+use Rattle.cjc_judge.specs.Rules.{settings_of}
+use Rattle.cjc_judge.specs.declared.judged.Judged.{Judged}
+use Rattle.cjc_methods.specs.Components.Limits.{code_breaks, form_breaks, int_breaks, spot_of_list}
+use Rattle.cjc_methods.specs.Components.Package.{Package}
+use Rattle.cjc_narrow_proof.specs.Bytecode.PackageCodes.{all_codes}
+use Rattle.cjc_narrow_proof.specs.Bytecode.declared.method_code.MethodCode.{MethodCode}
+use Rattle.cjc_narrow_proof.specs.Subset.Ints.{any_works_on_int}
+use Rattle.cjc_narrow_proof.proofs.SelectedLaws.IntFree.{none_without}
+use Rattle.cjc_narrow_proof.proofs.SelectedLaws.Limits.{not_broken}
+use Rattle.cjc_shape.specs.Prepared.{BreaksNothing, IsSound}
+use Rattle.cjc_shape.specs.Whole.Conversion.{IsPackageOf}
+use Rattle.cjc_shape.specs.Whole.Working.Shaped as told
+use Rattle.cjc_shape.proofs.JudgedLaws.Selected.{judged_checks}
+use Rattle.cjc_shape.proofs.PreparedLaws.Sound.{is_tested}
+use Rattle.cjc_shape.proofs.WholeLaws.Drafts.{draft, is_draft}
+use Rattle.cjc_shape.proofs.WholeLaws.Second.{both_none, is_base, package_is_draft}
+use Rattle.cjc_world.specs.Files.{Files}
+
+both_true : (a b : Bool) → a ≡ true → (a && b) ≡ false → b ≡ false
+both_true true b e f = f
+both_true false b e f = cc
+
+module _ (list : ListTree) (files : List (List ℕ)) (judged : Judged) (is : IsSound list files judged) where
+  -- the instructions that were read are those of a package of these files
+  codes_by : (p : Package) → p.files ≡ judged.world → (let v = p.files in all_codes v.classes ≡ judged.codes)
+  codes_by p e = ap (λ (v : Files). all_codes v.classes) e ∙ sym is.judged_by.read.codes_are
+
+  pub free_of : (p : Package) → p.list ≡ list → p.files ≡ judged.world → int_breaks p ≡ []
+      → any_works_on_int judged.world judged.codes ≡ false
+  free_of p by_list by_files none = by list.ints refl
+    where
+      by : (b : Bool) → list.ints ≡ b → any_works_on_int judged.world judged.codes ≡ false
+      by false e = none_without list.name judged.world judged.codes (settings_of list)
+          (judged_checks list files judged (is_tested list files judged is)) e
+      by true e =
+          let own : (let v = p.files in any_works_on_int v (all_codes v.classes)) ≡ false =
+          both_true (let l = p.list in l.ints) (let v = p.files in any_works_on_int v (all_codes v.classes))
+          (ap (λ (l : ListTree). l.ints) by_list ∙ e) (not_broken _ (spot_of_list p) 801 none) in
+          sym (ap (λ (cs : List MethodCode). any_works_on_int p.files cs) (codes_by p by_files)
+          ∙ ap (λ (v : Files). any_works_on_int v judged.codes) by_files) ∙ own
+
+  -- as its 801 is unbroken
+  pub ints_free : (p : Package) → IsPackageOf list files p → int_breaks p ≡ []
+      → any_works_on_int judged.world judged.codes ≡ false
+  ints_free p whole none =
+      let base = is_base list files judged is p (package_is_draft list files p whole) in
+      free_of p base.by_list base.by_files none
+
+  pub package_free : (p : Package) → IsPackageOf list files p → code_breaks p ≡ []
+      → any_works_on_int judged.world judged.codes ≡ false
+  package_free p whole none = ints_free p whole (both_none (int_breaks p) (form_breaks p) none).0
+
+-- what is told of a package as it was read is told of its draft
+pub draft_ints : (j : Judged) (is : BreaksNothing j) → int_breaks (draft j.list.now j.files.now j is)
+    ≡ told.int_breaks j
+draft_ints j is =
+    let d = draft j.list.now j.files.now j is in
+    let base = is_base j.list.now j.files.now j is d (is_draft j.list.now j.files.now j is) in
+    ap (λ (l : ListTree). at (l.ints && (let v = d.files in any_works_on_int v (all_codes v.classes)))
+    (list_spot l.name) 801) base.by_list
+    ∙ ap (λ b. let l = j.list.now in at (l.ints && b) (list_spot l.name) 801)
+    (ap (λ (cs : List MethodCode). any_works_on_int d.files cs) (codes_by j.list.now j.files.now j is d base.by_files)
+    ∙ ap (λ (v : Files). any_works_on_int v j.codes) base.by_files)
+
+pub draft_refused : (j : Judged) (is : BreaksNothing j) (e : Fault) → IsFirstRefusal (told.int_breaks j) e
+    → IsFirstRefusal (int_breaks (draft j.list.now j.files.now j is)) e
+draft_refused j is e refused = subst (λ bs. IsFirstRefusal bs e) (sym (draft_ints j is)) refused
+
+pub free_here : (j : Judged) → BreaksNothing j → told.int_breaks j ≡ [] → any_works_on_int j.world j.codes ≡ false
+free_here j is none =
+    let d = draft j.list.now j.files.now j is in
+    let base = is_base j.list.now j.files.now j is d (is_draft j.list.now j.files.now j is) in
+    free_of j.list.now j.files.now j is d base.by_list base.by_files (draft_ints j is ∙ none)
