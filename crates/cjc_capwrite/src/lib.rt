@@ -3,7 +3,6 @@
 #![tactic(auto)]
 
 // Lower crates, for those above.
-pub use cjc_bytes as bytes;
 pub use cjc_capread as capread;
 
 mod class;

@@ -1,7 +1,6 @@
 //! Whole runs of components by token, over the look-ups of one package.
 #![tactic(auto)]
 
-// Lower crates, for those above.
 pub use cjc_card_calls::{card_link, check_index, check_rules};
 pub use cjc_card_frame as card_frame;
 pub use cjc_card_semantics::{capread, export_file};

@@ -8,15 +8,15 @@ use Rattle.cjc_frames.specs.declared.acts.Need.{Need}
 use Rattle.cjc_frames.specs.declared.acts.Need.TheVariants.{NumberWord, OfType}
 use Rattle.cjc_frames.specs.declared.acts.Given.{Given}
 use Rattle.cjc_frames.specs.declared.acts.Given.TheVariants.{ANumber, AnObject}
-use Rattle.cjc_capread.specs.declared.tree.Descriptor.{Descriptor}
-use Rattle.cjc_capread.specs.declared.tree.TypeDescriptor.{TypeDescriptor}
-use Rattle.cjc_capread.specs.Parts.{class_of}
-use Rattle.cjc_card_semantics.specs.Bytecode.Effects.{Letter}
-use Rattle.cjc_card_semantics.specs.Bytecode.Effects
-use Rattle.cjc_card_semantics.specs.Machine.Loaded.{Loaded}
-use Rattle.cjc_card_semantics.specs.Machine.Classes.{Class}
-use Rattle.cjc_card_semantics.specs.Machine.Classes
-use Rattle.cjc_card_semantics.specs.Script.Sorts.{Shape, OfClass, OfNumbers, OfReferences, Booleans, Bytes, Shorts, Ints}
+use Rattle.cjc_check_rules.specs.CapRead.declared.tree.Descriptor.{Descriptor}
+use Rattle.cjc_check_rules.specs.CapRead.declared.tree.TypeDescriptor.{TypeDescriptor}
+use Rattle.cjc_check_rules.specs.CapRead.Parts.{class_of}
+use Rattle.cjc_card_frame.specs.CardSemantics.Bytecode.Effects.{Letter}
+use Rattle.cjc_card_frame.specs.CardSemantics.Bytecode.Effects
+use Rattle.cjc_card_frame.specs.CardSemantics.Machine.Loaded.{Loaded}
+use Rattle.cjc_card_frame.specs.CardSemantics.Machine.Classes.{Class}
+use Rattle.cjc_card_frame.specs.CardSemantics.Machine.Classes
+use Rattle.cjc_card_frame.specs.Script.Sorts.{Shape, OfClass, OfNumbers, OfReferences, Booleans, Bytes, Shorts, Ints}
 use Rattle.cjc_check_rules.specs.Spots.{item_at}
 use Rattle.cjc_check_rules.specs.Described.{types_at}
 

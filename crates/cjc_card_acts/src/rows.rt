@@ -2,14 +2,15 @@
 
 ghost use Rattle.std.specs.Prelude.{◌≡◌, ◌≤◌, ◌+◌, IfOk};
 ghost use Rattle.cjc_card_acts.specs.Rows.{calculating, copying, copying_below, idle, increasing, loading};
-ghost use Rattle.cjc_card_acts.specs.Rows.{loading_item, pushing, storing, storing_item, swapping, swapping_by, unknown};
+ghost use Rattle.cjc_card_acts.specs.Rows.{loading_item, pushing, storing, storing_item, swapping, swapping_by};
+ghost use Rattle.cjc_card_acts.specs.Rows.{unknown};
 ghost use Rattle.cjc_card_frame.specs.Meanings.{letter_of};
-ghost use Rattle.cjc_card_semantics.specs.Bytecode.Calculations.{is_copy, is_swap};
-ghost use Rattle.cjc_card_semantics.specs.Bytecode.Effects.{Int, Short};
+ghost use Rattle.cjc_card_frame.specs.CardSemantics.Bytecode.Calculations.{is_copy, is_swap};
+ghost use Rattle.cjc_card_frame.specs.CardSemantics.Bytecode.Effects.{Int, Short};
 
 use crate::words;
-use cjc_bytes::{NoMemory, Row};
 use cjc_card_frame::opcodes::Letter;
+use cjc_check_rules::bytes::{NoMemory, Row};
 use cjc_frames::{Act, Given, Need};
 use std::alloc::Global;
 

@@ -8,8 +8,8 @@ ghost use Rattle.cjc_card_frame.specs.Meanings.{letter_of};
 ghost use Rattle.cjc_frames.specs.declared.acts.Given.TheVariants.{ANumber};
 ghost use Rattle.cjc_frames.specs.declared.acts.Need.TheVariants.{NumberWord, OfArrays};
 
-use cjc_bytes::{Bytes, NoMemory, Row};
 use cjc_card_frame::opcodes::Letter;
+use cjc_check_rules::bytes::{Bytes, NoMemory, Row};
 use cjc_frames::{Given, Need, Read, Write};
 use std::alloc::Global;
 

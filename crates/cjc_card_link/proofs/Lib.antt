@@ -11,4 +11,4 @@ mod Climbing
 mod Stepping
 mod Outer
 -- Lemmas of lower crates, for those above.
-pub use Rattle.cjc_check_index.proofs.CheckRules as CheckRules
+pub use Rattle.cjc_check_index.proofs.CheckRulesFirsts as CheckRulesFirsts

@@ -5,7 +5,7 @@ use Rattle.std.specs.Prelude.{if◌then◌else◌, ◌&&◌, ◌||◌, ◌⊎◌
 use Rattle.std.proofs.lemmas.Bool.Decides.{nat_tests}
 use Rattle.cjc_capread.specs.Bytes.Breaks.{Break, IsFirst, IsFirstOf}
 use Rattle.cjc_capread.specs.Bytes.Order.{AreUpTo, NotAfter, numbers}
-use Rattle.cjc_capread.proofs.Bytes.Firsts.{first_left, first_of_one, first_right}
+use Rattle.cjc_capread.proofs.BytesFirsts.{first_left, first_of_one, first_right}
 use Rattle.cjc_check_rules.specs.Consistent.{break_at, breaks_of, is_true, sentence}
 use Rattle.cjc_check_rules.specs.declared.spot.ComponentPlace.{ComponentPlace}
 use Rattle.cjc_check_rules.specs.Spots.{earlier, first, is_up_to}

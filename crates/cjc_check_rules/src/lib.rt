@@ -6,6 +6,7 @@
 // Lower crates, for those above.
 pub use cjc_capread as capread;
 pub use cjc_export as export_file;
+pub use cjc_export::bytes;
 
 mod laws;
 mod spot;

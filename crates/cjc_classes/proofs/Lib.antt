@@ -5,5 +5,5 @@ pub mod DescriptorLaws
 pub mod PoolEntries
 pub mod KeyTokens
 -- Lemmas of lower crates, for those above.
-pub use Rattle.cjc_bytes.proofs as Bytes
-pub use Rattle.cjc_tokens.proofs as Tokens
+pub use Rattle.cjc_bytes.proofs.Firsts as BytesFirsts
+pub use Rattle.cjc_tokens.proofs.Steps as TokensSteps

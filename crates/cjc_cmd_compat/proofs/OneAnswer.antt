@@ -5,7 +5,7 @@ use Rattle.cjc_compat.specs.Bytes.Order.{FilePlace, Rank}
 use Rattle.cjc_compat.specs.Bytes.Reading.{read_file}
 use Rattle.cjc_compat.specs.Bytes.declared.fault.Refusal.{Refusal}
 use Rattle.cjc_compat.specs.Bytes.declared.order.FileKey.TheVariants as keys
-use Rattle.cjc_compat.proofs.Bytes.Firsts.{among_either}
+use Rattle.cjc_compat.proofs.BytesFirsts.{among_either}
 use Rattle.cjc_cmd_check.proofs.CheckingLaws.OneAnswer.{HaveOneRefusal, firsts_agree, none, unless_one}
 use Rattle.cjc_cmd_check.specs.Folder.Breaks.{break_in, file_spot}
 use Rattle.cjc_cmd_compat.specs.Compat.{Compares, compat_breaks, format_breaks, old_file, version_breaks}

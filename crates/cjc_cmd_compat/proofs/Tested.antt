@@ -8,8 +8,8 @@ use Rattle.cjc_compat.specs.Bytes.Reading.{read_file}
 use Rattle.cjc_compat.specs.Bytes.Refused.{IsBreak, refusal}
 use Rattle.cjc_compat.specs.Bytes.declared.fault.Fault.{Fault}
 use Rattle.cjc_compat.specs.Bytes.declared.fault.Fault.TheVariants as faults
-use Rattle.cjc_compat.proofs.Bytes.Firsts.{among_one, first_of_one, upto_refl}
-use Rattle.cjc_compat.proofs.Bytes.Laws.{file_breaks, file_spelt}
+use Rattle.cjc_compat.proofs.BytesFirsts.{among_one, first_of_one, upto_refl}
+use Rattle.cjc_compat.proofs.BytesLaws.{file_breaks, file_spelt}
 use Rattle.cjc_cmd_check.proofs.CheckingLaws.OneAnswer.{none}
 use Rattle.cjc_cmd_check.specs.Folder.Breaks.{break_in, file_spot, unless_broken}
 use Rattle.cjc_cmd_compat.specs.Compat.{AreCompatible, Compares, compat_breaks, format_breaks, old_file, version_breaks}

@@ -1,4 +1,5 @@
 pub mod RunningLaws
 pub mod ReportLaws
 -- Lemmas of lower crates, for those above.
-pub use Rattle.cjc_shelf.proofs as Shelf
+pub use Rattle.cjc_shelf.proofs.CommandLaws.Gathering as ShelfGathering
+pub use Rattle.cjc_shelf.proofs.CommandLaws.Judging as ShelfJudging

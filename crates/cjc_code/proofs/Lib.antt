@@ -8,4 +8,5 @@ pub mod StartLaws
 pub mod Decided
 pub mod ReadLaws
 -- Lemmas of lower crates, for those above.
-pub use Rattle.cjc_range.proofs as Range
+pub use Rattle.cjc_range.proofs.Spans as RangeSpans
+pub use Rattle.cjc_range.proofs.WordsLaws.Words as RangeWords

@@ -5,7 +5,6 @@
 // Lower crates, for those above.
 pub use cjc_bytes as bytes;
 pub use cjc_classfile as classfile;
-pub use cjc_range as range;
 
 mod cutting;
 mod decoding;

@@ -175,10 +175,13 @@ module _ (f : FilePlace) (classes : List ExportClass) where
     kept_told : (new : ExportClass) (b : Break) → Among b (kept_breaks f n c new) → IsTold b
     kept_told new b among = elim (among_either b _ (each_from (λ i m. at (is_lost_method new.methods m)
         (at_method f n c i m) 743) 0 c.methods) among) [
-          | inr h ↦ let o = in_each _ 0 c.methods b h in told_at _ _ 743 b (method_told o.place o.item o.is) (front _ _ b o)
-          | inl one ↦ elim (among_either b _ (each_from (λ i m. at (is_lost_field new.fields m) (at_field f n c i m) 743) 0
+          | inr h ↦ let o = in_each _ 0 c.methods b h in told_at _ _ 743 b (method_told o.place o.item o.is)
+              (front _ _ b o)
+          | inl one ↦ elim (among_either b _ (each_from (λ i m. at (is_lost_field new.fields m) (at_field f n c i m)
+              743) 0
               c.fields) one) [
-                | inr h ↦ let o = in_each _ 0 c.fields b h in told_at _ _ 743 b (field_told o.place o.item o.is) (front _ _ b
+                | inr h ↦ let o = in_each _ 0 c.fields b h in told_at _ _ 743 b (field_told o.place o.item o.is)
+                    (front _ _ b
                     o)
                 | inl two ↦ elim (among_either b _ (at (is_less c new) (at_class f n c) 745) two) [
                   | inr h ↦ told_at _ _ 745 b class_told h
@@ -204,7 +207,8 @@ breaks_once file old new a b h g e = told_once (new_file file) old.classes a b (
     told b among = elim (among_either b (at (is_other_package old new) (class_spot (new_file file) 0 []) 741) _ among) [
       | inl h ↦ told_at (new_file file) old.classes _ _ 741 b refl h
       | inr h ↦
-          let o = in_each (λ n c. class_breaks (new_file file) n c (with_token c.token new.classes)) 0 old.classes b h in
+          let o = in_each (λ n c. class_breaks (new_file file) n c (with_token c.token new.classes)) 0 old.classes b h
+          in
           class_breaks_told (new_file file) old.classes o.place o.item o.is (with_token o.item.token new.classes) b
           (front _ _ b o)
     ]

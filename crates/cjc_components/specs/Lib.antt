@@ -12,12 +12,10 @@ pub mod ExportFile
 pub mod Limits
 pub mod Paired
 -- Definitions of lower crates, for those above.
-pub use Rattle.cjc_list.specs.Bytes as Bytes
 pub use Rattle.cjc_list.specs as List
 pub use Rattle.cjc_narrow.specs.Script as Script
 pub use Rattle.cjc_capwrite.specs.CapRead as CapRead
 pub use Rattle.cjc_capwrite.specs as CapWrite
-pub use Rattle.cjc_vtable.specs.World as World
 pub use Rattle.cjc_vtable.specs.ClassOrder as ClassOrder
 pub use Rattle.cjc_vtable.specs.Subset as Subset
 pub use Rattle.cjc_vtable.specs.Tokens as Tokens

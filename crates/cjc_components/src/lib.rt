@@ -10,7 +10,6 @@ pub use cjc_capwrite::capread;
 pub use cjc_emit as emit;
 pub use cjc_emit::layout;
 pub use cjc_list as list;
-pub use cjc_list::bytes;
 pub use cjc_narrow as narrow;
 pub use cjc_narrow::ncode;
 pub use cjc_vtable as vtable;

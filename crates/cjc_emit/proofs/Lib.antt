@@ -5,4 +5,5 @@ mod Whole
 mod Decoded
 pub mod EmitLaws
 -- Lemmas of lower crates, for those above.
-pub use Rattle.cjc_layout.proofs as LowerLayout
+pub use Rattle.cjc_layout.proofs.Lowered as LayoutLowered
+pub use Rattle.cjc_layout.proofs.Places as LayoutPlaces

@@ -1,4 +1,2 @@
 pub mod NarrowLaws
 pub mod ComponentsLaws
-
--- Lemmas of lower crates, for those above.

@@ -1,5 +1,5 @@
--- java/lang/Object above every other class and interface of an export file, whether the file lists it or not (Java Virtual
--- Machine Specification, sections 4.1 and 4.10.1.2).
+-- java/lang/Object above every other class and interface of an export file, whether the file lists it or not (Java
+-- Virtual Machine Specification, sections 4.1 and 4.10.1.2).
 use Rattle.std.specs.Prelude.{ℕ, List, [], ◌∷◌, ◌++◌, ◌||◌, if◌then◌else◌, codes}
 use Rattle.std.specs.List.{list_any}
 use Rattle.std.specs.Str.{bytes_eq}

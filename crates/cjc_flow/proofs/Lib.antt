@@ -10,3 +10,5 @@ pub mod Normal
 pub mod Searching
 pub mod Least
 pub mod TestsLaws
+-- Lemmas of lower crates, for those above.
+pub use Rattle.cjc_types.proofs.Least as TypesLeast

@@ -2,6 +2,9 @@
 //! ways meet. It knows no token, no component, and nothing of narrow code.
 #![tactic(auto)]
 
+// Lower crates, for those above.
+pub use cjc_types as types;
+
 mod arrival;
 mod elements;
 mod entry;

@@ -1,7 +1,7 @@
-//! What an instruction is to stack and locals: what it needs of the words that it takes and of the locals that it reads,
-//! what it gives, and where it goes. Made by whoever knows opcodes; knows none itself.
+//! What an instruction is to stack and locals: what it needs of the words that it takes and of the locals that it
+//! reads, what it gives, and where it goes. Made by whoever knows opcodes; knows none itself.
 
-use cjc_bytes::{Bytes, Row};
+use cjc_fixpoint::bytes::{Bytes, Row};
 
 /// What a word is to be. Reference types are named by their nibbles in a type descriptor.
 #[derive(Drop)]

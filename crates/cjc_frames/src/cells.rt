@@ -8,7 +8,7 @@ ghost use Rattle.cjc_frames.specs.Types.{element_of, item_of};
 ghost use Rattle.cjc_types.specs.declared.cell.Cell.TheVariants as known;
 
 use crate::sets;
-use cjc_bytes::{Bytes, NoMemory, Row};
+use cjc_fixpoint::bytes::{Bytes, NoMemory, Row};
 use std::alloc::Global;
 use std::marker::Model;
 

@@ -9,7 +9,7 @@ ghost use Rattle.cjc_frames.specs.Known.{stack_in};
 use crate::acts::{Act, Given, Need, Write};
 use crate::cells::Cell;
 use crate::states::{Frame, copied_cells, stack_of};
-use cjc_bytes::{NoMemory, Row};
+use cjc_fixpoint::bytes::{NoMemory, Row};
 use std::alloc::Global;
 
 /// The cell at a place, once more; one that is missing counts as unusable.

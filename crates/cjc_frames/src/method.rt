@@ -10,7 +10,7 @@ use crate::acts::{Act, Catch, Given, Step};
 use crate::cells::Cell;
 use crate::changes::{after, all_given};
 use crate::states::{self, Frame, copied_cells};
-use cjc_bytes::{Bytes, NoMemory, Row};
+use cjc_fixpoint::bytes::{Bytes, NoMemory, Row};
 use cjc_fixpoint::{Edge, Flow, Repeating, moved_on};
 use cjc_types::rows::put_some;
 use std::alloc::Global;

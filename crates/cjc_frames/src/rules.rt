@@ -10,7 +10,7 @@ ghost use Rattle.cjc_frames.specs.Types.{begins_with};
 use crate::acts::{Act, Need, Read, Step, Write};
 use crate::cells::{Cell, Word};
 use crate::states::Frame;
-use cjc_bytes::Bytes;
+use cjc_fixpoint::bytes::Bytes;
 
 /// The reference types, as rules ask of them.
 pub trait Subtypes {

@@ -1,4 +1,5 @@
-//! `first_broken`, from a method to the first instruction that breaks a rule of its frames. What the crate is called for.
+//! `first_broken`, from a method to the first instruction that breaks a rule of its frames. What the crate is called
+//! for.
 
 ghost use Rattle.std.specs.Prelude.{◌≡◌, ◌<◌, ℕ, length, Some, None, IfOk, IfSome, MatchOption};
 ghost use Rattle.std.specs.List.{range_with_len};
@@ -10,7 +11,7 @@ ghost use Rattle.cjc_frames.specs.Tables.{IsBrokenAt, IsLeastTable, IsUnbroken};
 use crate::method::Method;
 use crate::rules::{Subtypes, row_rule};
 use crate::states::Frame;
-use cjc_bytes::{BrokenAt, NoMemory, Row};
+use cjc_fixpoint::bytes::{BrokenAt, NoMemory, Row};
 use cjc_fixpoint::{Table, all_marks, solve};
 use std::alloc::Global;
 

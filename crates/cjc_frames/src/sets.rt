@@ -4,7 +4,7 @@ ghost use Rattle.std.specs.Prelude.{◌≡◌, ◌≤◌, ◌∷◌, ◌++◌, [
 ghost use Rattle.cjc_types.specs.Names.{compare, insert, union, IsSet};
 ghost use Rattle.cjc_frames.specs.Types.{elements, held, with_held};
 
-use cjc_bytes::{Bytes, NoMemory, Row};
+use cjc_fixpoint::bytes::{Bytes, NoMemory, Row};
 use std::alloc::Global;
 use std::cmp::Ordering;
 

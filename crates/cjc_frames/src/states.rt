@@ -8,7 +8,7 @@ ghost use Rattle.cjc_types.specs.States.{IsStack, joined_stack, stack_of, stack_
 ghost use Rattle.cjc_frames.specs.Known.{stack_in};
 
 use crate::cells::Cell;
-use cjc_bytes::{NoMemory, Row};
+use cjc_fixpoint::bytes::{NoMemory, Row};
 use std::alloc::Global;
 use std::marker::Model;
 

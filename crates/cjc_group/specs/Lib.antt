@@ -7,6 +7,3 @@ pub mod Implementing
 pub mod Rules
 pub mod Agree
 pub mod Worked
--- Definitions of lower crates, for those above.
-pub use Rattle.cjc_list.specs as Lists
-pub use Rattle.cjc_world.specs as World

@@ -2,10 +2,6 @@
 //! linked. It knows no instruction, and no component but the export file.
 #![tactic(auto)]
 
-// Lower crates, for those above.
-pub use cjc_list as list;
-pub use cjc_world as world;
-
 mod implementing;
 mod laws;
 mod line;

@@ -6,17 +6,17 @@ use Rattle.std.specs.List.{AllZip, cons_option}
 use Rattle.std.proofs.lemmas.List.{length-append, length-replicate, length-take-le}
 use Rattle.std.proofs.lemmas.List.Elements.{All-nil, All-cons, All-head, All-tail, All-append, All-take, All-replicate}
 use Rattle.std.proofs.lemmas.List.Elements.{All-map, All-contains}
-use Rattle.cjc_types.specs.Bytes.AccessFlags.{is_static}
-use Rattle.cjc_types.specs.Bytes.declared.fault.MemberId.{MemberId}
+use Rattle.cjc_fixpoint.specs.Bytes.AccessFlags.{is_static}
+use Rattle.cjc_fixpoint.specs.Bytes.declared.fault.MemberId.{MemberId}
 use Rattle.cjc_range.specs.Span.{Span, IsWord, Within, full}
 use Rattle.cjc_range.specs.Landmarks.{round_row}
 use Rattle.cjc_range.proofs.Order.{within_refl, word_full}
 use Rattle.cjc_range.proofs.Rounding.{round_word, round_monotone}
 use Rattle.cjc_types.specs.ClassFile.declared.tree.Catch.{Catch}
 use Rattle.cjc_types.specs.Bytecode.declared.insn.JInsn.{JInsn}
-use Rattle.cjc_types.specs.Fixpoint.declared.flow.Edge.{Edge}
-use Rattle.cjc_types.specs.Fixpoint.Dataflow.{IsLawful, AreBelow}
-use Rattle.cjc_types.specs.Fixpoint.Working.Edges.{AreBelowInTurn, below_from_zip, AreBelow-append, AreBelow-map}
+use Rattle.cjc_fixpoint.specs.declared.flow.Edge.{Edge}
+use Rattle.cjc_fixpoint.specs.Dataflow.{IsLawful, AreBelow}
+use Rattle.cjc_fixpoint.specs.Working.Edges.{AreBelowInTurn, below_from_zip, AreBelow-append, AreBelow-map}
 use Rattle.cjc_fixpoint.proofs.Lattices.{flow_laws}
 use Rattle.cjc_types.specs.declared.cell.Cell.{Cell}
 use Rattle.cjc_types.specs.declared.state.State.{State}

@@ -2,7 +2,7 @@
 use Rattle.std.proofs.Common.{ℕ, refl, arith}
 use Rattle.cjc_range.proofs.Order.{within_refl, within_trans, width_up, width_rises, width_small, join_left, join_right}
 use Rattle.cjc_range.proofs.Order.{join_least, join_word}
-use Rattle.cjc_types.specs.Fixpoint.Lattice.{IsLattice, lists_of}
+use Rattle.cjc_fixpoint.specs.Lattice.{IsLattice, lists_of}
 use Rattle.cjc_fixpoint.proofs.Lattices.{lists_lattice, parts_lattice}
 use Rattle.cjc_types.specs.Working.StackLaws.{stack_lattice}
 use Rattle.cjc_intervals.specs.Frames.{spans, stacks_of, RangeState, states}

@@ -6,10 +6,10 @@ use Rattle.std.specs.Prelude.{Option, Some, None}
 use Rattle.std.specs.List.{AllZip, list_all}
 use Rattle.std.proofs.lemmas.List.{length-set}
 use Rattle.std.proofs.lemmas.List.Elements.{All-nil, All-append, All-drop, All-set}
-use Rattle.cjc_types.specs.Bytes.Descriptor.{Part}
-use Rattle.cjc_types.specs.Bytes.declared.fault.MemberId.{MemberId}
-use Rattle.cjc_types.specs.Bytes.declared.descriptor.Kind.{Kind}
-use Rattle.cjc_types.specs.Bytes.declared.descriptor.Kind.TheVariants as kinds
+use Rattle.cjc_fixpoint.specs.Bytes.Descriptor.{Part}
+use Rattle.cjc_fixpoint.specs.Bytes.declared.fault.MemberId.{MemberId}
+use Rattle.cjc_fixpoint.specs.Bytes.declared.descriptor.Kind.{Kind}
+use Rattle.cjc_fixpoint.specs.Bytes.declared.descriptor.Kind.TheVariants as kinds
 use Rattle.cjc_range.specs.Span.{Span, span, IsWord, Within, full, byte_range, short_range}
 use Rattle.cjc_range.proofs.Spans.{clip_cases}
 use Rattle.cjc_range.proofs.Order.{within_refl, word_full, add_monotone, sub_monotone, mul_monotone, div_monotone}
@@ -19,7 +19,7 @@ use Rattle.cjc_range.proofs.Order.{shl_word, shr_word, to_byte_word, to_short_wo
 use Rattle.cjc_range.proofs.OrderBits.{ushr_monotone, and_monotone, or_monotone, ushr_word, and_word, or_word}
 use Rattle.cjc_types.specs.Bytecode.declared.insn.JOp.{JOp}
 use Rattle.cjc_types.specs.Bytecode.declared.insn.JOp.TheVariants as jop
-use Rattle.cjc_types.specs.Fixpoint.Lattice.{IsListOf}
+use Rattle.cjc_fixpoint.specs.Lattice.{IsListOf}
 use Rattle.cjc_fixpoint.proofs.Lattices.{zip-slice_set}
 use Rattle.cjc_types.specs.declared.cell.Cell.{Cell}
 use Rattle.cjc_types.specs.declared.cell.Cell.TheVariants.{Number, Refs, Unusable}

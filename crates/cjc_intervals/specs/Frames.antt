@@ -2,7 +2,7 @@
 use Rattle.std.specs.Prelude.{ℕ, List, []}
 use Rattle.cjc_range.specs.Span.{Span, Within, IsWord, width}
 use Rattle.cjc_range.specs.Rows.{join_row}
-use Rattle.cjc_types.specs.Fixpoint.Lattice.{Lattice, lists_of, parts_of}
+use Rattle.cjc_fixpoint.specs.Lattice.{Lattice, lists_of, parts_of}
 pub use Rattle.cjc_types.specs.Stacks.{StackOf, Cells, Clash, stack_of, IsCellStack, IsStack, IsBelowCells}
 pub use Rattle.cjc_types.specs.Stacks.{IsStackAbove, IsStackBelow, joined_stack, clash_rank, stack_rank, stacks_of}
 

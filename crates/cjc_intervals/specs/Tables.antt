@@ -1,9 +1,9 @@
 -- The least range table of a method over its least type table, and the operands that break a rule there.
 use Rattle.std.specs.Prelude.{◌≡◌, ◌⊎◌, ◌<◌, ◌≤◌, ℕ, List, length, slice_get, Option, Some, ℤ}
-use Rattle.cjc_types.specs.Bytes.declared.fault.MemberId.{MemberId}
+use Rattle.cjc_fixpoint.specs.Bytes.declared.fault.MemberId.{MemberId}
 use Rattle.cjc_range.specs.Span.{Span, Within}
 use Rattle.cjc_types.specs.Bytecode.declared.insn.JInsn.{JInsn}
-use Rattle.cjc_types.specs.Fixpoint.Tables.{HasRow, IsClosed, IsLeastClosed}
+use Rattle.cjc_fixpoint.specs.Tables.{HasRow, IsClosed, IsLeastClosed}
 use Rattle.cjc_types.specs.declared.state.State.{State}
 use Rattle.cjc_types.specs.Search.{cells_of}
 use Rattle.cjc_types.specs.Flow.{Body}

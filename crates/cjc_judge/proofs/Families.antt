@@ -27,9 +27,9 @@ use Rattle.cjc_vtable.specs.Tokens.Rules.{token_breaks}
 use Rattle.cjc_vtable.specs.Tokens.Rules.{at_class as token_at_class}
 use Rattle.cjc_world.specs.Exported.{is_exported}
 use Rattle.cjc_judge.proofs.RangesLaws.Hundred.{of_sixth_hundred}
-use Rattle.cjc_types.specs.declared.state.State.{State}
-use Rattle.cjc_types.specs.Flow.{Body}
-use Rattle.cjc_types.specs.Rules.{Breaks, clash, wrong, off}
+use Rattle.cjc_flow.specs.Types.declared.state.State.{State}
+use Rattle.cjc_flow.specs.Types.Flow.{Body}
+use Rattle.cjc_flow.specs.Types.Rules.{Breaks, clash, wrong, off}
 use Rattle.cjc_judge.specs.declared.reading.UnsupportedInsn.{UnsupportedInsn}
 use Rattle.cjc_judge.specs.Rules.{unsupported_break, unsupported_breaks, BreaksType, BreaksRange}
 use Rattle.cjc_judge.proofs.Each.{Each, each_none, each_more, each_append, each_at, each_of, each_code}

@@ -18,6 +18,7 @@ pub mod OneRefusal
 pub mod RangesLaws
 pub mod Unbroken
 -- Lemmas of lower crates, for those above.
-pub use Rattle.cjc_bytes.proofs as Bytes
-pub use Rattle.cjc_clinit.proofs as Clinit
-pub use Rattle.cjc_flow.proofs as Flow
+pub use Rattle.cjc_bytes.proofs.Firsts as BytesFirsts
+pub use Rattle.cjc_bytes.proofs.Laws as BytesLaws
+pub use Rattle.cjc_clinit.proofs.OneImage as ClinitOneImage
+pub use Rattle.cjc_flow.proofs.TestsLaws.First as FlowFirst

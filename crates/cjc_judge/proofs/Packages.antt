@@ -12,7 +12,7 @@ use Rattle.cjc_classfile.specs.declared.tree.MethodTree.{MethodTree}
 use Rattle.cjc_bytes.specs.declared.breaks.BrokenAt.{BrokenAt}
 use Rattle.cjc_code.specs.Decoded.{decoding, of_code, of_method, decoding_at}
 use Rattle.cjc_code.specs.declared.insn.JInsn.{JInsn}
-use Rattle.cjc_types.specs.Tables.{IsOfPackage}
+use Rattle.cjc_flow.specs.Types.Tables.{IsOfPackage}
 use Rattle.cjc_world.specs.Files.{Files}
 use Rattle.cjc_code.specs.PackageCodes.{code_with, where_code, of_methods, of_classes, all_codes}
 use Rattle.cjc_judge.specs.Spelt.{FileTree, of_class, of_export, classes_of}

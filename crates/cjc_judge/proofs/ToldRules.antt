@@ -5,7 +5,7 @@ use Rattle.std.specs.Prelude.{not, slice_get, if◌then◌else◌}
 use Rattle.std.proofs.lemmas.Option.{slice_get_within}
 use Rattle.cjc_bytes.specs.declared.breaks.BrokenAt.{BrokenAt}
 use Rattle.cjc_bytes.specs.declared.settings.Settings.{Settings}
-use Rattle.cjc_types.specs.Flow.{Body}
+use Rattle.cjc_flow.specs.Types.Flow.{Body}
 use Rattle.cjc_bytes.specs.Breaks.{Break, at, broken_at, class_spot, each, list_spot, member_spot}
 use Rattle.cjc_bytes.specs.Order.{FilePlace, file_of}
 use Rattle.cjc_bytes.specs.Refused.{method_text}

@@ -9,11 +9,11 @@ use Rattle.cjc_classfile.specs.declared.tree.ClassTree.{ClassTree}
 use Rattle.cjc_classfile.specs.declared.tree.MethodTree.{MethodTree}
 use Rattle.cjc_code.specs.declared.method_code.MethodCode.{MethodCode}
 use Rattle.cjc_bytes.specs.Breaks.{IsFirstOf, Break, Among, foremost, after}
-use Rattle.cjc_types.specs.declared.inference.InferError.{InferError}
-use Rattle.cjc_types.specs.declared.inference.InferError.TheVariants as errors
-use Rattle.cjc_types.specs.declared.table.TypeTable.{TypeTable}
-use Rattle.cjc_types.specs.Flow.{Body, body_of}
-use Rattle.cjc_types.specs.Tables.{IsMethodOf, IsAnswer}
+use Rattle.cjc_flow.specs.Types.declared.inference.InferError.{InferError}
+use Rattle.cjc_flow.specs.Types.declared.inference.InferError.TheVariants as errors
+use Rattle.cjc_flow.specs.Types.declared.table.TypeTable.{TypeTable}
+use Rattle.cjc_flow.specs.Types.Flow.{Body, body_of}
+use Rattle.cjc_flow.specs.Types.Tables.{IsMethodOf, IsAnswer}
 use Rattle.cjc_world.specs.Files.{Files}
 use Rattle.cjc_judge.specs.Rules.{method_break, BreaksMethod, IsFirstIn}
 use Rattle.cjc_bytes.proofs.Firsts.{first_of_one}

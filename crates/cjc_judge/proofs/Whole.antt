@@ -10,7 +10,7 @@ use Rattle.cjc_code.specs.declared.method_code.MethodCode.{MethodCode}
 use Rattle.cjc_world.specs.ExportFile.declared.tree.ExportTree.{ExportTree}
 use Rattle.cjc_list.specs.Listed.{ListTree}
 use Rattle.cjc_vtable.specs.Subset.Names.{name_breaks}
-use Rattle.cjc_types.specs.Tables.{IsOfPackage}
+use Rattle.cjc_flow.specs.Types.Tables.{IsOfPackage}
 use Rattle.cjc_world.specs.Files.{Files}
 use Rattle.cjc_world.specs.Rules.{breaks}
 use Rattle.cjc_bytes.specs.Breaks.{Break, IsFirstRefusal}

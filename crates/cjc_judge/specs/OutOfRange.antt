@@ -2,9 +2,9 @@
 use Rattle.std.specs.Prelude.{ℕ, List, Option, ℤ}
 use Rattle.cjc_bytes.specs.declared.breaks.BrokenAt.{BrokenAt}
 use Rattle.cjc_bytes.specs.declared.fault.MemberId.{MemberId}
-use Rattle.cjc_types.specs.declared.state.State.{State}
-use Rattle.cjc_types.specs.Flow.{Body}
-use Rattle.cjc_types.specs.Tables.{IsLeastTable, Breach}
+use Rattle.cjc_flow.specs.Types.declared.state.State.{State}
+use Rattle.cjc_flow.specs.Types.Flow.{Body}
+use Rattle.cjc_flow.specs.Types.Tables.{IsLeastTable, Breach}
 use Rattle.cjc_flow.specs.Intervals.Frames.{RangeState}
 use Rattle.cjc_flow.specs.Intervals.Tables.{IsLeastRanges}
 use Rattle.cjc_flow.specs.Tests.Answers.{IsFirstBroken}

@@ -30,8 +30,8 @@ use Rattle.cjc_vtable.specs.Subset.Checks.{check_breaks}
 use Rattle.cjc_clinit.specs.Rules.{BreaksImage}
 use Rattle.cjc_vtable.specs.Tokens.Rules.{tested_breaks}
 use Rattle.cjc_vtable.specs.Subset.Places.{at_method, of_code}
-use Rattle.cjc_types.specs.Flow.{Body, body_of}
-use Rattle.cjc_types.specs.Tables.{IsMethodOf, IsBrokenBy}
+use Rattle.cjc_flow.specs.Types.Flow.{Body, body_of}
+use Rattle.cjc_flow.specs.Types.Tables.{IsMethodOf, IsBrokenBy}
 use Rattle.cjc_judge.specs.OutOfRange.{IsOutOfRange}
 use Rattle.cjc_code.specs.PackageCodes.{all_codes}
 use Rattle.cjc_judge.specs.Codes.{all_unsupported_insns}

@@ -5,9 +5,9 @@ use Rattle.cjc_classfile.specs.Code.{CodeTree}
 use Rattle.cjc_classfile.specs.declared.tree.ClassTree.{ClassTree}
 use Rattle.cjc_classfile.specs.declared.tree.MethodTree.{MethodTree}
 use Rattle.cjc_code.specs.declared.method_code.MethodCode.{MethodCode}
-use Rattle.cjc_types.specs.Flow.{body_of}
-use Rattle.cjc_types.specs.Tables.{IsMethodOf, IsTypeTable}
-use Rattle.cjc_types.specs.declared.table.TypeTable.{TypeTable}
+use Rattle.cjc_flow.specs.Types.Flow.{body_of}
+use Rattle.cjc_flow.specs.Types.Tables.{IsMethodOf, IsTypeTable}
+use Rattle.cjc_flow.specs.Types.declared.table.TypeTable.{TypeTable}
 use Rattle.cjc_world.specs.Classes.{all_classes}
 use Rattle.cjc_world.specs.Files.{Files}
 use Rattle.cjc_judge.specs.declared.groups.Group.{Group}

@@ -8,7 +8,7 @@ ghost use Rattle.cjc_bytes.specs.Breaks.{Among, IsFirstOf, Break as Broken};
 ghost use Rattle.cjc_classfile.specs.Code.{CodeTree};
 ghost use Rattle.cjc_classfile.specs.declared.tree.ClassTree.{ClassTree};
 ghost use Rattle.cjc_classfile.specs.declared.tree.MethodTree.{MethodTree};
-ghost use Rattle.cjc_types.specs.Tables.{IsMethodOf, IsOfPackage};
+ghost use Rattle.cjc_flow.specs.Types.Tables.{IsMethodOf, IsOfPackage};
 ghost use Rattle.cjc_vtable.specs.Tokens.Rules.{tested_breaks};
 ghost use Rattle.cjc_judge.specs.Rules.{unsupported_break, unsupported_breaks, settings_of, method_break, BreaksType};
 ghost use Rattle.cjc_judge.specs.Rules.{BreaksAnyType, BreaksRange, BreaksAnyRange, IsFirstIn, IsFirstFault};
@@ -25,8 +25,8 @@ use cjc_bytes::{
     AppletLine, Break, BrokenAt, Bytes, Fault, NoMemory, Row, Settings, answer, file_of, first,
 };
 use cjc_code::{Codes, MethodCode};
+use cjc_flow::types::{InferError, TypeTable, infer_method};
 use cjc_list::List;
-use cjc_types::{InferError, TypeTable, infer_method};
 use cjc_vtable::subset::{class_spot, first_broken, method_spot};
 use cjc_vtable::tokens::first_high;
 use cjc_world::World;

@@ -36,9 +36,12 @@ ghost use Rattle.cjc_jvm_semantics.specs.Worked.{both, app_package, a_b, an_a, r
 ghost use Rattle.cjc_jvm_semantics.specs.Worked.{arrays_with};
 ghost use Rattle.cjc_jvm_semantics.specs.Wallet.{wallet_package, wallet_script, wallet_report};
 
+pub use cjc_bytes as bytes;
+pub use cjc_code as lower_bytecode;
 pub use cjc_code as bytecode;
-pub use cjc_code::classfile;
+pub use cjc_code::{classfile, classfile as lower_classfile};
 pub use cjc_script as script;
+pub use cjc_world as lower_world;
 pub use cjc_world as world;
 
 /// For every record of look-ups and every script: a run that is over stays as it is, however many instructions

@@ -2,7 +2,8 @@
 #![tactic(auto)]
 
 // Lower crates, for those above.
-pub use cjc_jvm_semantics::classfile;
+pub use cjc_jvm_semantics::{lower_bytecode as bytecode, lower_classfile as classfile};
+pub use cjc_script as script;
 
 pub mod frame;
 pub mod heap;

@@ -4,4 +4,5 @@ pub mod Wholes
 pub mod Texts
 pub mod Decided
 -- Lemmas of lower crates, for those above.
-pub use Rattle.cjc_bytes.proofs as Bytes
+pub use Rattle.cjc_bytes.proofs.TextLaws as BytesTextLaws
+pub use Rattle.cjc_bytes.proofs.WordLaws as BytesWordLaws

@@ -12,12 +12,12 @@ use Rattle.cjc_components.specs.JvmSemantics.OnePackage.{method_at}
 use Rattle.cjc_ncode.specs.declared.narrow.NMethod.{NMethod}
 use Rattle.cjc_ncode.specs.PoolOrder.{class_key, has_catch_type, insn_keys, is_some, method_keys, pool_order}
 use Rattle.cjc_ncode.specs.Written.{reached}
-use Rattle.cjc_components.proofs.Narrow.KeysLaws.Indices.{same_pool}
+use Rattle.cjc_components.proofs.NarrowIndices.{same_pool}
 use Rattle.cjc_components.specs.Narrow.Rows.Forms.{FormsOnly}
 use Rattle.cjc_components.specs.Narrow.Rows.Package.{code_of}
 use Rattle.cjc_components.specs.Narrow.Rows.Resolved.{is_near, resolution}
 use Rattle.cjc_components.specs.Narrow.Rows.Selected.{near_fields}
-use Rattle.cjc_components.proofs.Narrow.RowsLaws.Keys.{forms_only}
+use Rattle.cjc_components.proofs.NarrowKeys.{forms_only}
 use Rattle.cjc_components.specs.Written.{code_at, code_by}
 
 module _ (files : Files) (rows : Method → List (Option State)) (before after : List MemberId) where

@@ -14,7 +14,7 @@ use Rattle.cjc_world.specs.Classes.{Class, declared, field_of_class, method_of_c
 use Rattle.cjc_world.specs.Files.{Files}
 use Rattle.cjc_world.specs.Order.{methods_of_class}
 use Rattle.cjc_world.specs.Order as order
-use Rattle.cjc_components.proofs.VTable.Numbers.{at-tree}
+use Rattle.cjc_components.proofs.VTableNumbers.{at-tree}
 use Rattle.cjc_methods.specs.Working.Members.{own, places, written}
 
 pub places_next : (out : List Found) (class first k count : ℕ) (total : List Found) → k < count

@@ -4,7 +4,7 @@ use Rattle.std.proofs.Common.{length, drop, append_assoc, append-nil}
 use Rattle.std.specs.Prelude.{map, slice_get, Some}
 use Rattle.std.proofs.lemmas.List.{drop_all, length-map}
 use Rattle.std.proofs.lemmas.Option.{slice_get_within, get_or_from_slice_get}
-use Rattle.cjc_components.proofs.Narrow.WrittenLaws.Lists.{from_index}
+use Rattle.cjc_components.proofs.NarrowLists.{from_index}
 use Rattle.cjc_world.specs.declared.found.Found.{Found}
 use Rattle.cjc_world.specs.Classes.{Class, class_at}
 use Rattle.cjc_world.specs.Order.{methods_in_turn, methods_of_class}

@@ -13,7 +13,7 @@ use Rattle.cjc_world.specs.declared.found.Found.{Found}
 use Rattle.cjc_world.specs.Classes.{Member, Class, declared, all_classes, class_at}
 use Rattle.cjc_world.specs.Files.{Files}
 use Rattle.cjc_components.specs.Narrow.Rows.Resolved.{argument_words}
-use Rattle.cjc_components.proofs.VTable.Numbers.{at-tree}
+use Rattle.cjc_components.proofs.VTableNumbers.{at-tree}
 use Rattle.cjc_methods.specs.declared.method.Signature.{Signature}
 use Rattle.cjc_methods.specs.Ready.{AreReady, IsOwn}
 use Rattle.cjc_methods.specs.Working.Methods.{IsLike, added_in}

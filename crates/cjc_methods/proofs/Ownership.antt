@@ -8,7 +8,7 @@ use Rattle.cjc_world.specs.Classes.{Member, Class, all_classes, class_at}
 use Rattle.cjc_world.specs.Files.{Files}
 use Rattle.cjc_world.specs.Lookup.{member_at}
 use Rattle.cjc_world.specs.Order.{in_order, method_order, methods_in_turn, methods_of_class, places, written}
-use Rattle.cjc_components.proofs.VTable.Numbers.{at-kind}
+use Rattle.cjc_components.proofs.VTableNumbers.{at-kind}
 use Rattle.cjc_methods.specs.Ready.{AreOrdered, IsOwn}
 
 pub all_none : {X : Type 0} (P : X → Type 0) → All P []

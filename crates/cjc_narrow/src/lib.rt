@@ -2,6 +2,7 @@
 #![tactic(auto)]
 
 // Lower crates, for those above.
+pub use cjc_bytes as bytes;
 pub use cjc_ncode as ncode;
 
 pub mod keys;

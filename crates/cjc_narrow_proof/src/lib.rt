@@ -4,6 +4,7 @@
 // Lower crates, for those above.
 pub use cjc_emit as emit;
 pub use cjc_intervals as intervals;
+pub use cjc_subset as subset;
 pub use cjc_types as types;
 
 pub mod laws;

@@ -1,5 +1,5 @@
 pub mod LoweringLaws
 pub mod IntCode
 -- Lemmas of lower crates, for those above.
-pub use Rattle.cjc_code.proofs as Bytecode
-pub use Rattle.cjc_card_semantics.proofs as CardSemantics
+pub use Rattle.cjc_code.proofs.OneCut as BytecodeOneCut
+pub use Rattle.cjc_card_semantics.proofs.BytecodeLaws.Together as CardSemanticsTogether

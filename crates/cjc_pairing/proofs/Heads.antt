@@ -4,7 +4,7 @@ use Rattle.std.proofs.Common.{sym, ap, subst, ◌∙◌, arith, Option, Some, No
 use Rattle.std.specs.Prelude.{◌==◌, option_to_list}
 use Rattle.std.proofs.lemmas.Bool.Decides.{nat_tests}
 use Rattle.std.proofs.lemmas.List.{drop_more, drop_all}
-use Rattle.cjc_classes.proofs.Bytes.Firsts.{first_of_one}
+use Rattle.cjc_classes.proofs.BytesFirsts.{first_of_one}
 use Rattle.cjc_classes.specs.Bytes.Breaks.{Break, IsFirst, IsFirstOf}
 use Rattle.cjc_card_link.specs.CapRead.declared.tree.ClassDescriptor.{ClassDescriptor}
 use Rattle.cjc_classes.specs.Components.Paired.Pairs.{head_of, methods_spots}

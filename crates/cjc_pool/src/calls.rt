@@ -4,14 +4,14 @@
 ghost use Rattle.std.specs.Prelude.{◌≡◌, [], map, IfOk, OnOk};
 ghost use Rattle.std.specs.List.{flat_map};
 ghost use Rattle.indexmap.specs.IndexSet.{insert_all};
-ghost use Rattle.cjc_components.specs.NCode.PoolOrder.{same_key};
+ghost use Rattle.cjc_narrow.specs.NCode.PoolOrder.{same_key};
 ghost use Rattle.cjc_pool.specs.Working.Calls.{insn_calls, key_token, method_calls};
 
-use cjc_components::bytes::{NoMemory, Row};
-use cjc_components::narrow::keys::{Key, Numbers};
-use cjc_components::ncode::{NInsn, NMethod, PoolKey};
 use cjc_components::tokens::Tokens;
 use cjc_components::world::World;
+use cjc_narrow::bytes::{NoMemory, Row};
+use cjc_narrow::keys::{Key, Numbers};
+use cjc_narrow::ncode::{NInsn, NMethod, PoolKey};
 use std::alloc::Global;
 
 fn add_call(calls: &mut Numbers, alloc: Global, insn: &NInsn) -> Result<(), NoMemory>

@@ -1,15 +1,15 @@
 //! `Pool` as emitting asks it: the index of what an instruction or a handler names, by the keys of the pool.
 
 ghost use Rattle.std.specs.Prelude.{◌≡◌, position};
-ghost use Rattle.cjc_components.specs.NCode.PoolOrder.{same_key};
-ghost use Rattle.cjc_components.specs.NCode.declared.narrow.PoolKey.TheVariants as keys;
+ghost use Rattle.cjc_narrow.specs.NCode.PoolOrder.{same_key};
+ghost use Rattle.cjc_narrow.specs.NCode.declared.narrow.PoolKey.TheVariants as keys;
 ghost use Rattle.cjc_pool.specs.Pool.{token_in};
 
 use crate::pool::Pool;
-use cjc_components::bytes::MemberId;
 use cjc_components::emit::PoolLookup;
-use cjc_components::narrow::keys::Key;
-use cjc_components::ncode::PoolKey;
+use cjc_narrow::bytes::MemberId;
+use cjc_narrow::keys::Key;
+use cjc_narrow::ncode::PoolKey;
 
 impl PoolLookup for Pool {
     ghost pool_keys = { λ p. p.keys };

@@ -1,15 +1,15 @@
 //! The constant pool that a package's narrow code needs, made once and then looked up.
 
 ghost use Rattle.std.specs.Prelude.{◌≡◌, ◌≤◌, [], nat_lt, IfOk, IfErr, OnOk};
-ghost use Rattle.cjc_components.specs.Bytes.Breaks.{IsFirstRefusal, at, list_spot};
+ghost use Rattle.cjc_narrow.specs.Bytes.Breaks.{IsFirstRefusal, at, list_spot};
 ghost use Rattle.cjc_pool.specs.Pool.{IsPool, most_entries, pool_breaks};
 
 use crate::calls::{called, tokens_of};
-use cjc_components::bytes::{Fault, Row, RulePlace, answer, broken};
-use cjc_components::narrow::keys::{Numbers, number};
-use cjc_components::ncode::{NMethod, PoolKey};
 use cjc_components::tokens::Tokens;
 use cjc_components::world::World;
+use cjc_narrow::bytes::{Fault, Row, RulePlace, answer, broken};
+use cjc_narrow::keys::{Numbers, number};
+use cjc_narrow::ncode::{NMethod, PoolKey};
 use std::alloc::Global;
 use std::marker::Model;
 

@@ -5,7 +5,6 @@
 
 // Lower crates, for those above.
 pub use cjc_bytes as bytes;
-pub use cjc_list as list;
 pub use cjc_shelf as shelf;
 
 mod command;

@@ -14,9 +14,9 @@ pub use Rattle.cjc_shape.proofs.JudgeFirsts as JudgeFirsts
 pub use Rattle.cjc_shape.proofs.JudgeOneRefusal as JudgeOneRefusal
 pub use Rattle.cjc_shape.proofs.JudgePlaces as JudgePlaces
 pub use Rattle.cjc_shape.proofs.JudgedLaws.Called as ShapeCalled
-pub use Rattle.cjc_shape.proofs.WholeLaws.Ints as ShapeInts
-pub use Rattle.cjc_shape.proofs.WholeLaws.Drafts as ShapeDrafts
-pub use Rattle.cjc_shape.proofs.WholeLaws.One as ShapeOne
-pub use Rattle.cjc_shape.proofs.WholeLaws.Second as ShapeSecond
 pub use Rattle.cjc_shape.proofs.JudgedLaws.Selected as ShapeSelected
 pub use Rattle.cjc_shape.proofs.PreparedLaws.Sound as ShapeSound
+pub use Rattle.cjc_shape.proofs.WholeLaws.Drafts as ShapeDrafts
+pub use Rattle.cjc_shape.proofs.WholeLaws.Ints as ShapeInts
+pub use Rattle.cjc_shape.proofs.WholeLaws.One as ShapeOne
+pub use Rattle.cjc_shape.proofs.WholeLaws.Second as ShapeSecond

@@ -7,5 +7,5 @@ pub mod Unmet
 pub mod Callees
 pub mod Fits
 -- Lemmas of lower crates, for those above.
-pub use Rattle.cjc_code.proofs.Range as Range
-pub use Rattle.cjc_code.proofs as Bytecode
+pub use Rattle.cjc_code.proofs.RangeWords as RangeWords
+pub use Rattle.cjc_code.proofs.ReadLaws.Members as BytecodeMembers

@@ -5,11 +5,11 @@ ghost use Rattle.std.specs.Prelude.{IfOk};
 ghost use Rattle.cjc_types.specs.Tables.{IsOfPackage};
 
 use crate::files::{INTS, LANG, TYPES};
-use cjc_bytes::{Bytes, Fault, FileLine, NoMemory, Row, Settings};
-use cjc_subset::export_file::read as read_export;
+use cjc_subset::bytecode::{Codes, MethodCode, decode};
+use cjc_subset::bytes::{Bytes, Fault, FileLine, NoMemory, Row, Settings};
 use cjc_subset::{check, names};
-use cjc_types::bytecode::{Codes, MethodCode, decode};
 use cjc_types::classfile::read as read_class;
+use cjc_types::export_file::read as read_export;
 use cjc_types::world::World;
 use cjc_types::{Cell, Frame, Method, TypeTable, TypeWalk, infer};
 use std::alloc::Global;

@@ -4,7 +4,7 @@
 ghost use Rattle.std.specs.Prelude.{◌≡◌, ◌<◌, ◌^◌, [], ◌∷◌, false, length, map, filter, nat_lt, IfOk};
 ghost use Rattle.cjc_tests_rules.specs.Flows.Names.{union, edge};
 
-use cjc_bytes::{NoMemory, Row};
+use cjc_subset::bytes::{NoMemory, Row};
 use cjc_types::fixpoint::{Edge, Flow, Repeating, Walk, all_marks, moved_on, solve};
 use std::alloc::Global;
 use std::test::*;

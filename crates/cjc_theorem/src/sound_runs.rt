@@ -49,12 +49,12 @@ pub fn numbers_of_sound_packages_fit()
         → Passes (body_of class method tree code.insns) (rows_of (body_of class method tree code.insns) table) ranges }
 {}
 
-/// Of a list that was read and files that break no rule, over sound export files, each method has its least
-/// tables, where none with code works on int. So the run of the package's class files by name and the run of its
-/// narrow code agree, for every script: of the notes of any two runs one begins with the other; where the run by name of n instructions is
-/// not Running, the narrow run of at least 2n ends alike; where the narrow run of n is not Running, the run by
-/// name of at least 65,536 (n + 1) ends alike, each with the same outcome, heap and static cells; and neither
-/// is ever stuck. It is so of the package before its methods are laid out, whatever static image its
+/// Of a list that was read and files that break no rule, over sound export files, each method has its least tables,
+/// where none with code works on int. So the run of the package's class files by name and the run of its narrow code
+/// agree, for every script: of the notes of any two runs one begins with the other; where the run by name of n
+/// instructions is not Running, the narrow run of at least 2n ends alike; where the narrow run of n is not Running,
+/// the run by name of at least 65,536 (n + 1) ends alike, each with the same outcome, heap and static cells; and
+/// neither is ever stuck. It is so of the package before its methods are laid out, whatever static image its
 /// initialisers make, and of the package that is written.
 pub fn sound_packages_run_alike()
     ensures tabled { (list : ListTree) (files : List (List ℕ)) (judged : Judged) → IsRead list

@@ -26,7 +26,8 @@ mapped-there f [] i x lt is = absurd (omega arith)
 mapped-there f (y ∷ xs) zero x lt is = (omega arith, ap f is)
 mapped-there f (y ∷ xs) (suc i) x lt is = let r = mapped-there f xs i x (omega arith) is in (omega (arith, r.0), r.1)
 
-tokens-more : (exported : Bool) (shown : Signature → Option ℕ) (hidden : Slots) (ms : List Member) (i : ℕ) (rest : List Member) (m : Member)
+tokens-more : (exported : Bool) (shown : Signature → Option ℕ) (hidden : Slots) (ms : List Member) (i : ℕ)
+    (rest : List Member) (m : Member)
     → class_method_tokens exported shown hidden ms i (rest ++ m ∷ []) ≡ class_method_tokens exported shown hidden ms i
     rest ++ class_method_token exported shown hidden ms (i + length rest) m ∷ []
 unfolding class_method_tokens
@@ -38,7 +39,8 @@ tokens-more exported shown hidden ms i (g ∷ rest) m =
     ∙ ap (λ n. class_method_tokens exported shown hidden ms (i + 1) rest ++ class_method_token exported shown hidden
     ms n m ∷ []) e)
 
-pub tokens-next : (exported : Bool) (shown : Signature → Option ℕ) (hidden : Slots) (ms : List Member) (i : ℕ) (m : Member) → i < length ms
+pub tokens-next : (exported : Bool) (shown : Signature → Option ℕ) (hidden : Slots) (ms : List Member) (i : ℕ)
+    (m : Member) → i < length ms
     → m ≡ get_or ms i m → class_method_tokens exported shown hidden ms 0 (take (i + 1) ms)
     ≡ class_method_tokens exported shown hidden ms 0 (take i ms) ++ class_method_token exported shown hidden ms i m ∷ []
 tokens-next exported shown hidden ms i m lt is =

@@ -16,7 +16,8 @@ use Rattle.cjc_world.specs.Working.Places.{at_places}
 use Rattle.cjc_tokens.specs.declared.slot.Rows.{Rows}
 use Rattle.cjc_tokens.specs.Lines.{Imported}
 use Rattle.cjc_tokens.specs.Members.{Signature, signature_of, same, has, is_virtual, all_methods}
-use Rattle.cjc_tokens.specs.Slots.{Slots, first_answer, has_slot, new_in, with_new, listed_slots, meant_by, or_next, own}
+use Rattle.cjc_tokens.specs.Slots.{Slots, first_answer, has_slot, new_in, with_new, listed_slots, meant_by, or_next}
+use Rattle.cjc_tokens.specs.Slots.{own}
 use Rattle.cjc_tokens.specs.Slots.{told_in}
 use Rattle.cjc_tokens.specs.Working.{AreRowsOf, asked, overlay}
 use Rattle.cjc_tokens.proofs.Facts.{same-refl}
@@ -305,7 +306,8 @@ module _ (f : Class → Option ℕ) where
       assoc None b d = refl
       assoc (Some t) b d = refl
 
-  tells-again : (o : Option ℕ) (c : Class) (ds : List Class) → tells (acts tells (tells o c) ds) c ≡ acts tells (tells o c)
+  tells-again : (o : Option ℕ) (c : Class) (ds : List Class) → tells (acts tells (tells o c) ds) c ≡ acts tells
+      (tells o c)
       ds
   tells-again o c ds = ap (λ q. or_next q (f c)) (tells-all (tells o c) ds) ∙ same_answer o (f c) (first_answer f ds)
       ∙ sym (tells-all (tells o c) ds)
@@ -321,7 +323,8 @@ module _ (f : Class → Option ℕ) where
       ∙ tells-all None cs
 
 -- the tokens that a class and its supers list are those that each lists once
-pub told-once : (w : List Class) (c : Class) (xs : List (List ℕ)) (k : Supertypes) (s : Signature) → AreSupertypes w xs k
+pub told-once : (w : List Class) (c : Class) (xs : List (List ℕ)) (k : Supertypes) (s : Signature)
+    → AreSupertypes w xs k
     → first_answer (told_in s) (c ∷ once [] (upwards k)) ≡ first_answer (told_in s) (c ∷ upwards k)
 unfolding first_answer
 told-once w c xs k s is = ap (or_next (told_in s c)) (answer-once (told_in s) w (upwards k) (named-upwards w xs k is))

@@ -89,7 +89,8 @@ signatures-ids x (m ∷ given) = ap (λ q. signature_of m ∷ q) (signatures-ids
 pub shown-step : (c : Class) (given : List Member) (line : Line) (above one taken two three : List (Option Slot))
     → signs above ≡ slots line → methods_in above ≡ map (meant_by (implementing line)) (slots line)
     → Renewed c given false above one
-    → Taken (listed_token line) (methods_in above) (signatures is_shown c.methods) (implementing (Declared c given line))
+    → Taken (listed_token line) (methods_in above) (signatures is_shown c.methods)
+    (implementing (Declared c given line))
     one taken
     → Offered (signatures is_shown c.methods) (λ s. own is_shown s c) taken two
     → Offered (map signature_of given) (λ s. got given s c) two three
@@ -146,30 +147,35 @@ shown-step c given line above one taken two three above_slots above_methods r t 
         ap (λ q. map (λ s. own is_shown s c) (new_in q (signatures is_shown c.methods))) taken_are
         ∙ new_meant (λ s. own is_shown s c) (λ s. or_else (own is_shown s c) (or_else (got given s c)
         (implementing line s))) (new_in (taken_slots c line (slots line)) (signatures is_shown c.methods)) (λ s h.
-        let f = declared-found is_shown s c (new-offered (taken_slots c line (slots line)) (signatures is_shown c.methods) s h) in
+        let f = declared-found is_shown s c (new-offered (taken_slots c line (slots line))
+        (signatures is_shown c.methods) s h) in
         f.1 ∙ ap (λ q. or_else q (or_else (got given s c) (implementing line s))) (sym f.1))
 
     third_part : map (λ s. got given s c) (new_in (signs two) (map signature_of given))
         ≡ map (meant_by (λ s. or_else (own is_shown s c) (or_else (got given s c) (implementing line s))))
-        (map Some (new_in (with_new (taken_slots c line (slots line)) (signatures is_shown c.methods)) (map signature_of given)))
+        (map Some (new_in (with_new (taken_slots c line (slots line)) (signatures is_shown c.methods))
+        (map signature_of given)))
     third_part =
         ap (λ q. map (λ s. got given s c) (new_in q (map signature_of given))) two_slots
         ∙ new_meant (λ s. got given s c) (λ s. or_else (own is_shown s c) (or_else (got given s c)
         (implementing line s))) (new_in (with_new (taken_slots c line (slots line)) (signatures is_shown c.methods))
         (map signature_of given)) (λ s h.
-        let f = given-found given s c (new-offered (with_new (taken_slots c line (slots line)) (signatures is_shown c.methods))
+        let f = given-found given s c (new-offered (with_new (taken_slots c line (slots line))
+        (signatures is_shown c.methods))
         (map signature_of given) s h) in
         let none = own-none is_shown s c (chosen-none is_shown s c.methods
         (undeclared s h (has (signatures is_shown c.methods) s) refl)) in
         f.1 ∙ ap (λ q. or_else q (implementing line s)) (sym f.1)
         ∙ ap (λ q. or_else q (or_else (got given s c) (implementing line s))) (sym none))
       where
-        undeclared : (s : Signature) → has (new_in (with_new (taken_slots c line (slots line)) (signatures is_shown c.methods))
+        undeclared : (s : Signature) → has (new_in (with_new (taken_slots c line (slots line))
+            (signatures is_shown c.methods))
             (map signature_of given)) s ≡ true → (b : Bool) → has (signatures is_shown c.methods) s ≡ b
             → has (signatures is_shown c.methods) s ≡ false
         undeclared s h false e = e
         undeclared s h true e =
-            let no = new-fresh (with_new (taken_slots c line (slots line)) (signatures is_shown c.methods)) (map signature_of given) s
+            let no = new-fresh (with_new (taken_slots c line (slots line)) (signatures is_shown c.methods))
+            (map signature_of given) s
             (offered-has_slot (taken_slots c line (slots line)) (signatures is_shown c.methods) s e) in
             cc
 
@@ -186,11 +192,13 @@ shown-step c given line above one taken two three above_slots above_methods r t 
         ++ map (meant_by (implementing (Declared c given line)))
         (map Some (new_in (taken_slots c line (slots line)) (signatures is_shown c.methods))) ++ q) third_part
         ∙ ap (λ q. q ++ map (meant_by (implementing (Declared c given line)))
-        (map Some (new_in (with_new (taken_slots c line (slots line)) (signatures is_shown c.methods)) (map signature_of given))))
+        (map Some (new_in (with_new (taken_slots c line (slots line)) (signatures is_shown c.methods))
+        (map signature_of given))))
         (sym (map_append (meant_by (implementing (Declared c given line))) (taken_slots c line (slots line))
         (map Some (new_in (taken_slots c line (slots line)) (signatures is_shown c.methods)))))
         ∙ sym (map_append (meant_by (implementing (Declared c given line))) (with_new (taken_slots c line (slots line))
-        (signatures is_shown c.methods)) (map Some (new_in (with_new (taken_slots c line (slots line)) (signatures is_shown c.methods))
+        (signatures is_shown c.methods)) (map Some (new_in (with_new (taken_slots c line (slots line))
+        (signatures is_shown c.methods))
         (map signature_of given))))
 
 -- ---- the package-visible row

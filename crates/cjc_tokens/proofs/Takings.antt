@@ -37,7 +37,8 @@ takes-more listed methods ss s implements old row new t slots_are meant_are = re
 -- ---- a slot that is written
 
 pub meant-set : (implements : Signature → Option Found) (row : List (Option Slot)) (t : ℕ) (slot : Slot)
-    → slot.method ≡ implements (signature_in slot) → AreMeant implements row → AreMeant implements (set row t (Some slot))
+    → slot.method ≡ implements (signature_in slot) → AreMeant implements row → AreMeant implements
+    (set row t (Some slot))
 meant-set implements row t slot is a =
     map-set meant row t (Some slot)
     ∙ ap (λ q. set q t slot.method) a

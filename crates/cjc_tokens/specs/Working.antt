@@ -105,7 +105,8 @@ abbrev pub IsToldOf : Line → Told → Type 0
 IsToldOf line t = (s : Signature) → token_under t s ≡ listed_token line s
 
 -- the token where the first slot of the signature has this place, and the line has this method of it
-abbrev pub token_with : (listed : Option ℕ) → Slots → (method : Option Found) → Signature → (place : Option ℕ) → Option ℕ
+abbrev pub token_with : (listed : Option ℕ) → Slots → (method : Option Found) → Signature → (place : Option ℕ) →
+    Option ℕ
 token_with listed slots method s None = listed
 token_with listed slots method s (Some place) = if is_of_package (Some method) then Some (nearer listed slots s place)
     else listed

@@ -7,7 +7,8 @@ ghost use Rattle.cjc_world.specs.Classes.{all_classes, method_of_export};
 ghost use Rattle.cjc_world.specs.Working.Known.{class_of};
 ghost use Rattle.cjc_tokens.specs.Lines.{line_at};
 ghost use Rattle.cjc_tokens.specs.Members.{Signature};
-ghost use Rattle.cjc_tokens.specs.Slots.{first_answer, is_of_package, is_slot_of, nearer, or_next, shown_token, told_by};
+ghost use Rattle.cjc_tokens.specs.Slots.{first_answer, is_of_package, is_slot_of, nearer, or_next, shown_token};
+ghost use Rattle.cjc_tokens.specs.Slots.{told_by};
 ghost use Rattle.cjc_tokens.specs.Slots.{told_in};
 ghost use Rattle.cjc_tokens.specs.Working.{IsToldOf, signs, slot_token, token_meant, told_among, token_under};
 

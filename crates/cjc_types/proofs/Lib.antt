@@ -22,4 +22,4 @@ pub mod Upper
 pub mod Wrong
 pub mod TypeLaws
 -- Lemmas of lower crates, for those above.
-pub use Rattle.cjc_fixpoint.proofs as Fixpoint
+pub use Rattle.cjc_fixpoint.proofs.AllMarked as FixpointAllMarked

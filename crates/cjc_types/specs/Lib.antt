@@ -17,7 +17,6 @@ pub mod Walks
 pub mod Among
 pub mod TypeLaws
 -- Definitions of lower crates, for those above.
-pub use Rattle.cjc_bytes.specs as Bytes
 pub use Rattle.cjc_fixpoint.specs as Fixpoint
 pub use Rattle.cjc_classfile.specs as ClassFile
 pub use Rattle.cjc_code.specs as Bytecode

@@ -196,7 +196,8 @@ has-In (n ∷ ms) s e = by (same (signature_of n) s) refl e (has-In ms s)
 
 -- ---- the map of an interface
 
-pub map-found : (w : List Class) (shown : Signature → Option ℕ) (is : List Class) (name : List ℕ) (above : Option InterfaceMap)
+pub map-found : (w : List Class) (shown : Signature → Option ℕ) (is : List Class) (name : List ℕ)
+    (above : Option InterfaceMap)
     (i : Class) → interface_named is name ≡ Some i → map_in (map (interface_map w shown) is) name above
     ≡ Some (interface_map w shown i)
 map-found w shown [] name above i e = cc

@@ -23,7 +23,11 @@ pub mod SlotNames
 pub mod MapPlaces
 pub mod SlotLaws
 -- Lemmas of lower crates, for those above.
-pub use Rattle.cjc_subset.proofs.Range as Range
-pub use Rattle.cjc_order.proofs as ClassOrder
-pub use Rattle.cjc_subset.proofs as Subset
-pub use Rattle.cjc_tokens.proofs as Tokens
+pub use Rattle.cjc_subset.proofs.RangeWords as RangeWords
+pub use Rattle.cjc_order.proofs.ClassesLaws.Declared as ClassOrderDeclared
+pub use Rattle.cjc_order.proofs.ClassesLaws.Standing as ClassOrderStanding
+pub use Rattle.cjc_order.proofs.SupersLaws.Sets as ClassOrderSets
+pub use Rattle.cjc_subset.proofs.Any as SubsetAny
+pub use Rattle.cjc_subset.proofs.Codes as SubsetCodes
+pub use Rattle.cjc_tokens.proofs.Facts as TokensFacts
+pub use Rattle.cjc_tokens.proofs.Supers as TokensSupers

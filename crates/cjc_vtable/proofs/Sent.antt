@@ -1,5 +1,6 @@
 -- A package-visible method of an imported class: no class of the package stands in its way, by name or by token.
-use Rattle.std.proofs.Common.{◌≡◌, ℕ, zero, suc, ◌-◌, ◌≤◌, refl, sym, ap, subst, ◌∙◌, arith, Bool, true, false, List, [], ◌∷◌}
+use Rattle.std.proofs.Common.{◌≡◌, ℕ, zero, suc, ◌-◌, ◌≤◌, refl, sym, ap, subst, ◌∙◌, arith, Bool, true, false, List}
+use Rattle.std.proofs.Common.{[], ◌∷◌}
 use Rattle.std.specs.Prelude.{◌&&◌, ◌||◌, Option, Some, None, if◌then◌else◌, slice_get, map, option_map, ◌==◌, nat_lt}
 use Rattle.std.specs.Prelude.{not}
 use Rattle.std.proofs.lemmas.Bool.{eqb-true, eqb-false}
@@ -64,7 +65,8 @@ slot-passes s (Declared c given l) cs t slot told (past none p) h =
 
 -- a token that is nobody's goes on to the imported class
 none-passes : (w : List Class) (s : Signature) (line : Line) (cs : List Class) (t : ℕ) → IsTold line
-    → Passes s line cs → slice_get (listed_slots (all_methods cs)) t ≡ Some None → dispatched (tower w line) t ≡ first (own_by_token t) cs
+    → Passes s line cs → slice_get (listed_slots (all_methods cs)) t ≡ Some None → dispatched (tower w line) t ≡ first
+    (own_by_token t) cs
 none-passes w s line cs t told arrived h = refl
 none-passes w s (Declared c given l) cs t told (past none p) h =
     nobody (slot-passes s (Declared c given l) cs t None told (past none p) h)

@@ -5,10 +5,12 @@ use Rattle.std.specs.Prelude.{◌⊎◌, ◌&&◌, Option, Some, None, if◌then
 use Rattle.cjc_world.specs.declared.found.Found.{Found}
 use Rattle.cjc_world.specs.Classes.{Member, Class}
 use Rattle.cjc_world.specs.Lookup.{or_else}
-use Rattle.cjc_tokens.specs.Members.{Signature, signature_of, same, has, signatures, is_shown, all_methods, In, first_of}
+use Rattle.cjc_tokens.specs.Members.{Signature, signature_of, same, has, signatures, is_shown, all_methods, In}
+use Rattle.cjc_tokens.specs.Members.{first_of}
 use Rattle.cjc_tokens.specs.Members.{later}
 use Rattle.cjc_tokens.specs.Lines.{Line, Nowhere, Imported, Declared}
-use Rattle.cjc_tokens.specs.Slots.{Slots, first_answer, got, has_slot, holds, implementing, is_of_package, is_slot_of, listed_token}
+use Rattle.cjc_tokens.specs.Slots.{Slots, first_answer, got, has_slot, holds, implementing, is_of_package, is_slot_of}
+use Rattle.cjc_tokens.specs.Slots.{listed_token}
 use Rattle.cjc_tokens.specs.Slots.{nearer, new_in, or_next, own, row, shown_token, slots, taken_slots, told_by, told_in}
 use Rattle.cjc_tokens.specs.Slots.{token, token_among, token_by, with_new}
 use Rattle.cjc_vtable.specs.Calls.{IsProper, IsTold}
@@ -185,7 +187,8 @@ unfolding shown_token
 shown_meant line s = among-meant (listed_token line s) (slots line) (implementing line) s
 
 -- the token is the least place of a slot
-pub token-least : (all : Slots) (s : Signature) (p q : ℕ) → token all s ≡ Some p → slice_get all q ≡ Some (Some s) → p ≤ q
+pub token-least : (all : Slots) (s : Signature) (p q : ℕ) → token all s ≡ Some p → slice_get all q ≡ Some (Some s)
+    → p ≤ q
 token-least [] s p q e f = cc
 token-least (slot ∷ all) s p zero e f =
     let is : slot ≡ Some s = cc in

@@ -3,13 +3,10 @@
 #![tactic(auto)]
 
 // Lower crates, for those above.
-pub use cjc_bytes as bytes;
 pub use cjc_order as class_order;
 pub use cjc_subset as subset;
-pub use cjc_subset::range;
 pub use cjc_tokens as tokens;
 pub use cjc_world as world;
-pub use cjc_world::export_file;
 
 mod building;
 mod entries;

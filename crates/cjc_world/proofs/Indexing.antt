@@ -64,7 +64,17 @@ module _ (cs : List ClassTree) (es : List ExportTree) where
   }
 
   nothing : ExportClass
-  nothing = record { token = 0; flags = 0; name = []; listed = []; supers = []; interfaces = []; fields = []; methods = [] }
+  nothing = record {
+    token = 0;
+    flags = 0;
+    name = [];
+    listed = [];
+    supers = [];
+    interfaces = [];
+    fields = [];
+    methods
+        = [];
+  }
 
   taken : (xs : List ExportClass) (p : ℕ) (d : ExportClass) → p < length xs → slice_get xs p ≡ Some (get_or xs p d)
   taken [] p d l = absurd (omega arith)

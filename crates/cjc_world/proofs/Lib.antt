@@ -30,4 +30,4 @@ pub mod Once
 pub mod Called
 pub mod UpwardLaws
 -- Lemmas of lower crates, for those above.
-pub use Rattle.cjc_export.proofs as ExportFile
+pub use Rattle.cjc_export.proofs.Upwards as ExportFileUpwards

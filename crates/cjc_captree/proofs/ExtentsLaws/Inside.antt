@@ -12,7 +12,7 @@ use Rattle.cjc_world.specs.Classes.{Class, Member, all_classes, class_at, declar
 use Rattle.cjc_world.specs.Files.{Files}
 use Rattle.cjc_world.specs.Lookup.{member_at}
 use Rattle.cjc_world.specs.Order.{in_order, method_order, methods_in_turn, methods_of_class, places, written}
-use Rattle.cjc_components.proofs.VTable.Numbers.{at-tree}
+use Rattle.cjc_components.proofs.VTableNumbers.{at-tree}
 use Rattle.cjc_components.specs.Methods.{extent_at, extent_from, handler_count, is_member, method_size, nowhere}
 use Rattle.cjc_components.specs.Package.{LaidMethod}
 use Rattle.cjc_methods.specs.Ready.{AreOrdered}

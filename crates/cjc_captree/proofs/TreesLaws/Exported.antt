@@ -5,7 +5,7 @@ use Rattle.std.proofs.lemmas.Option.{slice_get-map}
 use Rattle.cjc_world.specs.ClassFile.declared.tree.ClassTree.{ClassTree}
 use Rattle.cjc_world.specs.Classes.{Class, class_at}
 use Rattle.cjc_world.specs.Lookup.{member_at}
-use Rattle.cjc_components.proofs.VTable.Numbers.{at-tree}
+use Rattle.cjc_components.proofs.VTableNumbers.{at-tree}
 use Rattle.cjc_components.specs.Methods.{method_offset}
 use Rattle.cjc_components.specs.Names.{class_ref}
 use Rattle.cjc_components.specs.Package.{Package, world}

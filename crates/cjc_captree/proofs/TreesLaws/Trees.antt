@@ -19,7 +19,7 @@ use Rattle.cjc_components.specs.Statics.{cell_offset, static_field}
 use Rattle.cjc_classes.specs.Entries as entries
 use Rattle.cjc_classes.specs.Descriptor.Keys.{key_cell}
 use Rattle.cjc_captree.specs.Trees.Working.{HasComponents}
-use Rattle.cjc_classes.proofs.Tokens.Steps.{map_same}
+use Rattle.cjc_classes.proofs.TokensSteps.{map_same}
 
 -- the cells by key
 pub cells_by_key : (p : Package) (ks : List PoolKey) → map (key_cell (cell_offset p.image)) ks

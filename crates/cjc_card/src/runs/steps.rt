@@ -13,10 +13,10 @@ ghost use Rattle.cjc_card.specs.Runs.Steps.{after_deed, made_by, most_after, mos
 use crate::turns::{After, Machine};
 use cjc_card_frame::frames::Frame;
 use cjc_card_frame::parts::LookUps;
+use cjc_card_semantics::bytes::NoMemory;
 use cjc_card_semantics::capread::decoder::Insn;
 use cjc_card_step::effects::Deed;
 use cjc_card_step::steps::{Step, execute};
-use cjc_script::bytes::NoMemory;
 use std::alloc::Global;
 
 // An instruction of a frame, on the heap and the static cells.
@@ -32,8 +32,10 @@ fn act_on<'a, L: LookUps>(
     requires front { (bytes : List ℕ) × IsAtFront insn bytes }
     requires few { objects_at_most machine.old < 2 ^ 32 }
     ensures next { IfOk result (λ step. (had : List FrameByToken) →
-        made_by (L.loaded links.now) (instruction_of insn.entry) frame.old machine.old.frames (with_frames had machine.old)
-        ≡ after_deed (L.loaded links.now) step.deed step.to (frame.old.at + insn.entry.size) frame.new machine.new.frames (with_frames had machine.new)) }
+        made_by (L.loaded links.now) (instruction_of insn.entry) frame.old machine.old.frames
+        (with_frames had machine.old)
+        ≡ after_deed (L.loaded links.now) step.deed step.to (frame.old.at + insn.entry.size) frame.new
+        machine.new.frames (with_frames had machine.new)) }
     ensures most { IfOk result (λ step. objects_at_most machine.new ≤ most_after step.deed
         (objects_at_most machine.old)) }
     ensures spent { OnOk result (machine.new.spent ≡ machine.old.spent) }
@@ -61,7 +63,8 @@ fn follow<'a, L: LookUps>(
 ) -> Result<After, NoMemory>
     requires { most_behind step.deed (objects_at_most machine.old) ≤ 2 ^ 32 }
     ensures next { IfOk result (λ after. (had : List FrameByToken) →
-        Leads had (after_deed (L.loaded links.now) step.entry.deed step.entry.to next frame machine.old.frames (with_frames had machine.old)) after machine.new) }
+        Leads had (after_deed (L.loaded links.now) step.entry.deed step.entry.to next frame machine.old.frames
+        (with_frames had machine.old)) after machine.new) }
     ensures most { OnOk result (objects_at_most machine.new ≤ most_behind step.entry.deed
         (objects_at_most machine.old)) }
     ensures spent { OnOk result (machine.new.spent ≡ machine.old.spent) }
@@ -92,7 +95,9 @@ fn fetch<L: LookUps>(
 ) -> Result<After, NoMemory>
     requires { objects_at_most machine.old < 2 ^ 32 }
     ensures next { IfOk result (λ after. (had : List FrameByToken) →
-        Leads had (turn_after_fetch (by_token (L.loaded links.now)) ((by_token (L.loaded links.now)).fetch first.code first.at) first machine.old.frames (with_frames had machine.old)) after machine.new) }
+        Leads had (turn_after_fetch (by_token (L.loaded links.now))
+        ((by_token (L.loaded links.now)).fetch first.code first.at) first machine.old.frames
+        (with_frames had machine.old)) after machine.new) }
     ensures most { OnOk result (objects_at_most machine.new ≤ objects_at_most machine.old + 1) }
     ensures spent { OnOk result (machine.new.spent ≡ machine.old.spent) }
 {
@@ -115,7 +120,8 @@ pub(crate) fn step<L: LookUps>(
     requires few { objects_at_most machine.old < 2 ^ 32 }
     requires count { machine.old.spent + 1 < 2 ^ 32 }
     ensures next { IfOk result (λ after. (had : List FrameByToken) →
-        Leads had (step (by_token (L.loaded links.now)) (frame ∷ machine.old.frames) (with_frames had machine.old)) after machine.new) }
+        Leads had (step (by_token (L.loaded links.now)) (frame ∷ machine.old.frames) (with_frames had machine.old))
+        after machine.new) }
     ensures most { OnOk result (objects_at_most machine.new ≤ objects_at_most machine.old + 1) }
     ensures spent { OnOk result (machine.new.spent ≤ machine.old.spent + 1) }
 {

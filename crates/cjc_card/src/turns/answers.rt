@@ -23,9 +23,9 @@ use crate::turns::notes::event;
 use cjc_card_frame::frame::words::{high_word, low_word, spelt_by};
 use cjc_card_frame::frames::Frame;
 use cjc_card_frame::parts::{ImportedMethod, LookUps};
+use cjc_card_semantics::bytes::{NoMemory, Row};
 use cjc_card_step::effects::Returned;
 use cjc_jvm::acts::{Sort, signature_of};
-use cjc_script::bytes::{NoMemory, Row};
 use cjc_script::{Answer, Note, Outcome, Reply, Value};
 use std::alloc::Global;
 
@@ -76,7 +76,8 @@ fn resume(frame: &mut Frame, words: Returned) -> Result<bool, NoMemory>
 // A result goes to the frame that called, where its stack has room. `from` is the offset at which the state is stuck.
 fn hand_over(from: u32, words: Returned, caller: Frame) -> Result<After, NoMemory>
     ensures { IfOk result (λ after. (l : Loaded) (had outer : List FrameByToken) (s : StateByToken) →
-        Leads had (returned (by_token l) from (words_in words) caller outer (with_frames had s)) after (with_frames outer s)) }
+        Leads had (returned (by_token l) from (words_in words) caller outer (with_frames had s)) after
+        (with_frames outer s)) }
 {
     let mut frame = caller;
     if resume(&mut frame, words)? {
@@ -98,7 +99,8 @@ impl<'a> Machine<'a> {
     /// A method returns to the frame that called, or ends its entry.
     pub fn give_back(&mut self, frame: Frame, words: Returned) -> Result<After, NoMemory>
         ensures next { IfOk result (λ after. (l : Loaded) (had : List FrameByToken) →
-            Leads had (left (by_token l) (words_in words) frame self.old.frames (with_frames had self.old)) after self.new) }
+            Leads had (left (by_token l) (words_in words) frame self.old.frames (with_frames had self.old)) after
+            self.new) }
         ensures most { OnOk result (objects_at_most self.new ≡ objects_at_most self.old) }
         ensures spent { OnOk result (self.new.spent ≡ self.old.spent) }
     {
@@ -122,7 +124,8 @@ impl<'a> Machine<'a> {
     ) -> Result<After, NoMemory>
         requires { objects_at_most self.old < 2 ^ 32 }
         ensures next { IfOk result (λ after. (had : List FrameByToken) →
-            Leads had (turn_after_reply (by_token (L.loaded links.now)) answer.now.reply answer.now.number (option_map sort_meant sort.entry) frame self.old.frames (with_frames had self.old)) after self.new) }
+            Leads had (turn_after_reply (by_token (L.loaded links.now)) answer.now.reply answer.now.number
+            (option_map sort_meant sort.entry) frame self.old.frames (with_frames had self.old)) after self.new) }
         ensures most { OnOk result (objects_at_most self.new ≤ objects_at_most self.old + 1) }
         ensures spent { OnOk result (self.new.spent ≡ self.old.spent) }
     {
@@ -151,7 +154,8 @@ impl<'a> Machine<'a> {
     ) -> Result<After, NoMemory>
         requires { objects_at_most self.old < 2 ^ 32 }
         ensures next { IfOk result (λ after. (had : List FrameByToken) →
-            Leads had (turn_after_answer (by_token (L.loaded links.now)) self.old.answers (option_map sort_meant sort.entry) frame self.old.frames (with_frames had self.old)) after self.new) }
+            Leads had (turn_after_answer (by_token (L.loaded links.now)) self.old.answers
+            (option_map sort_meant sort.entry) frame self.old.frames (with_frames had self.old)) after self.new) }
         ensures most { OnOk result (objects_at_most self.new ≤ objects_at_most self.old + 1) }
         ensures spent { OnOk result (self.new.spent ≡ self.old.spent) }
     {
@@ -178,7 +182,9 @@ impl<'a> Machine<'a> {
     ) -> Result<After, NoMemory>
         requires { objects_at_most self.old < 2 ^ 32 }
         ensures next { IfOk result (λ after. (had : List FrameByToken) →
-            Leads had (turn_after_event (by_token (L.loaded links.now)) (method_id method.entry) (option_map sort_meant sort.entry) values frame self.old.frames (with_frames had self.old)) after self.new) }
+            Leads had (turn_after_event (by_token (L.loaded links.now)) (method_id method.entry)
+            (option_map sort_meant sort.entry) values frame self.old.frames (with_frames had self.old)) after
+            self.new) }
         ensures most { OnOk result (objects_at_most self.new ≤ objects_at_most self.old + 1) }
         ensures spent { OnOk result (self.new.spent ≡ self.old.spent) }
     {
@@ -202,7 +208,8 @@ impl<'a> Machine<'a> {
         requires words { All IsWord args.now }
         requires few { objects_at_most self.old < 2 ^ 32 }
         ensures next { IfOk result (λ after. (had : List FrameByToken) →
-            Leads had (outside (by_token (L.loaded links.now)) on_object (method_id method.entry) args.now frame self.old.frames (with_frames had self.old)) after self.new) }
+            Leads had (outside (by_token (L.loaded links.now)) on_object (method_id method.entry) args.now frame
+            self.old.frames (with_frames had self.old)) after self.new) }
         ensures most { OnOk result (objects_at_most self.new ≤ objects_at_most self.old + 1) }
         ensures spent { OnOk result (self.new.spent ≡ self.old.spent) }
     {

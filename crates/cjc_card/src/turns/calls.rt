@@ -15,8 +15,8 @@ use crate::turns::machine::Machine;
 use cjc_card_frame::frames::{Frame, arguments};
 use cjc_card_frame::jvm_step::frame::Exception;
 use cjc_card_frame::parts::{Callee, LookUps, Reached};
+use cjc_card_semantics::bytes::NoMemory;
 use cjc_script::Value;
-use cjc_script::bytes::NoMemory;
 use std::alloc::Global;
 
 // The deepest word, where there is one.
@@ -40,7 +40,8 @@ impl<'a> Machine<'a> {
         requires words { All IsWord args.now }
         requires few { objects_at_most self.old < 2 ^ 32 }
         ensures next { IfOk result (λ after. (had : List FrameByToken) →
-            Leads had (reaches (by_token (L.loaded links.now)) (reached_of reached.entry) on_object args.now frame self.old.frames (with_frames had self.old)) after self.new) }
+            Leads had (reaches (by_token (L.loaded links.now)) (reached_of reached.entry) on_object args.now frame
+            self.old.frames (with_frames had self.old)) after self.new) }
         ensures most { OnOk result (objects_at_most self.new ≤ objects_at_most self.old + 1) }
         ensures spent { OnOk result (self.new.spent ≡ self.old.spent) }
     {
@@ -72,7 +73,8 @@ impl<'a> Machine<'a> {
         requires words { All IsWord args.now }
         requires few { objects_at_most self.old < 2 ^ 32 }
         ensures next { IfOk result (λ after. (had : List FrameByToken) →
-            Leads had (on_receiver (by_token (L.loaded links.now)) (callee_of callee.entry) args.now frame self.old.frames (with_frames had self.old)) after self.new) }
+            Leads had (on_receiver (by_token (L.loaded links.now)) (callee_of callee.entry) args.now frame
+            self.old.frames (with_frames had self.old)) after self.new) }
         ensures most { OnOk result (objects_at_most self.new ≤ objects_at_most self.old + 1) }
         ensures spent { OnOk result (self.new.spent ≡ self.old.spent) }
     {
@@ -102,7 +104,9 @@ impl<'a> Machine<'a> {
         requires words { All IsWord args.now }
         requires few { objects_at_most self.old < 2 ^ 32 }
         ensures next { IfOk result (λ after. (had : List FrameByToken) →
-            Leads had (with_args (by_token (L.loaded links.now)) ((by_token (L.loaded links.now)).on_object (callee_of callee.entry)) (callee_of callee.entry) args.now frame self.old.frames (with_frames had self.old)) after self.new) }
+            Leads had (with_args (by_token (L.loaded links.now))
+            ((by_token (L.loaded links.now)).on_object (callee_of callee.entry)) (callee_of callee.entry) args.now
+            frame self.old.frames (with_frames had self.old)) after self.new) }
         ensures most { OnOk result (objects_at_most self.new ≤ objects_at_most self.old + 1) }
         ensures spent { OnOk result (self.new.spent ≡ self.old.spent) }
     {
@@ -125,7 +129,9 @@ impl<'a> Machine<'a> {
     ) -> Result<After, NoMemory>
         requires { objects_at_most self.old < 2 ^ 32 }
         ensures next { IfOk result (λ after. (had : List FrameByToken) →
-            Leads had (counted (by_token (L.loaded links.now)) ((by_token (L.loaded links.now)).words (callee_of callee.entry)) (callee_of callee.entry) frame self.old.frames (with_frames had self.old)) after self.new) }
+            Leads had (counted (by_token (L.loaded links.now))
+            ((by_token (L.loaded links.now)).words (callee_of callee.entry)) (callee_of callee.entry) frame
+            self.old.frames (with_frames had self.old)) after self.new) }
         ensures most { OnOk result (objects_at_most self.new ≤ objects_at_most self.old + 1) }
         ensures spent { OnOk result (self.new.spent ≡ self.old.spent) }
     {

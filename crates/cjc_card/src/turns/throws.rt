@@ -17,8 +17,8 @@ use cjc_card_frame::heap::{Class, Element, HeapObject, Shape};
 use cjc_card_frame::jvm_step::frame::{Exception, Pile};
 use cjc_card_frame::jvm_step::step::array_of;
 use cjc_card_frame::parts::LookUps;
+use cjc_card_semantics::bytes::{Bytes, NoMemory, Row};
 use cjc_script::Note;
-use cjc_script::bytes::{Bytes, NoMemory, Row};
 use std::alloc::Global;
 
 // The descriptor of an array of numbers.
@@ -63,7 +63,8 @@ fn handle<L: LookUps>(
     kind: Shape,
 ) -> Result<Handling, NoMemory>
     ensures { IfOk result (λ h. (from : ℕ) (outer : List FrameByToken) (s : StateByToken) (past : TurnByToken) →
-        caught_at (by_token (L.loaded links.now)) ((by_token (L.loaded links.now)).handler frame.old.code frame.old.at (shape_of kind)) from frame.old outer object s past ≡ handled h from frame.new outer s past) }
+        caught_at (by_token (L.loaded links.now)) ((by_token (L.loaded links.now)).handler frame.old.code frame.old.at
+        (shape_of kind)) from frame.old outer object s past ≡ handled h from frame.new outer s past) }
 {
     match links.handler(frame.code, frame.at, kind) {
         Some(target) => {
@@ -88,7 +89,8 @@ fn throw<L: LookUps>(
     kind: Shape,
 ) -> Result<After, NoMemory>
     ensures { IfOk result (λ after. (s : StateByToken) → s.notes ≡ notes.old →
-        Leads s.frames (caught (by_token (L.loaded links.now)) first.at (first ∷ callers.old) object (shape_of kind) s) after (record s { frames = callers.new; notes = notes.new })) }
+        Leads s.frames (caught (by_token (L.loaded links.now)) first.at (first ∷ callers.old) object (shape_of kind)
+        s) after (record s { frames = callers.new; notes = notes.new })) }
 {
     let from = first.at;
     let mut frame = first;
@@ -120,7 +122,8 @@ impl<'a> Machine<'a> {
     ) -> Result<After, NoMemory>
         requires { objects_at_most self.old < 2 ^ 32 }
         ensures next { IfOk result (λ after. (had : List FrameByToken) (otherwise : TurnByToken) →
-            Leads had (turn_after_raise (by_token (L.loaded links.now)) (Some (class_of class)) frame self.old.frames (with_frames had self.old) otherwise) after self.new) }
+            Leads had (turn_after_raise (by_token (L.loaded links.now)) (Some (class_of class)) frame self.old.frames
+            (with_frames had self.old) otherwise) after self.new) }
         ensures most { OnOk result (objects_at_most self.new ≤ objects_at_most self.old + 1) }
         ensures spent { OnOk result (self.new.spent ≡ self.old.spent) }
     {
@@ -147,7 +150,8 @@ impl<'a> Machine<'a> {
     ) -> Result<After, NoMemory>
         requires { objects_at_most self.old < 2 ^ 32 }
         ensures next { IfOk result (λ after. (had : List FrameByToken) →
-            Leads had (turn_after_fault (by_token (L.loaded links.now)) (fault_of exception) frame self.old.frames (with_frames had self.old)) after self.new) }
+            Leads had (turn_after_fault (by_token (L.loaded links.now)) (fault_of exception) frame self.old.frames
+            (with_frames had self.old)) after self.new) }
         ensures most { OnOk result (objects_at_most self.new ≤ objects_at_most self.old + 1) }
         ensures spent { OnOk result (self.new.spent ≡ self.old.spent) }
     {
@@ -166,7 +170,8 @@ impl<'a> Machine<'a> {
         object: u32,
     ) -> Result<After, NoMemory>
         ensures next { IfOk result (λ after. (had : List FrameByToken) →
-            Leads had (turn_after_toss (by_token (L.loaded links.now)) (slice_get (heap_of self.old) object) frame self.old.frames object (with_frames had self.old)) after self.new) }
+            Leads had (turn_after_toss (by_token (L.loaded links.now)) (slice_get (heap_of self.old) object) frame
+            self.old.frames object (with_frames had self.old)) after self.new) }
         ensures most { OnOk result (objects_at_most self.new ≤ objects_at_most self.old) }
         ensures spent { OnOk result (self.new.spent ≡ self.old.spent) }
     {

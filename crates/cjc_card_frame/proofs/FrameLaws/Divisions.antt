@@ -5,7 +5,7 @@ use Rattle.std.specs.Prelude.{Option, Some, if◌then◌else◌}
 use Rattle.cjc_script.specs.declared.value.Value.{Value}
 use Rattle.cjc_script.specs.declared.value.Value.TheVariants.{Num}
 use Rattle.cjc_card_semantics.specs.Range.Words.{wide, low_word}
-use Rattle.cjc_card_semantics.proofs.Range.WordsLaws.Words.{low_word-wide}
+use Rattle.cjc_card_semantics.proofs.RangeWords.{low_word-wide}
 use Rattle.cjc_card_semantics.specs.Bytecode.Numbers.{is_zero}
 use Rattle.cjc_card_semantics.specs.Bytecode.Calculations.{Result, Fine, Fails, Wrong, Arithmetic, divided}
 use Rattle.cjc_card_frame.specs.Frame.Frames.{numbers_at}

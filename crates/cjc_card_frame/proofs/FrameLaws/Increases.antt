@@ -4,7 +4,7 @@ use Rattle.std.specs.Prelude.{Option, Some, None, slice_get, slice_set}
 use Rattle.cjc_script.specs.declared.value.Value.{Value}
 use Rattle.cjc_script.specs.declared.value.Value.TheVariants.{Num, Null, Obj}
 use Rattle.cjc_card_semantics.specs.Range.Words.{wide, low_word}
-use Rattle.cjc_card_semantics.proofs.Range.WordsLaws.Words.{low_word-wide}
+use Rattle.cjc_card_semantics.proofs.RangeWords.{low_word-wide}
 use Rattle.cjc_card_semantics.specs.Bytecode.Numbers.{high_word, spelt_by}
 use Rattle.cjc_card_semantics.specs.Bytecode.Calculations.{Result, Fine, Wrong, number_in, increased, int_increased}
 use Rattle.cjc_card_semantics.specs.Bytecode.Effects.{with_some}

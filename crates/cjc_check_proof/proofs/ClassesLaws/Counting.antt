@@ -172,7 +172,8 @@ module _ (list : List ℕ) (p : Package) (sound : IsSound list p.files) where
       let long : length c.fields ≡ length fields = length-map t.fields field_of_class
       ∙ sym (fields_long ex t.fields 0 t.fields) in
       let tokens_are : method_tokens w ex c ≡ own =
-      ap (λ b. if b then own else class_method_tokens ex (shown_token (line_at w c)) (hidden_slots (line_at w c)) c.methods 0
+      ap (λ b. if b then own else class_method_tokens ex (shown_token (line_at w c)) (hidden_slots (line_at w c))
+      c.methods 0
       c.methods ++ map (λ m. shown_token (line_at w c) (signature_of m)) (added w c)) kind in
       let there : slice_get all.members (length c.fields + j) ≡ option_map (interface_token ss)
       (slice_get c.methods j) =

@@ -202,7 +202,8 @@ module _ (exported : Bool) (shown : Signature → Option ℕ) (hidden : Slots) (
   method_row k (n ∷ rest) (suc i) m e = let s : k + 1 + i ≡ k + suc i = omega arith in method_row (k + 1) rest i m e
       ∙ ap (λ j. Some (class_method_token exported shown hidden ms j m)) s
 
-open_method : (shown : Signature → Option ℕ) (hidden : Slots) (ms : List Member) (i : ℕ) (m : Member) → is_open_bound m ≡ true
+open_method : (shown : Signature → Option ℕ) (hidden : Slots) (ms : List Member) (i : ℕ) (m : Member) → is_open_bound
+    m ≡ true
     → class_method_token true shown hidden ms i m ≡ Some (count_by is_open_bound (take i ms))
 unfolding class_method_token
 open_method shown hidden ms i m e =

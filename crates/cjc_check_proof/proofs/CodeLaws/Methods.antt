@@ -15,10 +15,10 @@ use Rattle.cjc_ncode.specs.Lowering.Placed.{bytes_before, code_bytes, first, IsS
 use Rattle.cjc_ncode.proofs.LoweringLaws.Bytes.{AllSized, drop_drop, length_spelt}
 use Rattle.cjc_ncode.proofs.LoweringLaws.Packed.{code_length}
 use Rattle.cjc_ncode.proofs.LoweringLaws.Places.{size_same}
-use Rattle.cjc_components.proofs.LowerLayout.Lowered.{before_same}
+use Rattle.cjc_components.proofs.LayoutLowered.{before_same}
 use Rattle.cjc_components.specs.Emit.Emitted.{CanBeWritten, header_bytes}
 use Rattle.cjc_components.specs.Emit.Emitted as Emitted
-use Rattle.cjc_components.proofs.Emit.Shifted.{laid_shift}
+use Rattle.cjc_components.proofs.EmitShifted.{laid_shift}
 use Rattle.cjc_components.specs.Package.{LaidMethod}
 use Rattle.cjc_components.specs.Methods.{bytecode_count, header_of, method_size, placed_at, placed_from}
 use Rattle.cjc_token_proof.proofs.ComponentsLaws.Tests.{same_number}

@@ -11,7 +11,7 @@ use Rattle.cjc_ncode.specs.declared.narrow.NInsn.{NInsn}
 use Rattle.cjc_ncode.specs.Lowering.Naming.{Naming}
 use Rattle.cjc_ncode.specs.Lowering.Placed.{bytes_before, first, insn_size, offset_of}
 use Rattle.cjc_ncode.proofs.LoweringLaws.Places.{at_least_one, before_ascends, before_grows, before_over}
-use Rattle.cjc_components.proofs.LowerLayout.Lowered.{before_same}
+use Rattle.cjc_components.proofs.LayoutLowered.{before_same}
 use Rattle.cjc_components.specs.Emit.Emitted.{CanBeWritten}
 use Rattle.cjc_components.specs.Emit.Emitted as Emitted
 use Rattle.cjc_components.specs.Package.{LaidMethod}

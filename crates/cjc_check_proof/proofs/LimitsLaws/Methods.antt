@@ -15,7 +15,7 @@ use Rattle.cjc_capwrite.proofs.Lengths.{method_length}
 use Rattle.cjc_components.specs.Narrow.Keys.Index.{index_of}
 use Rattle.cjc_components.specs.Layout.Handlers.{table_order}
 use Rattle.cjc_components.specs.Layout.Sizes as Sizes
-use Rattle.cjc_components.proofs.LowerLayout.Lowered.{before_same}
+use Rattle.cjc_components.proofs.LayoutLowered.{before_same}
 use Rattle.cjc_ncode.specs.Lowering.Handlers.{handlers_of}
 use Rattle.cjc_ncode.specs.Lowering.Laid.{class_index, laid}
 use Rattle.cjc_ncode.proofs.LoweringLaws.Places.{size_same}

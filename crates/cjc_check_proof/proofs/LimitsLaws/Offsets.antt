@@ -15,7 +15,7 @@ use Rattle.cjc_ncode.specs.declared.narrow.NMethod.{NMethod}
 use Rattle.cjc_ncode.specs.PoolOrder.{same_member}
 use Rattle.cjc_ncode.specs.Lowering.Placed.{short_header, extended_header}
 use Rattle.cjc_components.specs.Emit.Emitted.{is_short}
-use Rattle.cjc_components.proofs.LowerLayout.Places.{all_wide}
+use Rattle.cjc_components.proofs.LayoutPlaces.{all_wide}
 use Rattle.cjc_components.specs.Limits.{widest_method}
 use Rattle.cjc_components.specs.Package.{LaidMethod, Package, world}
 use Rattle.cjc_components.specs.Class.{fields_of}

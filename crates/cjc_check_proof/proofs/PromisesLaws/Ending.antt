@@ -13,7 +13,7 @@ use Rattle.cjc_world.specs.ClassFile.declared.tree.MethodTree.{MethodTree}
 use Rattle.std.proofs.lemmas.List.{length-map}
 use Rattle.cjc_ncode.specs.Bytecode.Cut.{cut, IsCutFrom}
 use Rattle.cjc_ncode.specs.Bytecode.Rules.{stopped, with_names}
-use Rattle.cjc_ncode.proofs.Bytecode.OneCut.{is_cut}
+use Rattle.cjc_ncode.proofs.BytecodeOneCut.{is_cut}
 use Rattle.cjc_ncode.specs.Bytecode.declared.insn.JInsn.{JInsn}
 use Rattle.cjc_ncode.specs.Bytecode.declared.insn.JOp.{JOp}
 use Rattle.cjc_ncode.specs.Bytecode.declared.insn.JOp.TheVariants as jop
@@ -32,9 +32,9 @@ use Rattle.cjc_narrow_proof.specs.Types.Flow.{body_of, next_place, successors}
 use Rattle.cjc_narrow_proof.specs.Types.Steps.{goes_on}
 use Rattle.cjc_narrow_proof.specs.Types.Tables.{IsLeastTable, IsMethodOf}
 use Rattle.cjc_narrow_proof.specs.Types.TypeLaws.Closed.{IsClosedTable}
-use Rattle.cjc_narrow_proof.proofs.Types.TypeLaws.Lowered.{least_closed}
-use Rattle.cjc_narrow_proof.proofs.Types.TypeLaws.Standing.{next_there}
-use Rattle.cjc_components.proofs.LowerLayout.Places.{get_inside}
+use Rattle.cjc_narrow_proof.proofs.TypesLowered.{least_closed}
+use Rattle.cjc_narrow_proof.proofs.TypesStanding.{next_there}
+use Rattle.cjc_components.proofs.LayoutPlaces.{get_inside}
 use Rattle.cjc_narrow_proof.proofs.SelectedLaws.Cuts.{decoded, few}
 use Rattle.cjc_check_rules.specs.Instructions.{ends_code}
 use Rattle.cjc_check_proof.specs.Code.Ends.{last_ends}

@@ -13,7 +13,7 @@ use Rattle.cjc_world.specs.ExportFile.Supers.{IsAtOrAbove, above, at, classes_of
 use Rattle.cjc_world.specs.ExportFile.Supers.{is_one_of}
 use Rattle.cjc_world.specs.ExportFile.Supers.{lists_virtual, upwards}
 use Rattle.cjc_world.specs.ExportFile.Supers as exports
-use Rattle.cjc_world.proofs.ExportFile.Upwards.{all_found, each_own}
+use Rattle.cjc_world.proofs.ExportFileUpwards.{all_found, each_own}
 use Rattle.cjc_check_rules.specs.Members.{class_has, in_imported}
 use Rattle.cjc_world.specs.declared.found.Found.{Found}
 use Rattle.cjc_world.specs.Classes.{Class, Member, class_named, imported, method_of_export}

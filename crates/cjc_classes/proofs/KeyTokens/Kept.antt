@@ -21,7 +21,7 @@ use Rattle.cjc_tokens.specs.Slots.{Slots, hidden_slots, shown_token, token}
 use Rattle.cjc_tokens.specs.Tokens.{OfClass, assigned, classes_from, joined, method_tokens, of_class, one_more}
 use Rattle.cjc_tokens.specs.Tokens.{token_of_member}
 use Rattle.cjc_tokens.proofs.Held.{at_front}
-use Rattle.cjc_components.proofs.VTable.SlotNames.{get-behind}
+use Rattle.cjc_components.proofs.VTableSlotNames.{get-behind}
 
 class_row : (w : List Class) (applets : Bool) (b m : ℕ) (cs : List ClassTree) (n : ℕ) (c : ClassTree)
     → slice_get cs n ≡ Some c → (a : ℕ) × (slice_get (classes_from w applets b m cs) n
@@ -43,7 +43,8 @@ unfolding field_tokens
 fields_long exported fs i [] = refl
 fields_long exported fs i (f ∷ rest) = ap suc (fields_long exported fs (i + 1) rest)
 
-method_row : (exported : Bool) (shown : Signature → Option ℕ) (hidden : Slots) (ms : List Member) (i : ℕ) (rest : List Member) (k : ℕ)
+method_row : (exported : Bool) (shown : Signature → Option ℕ) (hidden : Slots) (ms : List Member) (i : ℕ)
+    (rest : List Member) (k : ℕ)
     (m : Member) → slice_get rest k ≡ Some m
     → slice_get (class_method_tokens exported shown hidden ms i rest) k ≡ Some (class_method_token exported shown hidden
     ms (i + k) m)
@@ -59,7 +60,8 @@ method_row exported shown hidden ms i (x ∷ rest) (suc k) m e =
     method_row exported shown hidden ms (i + 1) rest k m e
     ∙ ap (λ j. Some (class_method_token exported shown hidden ms j m)) s
 
-rows_long : (exported : Bool) (shown : Signature → Option ℕ) (hidden : Slots) (ms : List Member) (i : ℕ) (rest : List Member)
+rows_long : (exported : Bool) (shown : Signature → Option ℕ) (hidden : Slots) (ms : List Member) (i : ℕ)
+    (rest : List Member)
     → length (class_method_tokens exported shown hidden ms i rest) ≡ length rest
 unfolding class_method_tokens
 rows_long exported shown hidden ms i [] = refl

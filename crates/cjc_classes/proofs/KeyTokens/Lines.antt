@@ -16,7 +16,7 @@ use Rattle.cjc_tokens.specs.Slots.{with_all_taken, with_new, with_taken}
 use Rattle.cjc_tokens.specs.Working.{token_meant, token_with}
 use Rattle.cjc_tokens.proofs.Facts.{chosen-none, got-none, own-none, same-true}
 use Rattle.cjc_tokens.proofs.Held.{new-offered, token-cons, token-nil}
-use Rattle.cjc_components.proofs.VTable.Shown.{shown_meant}
+use Rattle.cjc_components.proofs.VTableShown.{shown_meant}
 use Rattle.cjc_components.specs.VTable.Calls.{any_method, finds_hidden, passes}
 use Rattle.cjc_classes.specs.Walks.{TellsHidden, hidden_token}
 

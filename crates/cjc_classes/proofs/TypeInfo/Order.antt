@@ -16,7 +16,7 @@ use Rattle.cjc_world.specs.Order.{class_order}
 use Rattle.cjc_components.specs.NCode.declared.narrow.PoolKey.{PoolKey}
 use Rattle.cjc_components.specs.ClassOrder.Supers.Supers.{each_once}
 use Rattle.cjc_components.specs.ClassOrder.Supers.Working.Walk.{with_all}
-use Rattle.cjc_components.proofs.ClassOrder.SupersLaws.Sets.{all_append, all_once}
+use Rattle.cjc_components.proofs.ClassOrderSets.{all_append, all_once}
 use Rattle.cjc_components.specs.Class.{fields_in}
 use Rattle.cjc_components.specs.Package.{Package, pool, world}
 use Rattle.cjc_components.specs.Names.{class_ref}

@@ -12,7 +12,7 @@ use Rattle.cjc_cmd_card.specs.declared.running.input.Input.{Input}
 use Rattle.cjc_cmd_card.specs.declared.running.ready.Ready.{Ready}
 use Rattle.cjc_judge.specs.Clinit.Image.{IsImage}
 use Rattle.cjc_judge.specs.Clinit.Rules.{BreaksImage}
-use Rattle.cjc_judge.proofs.Clinit.OneImage.{one-image}
+use Rattle.cjc_judge.proofs.ClinitOneImage.{one-image}
 use Rattle.cjc_judge.specs.Bytecode.PackageCodes.{all_codes}
 use Rattle.cjc_judge.specs.Bytecode.declared.method_code.MethodCode.{MethodCode}
 use Rattle.cjc_judge.specs.declared.groups.Group.TheVariants as groups

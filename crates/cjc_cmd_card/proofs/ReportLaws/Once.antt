@@ -2,7 +2,7 @@
 use Rattle.std.proofs.Common.{◌≡◌, inl, inr, ℕ, ◌≤◌, List, [], ◌∷◌, Result, Some, Ok, Err, refl, sym, ap, subst, ◌∙◌}
 use Rattle.std.proofs.Common.{arith}
 use Rattle.cjc_judge.specs.Bytes.Breaks.{Among, Break, after, foremost}
-use Rattle.cjc_judge.proofs.Bytes.Firsts.{among_either}
+use Rattle.cjc_judge.proofs.BytesFirsts.{among_either}
 use Rattle.cjc_judge.specs.Bytes.Order.{Rank}
 use Rattle.cjc_cmd_check.specs.CapRead.declared.tree.CapTree.{CapTree}
 use Rattle.cjc_cmd_card.specs.Running.Ready.{Breaks, BreaksSentence, IsReady, of_package, of_parts, of_script}

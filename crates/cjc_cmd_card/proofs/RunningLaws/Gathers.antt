@@ -9,7 +9,7 @@ use Rattle.cjc_cmd_jvm.specs.Shelf.Command.Gather.{Gathers, IsSame, AreShort}
 use Rattle.cjc_cmd_jvm.specs.Shelf.Command.Plan.{has, ◌>>=◌, read, read_each, unless_refused}
 use Rattle.cjc_cmd_jvm.specs.Shelf.declared.command.status.Status.{Status}
 use Rattle.cjc_cmd_jvm.specs.Shelf.declared.command.status.Status.TheVariants as status
-use Rattle.cjc_cmd_jvm.proofs.Shelf.CommandLaws.Gathering.{gathers_then, gathers_end, gathers_has, gathers_refused}
+use Rattle.cjc_cmd_jvm.proofs.ShelfGathering.{gathers_then, gathers_end, gathers_has, gathers_refused}
 use Rattle.cjc_cmd_check.specs.Folder.Breaks.{ArePartsRead, ArePartsShort}
 use Rattle.cjc_cmd_check.specs.Folder.Reads.{plan_of_parts}
 use Rattle.cjc_cmd_check.specs.declared.folder.folder.Parts.{Parts}

@@ -7,7 +7,7 @@ use Rattle.cjc_judge.specs.Bytes.Refused.{IsUnlessNoMemory}
 use Rattle.cjc_judge.specs.Bytes.declared.fault.Fault.{Fault}
 use Rattle.cjc_judge.specs.Bytes.declared.fault.Fault.TheVariants as faults
 use Rattle.cjc_judge.specs.Bytes.declared.fault.Refusal.{Refusal}
-use Rattle.cjc_judge.proofs.Bytes.Firsts.{upto_refl}
+use Rattle.cjc_judge.proofs.BytesFirsts.{upto_refl}
 use Rattle.cjc_cmd_check.specs.CapRead.declared.tree.CapTree.{CapTree}
 use Rattle.cjc_cmd_check.specs.Check.{sentence_breaks}
 use Rattle.cjc_card.specs.ExportFile.declared.tree.ExportTree.{ExportTree}

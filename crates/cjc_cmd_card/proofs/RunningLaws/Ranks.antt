@@ -3,7 +3,7 @@ use Rattle.std.proofs.Common.{◌≡◌, inl, inr, ℕ, ◌+◌, ◌≤◌, ◌^
 use Rattle.std.proofs.Common.{Option, Some, None, map}
 use Rattle.std.specs.Prelude.{flat_map, if◌then◌else◌, slice_get}
 use Rattle.cjc_judge.specs.Bytes.Breaks.{Break, Among, foremost, after}
-use Rattle.cjc_judge.proofs.Bytes.Firsts.{among_either}
+use Rattle.cjc_judge.proofs.BytesFirsts.{among_either}
 use Rattle.cjc_cmd_check.specs.CapRead.declared.tree.CapTree.{CapTree}
 use Rattle.cjc_cmd_check.specs.Check.{sentence_breaks}
 use Rattle.cjc_judge.specs.Clinit.Rules.{of_class, of_code}

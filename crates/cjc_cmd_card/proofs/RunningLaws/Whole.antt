@@ -3,7 +3,7 @@ use Rattle.std.proofs.Common.{◌≡◌, ℕ, zero, suc, ◌+◌, ◌*◌, ◌/�
 use Rattle.std.proofs.Common.{length, get_or, refl, sym, ap, subst, ◌∙◌, arith, Option, Some, None, Result, Ok, Err}
 use Rattle.std.specs.Prelude.{if◌then◌else◌, ◌&&◌, ◌||◌, not}
 use Rattle.cjc_judge.specs.Bytes.Format.{Format, Spells, repeated, u2}
-use Rattle.cjc_judge.proofs.Bytes.Laws.{file_ok}
+use Rattle.cjc_judge.proofs.BytesLaws.{file_ok}
 use Rattle.cjc_cmd_check.specs.CapRead.Component.{component, info}
 use Rattle.cjc_cmd_check.specs.CapRead.Directory.{directory}
 use Rattle.cjc_cmd_check.specs.CapRead.declared.tree.CapTree.{CapTree}

@@ -68,7 +68,7 @@ use Rattle.cjc_check.specs.CheckRules.Complete.{described_size, descriptor_size,
 use Rattle.cjc_check.specs.CheckRules.Complete.{header_size}
 use Rattle.cjc_check.specs.CheckRules.Complete.{import_size, interface_size, locations_size, map_size, method_size}
 use Rattle.cjc_check.specs.CheckRules.Complete.{package_size, pool_size, size_of, statics_size, type_size}
-use Rattle.cjc_check.proofs.CheckRules.Arrays.{two_each, four_each, seven_each, eight_each, twelve_each}
+use Rattle.cjc_check.proofs.CheckRulesArrays.{two_each, four_each, seven_each, eight_each, twelve_each}
 
 -- ---- formats
 

@@ -42,7 +42,8 @@ q = tree (codes "q") (
     0x0000 (codes "o") (codes "()V") ∷ [])
     ∷ [])
 
--- p/C with package-visible methods, p/D below it, which overrides one, and p/E below q/G, with a method like that of q/G
+-- p/C with package-visible methods, p/D below it, which overrides one, and p/E below q/G, with a method like
+-- that of q/G
 abbrev pub hiding : List ClassTree
 hiding =
     class 0x0021 (codes "p/C") object [] [] [] (bodiless 0x0001 (codes "a") (codes "()S") ∷ bodiless 0x0000

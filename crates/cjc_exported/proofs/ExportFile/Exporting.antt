@@ -13,7 +13,7 @@ use Rattle.cjc_world.specs.Lookup.{member_at}
 use Rattle.cjc_tokens.specs.Methods.{is_open_bound}
 use Rattle.cjc_components.specs.CardSemantics.Machine.Classes.{Own, External, external_from, or_else, token_named}
 use Rattle.cjc_components.specs.Clinit.Image.{field_id}
-use Rattle.cjc_components.proofs.VTable.Numbers.{at-tree}
+use Rattle.cjc_components.proofs.VTableNumbers.{at-tree}
 use Rattle.cjc_components.specs.Package.{Package, world}
 use Rattle.cjc_components.specs.Class.{fields_in}
 use Rattle.cjc_components.specs.Exports.{export, export_with, exported_class, exported_classes, open_methods}

@@ -23,7 +23,7 @@ use Rattle.cjc_tokens.specs.Tokens.{classes_from, of_class, one_more, assigned, 
 use Rattle.cjc_tokens.specs.declared.slot.Slot.{Slot}
 use Rattle.cjc_tokens.specs.Working.{signature_in, signs}
 use Rattle.cjc_tokens.proofs.Facts.{position-cons}
-use Rattle.cjc_components.proofs.VTable.Numbers.{at-kind, at-tree}
+use Rattle.cjc_components.proofs.VTableNumbers.{at-kind, at-tree}
 use Rattle.cjc_components.specs.Package.{Package}
 use Rattle.cjc_components.specs.Descriptor.{as_added, methods_with_added, no_member}
 use Rattle.cjc_components.specs.ExportFile.{added_from, method_entry, supers_from}

@@ -4,7 +4,7 @@ use Rattle.std.specs.Prelude.{slice_get}
 use Rattle.cjc_world.specs.ClassFile.declared.tree.ClassTree.{ClassTree}
 use Rattle.cjc_world.specs.Classes.{Class, declared, class_at}
 use Rattle.cjc_world.specs.Exported.{is_exported}
-use Rattle.cjc_components.proofs.VTable.Numbers.{at-tree}
+use Rattle.cjc_components.proofs.VTableNumbers.{at-tree}
 use Rattle.cjc_exported.specs.ExportFile.Working.Sources.{is_of_kind}
 use Rattle.cjc_exported.proofs.ExportFile.ByNumber.{of-number}
 use Rattle.cjc_components.specs.Package.{Package, has_applets, world}

@@ -13,8 +13,8 @@ use Rattle.cjc_world.specs.Interfaces.{Interface, gathered, is_among, where_list
 use Rattle.cjc_world.specs.Interfaces as worlds
 use Rattle.cjc_components.specs.ClassOrder.Supers.Supers.{each_once, interfaces, name_of, names_upwards, superclasses}
 use Rattle.cjc_components.specs.Subset.Members.{imports}
-use Rattle.cjc_components.proofs.VTable.Filed.{Has, IsFiled, at_front, behind, filed, get-has, has-get, in_class_file}
-use Rattle.cjc_components.proofs.VTable.Filed.{in_export_file, of-imports}
+use Rattle.cjc_components.proofs.VTableFiled.{Has, IsFiled, at_front, behind, filed, get-has, has-get, in_class_file}
+use Rattle.cjc_components.proofs.VTableFiled.{in_export_file, of-imports}
 use Rattle.cjc_components.specs.Package.{Package, world}
 use Rattle.cjc_exported.specs.Exportable.{IsExportable}
 use Rattle.cjc_exported.proofs.ExportLaws.Each.{all_mapped}

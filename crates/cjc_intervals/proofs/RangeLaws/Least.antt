@@ -5,9 +5,9 @@ use Rattle.std.proofs.Common.{false, List, [], ◌∷◌, length, inl, inr, ⊎_
 use Rattle.std.specs.Prelude.{◌⊎◌, Option, Some, None, slice_get, nat_le, nat_lt, not, ◌&&◌, if◌then◌else◌}
 use Rattle.std.specs.List.{Contains}
 use Rattle.std.proofs.lemmas.Bool.{leb-true, leb-false, ltb-true, ltb-false}
-use Rattle.cjc_types.specs.Fixpoint.declared.flow.Edge.{Edge}
-use Rattle.cjc_types.specs.Fixpoint.Dataflow.{Dataflow, IsLawful, StaysWithin}
-use Rattle.cjc_types.specs.Fixpoint.Tables.{Covers, HasRow, IsBelow, IsClosed, IsLeastClosed}
+use Rattle.cjc_fixpoint.specs.declared.flow.Edge.{Edge}
+use Rattle.cjc_fixpoint.specs.Dataflow.{Dataflow, IsLawful, StaysWithin}
+use Rattle.cjc_fixpoint.specs.Tables.{Covers, HasRow, IsBelow, IsClosed, IsLeastClosed}
 
 -- ---- lists
 

@@ -18,8 +18,8 @@ use Rattle.cjc_world.specs.ExportFile.declared.tree.ExportField.{ExportField}
 use Rattle.cjc_world.specs.ExportFile.declared.tree.ExportTree.{ExportTree}
 use Rattle.cjc_flow.specs.Constants.{AreNumbers}
 use Rattle.cjc_vtable.specs.Subset.Members.{imports}
-use Rattle.cjc_types.specs.Rules.{is_number}
-use Rattle.cjc_types.specs.Types.{parts, value_of}
+use Rattle.cjc_flow.specs.Types.Rules.{is_number}
+use Rattle.cjc_flow.specs.Types.Types.{parts, value_of}
 use Rattle.cjc_vtable.proofs.Filed.{IsFiled, in_class_file, in_export_file, filed}
 use Rattle.cjc_world.specs.Classes.{Class, Member, all_classes, class_named, field_of_class, field_of_export}
 use Rattle.cjc_world.specs.Files.{Files}

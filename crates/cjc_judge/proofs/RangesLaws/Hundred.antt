@@ -10,8 +10,8 @@ use Rattle.cjc_flow.specs.Intervals.Bounds.{a_shift}
 use Rattle.cjc_flow.specs.Intervals.Bounds.{a_table, a_lookup, a_count, a_reference_count, a_load, a_store}
 use Rattle.cjc_flow.specs.Intervals.Bounds.{a_static_field}
 use Rattle.cjc_flow.specs.Intervals.Bounds.{a_field, an_argument, a_result, a_boolean_element}
-use Rattle.cjc_types.specs.declared.cell.Cell.{Cell}
-use Rattle.cjc_types.specs.Flow.{Body}
+use Rattle.cjc_flow.specs.Types.declared.cell.Cell.{Cell}
+use Rattle.cjc_flow.specs.Types.Flow.{Body}
 use Rattle.cjc_world.specs.Files.{Files}
 use Rattle.cjc_judge.specs.OutOfRange.{IsOutOfRange}
 

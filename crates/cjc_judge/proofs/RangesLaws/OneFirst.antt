@@ -4,11 +4,11 @@ use Rattle.std.proofs.Common.{Ok, Err, IfOk, arith}
 use Rattle.std.specs.Prelude.{IfSome, slice_get}
 use Rattle.cjc_bytes.specs.declared.breaks.BrokenAt.{BrokenAt}
 use Rattle.cjc_code.specs.declared.insn.JInsn.{JInsn}
-use Rattle.cjc_types.specs.declared.state.State.{State}
-use Rattle.cjc_types.specs.declared.table.TypeTable.{TypeTable}
-use Rattle.cjc_types.specs.Flow.{Body}
-use Rattle.cjc_types.specs.Tables.{IsTypeTable, rows_of}
-use Rattle.cjc_types.proofs.Least.{one_least}
+use Rattle.cjc_flow.specs.Types.declared.state.State.{State}
+use Rattle.cjc_flow.specs.Types.declared.table.TypeTable.{TypeTable}
+use Rattle.cjc_flow.specs.Types.Flow.{Body}
+use Rattle.cjc_flow.specs.Types.Tables.{IsTypeTable, rows_of}
+use Rattle.cjc_flow.proofs.TypesLeast.{one_least}
 use Rattle.cjc_flow.specs.Intervals.Frames.{RangeState}
 use Rattle.cjc_flow.specs.Intervals.Tables.{IsLeastRanges}
 use Rattle.cjc_flow.specs.Tables.{IsRangeTable, ranges_of}

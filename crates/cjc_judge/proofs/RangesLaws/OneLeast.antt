@@ -6,12 +6,12 @@ use Rattle.std.specs.List.{AllZip}
 use Rattle.std.proofs.lemmas.Int.{ints}
 use Rattle.std.proofs.lemmas.Option.{slice_get_within, slice_get-get_or}
 use Rattle.cjc_bytes.specs.declared.fault.MemberId.{MemberId}
-use Rattle.cjc_types.specs.Fixpoint.Dataflow.{Dataflow}
-use Rattle.cjc_types.specs.Fixpoint.Tables.{HasRow, IsLeastClosed}
+use Rattle.cjc_flow.specs.Fixpoint.Dataflow.{Dataflow}
+use Rattle.cjc_flow.specs.Fixpoint.Tables.{HasRow, IsLeastClosed}
 use Rattle.cjc_code.specs.Range.Span.{Span, Within}
-use Rattle.cjc_code.proofs.Range.Spans.{span_same}
-use Rattle.cjc_types.specs.declared.state.State.{State}
-use Rattle.cjc_types.specs.Flow.{Body}
+use Rattle.cjc_code.proofs.RangeSpans.{span_same}
+use Rattle.cjc_flow.specs.Types.declared.state.State.{State}
+use Rattle.cjc_flow.specs.Types.Flow.{Body}
 use Rattle.cjc_flow.specs.Intervals.Flow.{range_flow}
 use Rattle.cjc_flow.specs.Intervals.Frames.{StackOf, Cells, Clash, IsStackBelow, RangeState, spans, states}
 use Rattle.cjc_flow.specs.Intervals.Tables.{IsLeastRanges}

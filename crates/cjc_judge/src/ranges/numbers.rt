@@ -6,8 +6,8 @@ ghost use Rattle.cjc_classfile.specs.Code.{CodeTree};
 ghost use Rattle.cjc_classfile.specs.declared.tree.ClassTree.{ClassTree as ClassFile};
 ghost use Rattle.cjc_classfile.specs.declared.tree.MethodTree.{MethodTree as ClassMethod};
 ghost use Rattle.cjc_world.specs.Classes.{all_classes};
-ghost use Rattle.cjc_types.specs.Flow.{body_of};
-ghost use Rattle.cjc_types.specs.Tables.{IsMethodOf, IsOfPackage, IsTypeTable, rows_of};
+ghost use Rattle.cjc_flow.specs.Types.Flow.{body_of};
+ghost use Rattle.cjc_flow.specs.Types.Tables.{IsMethodOf, IsOfPackage, IsTypeTable, rows_of};
 ghost use Rattle.cjc_flow.specs.Constants.{values_of};
 ghost use Rattle.cjc_judge.specs.OutOfRange.{constants_of, IsOutOfRange};
 
@@ -16,7 +16,7 @@ use cjc_bytes::{BrokenAt, NoMemory};
 use cjc_code::MethodCode;
 use cjc_flow::Ranging;
 use cjc_flow::tests::passes;
-use cjc_types::TypeTable;
+use cjc_flow::types::TypeTable;
 use cjc_world::World;
 use std::alloc::Global;
 

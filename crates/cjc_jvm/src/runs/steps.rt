@@ -10,11 +10,11 @@ ghost use Rattle.cjc_jvm.specs.States.{Leads, objects_at_most};
 ghost use Rattle.cjc_jvm.specs.Runs.Deeds.{IsInside, after_deed, most_after};
 
 use crate::turns::{After, Machine, class_of};
-use cjc_jvm_semantics::bytecode::JOp;
+use cjc_jvm_semantics::bytes::NoMemory;
+use cjc_jvm_step::bytecode::JOp;
 use cjc_jvm_step::frame::{Activation, Deed};
 use cjc_jvm_step::step::{LookUps, act};
 use cjc_script::Outcome;
-use cjc_script::bytes::NoMemory;
 use std::alloc::Global;
 
 // An instruction of a frame, on the heap and the static cells.
@@ -28,7 +28,9 @@ fn act_on<'a, L: LookUps>(
     requires inside { frame.old.at < length frame.old.method.insns }
     requires few { objects_at_most machine.old < 2 ^ 32 }
     ensures next { IfOk result (λ deed. (before : List Frame) →
-        after_effect (L.linked links.now) (effect (L.linked links.now) frame.old.method frame.old.at frame.old.locals machine.old.store op.now frame.old.stack) frame.old machine.old.frames (record machine.old { frames = before })
+        after_effect (L.linked links.now) (effect (L.linked links.now) frame.old.method frame.old.at frame.old.locals
+        machine.old.store op.now frame.old.stack) frame.old machine.old.frames
+        (record machine.old { frames = before })
         ≡ after_deed (L.linked links.now) deed frame.new machine.new.frames (record machine.new { frames = before })) }
     ensures inside { IfOk result (λ deed. IsInside deed frame.new) }
     ensures most { IfOk result (λ deed. objects_at_most machine.new ≤ most_after deed (objects_at_most machine.old)) }
@@ -53,7 +55,8 @@ fn fetch<'a, L: LookUps>(
 ) -> Result<After<'a>, NoMemory>
     requires { objects_at_most machine.old < 2 ^ 32 }
     ensures next { IfOk result (λ after. (before : List Frame) →
-        Leads (after_fetch (L.linked links.now) (slice_get first.entry.method.insns first.entry.at) first.entry machine.old.frames (record machine.old { frames = before })) after machine.new) }
+        Leads (after_fetch (L.linked links.now) (slice_get first.entry.method.insns first.entry.at) first.entry
+        machine.old.frames (record machine.old { frames = before })) after machine.new) }
     ensures most { OnOk result (objects_at_most machine.new ≤ objects_at_most machine.old + 1) }
     ensures spent { OnOk result (machine.new.spent ≡ machine.old.spent) }
 {
@@ -95,7 +98,8 @@ pub(crate) fn step<'a, L: LookUps>(
     requires few { objects_at_most machine.old < 2 ^ 32 }
     requires count { machine.old.spent + 1 < 2 ^ 32 }
     ensures next { IfOk result (λ after. (before : List Frame) →
-        Leads (step (L.linked links.now) (frame.entry ∷ machine.old.frames) (record machine.old { frames = before })) after machine.new) }
+        Leads (step (L.linked links.now) (frame.entry ∷ machine.old.frames) (record machine.old { frames = before }))
+        after machine.new) }
     ensures most { OnOk result (objects_at_most machine.new ≤ objects_at_most machine.old + 1) }
     ensures spent { OnOk result (machine.new.spent ≤ machine.old.spent + 1) }
 {

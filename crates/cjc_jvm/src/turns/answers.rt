@@ -14,9 +14,9 @@ use crate::acts::{Sort, perform, result_fits};
 use crate::turns::after::After;
 use crate::turns::machine::{Machine, pop};
 use crate::turns::notes::event;
+use cjc_jvm_semantics::bytes::{MemberId, NoMemory};
 use cjc_jvm_step::frame::Activation;
 use cjc_jvm_step::step::LookUps;
-use cjc_script::bytes::{MemberId, NoMemory};
 use cjc_script::{Answer, Note, Outcome, Reply, Value};
 use std::alloc::Global;
 
@@ -74,7 +74,8 @@ impl<'a> Machine<'a> {
         value: Option<Value>,
     ) -> Result<After<'a>, NoMemory>
         ensures next { IfOk result (λ after. (before : List Frame) (l : Linked) →
-            Leads (after_return l value frame.entry self.old.frames (record self.old { frames = before })) after self.new) }
+            Leads (after_return l value frame.entry self.old.frames (record self.old { frames = before })) after
+            self.new) }
         ensures most { OnOk result (objects_at_most self.new ≡ objects_at_most self.old) }
         ensures spent { OnOk result (self.new.spent ≡ self.old.spent) }
     {
@@ -99,7 +100,9 @@ impl<'a> Machine<'a> {
         requires inside { frame.at < length frame.method.insns }
         requires few { objects_at_most self.old < 2 ^ 32 }
         ensures next { IfOk result (λ after. (before : List Frame) →
-            Leads (after_reply (L.linked links.now) answer.now.reply answer.now.number (option_map sort_meant returned.entry) frame.entry self.old.frames (record self.old { frames = before })) after self.new) }
+            Leads (after_reply (L.linked links.now) answer.now.reply answer.now.number
+            (option_map sort_meant returned.entry) frame.entry self.old.frames
+            (record self.old { frames = before })) after self.new) }
         ensures most { OnOk result (objects_at_most self.new ≤ objects_at_most self.old + 1) }
         ensures spent { OnOk result (self.new.spent ≡ self.old.spent) }
     {
@@ -132,7 +135,8 @@ impl<'a> Machine<'a> {
         requires inside { frame.at < length frame.method.insns }
         requires few { objects_at_most self.old < 2 ^ 32 }
         ensures next { IfOk result (λ after. (before : List Frame) →
-            Leads (after_answer (L.linked links.now) self.old.answers (option_map sort_meant returned.entry) frame.entry self.old.frames (record self.old { frames = before })) after self.new) }
+            Leads (after_answer (L.linked links.now) self.old.answers (option_map sort_meant returned.entry)
+            frame.entry self.old.frames (record self.old { frames = before })) after self.new) }
         ensures most { OnOk result (objects_at_most self.new ≤ objects_at_most self.old + 1) }
         ensures spent { OnOk result (self.new.spent ≡ self.old.spent) }
     {
@@ -161,7 +165,9 @@ impl<'a> Machine<'a> {
         requires inside { frame.at < length frame.method.insns }
         requires few { objects_at_most self.old < 2 ^ 32 }
         ensures next { IfOk result (λ after. (before : List Frame) →
-            Leads (imported_call (L.linked links.now) (of_class class.now id.now) (option_map sort_meant returned.entry) args.now frame.entry self.old.frames (record self.old { frames = before })) after self.new) }
+            Leads (imported_call (L.linked links.now) (of_class class.now id.now)
+            (option_map sort_meant returned.entry) args.now frame.entry self.old.frames
+            (record self.old { frames = before })) after self.new) }
         ensures most { OnOk result (objects_at_most self.new ≤ objects_at_most self.old + 1) }
         ensures spent { OnOk result (self.new.spent ≡ self.old.spent) }
     {

@@ -15,9 +15,9 @@ use crate::turns::after::After;
 use crate::turns::machine::Machine;
 use crate::turns::notes::copy_of;
 use crate::turns::throws::class_of;
+use cjc_jvm_semantics::bytes::{MemberId, NoMemory, Row};
 use cjc_jvm_step::frame::{Activation, Caller, Exception};
 use cjc_jvm_step::step::{Call, Callee, LookUps};
-use cjc_script::bytes::{MemberId, NoMemory, Row};
 use cjc_script::{Outcome, Value};
 use std::alloc::Global;
 
@@ -60,7 +60,9 @@ impl<'a> Machine<'a> {
         requires inside { frame.at < length frame.method.insns }
         requires few { objects_at_most self.old < 2 ^ 32 }
         ensures next { IfOk result (λ after. (before : List Frame) →
-            Leads (at_callee (L.linked links.now) (Some (callee_of callee.entry id.now)) (option_map sort_meant returned.entry) args.now frame.entry self.old.frames (record self.old { frames = before })) after self.new) }
+            Leads (at_callee (L.linked links.now) (Some (callee_of callee.entry id.now))
+            (option_map sort_meant returned.entry) args.now frame.entry self.old.frames
+            (record self.old { frames = before })) after self.new) }
         ensures most { OnOk result (objects_at_most self.new ≤ objects_at_most self.old + 1) }
         ensures spent { OnOk result (self.new.spent ≡ self.old.spent) }
     {
@@ -94,7 +96,11 @@ impl<'a> Machine<'a> {
         requires inside { frame.at < length frame.method.insns }
         requires few { objects_at_most self.old < 2 ^ 32 }
         ensures next { IfOk result (λ after. (before : List Frame) →
-            Leads (at_selected (L.linked links.now) (λ type. selection_of ((L.linked links.now).call (holder_of frame.entry) op id.now) type) (slice_get (heap_of self.old) number) (option_map sort_meant returned.entry) (Value.Obj number ∷ args.now) frame.entry self.old.frames (record self.old { frames = before })) after self.new) }
+            Leads (at_selected (L.linked links.now) (λ type. selection_of
+            ((L.linked links.now).call (holder_of frame.entry) op id.now) type)
+            (slice_get (heap_of self.old) number) (option_map sort_meant returned.entry)
+            (Value.Obj number ∷ args.now) frame.entry self.old.frames (record self.old { frames = before })) after
+            self.new) }
         ensures most { OnOk result (objects_at_most self.new ≤ objects_at_most self.old + 1) }
         ensures spent { OnOk result (self.new.spent ≡ self.old.spent) }
     {
@@ -122,7 +128,10 @@ impl<'a> Machine<'a> {
         requires inside { frame.at < length frame.method.insns }
         requires few { objects_at_most self.old < 2 ^ 32 }
         ensures next { IfOk result (λ after. (before : List Frame) →
-            Leads (on_receiver (L.linked links.now) (λ type. selection_of ((L.linked links.now).call (holder_of frame.entry) op id.now) type) frame.entry.stack (option_map sort_meant returned.entry) args.now frame.entry self.old.frames (record self.old { frames = before })) after self.new) }
+            Leads (on_receiver (L.linked links.now) (λ type. selection_of
+            ((L.linked links.now).call (holder_of frame.entry) op id.now) type) frame.entry.stack
+            (option_map sort_meant returned.entry) args.now frame.entry self.old.frames
+            (record self.old { frames = before })) after self.new) }
         ensures most { OnOk result (objects_at_most self.new ≤ objects_at_most self.old + 1) }
         ensures spent { OnOk result (self.new.spent ≡ self.old.spent) }
     {
@@ -155,8 +164,10 @@ impl<'a> Machine<'a> {
         requires inside { frame.at < length frame.method.insns }
         requires few { objects_at_most self.old < 2 ^ 32 }
         ensures next { IfOk result (λ after. (before : List Frame) (found : Linked.Call) →
-            IsCall id.now (Some call.entry) (Some found) → (L.linked links.now).call (holder_of frame.entry) op id.now ≡ Some found →
-            Leads (at_call (L.linked links.now) found (option_map sort_meant returned.entry) args.now frame.entry self.old.frames (record self.old { frames = before })) after self.new) }
+            IsCall id.now (Some call.entry) (Some found) → (L.linked links.now).call (holder_of frame.entry) op id.now
+            ≡ Some found →
+            Leads (at_call (L.linked links.now) found (option_map sort_meant returned.entry) args.now frame.entry
+            self.old.frames (record self.old { frames = before })) after self.new) }
         ensures most { OnOk result (objects_at_most self.new ≤ objects_at_most self.old + 1) }
         ensures spent { OnOk result (self.new.spent ≡ self.old.spent) }
     {
@@ -180,8 +191,10 @@ impl<'a> Machine<'a> {
         requires inside { frame.at < length frame.method.insns }
         requires few { objects_at_most self.old < 2 ^ 32 }
         ensures next { IfOk result (λ after. (before : List Frame) (found : Linked.Call) →
-            IsCall id.now (Some call.entry) (Some found) → (L.linked links.now).call (holder_of frame.entry) op id.now ≡ Some found →
-            Leads (with_types (L.linked links.now) found (Some types.now) frame.entry self.old.frames (record self.old { frames = before })) after self.new) }
+            IsCall id.now (Some call.entry) (Some found) → (L.linked links.now).call (holder_of frame.entry) op id.now
+            ≡ Some found →
+            Leads (with_types (L.linked links.now) found (Some types.now) frame.entry self.old.frames
+            (record self.old { frames = before })) after self.new) }
         ensures most { OnOk result (objects_at_most self.new ≤ objects_at_most self.old + 1) }
         ensures spent { OnOk result (self.new.spent ≡ self.old.spent) }
     {
@@ -216,7 +229,8 @@ impl<'a> Machine<'a> {
         requires inside { frame.at < length frame.method.insns }
         requires few { objects_at_most self.old < 2 ^ 32 }
         ensures next { IfOk result (λ after. (before : List Frame) →
-            Leads (after_lookup (L.linked links.now) ((L.linked links.now).call (holder_of frame.entry) op id.now) id.now frame.entry self.old.frames (record self.old { frames = before })) after self.new) }
+            Leads (after_lookup (L.linked links.now) ((L.linked links.now).call (holder_of frame.entry) op id.now)
+            id.now frame.entry self.old.frames (record self.old { frames = before })) after self.new) }
         ensures most { OnOk result (objects_at_most self.new ≤ objects_at_most self.old + 1) }
         ensures spent { OnOk result (self.new.spent ≡ self.old.spent) }
     {

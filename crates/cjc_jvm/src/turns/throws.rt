@@ -11,11 +11,11 @@ ghost use Rattle.cjc_jvm.specs.States.{Leads, handled, objects_at_most};
 use crate::turns::after::After;
 use crate::turns::machine::{Machine, pop};
 use crate::turns::notes::thrown;
-use cjc_jvm_semantics::classfile::Catch;
+use cjc_jvm_semantics::bytes::{Bytes, NoMemory, Row};
+use cjc_jvm_step::classfile::Catch;
 use cjc_jvm_step::frame::{Activation, Caller, Exception, Pile};
 use cjc_jvm_step::heap::HeapObject;
 use cjc_jvm_step::step::LookUps;
-use cjc_script::bytes::{Bytes, NoMemory, Row};
 use cjc_script::{Note, Outcome};
 use std::alloc::Global;
 
@@ -81,7 +81,8 @@ fn handle<'a, L: LookUps>(
     exception: &[u8],
 ) -> Result<Handling, NoMemory>
     ensures { IfOk result (λ h. (from : ℕ) (outer : List Frame) (s : State) (past : Move State) →
-        at_handler (L.linked links.now) (handler_in (L.linked links.now) frame.old exception.now) from frame.old outer object s past ≡ handled h from frame.new outer s past) }
+        at_handler (L.linked links.now) (handler_in (L.linked links.now) frame.old exception.now) from frame.old outer
+        object s past ≡ handled h from frame.new outer s past) }
 {
     let method = frame.method();
     match handler(
@@ -113,7 +114,8 @@ fn throw<'a, L: LookUps>(
     exception: &[u8],
 ) -> Result<After<'a>, NoMemory>
     ensures { IfOk result (λ after. (s : State) → s.notes ≡ notes.old →
-        Leads (after_throw (L.linked links.now) (offset first.entry) (first.entry ∷ callers.old) object exception.now s) after (record s { frames = callers.new; notes = notes.new })) }
+        Leads (after_throw (L.linked links.now) (offset first.entry) (first.entry ∷ callers.old) object exception.now
+        s) after (record s { frames = callers.new; notes = notes.new })) }
 {
     let from = first.offset();
     let mut frame = first;
@@ -144,7 +146,8 @@ impl<'a> Machine<'a> {
     ) -> Result<After<'a>, NoMemory>
         requires { length (heap_of self.old) < 2 ^ 32 }
         ensures next { IfOk result (λ after. (before : List Frame) →
-            Leads (after_raise (L.linked links.now) class.now frame.entry self.old.frames (record self.old { frames = before })) after self.new) }
+            Leads (after_raise (L.linked links.now) class.now frame.entry self.old.frames
+            (record self.old { frames = before })) after self.new) }
         ensures most { OnOk result (objects_at_most self.new ≤ objects_at_most self.old + 1) }
         ensures spent { OnOk result (self.new.spent ≡ self.old.spent) }
     {
@@ -170,7 +173,8 @@ impl<'a> Machine<'a> {
         object: u32,
     ) -> Result<After<'a>, NoMemory>
         ensures next { IfOk result (λ after. (before : List Frame) →
-            Leads (after_athrow (L.linked links.now) (slice_get (heap_of self.old) object) frame.entry self.old.frames object (record self.old { frames = before })) after self.new) }
+            Leads (after_athrow (L.linked links.now) (slice_get (heap_of self.old) object) frame.entry self.old.frames
+            object (record self.old { frames = before })) after self.new) }
         ensures most { OnOk result (objects_at_most self.new ≤ objects_at_most self.old) }
         ensures spent { OnOk result (self.new.spent ≡ self.old.spent) }
     {

@@ -26,12 +26,12 @@ use Rattle.cjc_components.specs.Layout.Handlers.{table_order}
 use Rattle.cjc_components.specs.Layout.Layouts.{IsLayout}
 use Rattle.cjc_components.specs.Layout.OnCard.{handler_on_card}
 use Rattle.cjc_components.specs.Layout.Sizes as Sizes
-use Rattle.cjc_components.proofs.LowerLayout.Lowered.{before_same, handlers_placed}
+use Rattle.cjc_components.proofs.LayoutLowered.{before_same, handlers_placed}
 use Rattle.cjc_components.specs.Emit.declared.emitted.MethodBytes.{MethodBytes}
 use Rattle.cjc_components.specs.Emit.Emitted.{IsEmittable, IsEmitted, code_places, emitted_bytes, header_bytes}
 use Rattle.cjc_components.specs.Emit.Emitted.{index_place}
 use Rattle.cjc_components.specs.Emit.Emitted.{index_places, insn_places, is_short}
-use Rattle.cjc_components.proofs.Emit.Shifted.{bytes_anywhere}
+use Rattle.cjc_components.proofs.EmitShifted.{bytes_anywhere}
 use Rattle.cjc_components.specs.Components.{places_in}
 use Rattle.cjc_components.specs.Methods.{first_method, header_of, placed_at, placed_from, placed_methods, with_abstract}
 use Rattle.cjc_components.specs.Names.{names}

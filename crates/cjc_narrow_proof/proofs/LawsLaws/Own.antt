@@ -17,7 +17,7 @@ use Rattle.cjc_vtable.specs.ClassOrder.Classes.Numbers.{class_count}
 use Rattle.cjc_jvm_semantics.specs.OnePackage.{method_hit}
 use Rattle.cjc_narrow.specs.Rows.Package.{flags_of}
 use Rattle.cjc_narrow.specs.Rows.Resolved.{method_found}
-use Rattle.cjc_vtable.proofs.Tokens.Facts.{position-cons}
+use Rattle.cjc_vtable.proofs.TokensFacts.{position-cons}
 use Rattle.cjc_vtable.proofs.Filed.{at-number}
 use Rattle.cjc_vtable.proofs.Numbers.{class_count-cons, own_listed}
 use Rattle.cjc_world.specs.declared.found.Found.{Found}

@@ -1,7 +1,7 @@
 -- What the instructions of a method were cut from: how many there are, and the opcodes of those of the stack.
 use Rattle.std.proofs.Common.{◌≡◌, ◌≤◌, ◌<◌, ◌+◌, ◌-◌, ◌%◌, ◌==◌, ◌&&◌, ℕ, zero, suc, Bool, true, false, cond, nat_le}
 use Rattle.std.proofs.Common.{List, [], ◌∷◌, length, slice_get, Some, None, option_map, ℤ, refl, sym, ap, subst, ◌∙◌}
-use Rattle.std.proofs.Common.{arith}
+use Rattle.std.proofs.Common.{arith, drop}
 use Rattle.std.proofs.lemmas.Bool.{leb-true}
 use Rattle.std.proofs.lemmas.Option.{same_Some, slice_get-map}
 use Rattle.std.proofs.lemmas.List.{length-append, length-map}
@@ -58,6 +58,218 @@ lookup pool at opcode [] n e = cc
 lookup pool at opcode (a ∷ []) n e = cc
 lookup pool at opcode (a ∷ b ∷ zs) n e = cc
 
+-- of those behind the first 56
+behind_56 : AllStack (drop 56 ranges)
+unfolding row
+behind_56 = (
+  λ k pool at opcode zs n e. absurd cc,  -- invokedynamic
+  (
+    λ k pool at opcode zs n e. absurd cc,  -- new
+    (
+      λ k pool at opcode zs n e. absurd cc,  -- newarray
+      (
+        λ k pool at opcode zs n e. absurd cc,  -- anewarray
+        (
+          λ k pool at opcode zs n e. absurd cc,  -- arraylength
+          (
+            λ k pool at opcode zs n e. absurd cc,  -- athrow
+            (
+              λ k pool at opcode zs n e. absurd cc,  -- checkcast
+              (
+                λ k pool at opcode zs n e. absurd cc,  -- instanceof
+                (
+                  λ k pool at opcode zs n e. absurd cc,  -- monitorenter, monitorexit
+                  (
+                    λ k pool at opcode zs n e. absurd cc,  -- wide
+                    (
+                      λ k pool at opcode zs n e. absurd cc,  -- multianewarray
+                      (
+                        λ k pool at opcode zs n e. absurd cc,  -- ifnull, ifnonnull
+                        (
+                          λ k pool at opcode zs n e. absurd cc,  -- goto_w
+                          (
+                            λ k pool at opcode zs n e. absurd cc,  -- jsr_w
+                            tt,
+                          ),
+                        ),
+                      ),
+                    ),
+                  ),
+                ),
+              ),
+            ),
+          ),
+        ),
+      ),
+    ),
+  ),
+)
+
+-- of those behind the first 42
+behind_42 : AllStack (drop 42 ranges)
+unfolding row
+behind_42 = (
+  λ k pool at opcode zs n e. absurd cc,  -- jsr
+  (
+    λ k pool at opcode zs n e. absurd cc,  -- ret
+    (
+      -- tableswitch
+      λ k pool at opcode zs n e.
+          absurd
+          (table pool at opcode zs n
+          e),
+      (
+        -- lookupswitch
+        λ k pool at opcode zs n e.
+            absurd
+            (lookup pool at opcode
+            zs n e),
+        (
+          λ k pool at opcode zs n e. absurd cc,  -- ireturn
+          (
+            λ k pool at opcode zs n e. absurd cc,  -- lreturn, freturn, dreturn
+            (
+              λ k pool at opcode zs n e. absurd cc,  -- areturn, return
+              (
+                λ k pool at opcode zs n e. absurd cc,  -- getstatic
+                (
+                  λ k pool at opcode zs n e. absurd cc,  -- putstatic
+                  (
+                    λ k pool at opcode zs n e. absurd cc,  -- getfield
+                    (
+                      λ k pool at opcode zs n e. absurd cc,  -- putfield
+                      (
+                        λ k pool at opcode zs n e. absurd cc,  -- invokevirtual
+                        (
+                          λ k pool at opcode zs n e. absurd cc,  -- invokespecial, invokestatic
+                          (
+                            λ k pool at opcode zs n e. absurd cc,  -- invokeinterface
+                            behind_56,
+                          ),
+                        ),
+                      ),
+                    ),
+                  ),
+                ),
+              ),
+            ),
+          ),
+        ),
+      ),
+    ),
+  ),
+)
+
+-- of those behind the first 28
+behind_28 : AllStack (drop 28 ranges)
+unfolding row
+behind_28 = (
+  λ k pool at opcode zs n e. absurd cc,  -- aastore, bastore
+  (
+    λ k pool at opcode zs n e. absurd cc,  -- castore
+    (
+      λ k pool at opcode zs n e. absurd cc,  -- sastore
+      (
+        -- pop, pop2, dup, dup_x1, dup_x2, dup2, dup2_x1,
+        -- dup2_x2, swap
+        λ k pool at opcode zs n e. (refl, refl, cc),
+        (
+          -- of int, long, float and double: add, sub, mul, div,
+          -- rem, neg
+          λ k pool at opcode zs n e. absurd
+              (arith_or_unsupported (k % 4 == 0)
+              pool at opcode zs n e),
+          (
+            -- of int and long: shl, shr, ushr, and, or, xor
+            λ k pool at opcode zs n e. absurd
+                (arith_or_unsupported (k % 2 == 0)
+                pool at opcode zs n e),
+            (
+              λ k pool at opcode zs n e. absurd cc,  -- iinc
+              (
+                -- i2l, i2f, i2d, l2i, l2f, l2d, f2i, f2l, f2d,
+                -- d2i, d2l, d2f
+                λ k pool at opcode zs n e. absurd cc,
+                (
+                  λ k pool at opcode zs n e. absurd cc,  -- i2b
+                  (
+                    λ k pool at opcode zs n e. absurd cc,  -- i2c
+                    (
+                      λ k pool at opcode zs n e. absurd cc,  -- i2s
+                      (
+                        -- lcmp, fcmpl, fcmpg, dcmpl, dcmpg
+                        λ k pool at opcode zs n e. absurd cc,
+                        (
+                          -- ifeq, ifne, iflt, ifge, ifgt, ifle,
+                          -- if_icmpeq to if_icmple,
+                          -- if_acmpeq, if_acmpne
+                          λ k pool at opcode zs n e. absurd cc,
+                          (
+                            λ k pool at opcode zs n e. absurd cc,  -- goto
+                            behind_42,
+                          ),
+                        ),
+                      ),
+                    ),
+                  ),
+                ),
+              ),
+            ),
+          ),
+        ),
+      ),
+    ),
+  ),
+)
+
+-- of those behind the first 14
+behind_14 : AllStack (drop 14 ranges)
+unfolding row
+behind_14 = (
+  λ k pool at opcode zs n e. absurd cc,  -- aload_0 to aload_3
+  (
+    λ k pool at opcode zs n e. absurd cc,  -- iaload
+    (
+      λ k pool at opcode zs n e. absurd cc,  -- laload, faload, daload
+      (
+        λ k pool at opcode zs n e. absurd cc,  -- aaload, baload
+        (
+          λ k pool at opcode zs n e. absurd cc,  -- caload
+          (
+            λ k pool at opcode zs n e. absurd cc,  -- saload
+            (
+              λ k pool at opcode zs n e. absurd cc,  -- istore
+              (
+                λ k pool at opcode zs n e. absurd cc,  -- lstore, fstore, dstore
+                (
+                  λ k pool at opcode zs n e. absurd cc,  -- astore
+                  (
+                    λ k pool at opcode zs n e. absurd cc,  -- istore_0 to istore_3
+                    (
+                      -- lstore_0 to lstore_3, fstore_0 to fstore_3, dstore_0 to dstore_3
+                      λ k pool at opcode zs n e. absurd cc,
+                      (
+                        λ k pool at opcode zs n e. absurd cc,  -- astore_0 to astore_3
+                        (
+                          λ k pool at opcode zs n e. absurd cc,  -- iastore
+                          (
+                            λ k pool at opcode zs n e. absurd cc,  -- lastore, fastore, dastore
+                            behind_28,
+                          ),
+                        ),
+                      ),
+                    ),
+                  ),
+                ),
+              ),
+            ),
+          ),
+        ),
+      ),
+    ),
+  ),
+)
+
 all_stack : AllStack ranges
 unfolding row
 all_stack = (
@@ -89,199 +301,7 @@ all_stack = (
                           (
                             -- lload_0 to lload_3, fload_0 to fload_3, dload_0 to dload_3
                             λ k pool at opcode zs n e. absurd cc,
-                            (
-                              λ k pool at opcode zs n e. absurd cc,  -- aload_0 to aload_3
-                              (
-                                λ k pool at opcode zs n e. absurd cc,  -- iaload
-                                (
-                                  λ k pool at opcode zs n e. absurd cc,  -- laload, faload, daload
-                                  (
-                                    λ k pool at opcode zs n e. absurd cc,  -- aaload, baload
-                                    (
-                                      λ k pool at opcode zs n e. absurd cc,  -- caload
-                                      (
-                                        λ k pool at opcode zs n e. absurd cc,  -- saload
-                                        (
-                                          λ k pool at opcode zs n e. absurd cc,  -- istore
-                                          (
-                                            λ k pool at opcode zs n e. absurd cc,  -- lstore, fstore, dstore
-                                            (
-                                              λ k pool at opcode zs n e. absurd cc,  -- astore
-                                              (
-                                                λ k pool at opcode zs n e. absurd cc,  -- istore_0 to istore_3
-                                                (
-                                                  -- lstore_0 to lstore_3, fstore_0 to fstore_3, dstore_0 to dstore_3
-                                                  λ k pool at opcode zs n e. absurd cc,
-                                                  (
-                                                    λ k pool at opcode zs n e. absurd cc,  -- astore_0 to astore_3
-                                                    (
-                                                      λ k pool at opcode zs n e. absurd cc,  -- iastore
-                                                      (
-                                                        λ k pool at opcode zs n e. absurd cc,  -- lastore, fastore, dastore
-                                                        (
-                                                          λ k pool at opcode zs n e. absurd cc,  -- aastore, bastore
-                                                          (
-                                                            λ k pool at opcode zs n e. absurd cc,  -- castore
-                                                            (
-                                                              λ k pool at opcode zs n e. absurd cc,  -- sastore
-                                                              (
-                                                                -- pop, pop2, dup, dup_x1, dup_x2, dup2, dup2_x1,
-                                                                -- dup2_x2, swap
-                                                                λ k pool at opcode zs n e. (refl, refl, cc),
-                                                                (
-                                                                  -- of int, long, float and double: add, sub, mul, div,
-                                                                  -- rem, neg
-                                                                  λ k pool at opcode zs n e. absurd
-                                                                      (arith_or_unsupported (k % 4 == 0)
-                                                                      pool at opcode zs n e),
-                                                                  (
-                                                                    -- of int and long: shl, shr, ushr, and, or, xor
-                                                                    λ k pool at opcode zs n e. absurd
-                                                                        (arith_or_unsupported (k % 2 == 0)
-                                                                        pool at opcode zs n e),
-                                                                    (
-                                                                      λ k pool at opcode zs n e. absurd cc,  -- iinc
-                                                                      (
-                                                                        -- i2l, i2f, i2d, l2i, l2f, l2d, f2i, f2l, f2d,
-                                                                        -- d2i, d2l, d2f
-                                                                        λ k pool at opcode zs n e. absurd cc,
-                                                                        (
-                                                                          λ k pool at opcode zs n e. absurd cc,  -- i2b
-                                                                          (
-                                                                            λ k pool at opcode zs n e. absurd cc,  -- i2c
-                                                                            (
-                                                                              λ k pool at opcode zs n e. absurd cc,  -- i2s
-                                                                              (
-                                                                                -- lcmp, fcmpl, fcmpg, dcmpl, dcmpg
-                                                                                λ k pool at opcode zs n e. absurd cc,
-                                                                                (
-                                                                                  -- ifeq, ifne, iflt, ifge, ifgt, ifle,
-                                                                                  -- if_icmpeq to if_icmple,
-                                                                                  -- if_acmpeq, if_acmpne
-                                                                                  λ k pool at opcode zs n e. absurd cc,
-                                                                                  (
-                                                                                    λ k pool at opcode zs n e. absurd cc,  -- goto
-                                                                                    (
-                                                                                      λ k pool at opcode zs n e. absurd cc,  -- jsr
-                                                                                      (
-                                                                                        λ k pool at opcode zs n e. absurd cc,  -- ret
-                                                                                        (
-                                                                                          -- tableswitch
-                                                                                          λ k pool at opcode zs n e.
-                                                                                              absurd
-                                                                                              (table pool at opcode zs n
-                                                                                              e),
-                                                                                          (
-                                                                                            -- lookupswitch
-                                                                                            λ k pool at opcode zs n e.
-                                                                                                absurd
-                                                                                                (lookup pool at opcode
-                                                                                                zs n e),
-                                                                                            (
-                                                                                              λ k pool at opcode zs n e. absurd cc,  -- ireturn
-                                                                                              (
-                                                                                                λ k pool at opcode zs n e. absurd cc,  -- lreturn, freturn, dreturn
-                                                                                                (
-                                                                                                  λ k pool at opcode zs n e. absurd cc,  -- areturn, return
-                                                                                                  (
-                                                                                                    λ k pool at opcode zs n e. absurd cc,  -- getstatic
-                                                                                                    (
-                                                                                                      λ k pool at opcode zs n e. absurd cc,  -- putstatic
-                                                                                                      (
-                                                                                                        λ k pool at opcode zs n e. absurd cc,  -- getfield
-                                                                                                        (
-                                                                                                          λ k pool at opcode zs n e. absurd cc,  -- putfield
-                                                                                                          (
-                                                                                                            λ k pool at opcode zs n e. absurd cc,  -- invokevirtual
-                                                                                                            (
-                                                                                                              λ k pool at opcode zs n e. absurd cc,  -- invokespecial, invokestatic
-                                                                                                              (
-                                                                                                                λ k pool at opcode zs n e. absurd cc,  -- invokeinterface
-                                                                                                                (
-                                                                                                                  λ k pool at opcode zs n e. absurd cc,  -- invokedynamic
-                                                                                                                  (
-                                                                                                                    λ k pool at opcode zs n e. absurd cc,  -- new
-                                                                                                                    (
-                                                                                                                      λ k pool at opcode zs n e. absurd cc,  -- newarray
-                                                                                                                      (
-                                                                                                                        λ k pool at opcode zs n e. absurd cc,  -- anewarray
-                                                                                                                        (
-                                                                                                                          λ k pool at opcode zs n e. absurd cc,  -- arraylength
-                                                                                                                          (
-                                                                                                                            λ k pool at opcode zs n e. absurd cc,  -- athrow
-                                                                                                                            (
-                                                                                                                              λ k pool at opcode zs n e. absurd cc,  -- checkcast
-                                                                                                                              (
-                                                                                                                                λ k pool at opcode zs n e. absurd cc,  -- instanceof
-                                                                                                                                (
-                                                                                                                                  λ k pool at opcode zs n e. absurd cc,  -- monitorenter, monitorexit
-                                                                                                                                  (
-                                                                                                                                    λ k pool at opcode zs n e. absurd cc,  -- wide
-                                                                                                                                    (
-                                                                                                                                      λ k pool at opcode zs n e. absurd cc,  -- multianewarray
-                                                                                                                                      (
-                                                                                                                                        λ k pool at opcode zs n e. absurd cc,  -- ifnull, ifnonnull
-                                                                                                                                        (
-                                                                                                                                          λ k pool at opcode zs n e. absurd cc,  -- goto_w
-                                                                                                                                          (
-                                                                                                                                            λ k pool at opcode zs n e. absurd cc,  -- jsr_w
-                                                                                                                                            tt,
-                                                                                                                                          ),
-                                                                                                                                        ),
-                                                                                                                                      ),
-                                                                                                                                    ),
-                                                                                                                                  ),
-                                                                                                                                ),
-                                                                                                                              ),
-                                                                                                                            ),
-                                                                                                                          ),
-                                                                                                                        ),
-                                                                                                                      ),
-                                                                                                                    ),
-                                                                                                                  ),
-                                                                                                                ),
-                                                                                                              ),
-                                                                                                            ),
-                                                                                                          ),
-                                                                                                        ),
-                                                                                                      ),
-                                                                                                    ),
-                                                                                                  ),
-                                                                                                ),
-                                                                                              ),
-                                                                                            ),
-                                                                                          ),
-                                                                                        ),
-                                                                                      ),
-                                                                                    ),
-                                                                                  ),
-                                                                                ),
-                                                                              ),
-                                                                            ),
-                                                                          ),
-                                                                        ),
-                                                                      ),
-                                                                    ),
-                                                                  ),
-                                                                ),
-                                                              ),
-                                                            ),
-                                                          ),
-                                                        ),
-                                                      ),
-                                                    ),
-                                                  ),
-                                                ),
-                                              ),
-                                            ),
-                                          ),
-                                        ),
-                                      ),
-                                    ),
-                                  ),
-                                ),
-                              ),
-                            ),
+                            behind_14,
                           ),
                         ),
                       ),

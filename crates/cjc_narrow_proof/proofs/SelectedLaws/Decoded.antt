@@ -2,7 +2,7 @@
 -- ascend.
 use Rattle.std.proofs.Common.{◌≡◌, ◌≤◌, ◌<◌, ◌+◌, ◌-◌, ◌%◌, ◌==◌, ◌&&◌, ◌||◌, ℕ, zero, suc, Bool, true, false, cond}
 use Rattle.std.proofs.Common.{nat_le, nat_lt, not, List, [], ◌∷◌, length, slice_get, Some, None, option_map, ℤ, pos}
-use Rattle.std.proofs.Common.{negsuc, refl, sym, ap, subst, ◌∙◌, arith}
+use Rattle.std.proofs.Common.{negsuc, refl, sym, ap, subst, ◌∙◌, arith, drop}
 use Rattle.std.specs.Int.RustNames.{int_lt}
 use Rattle.std.specs.List.{Contains}
 use Rattle.std.specs.Prelude.{if◌then◌else◌}
@@ -121,6 +121,209 @@ lookup pool at opcode [] e = tt
 lookup pool at opcode (a ∷ []) e = tt
 lookup pool at opcode (a ∷ pairs ∷ zs) e = ascend at zs (rises (int_lt pairs (pos 0)) (rise zs) e)
 
+-- of those behind the first 56
+behind_56 : AllInOrder (drop 56 ranges)
+unfolding row InOrder InOrderIn AllInOrder
+behind_56 = (
+  λ k pool at opcode zs e. tt,  -- invokedynamic
+  (
+    λ k pool at opcode zs e. tt,  -- new
+    (
+      λ k pool at opcode zs e. tt,  -- newarray
+      (
+        λ k pool at opcode zs e. tt,  -- anewarray
+        (
+          λ k pool at opcode zs e. tt,  -- arraylength
+          (
+            λ k pool at opcode zs e. tt,  -- athrow
+            (
+              λ k pool at opcode zs e. tt,  -- checkcast
+              (
+                λ k pool at opcode zs e. tt,  -- instanceof
+                (
+                  λ k pool at opcode zs e. tt,  -- monitorenter, monitorexit
+                  (
+                    λ k pool at opcode zs e. tt,  -- wide
+                    (
+                      λ k pool at opcode zs e. tt,  -- multianewarray
+                      (
+                        λ k pool at opcode zs e. tt,  -- ifnull, ifnonnull
+                        (
+                          λ k pool at opcode zs e. tt,  -- goto_w
+                          (
+                            λ k pool at opcode zs e. tt,  -- jsr_w
+                            tt,
+                          ),
+                        ),
+                      ),
+                    ),
+                  ),
+                ),
+              ),
+            ),
+          ),
+        ),
+      ),
+    ),
+  ),
+)
+
+-- of those behind the first 42
+behind_42 : AllInOrder (drop 42 ranges)
+unfolding row InOrder InOrderIn AllInOrder
+behind_42 = (
+  λ k pool at opcode zs e. tt,  -- jsr
+  (
+    λ k pool at opcode zs e. tt,  -- ret
+    (
+      λ k pool at opcode zs e. table pool at opcode zs,  -- tableswitch
+      (
+        λ k pool at opcode zs e. lookup pool at opcode zs e,  -- lookupswitch
+        (
+          λ k pool at opcode zs e. tt,  -- ireturn
+          (
+            λ k pool at opcode zs e. tt,  -- lreturn, freturn, dreturn
+            (
+              λ k pool at opcode zs e. tt,  -- areturn, return
+              (
+                λ k pool at opcode zs e. tt,  -- getstatic
+                (
+                  λ k pool at opcode zs e. tt,  -- putstatic
+                  (
+                    λ k pool at opcode zs e. tt,  -- getfield
+                    (
+                      λ k pool at opcode zs e. tt,  -- putfield
+                      (
+                        λ k pool at opcode zs e. tt,  -- invokevirtual
+                        (
+                          λ k pool at opcode zs e. tt,  -- invokespecial, invokestatic
+                          (
+                            λ k pool at opcode zs e. tt,  -- invokeinterface
+                            behind_56,
+                          ),
+                        ),
+                      ),
+                    ),
+                  ),
+                ),
+              ),
+            ),
+          ),
+        ),
+      ),
+    ),
+  ),
+)
+
+-- of those behind the first 28
+behind_28 : AllInOrder (drop 28 ranges)
+unfolding row InOrder InOrderIn AllInOrder
+behind_28 = (
+  λ k pool at opcode zs e. tt,  -- aastore, bastore
+  (
+    λ k pool at opcode zs e. tt,  -- castore
+    (
+      λ k pool at opcode zs e. tt,  -- sastore
+      (
+        -- pop, pop2, dup, dup_x1, dup_x2, dup2, dup2_x1,
+        -- dup2_x2, swap
+        λ k pool at opcode zs e. tt,
+        (
+          -- of int, long, float and double: add, sub, mul, div,
+          -- rem, neg
+          λ k pool at opcode zs e. arith_or_unsupported
+              (k % 4 == 0) pool at
+              opcode zs,
+          (
+            -- of int and long: shl, shr, ushr, and, or, xor
+            λ k pool at opcode zs e. arith_or_unsupported
+                (k % 2 == 0) pool at
+                opcode zs,
+            (
+              λ k pool at opcode zs e. two_bytes (second zs),  -- iinc
+              (
+                -- i2l, i2f, i2d, l2i, l2f, l2d, f2i, f2l, f2d,
+                -- d2i, d2l, d2f
+                λ k pool at opcode zs e. tt,
+                (
+                  λ k pool at opcode zs e. tt,  -- i2b
+                  (
+                    λ k pool at opcode zs e. tt,  -- i2c
+                    (
+                      λ k pool at opcode zs e. tt,  -- i2s
+                      (
+                        λ k pool at opcode zs e. tt,  -- lcmp, fcmpl, fcmpg, dcmpl, dcmpg
+                        (
+                          -- ifeq, ifne, iflt, ifge, ifgt, ifle,
+                          -- if_icmpeq to if_icmple,
+                          -- if_acmpeq, if_acmpne
+                          λ k pool at opcode zs e. tt,
+                          (
+                            λ k pool at opcode zs e. tt,  -- goto
+                            behind_42,
+                          ),
+                        ),
+                      ),
+                    ),
+                  ),
+                ),
+              ),
+            ),
+          ),
+        ),
+      ),
+    ),
+  ),
+)
+
+-- of those behind the first 14
+behind_14 : AllInOrder (drop 14 ranges)
+unfolding row InOrder InOrderIn AllInOrder
+behind_14 = (
+  λ k pool at opcode zs e. tt,  -- aload_0 to aload_3
+  (
+    λ k pool at opcode zs e. tt,  -- iaload
+    (
+      λ k pool at opcode zs e. tt,  -- laload, faload, daload
+      (
+        λ k pool at opcode zs e. tt,  -- aaload, baload
+        (
+          λ k pool at opcode zs e. tt,  -- caload
+          (
+            λ k pool at opcode zs e. tt,  -- saload
+            (
+              λ k pool at opcode zs e. tt,  -- istore
+              (
+                λ k pool at opcode zs e. tt,  -- lstore, fstore, dstore
+                (
+                  λ k pool at opcode zs e. tt,  -- astore
+                  (
+                    λ k pool at opcode zs e. tt,  -- istore_0 to istore_3
+                    (
+                      -- lstore_0 to lstore_3, fstore_0 to fstore_3, dstore_0 to dstore_3
+                      λ k pool at opcode zs e. tt,
+                      (
+                        λ k pool at opcode zs e. tt,  -- astore_0 to astore_3
+                        (
+                          λ k pool at opcode zs e. tt,  -- iastore
+                          (
+                            λ k pool at opcode zs e. tt,  -- lastore, fastore, dastore
+                            behind_28,
+                          ),
+                        ),
+                      ),
+                    ),
+                  ),
+                ),
+              ),
+            ),
+          ),
+        ),
+      ),
+    ),
+  ),
+)
+
 all_in_order : AllInOrder ranges
 unfolding row InOrder InOrderIn AllInOrder
 all_in_order = (
@@ -151,190 +354,7 @@ all_in_order = (
                           λ k pool at opcode zs e. tt,  -- iload_0 to iload_3
                           (
                             λ k pool at opcode zs e. tt,  -- lload_0 to lload_3, fload_0 to fload_3, dload_0 to dload_3
-                            (
-                              λ k pool at opcode zs e. tt,  -- aload_0 to aload_3
-                              (
-                                λ k pool at opcode zs e. tt,  -- iaload
-                                (
-                                  λ k pool at opcode zs e. tt,  -- laload, faload, daload
-                                  (
-                                    λ k pool at opcode zs e. tt,  -- aaload, baload
-                                    (
-                                      λ k pool at opcode zs e. tt,  -- caload
-                                      (
-                                        λ k pool at opcode zs e. tt,  -- saload
-                                        (
-                                          λ k pool at opcode zs e. tt,  -- istore
-                                          (
-                                            λ k pool at opcode zs e. tt,  -- lstore, fstore, dstore
-                                            (
-                                              λ k pool at opcode zs e. tt,  -- astore
-                                              (
-                                                λ k pool at opcode zs e. tt,  -- istore_0 to istore_3
-                                                (
-                                                  -- lstore_0 to lstore_3, fstore_0 to fstore_3, dstore_0 to dstore_3
-                                                  λ k pool at opcode zs e. tt,
-                                                  (
-                                                    λ k pool at opcode zs e. tt,  -- astore_0 to astore_3
-                                                    (
-                                                      λ k pool at opcode zs e. tt,  -- iastore
-                                                      (
-                                                        λ k pool at opcode zs e. tt,  -- lastore, fastore, dastore
-                                                        (
-                                                          λ k pool at opcode zs e. tt,  -- aastore, bastore
-                                                          (
-                                                            λ k pool at opcode zs e. tt,  -- castore
-                                                            (
-                                                              λ k pool at opcode zs e. tt,  -- sastore
-                                                              (
-                                                                -- pop, pop2, dup, dup_x1, dup_x2, dup2, dup2_x1,
-                                                                -- dup2_x2, swap
-                                                                λ k pool at opcode zs e. tt,
-                                                                (
-                                                                  -- of int, long, float and double: add, sub, mul, div,
-                                                                  -- rem, neg
-                                                                  λ k pool at opcode zs e. arith_or_unsupported
-                                                                      (k % 4 == 0) pool at
-                                                                      opcode zs,
-                                                                  (
-                                                                    -- of int and long: shl, shr, ushr, and, or, xor
-                                                                    λ k pool at opcode zs e. arith_or_unsupported
-                                                                        (k % 2 == 0) pool at
-                                                                        opcode zs,
-                                                                    (
-                                                                      λ k pool at opcode zs e. two_bytes (second zs),  -- iinc
-                                                                      (
-                                                                        -- i2l, i2f, i2d, l2i, l2f, l2d, f2i, f2l, f2d,
-                                                                        -- d2i, d2l, d2f
-                                                                        λ k pool at opcode zs e. tt,
-                                                                        (
-                                                                          λ k pool at opcode zs e. tt,  -- i2b
-                                                                          (
-                                                                            λ k pool at opcode zs e. tt,  -- i2c
-                                                                            (
-                                                                              λ k pool at opcode zs e. tt,  -- i2s
-                                                                              (
-                                                                                λ k pool at opcode zs e. tt,  -- lcmp, fcmpl, fcmpg, dcmpl, dcmpg
-                                                                                (
-                                                                                  -- ifeq, ifne, iflt, ifge, ifgt, ifle,
-                                                                                  -- if_icmpeq to if_icmple,
-                                                                                  -- if_acmpeq, if_acmpne
-                                                                                  λ k pool at opcode zs e. tt,
-                                                                                  (
-                                                                                    λ k pool at opcode zs e. tt,  -- goto
-                                                                                    (
-                                                                                      λ k pool at opcode zs e. tt,  -- jsr
-                                                                                      (
-                                                                                        λ k pool at opcode zs e. tt,  -- ret
-                                                                                        (
-                                                                                          λ k pool at opcode zs e. table pool at opcode zs,  -- tableswitch
-                                                                                          (
-                                                                                            λ k pool at opcode zs e. lookup pool at opcode zs e,  -- lookupswitch
-                                                                                            (
-                                                                                              λ k pool at opcode zs e. tt,  -- ireturn
-                                                                                              (
-                                                                                                λ k pool at opcode zs e. tt,  -- lreturn, freturn, dreturn
-                                                                                                (
-                                                                                                  λ k pool at opcode zs e. tt,  -- areturn, return
-                                                                                                  (
-                                                                                                    λ k pool at opcode zs e. tt,  -- getstatic
-                                                                                                    (
-                                                                                                      λ k pool at opcode zs e. tt,  -- putstatic
-                                                                                                      (
-                                                                                                        λ k pool at opcode zs e. tt,  -- getfield
-                                                                                                        (
-                                                                                                          λ k pool at opcode zs e. tt,  -- putfield
-                                                                                                          (
-                                                                                                            λ k pool at opcode zs e. tt,  -- invokevirtual
-                                                                                                            (
-                                                                                                              λ k pool at opcode zs e. tt,  -- invokespecial, invokestatic
-                                                                                                              (
-                                                                                                                λ k pool at opcode zs e. tt,  -- invokeinterface
-                                                                                                                (
-                                                                                                                  λ k pool at opcode zs e. tt,  -- invokedynamic
-                                                                                                                  (
-                                                                                                                    λ k pool at opcode zs e. tt,  -- new
-                                                                                                                    (
-                                                                                                                      λ k pool at opcode zs e. tt,  -- newarray
-                                                                                                                      (
-                                                                                                                        λ k pool at opcode zs e. tt,  -- anewarray
-                                                                                                                        (
-                                                                                                                          λ k pool at opcode zs e. tt,  -- arraylength
-                                                                                                                          (
-                                                                                                                            λ k pool at opcode zs e. tt,  -- athrow
-                                                                                                                            (
-                                                                                                                              λ k pool at opcode zs e. tt,  -- checkcast
-                                                                                                                              (
-                                                                                                                                λ k pool at opcode zs e. tt,  -- instanceof
-                                                                                                                                (
-                                                                                                                                  λ k pool at opcode zs e. tt,  -- monitorenter, monitorexit
-                                                                                                                                  (
-                                                                                                                                    λ k pool at opcode zs e. tt,  -- wide
-                                                                                                                                    (
-                                                                                                                                      λ k pool at opcode zs e. tt,  -- multianewarray
-                                                                                                                                      (
-                                                                                                                                        λ k pool at opcode zs e. tt,  -- ifnull, ifnonnull
-                                                                                                                                        (
-                                                                                                                                          λ k pool at opcode zs e. tt,  -- goto_w
-                                                                                                                                          (
-                                                                                                                                            λ k pool at opcode zs e. tt,  -- jsr_w
-                                                                                                                                            tt,
-                                                                                                                                          ),
-                                                                                                                                        ),
-                                                                                                                                      ),
-                                                                                                                                    ),
-                                                                                                                                  ),
-                                                                                                                                ),
-                                                                                                                              ),
-                                                                                                                            ),
-                                                                                                                          ),
-                                                                                                                        ),
-                                                                                                                      ),
-                                                                                                                    ),
-                                                                                                                  ),
-                                                                                                                ),
-                                                                                                              ),
-                                                                                                            ),
-                                                                                                          ),
-                                                                                                        ),
-                                                                                                      ),
-                                                                                                    ),
-                                                                                                  ),
-                                                                                                ),
-                                                                                              ),
-                                                                                            ),
-                                                                                          ),
-                                                                                        ),
-                                                                                      ),
-                                                                                    ),
-                                                                                  ),
-                                                                                ),
-                                                                              ),
-                                                                            ),
-                                                                          ),
-                                                                        ),
-                                                                      ),
-                                                                    ),
-                                                                  ),
-                                                                ),
-                                                              ),
-                                                            ),
-                                                          ),
-                                                        ),
-                                                      ),
-                                                    ),
-                                                  ),
-                                                ),
-                                              ),
-                                            ),
-                                          ),
-                                        ),
-                                      ),
-                                    ),
-                                  ),
-                                ),
-                              ),
-                            ),
+                            behind_14,
                           ),
                         ),
                       ),

@@ -33,7 +33,7 @@ use Rattle.cjc_types.proofs.TypeLaws.Standing.{handler_placed, next_there, targe
 use Rattle.cjc_emit.specs.Layout.Handlers.{AllLie}
 use Rattle.cjc_emit.specs.Layout.Layouts.{IsWhole}
 use Rattle.cjc_emit.specs.Layout.Sizes.{AllLead}
-use Rattle.cjc_emit.proofs.LowerLayout.Places.{get_inside}
+use Rattle.cjc_emit.proofs.LayoutPlaces.{get_inside}
 use Rattle.cjc_narrow_proof.proofs.SelectedLaws.Cuts.{few, stack_opcode}
 use Rattle.cjc_narrow_proof.proofs.SelectedLaws.Places.{all_sizes, between, place_below, place_low, place_up}
 use Rattle.cjc_narrow_proof.proofs.SelectedLaws.Places.{reached_at, reached_from, size, sizes}

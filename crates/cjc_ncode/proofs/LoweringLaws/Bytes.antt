@@ -4,7 +4,7 @@ use Rattle.std.proofs.Common.{◌∷◌, ◌++◌, length, drop, append_assoc, z
 use Rattle.std.specs.Prelude.{Some, slice_get, nat_le, if◌then◌else◌}
 use Rattle.std.proofs.lemmas.Bool.Decides.{nat_tests}
 use Rattle.cjc_card_semantics.specs.CapRead.Decode.{Instruction, emitted, size}
-use Rattle.cjc_card_semantics.proofs.CapRead.Decoding.{length_emitted}
+use Rattle.cjc_card_semantics.proofs.CapReadDecoding.{length_emitted}
 use Rattle.cjc_card_semantics.specs.Machine.Loaded.{Part}
 use Rattle.cjc_card_semantics.specs.Machine.Methods.{bytes_from, methods_begin}
 use Rattle.cjc_ncode.specs.declared.narrow.NInsn.{NInsn}

@@ -2,20 +2,20 @@
 use Rattle.std.proofs.Common.{◌≡◌, ℕ, zero, suc, refl, ap, ◌∙◌, Bool, true, false, ◌||◌, List, [], ◌∷◌, ◌++◌}
 use Rattle.std.specs.Prelude.{Option, Some, None, IsSome, position, slice_get, if◌then◌else◌}
 use Rattle.std.specs.List.{flat_map, list_any}
-use Rattle.cjc_components.specs.Bytes.declared.fault.MemberId.{MemberId}
-use Rattle.cjc_components.specs.Narrow.Keys.Index.{index_of}
-use Rattle.cjc_components.specs.Narrow.Keys.Working.Same.{same_key-Decides}
-use Rattle.cjc_components.proofs.Narrow.KeysLaws.Indices.{needed}
-use Rattle.cjc_components.specs.NCode.declared.narrow.NInsn.{NInsn}
-use Rattle.cjc_components.specs.NCode.declared.narrow.NInsn.TheVariants as insns
-use Rattle.cjc_components.specs.NCode.declared.narrow.NMethod.{NMethod}
-use Rattle.cjc_components.specs.NCode.declared.narrow.PoolKey.{PoolKey}
-use Rattle.cjc_components.specs.NCode.declared.narrow.PoolKey.TheVariants as keys
-use Rattle.cjc_components.specs.NCode.PoolOrder.{class_key, insn_keys, method_keys, pool_order, same_key}
+use Rattle.cjc_narrow.specs.Bytes.declared.fault.MemberId.{MemberId}
+use Rattle.cjc_narrow.specs.Keys.Index.{index_of}
+use Rattle.cjc_narrow.specs.Keys.Working.Same.{same_key-Decides}
+use Rattle.cjc_narrow.proofs.KeysLaws.Indices.{needed}
+use Rattle.cjc_narrow.specs.NCode.declared.narrow.NInsn.{NInsn}
+use Rattle.cjc_narrow.specs.NCode.declared.narrow.NInsn.TheVariants as insns
+use Rattle.cjc_narrow.specs.NCode.declared.narrow.NMethod.{NMethod}
+use Rattle.cjc_narrow.specs.NCode.declared.narrow.PoolKey.{PoolKey}
+use Rattle.cjc_narrow.specs.NCode.declared.narrow.PoolKey.TheVariants as keys
+use Rattle.cjc_narrow.specs.NCode.PoolOrder.{class_key, insn_keys, method_keys, pool_order, same_key}
 use Rattle.cjc_components.specs.Emit.Emitted.{HasIndex, HasNames, HasToken}
 use Rattle.cjc_pool.specs.Pool.{IsPool, PoolView, calls, is_called, token_in, token_of}
 use Rattle.cjc_components.specs.Tokens.Tokens.{Assigned}
-use Rattle.cjc_components.specs.World.Files.{Files}
+use Rattle.cjc_narrow.specs.World.Files.{Files}
 use Rattle.cjc_pool.specs.Named.{CallsHaveTokens, IsAmong}
 
 -- ---- among lists

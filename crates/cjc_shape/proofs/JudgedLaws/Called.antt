@@ -21,7 +21,7 @@ use Rattle.cjc_narrow_proof.specs.Narrow.Rows.Resolved.{by_owner, resolved_metho
 use Rattle.cjc_methods.specs.Pool.Pool.{token_of}
 use Rattle.cjc_narrow_proof.proofs.SelectedLaws.Limits.{each_at, none_left, none_right, not_broken}
 use Rattle.cjc_narrow_proof.specs.Subset.Members.{ResolvedMember, hit, hit_of, is_array, is_constructor, is_initialiser}
-use Rattle.cjc_narrow_proof.proofs.Subset.Callees.{method_unfound}
+use Rattle.cjc_narrow_proof.proofs.SubsetCallees.{method_unfound}
 use Rattle.cjc_narrow_proof.specs.Subset.Names.{code_breaks, insn_breaks, is_hidden, is_member_missing, is_name_missing}
 use Rattle.cjc_narrow_proof.specs.Subset.Names.{is_not_found, is_unfit_call, is_unfit_class, is_unfit_interface}
 use Rattle.cjc_narrow_proof.specs.Subset.Names.{is_unfit_method}
@@ -31,7 +31,7 @@ use Rattle.cjc_narrow_proof.specs.Subset.Places.{of_class, of_method}
 use Rattle.cjc_exported.specs.Tokens.Rules.{token_breaks}
 use Rattle.cjc_exported.specs.Tokens.Tokens.{assigned, token_of_member}
 use Rattle.cjc_methods.specs.Types.Tables.{IsMethodOf}
-use Rattle.cjc_narrow_proof.proofs.VTable.Filed.{at-number}
+use Rattle.cjc_narrow_proof.proofs.VTableFiled.{at-number}
 use Rattle.cjc_world.specs.Classes.{Class, all_classes, class_at, class_named}
 use Rattle.cjc_world.specs.Files.{Files}
 use Rattle.cjc_world.specs.Supertypes.{IsAcyclic}

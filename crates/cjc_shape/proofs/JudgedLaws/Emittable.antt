@@ -43,7 +43,7 @@ use Rattle.cjc_narrow_proof.proofs.SelectedLaws.Numbers.{all_fit}
 use Rattle.cjc_narrow_proof.proofs.SelectedLaws.Places.{reached_from}
 use Rattle.cjc_narrow_proof.proofs.SelectedLaws.Said.{all_said}
 use Rattle.cjc_narrow_proof.specs.Selected.Operands.{IndexFits, IsSmall, NumbersFit, OperandsFit}
-use Rattle.cjc_narrow_proof.proofs.Subset.Any.{any_off}
+use Rattle.cjc_narrow_proof.proofs.SubsetAny.{any_off}
 use Rattle.cjc_narrow_proof.specs.Subset.Ints.{code_works_on_int}
 use Rattle.cjc_narrow_proof.specs.Subset.Names.{names_missing, names_unfit, names_unfound}
 use Rattle.cjc_exported.specs.Tokens.Tokens.{assigned}

@@ -7,9 +7,9 @@ use Rattle.std.proofs.lemmas.List.Quantifiers.{position-Some}
 use Rattle.std.proofs.lemmas.Option.{slice_get-get_or}
 use Rattle.std.proofs.lemmas.Slice.Eq.{bytes_eq-Decides}
 use Rattle.cjc_narrow_proof.specs.JvmSemantics.OnePackage.{ResolvedMember, method_hit}
-use Rattle.cjc_narrow_proof.proofs.VTable.Asked.{Among, at_head, further}
-use Rattle.cjc_narrow_proof.proofs.VTable.Filed.{at-number}
-use Rattle.cjc_narrow_proof.proofs.VTable.Stood.{gathered-named, upwards-named}
+use Rattle.cjc_narrow_proof.proofs.VTableAsked.{Among, at_head, further}
+use Rattle.cjc_narrow_proof.proofs.VTableFiled.{at-number}
+use Rattle.cjc_narrow_proof.proofs.VTableStood.{gathered-named, upwards-named}
 use Rattle.cjc_world.proofs.Settled.{supertypes-AreSupertypes, supertypes-known}
 use Rattle.cjc_world.specs.Classes.{Class, Member, all_classes, class_at, class_named}
 use Rattle.cjc_world.specs.Files.{Files}

@@ -21,9 +21,9 @@ use Rattle.cjc_world.specs.ExportFile.declared.tree.ExportField.{ExportField}
 use Rattle.cjc_world.specs.ExportFile.declared.tree.ExportMethod.{ExportMethod}
 use Rattle.cjc_world.specs.ExportFile.declared.tree.ExportTree.{ExportTree}
 use Rattle.cjc_narrow_proof.specs.Subset.Members.{imports}
-use Rattle.cjc_exported.proofs.Tokens.TokenLaws.Meant.{has_token}
-use Rattle.cjc_exported.proofs.Tokens.Facts.{position-cons, same-refl}
-use Rattle.cjc_exported.proofs.Tokens.Means.{kept-at}
+use Rattle.cjc_exported.proofs.TokensMeant.{has_token}
+use Rattle.cjc_exported.proofs.TokensFacts.{position-cons, same-refl}
+use Rattle.cjc_exported.proofs.TokensMeans.{kept-at}
 use Rattle.cjc_exported.specs.Tokens.Fields.{field_tokens, is_open_static}
 use Rattle.cjc_exported.specs.Tokens.Lines.{line_at}
 use Rattle.cjc_exported.specs.Tokens.Members.{Signature, is_initialiser, same, signature_of}
@@ -33,8 +33,8 @@ use Rattle.cjc_exported.specs.Tokens.Rules.{token_breaks}
 use Rattle.cjc_exported.specs.Tokens.Slots.{hidden_slots, shown_token}
 use Rattle.cjc_exported.specs.Tokens.Tokens.{assigned, imports_of, joined, listed_field_token, listed_method_token}
 use Rattle.cjc_exported.specs.Tokens.Tokens.{method_tokens, of_class, of_import, token_of_member}
-use Rattle.cjc_narrow_proof.proofs.VTable.Filed.{Has, IsFiled, at_front, behind, filed, get-has, has-get, in_class_file}
-use Rattle.cjc_narrow_proof.proofs.VTable.Filed.{in_export_file, of-imports}
+use Rattle.cjc_narrow_proof.proofs.VTableFiled.{Has, IsFiled, at_front, behind, filed, get-has, has-get, in_class_file}
+use Rattle.cjc_narrow_proof.proofs.VTableFiled.{in_export_file, of-imports}
 use Rattle.cjc_world.specs.Added.{added, asked_by, own_methods, without_initialiser, by_token, with_token}
 use Rattle.cjc_world.specs.Classes.{Class, Member, all_classes, class_named, declared, field_of_class, field_of_export}
 use Rattle.cjc_world.specs.Classes.{imported, method_of_export}

@@ -3,7 +3,7 @@ use Rattle.std.proofs.Common.{◌≡◌, ℕ, refl, sym, ap, ◌∙◌, false, L
 use Rattle.std.specs.Prelude.{All, Result, Ok, Err, IfOk, map}
 use Rattle.std.proofs.lemmas.List.Elements.{All-head, All-tail}
 use Rattle.cjc_methods.specs.ClassOrder.Classes.Numbers.{IsOfKind, declared_at}
-use Rattle.cjc_narrow_proof.proofs.VTable.Numbers.{own_listed}
+use Rattle.cjc_narrow_proof.proofs.VTableNumbers.{own_listed}
 use Rattle.cjc_world.specs.Classes.{all_classes, class_at}
 use Rattle.cjc_world.specs.Files.{Files}
 

@@ -34,7 +34,7 @@ use Rattle.cjc_narrow_proof.specs.Subset.Ints.{any_works_on_int}
 use Rattle.cjc_narrow_proof.specs.Subset.Places.{at_method, of_class, of_method}
 use Rattle.cjc_exported.specs.Tokens.Rules.{FewCells, FewExported, tested_breaks, token_breaks}
 use Rattle.cjc_methods.specs.Types.declared.table.TypeTable.{TypeTable}
-use Rattle.cjc_narrow_proof.proofs.VTable.Numbers.{class_count-cons}
+use Rattle.cjc_narrow_proof.proofs.VTableNumbers.{class_count-cons}
 use Rattle.cjc_world.specs.Files.{Files}
 use Rattle.cjc_world.specs.Rules.{breaks}
 use Rattle.cjc_shape.specs.Prepared.{IsSound, tested}

@@ -4,7 +4,7 @@ use Rattle.std.proofs.Common.{[], ◌∷◌, length}
 use Rattle.std.specs.Prelude.{Option, Some, None, map, slice_get}
 use Rattle.cjc_narrow_proof.specs.Bytecode.PackageCodes.{all_codes}
 use Rattle.cjc_judge.specs.Clinit.Image.{IsImage}
-use Rattle.cjc_judge.proofs.Clinit.OneImage.{one-image}
+use Rattle.cjc_judge.proofs.ClinitOneImage.{one-image}
 use Rattle.cjc_methods.specs.Components.Package.{LaidMethod, Package, codes}
 use Rattle.cjc_methods.specs.Components.Written.{is_abstract_at}
 use Rattle.cjc_judge.specs.declared.judged.Judged.{Judged}

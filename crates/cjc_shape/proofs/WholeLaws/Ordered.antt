@@ -8,7 +8,7 @@ use Rattle.cjc_methods.specs.ClassOrder.Classes.Numbers.{class_count, declared_a
 use Rattle.cjc_methods.proofs.ClassOrderDeclared.{order_declared}
 use Rattle.cjc_methods.specs.Ready.{AreOrdered, IsOwn}
 use Rattle.cjc_methods.proofs.Ownership.{ordered_own}
-use Rattle.cjc_narrow_proof.proofs.VTable.Numbers.{own_listed}
+use Rattle.cjc_narrow_proof.proofs.VTableNumbers.{own_listed}
 use Rattle.cjc_world.specs.Classes.{Class, all_classes, class_at, declared}
 use Rattle.cjc_world.specs.Files.{Files}
 use Rattle.cjc_world.specs.Order.{in_order, method_order}

@@ -13,7 +13,7 @@ use Rattle.cjc_methods.specs.Pool.Pool.{IsPool, PoolView, most_entries}
 use Rattle.cjc_exported.specs.Tokens.Rules.{token_breaks}
 use Rattle.cjc_exported.specs.Tokens.Tokens.{assigned}
 use Rattle.cjc_methods.specs.Types.declared.table.TypeTable.{TypeTable}
-use Rattle.cjc_methods.specs.Components.Subset.Ints.{any_works_on_int}
+use Rattle.cjc_narrow_proof.specs.Subset.Ints.{any_works_on_int}
 use Rattle.cjc_narrow_proof.specs.Narrow.Written.Rows.{has_rows, rows_by}
 use Rattle.cjc_shape.specs.Judged.Tested.{IsOne, states}
 

@@ -5,7 +5,7 @@ ghost use Rattle.cjc_judge.specs.declared.judged.Judged.{Judged};
 ghost use Rattle.cjc_judge.specs.Rules.{has_applets, settings_of};
 ghost use Rattle.cjc_shape.specs.Judged.Tested.{IsTested};
 ghost use Rattle.cjc_judge.specs.List.Listed.{ListTree};
-ghost use Rattle.cjc_methods.specs.Components.Subset.Ints.{any_works_on_int};
+ghost use Rattle.cjc_narrow_proof.specs.Subset.Ints.{any_works_on_int};
 ghost use Rattle.cjc_methods.specs.Ready.{AreReady};
 ghost use Rattle.cjc_narrow_proof.specs.Laws.Unbroken.{IsUnbroken};
 ghost use Rattle.cjc_exported.specs.Tokens.Rules.{FewCells, FewExported, token_breaks};

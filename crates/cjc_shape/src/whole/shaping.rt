@@ -17,7 +17,7 @@ use cjc_methods::layouts::{Methods, lay_out, methods_are_of_a_package};
 use cjc_methods::{
     method_order, methods_are_own, methods_can_be_laid_out, narrow_codes, test_words,
 };
-use cjc_subset::any_works_on_int;
+use cjc_narrow_proof::subset::any_works_on_int;
 use cjc_world::bytes::{Fault, NoMemory, Row, RulePlace, answer, broken};
 use cjc_world::export_file::{ExportTree, pool_size};
 use cjc_world::{Found, StaticImage, World};

@@ -13,7 +13,7 @@ use Rattle.cjc_export.specs.Writable.{ClassFits, EachAfter, MethodFits, MethodSt
 use Rattle.cjc_export.specs.declared.tree.ExportMethod.{ExportMethod}
 use Rattle.cjc_bytes.specs.AccessFlags.{is_interface}
 use Rattle.cjc_subset.specs.Bytecode.ReadLaws.Members.{IsDescOf, IsReadClass}
-use Rattle.cjc_subset.proofs.Bytecode.ReadLaws.Members.{read_class}
+use Rattle.cjc_subset.proofs.BytecodeMembers.{read_class}
 use Rattle.cjc_world_proof.specs.Files.{AreReadFiles}
 use Rattle.cjc_subset.specs.Members.{imports}
 use Rattle.cjc_vtable.proofs.Filed.{Has, IsFiled, at_front, behind, filed, get-has, has-get, in_class_file}

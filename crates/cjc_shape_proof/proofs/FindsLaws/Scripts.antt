@@ -300,7 +300,8 @@ module _ (list : List ℕ) (files : Files) (codes : List MethodCode) (settings :
       (none_where (entry_named files w id) (λ m e. true_not_false (is_int_desc id.desc) int
       (code_free_of id (called_plain files w id m e) m (called_method files solid id m e).0)))
       (λ kind made. none_where (sent_named files w (shape_name kind) id) (λ m e. true_not_false (is_int_desc id.desc)
-      int (code_free_of id (sent_plain files w (shape_name kind) id m e) m (let s = sent_to id kind m made e in s.code))))
+      int (code_free_of id (sent_plain files w (shape_name kind) id m e) m
+      (let s = sent_to id kind m made e in s.code))))
 
   pub found_is : (id : MemberId) → IsFound files l tables id
   found_is id = ⊎_elim (int_is id)

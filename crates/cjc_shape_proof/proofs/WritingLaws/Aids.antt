@@ -9,9 +9,9 @@ use Rattle.cjc_bytes.specs.declared.settings.AppletLine.{AppletLine}
 use Rattle.cjc_shape_proof.proofs.WrittenLaws.FittingLaws.Lists.{all_both}
 use Rattle.cjc_shape_proof.specs.Written.LaidOut.{AidsAreShort}
 use Rattle.cjc_shape.specs.Judge.Spelt.{IsRead}
-use Rattle.cjc_components.proofs.List.Items.{aid_is, onward, package_says, passed}
-use Rattle.cjc_components.proofs.List.Texts.{lines_are}
-use Rattle.cjc_components.proofs.List.Wholes.{onward_ok, said_ok}
+use Rattle.cjc_components.proofs.ListItems.{aid_is, onward, package_says, passed}
+use Rattle.cjc_components.proofs.ListTexts.{lines_are}
+use Rattle.cjc_components.proofs.ListWholes.{onward_ok, said_ok}
 use Rattle.cjc_components.specs.List.Grammar.{aid_of, applet_of, has_room, is_name, item_of, package_of, with_item}
 use Rattle.cjc_components.specs.List.Grammar.{with_line}
 use Rattle.cjc_components.specs.List.Listed.{ListTree, of_lines, said, with_lines}
@@ -52,6 +52,18 @@ file_keeps l m keyword file e =
           ++ (record { class_file = b; name = file }) ∷ [];
     }) m f in ap (λ (t : ListTree). t.applets) p.1
 
+-- a line `int`
+int_keeps : (l m : ListTree) (keyword : List ℕ) → with_line l (keyword ∷ []) ≡ Some m → l.applets ≡ m.applets
+unfolding with_line item_of with_item
+int_keeps l m keyword e =
+    let r = onward (item_of (keyword ∷ [])) (with_item l) m e in
+    ⊎_elim (λ same. as_int l.ints (ap (with_item l) same ∙ r.2)) (λ none. absurd (cc))
+    (either_if (bytes_eq keyword (codes "int")) _ None r.0 r.1)
+  where
+    as_int : (b : Bool) → (if b then None else Some (record l { ints = true })) ≡ Some m → l.applets ≡ m.applets
+    as_int true f = absurd cc
+    as_int false f = let same : record l { ints = true } ≡ m = cc in ap (λ (t : ListTree). t.applets) same
+
 -- a line that names an applet
 applet_keeps : (l m : ListTree) (keyword class digits : List ℕ) → with_line l (keyword ∷ class ∷ digits ∷ []) ≡ Some m
     → AllByRecursion IsShort l.applets → AllByRecursion IsShort m.applets
@@ -75,7 +87,7 @@ line_keeps : (l m : ListTree) (ws : List (List ℕ)) → with_line l ws ≡ Some
     → AllByRecursion IsShort m.applets
 unfolding with_line item_of
 line_keeps l m [] e short = absurd cc
-line_keeps l m (a ∷ []) e short = absurd cc
+line_keeps l m (a ∷ []) e short = subst (AllByRecursion IsShort) (int_keeps l m a e) short
 line_keeps l m (a ∷ b ∷ []) e short = subst (AllByRecursion IsShort) (file_keeps l m a b e) short
 line_keeps l m (a ∷ b ∷ c ∷ []) e short = applet_keeps l m a b c e short
 line_keeps l m (a ∷ b ∷ c ∷ d ∷ ws) e short = absurd cc

@@ -240,7 +240,8 @@ module _ (list : ListTree) (files : List (List ℕ)) (judged : Judged) (p : Pack
       let counted : fields ≡ length front = length-map u.fields field_of_class
       ∙ sym (fields_long ex u.fields 0 u.fields) in
       let as_own : method_tokens w ex c ≡ own =
-      ap (λ b. if b then own else class_method_tokens ex (shown_token (line_at w c)) (hidden_slots (line_at w c)) methods 0
+      ap (λ b. if b then own else class_method_tokens ex (shown_token (line_at w c)) (hidden_slots (line_at w c))
+      methods 0
       methods ++ map (λ m. shown_token (line_at w c) (signature_of m)) (added w c)) interface in
       ap (option_and_then (λ (x : OfClass). joined (slice_get x.members (fields + k)))) kept.1
       ∙ ap (λ i. joined (slice_get (front ++ method_tokens w ex c) (i + k))) counted

@@ -26,7 +26,7 @@ use Rattle.cjc_shape.specs.Judged.Tested.{AreFiles, IsTested}
 use Rattle.cjc_components.specs.List.Listed.{ListTree}
 use Rattle.cjc_narrow_proof.specs.Laws.Unbroken.{AreSpelt, IsUnbroken}
 use Rattle.cjc_shape.proofs.PreparedLaws.Sound.{is_tested, is_unbroken}
-use Rattle.cjc_subset.proofs.Bytecode.ReadLaws.Members.{read_class}
+use Rattle.cjc_subset.proofs.BytecodeMembers.{read_class}
 use Rattle.cjc_subset.specs.Bytecode.ReadLaws.Members.{IsReadClass}
 use Rattle.cjc_world_proof.specs.Files.{AreReadFiles}
 use Rattle.cjc_subset.specs.Checks.{check_breaks}

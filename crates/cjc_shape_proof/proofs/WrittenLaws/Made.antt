@@ -31,7 +31,7 @@ use Rattle.cjc_components.specs.Emit.Emitted.{CanBeWritten, placed_at}
 use Rattle.cjc_check_proof.proofs.LimitsLaws.Limits.{method_counted}
 use Rattle.cjc_check_proof.proofs.LimitsLaws.Offsets.{header_few}
 use Rattle.cjc_shape.specs.Judge.declared.judged.Judged.{Judged}
-use Rattle.cjc_components.proofs.LowerLayout.Places.{all_wide}
+use Rattle.cjc_components.proofs.LayoutPlaces.{all_wide}
 use Rattle.cjc_components.specs.Layout.Layouts.{IsWhole}
 use Rattle.cjc_components.specs.List.Listed.{ListTree}
 use Rattle.cjc_ncode.specs.Lowering.Naming.{Naming}

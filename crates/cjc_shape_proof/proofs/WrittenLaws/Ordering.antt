@@ -2,7 +2,7 @@
 -- class file, where 311 is not broken.
 use Rattle.std.proofs.Common.{◌≡◌, ℕ, suc, ◌+◌, refl, ap, sym, subst, ◌∙◌, Bool, true, false, List, [], ◌∷◌, map}
 use Rattle.std.specs.Prelude.{◌≢◌, Option, Some, None, nat_lt, option_map, slice_get, if◌then◌else◌}
-use Rattle.cjc_ncode.proofs.CardSemantics.BytecodeLaws.Together.{runs_agree}
+use Rattle.cjc_ncode.proofs.CardSemanticsTogether.{runs_agree}
 use Rattle.cjc_ncode.specs.CardSemantics.Bytecode.Alike.{KnownState, Names, SettingsAlike, no_frames, reached_as}
 use Rattle.cjc_ncode.specs.CardSemantics.Bytecode.Alike.{start_as}
 use Rattle.cjc_ncode.specs.CardSemantics.Bytecode.Effects.{Memory}

@@ -173,6 +173,7 @@ module _ (files : Files) (applets : Bool) (unbroken : token_breaks applets files
   keeps_tokens x c s t e plain f =
       let are_supertypes = supertypes-AreSupertypes w ordered.acyclic in
       let few = (class_few w are_supertypes (AreSupertypes-one w) low x c e plain).0 in
-      let line = ap (λ k. length (slots (line_in w k))) (supertypes-known w are_supertypes (AreSupertypes-one w) x c e) in
+      let line = ap (λ k. length (slots (line_in w k))) (supertypes-known w are_supertypes (AreSupertypes-one w) x c
+      e) in
       let within = slice_get_within (slots (line_of w x)) t (Some s) (token-slot (slots (line_of w x)) s t f) in
       omega (arith, few, line, within)

@@ -17,7 +17,7 @@ use Rattle.cjc_components.specs.List.Listed.{ListTree}
 use Rattle.cjc_narrow.specs.Rows.Resolved.{constant_named}
 use Rattle.cjc_judge.specs.Flow.Tests.Answers.{IsFirstBroken}
 use Rattle.cjc_judge.specs.Flow.Tests.Working.Search.{first_from}
-use Rattle.cjc_judge.proofs.Flow.TestsLaws.First.{first_broken, nothing_broken}
+use Rattle.cjc_judge.proofs.FlowFirst.{first_broken, nothing_broken}
 use Rattle.cjc_shape_proof.specs.Shape.Judged.Tested.{IsTested}
 use Rattle.cjc_shape_proof.specs.Shape.Prepared.{IsSound, tested}
 use Rattle.cjc_narrow_proof.specs.Intervals.Frames.{RangeState}

@@ -37,7 +37,7 @@ use Rattle.cjc_subset.specs.Types.{is_unsupported_number, names_unsupported}
 use Rattle.cjc_narrow_proof.specs.Tables.Arrays.{arraylength}
 use Rattle.cjc_narrow_proof.specs.Tables.Calls.{count_of}
 use Rattle.cjc_narrow_proof.specs.Tables.Supported as plain
-use Rattle.cjc_narrow_proof.proofs.Types.Typed.{are_frames, are_typed}
+use Rattle.cjc_narrow_proof.proofs.TypesTyped.{are_frames, are_typed}
 use Rattle.cjc_narrow_proof.specs.Types.declared.cell.Cell.{Cell}
 use Rattle.cjc_narrow_proof.specs.Types.declared.state.State.{State}
 use Rattle.cjc_narrow_proof.specs.Types.Flow.{Body, body_of}

@@ -6,7 +6,7 @@ use Rattle.std.specs.Int.{w8, w16, w32, cast_signed, cast_unsigned}
 use Rattle.std.specs.Int.RustNames.{int_le}
 use Rattle.std.proofs.lemmas.Int.{ints, to_z-of_z}
 use Rattle.cjc_card_semantics.specs.Range.Words.{low_word, low_byte}
-use Rattle.cjc_card_semantics.proofs.Range.WordsLaws.Words as words
+use Rattle.cjc_card_semantics.proofs.RangeWords as words
 use Rattle.cjc_bytes.specs.declared.fault.MemberId.{MemberId}
 use Rattle.cjc_script.specs.declared.value.Value.{Value}
 use Rattle.cjc_script.specs.declared.value.Value.TheVariants.{Num, Null, Obj}

@@ -24,15 +24,15 @@ use Rattle.cjc_components.specs.CapWrite.Statics.{array_init_bytes, static_field
 use Rattle.cjc_components.specs.CapWrite.Export.{exported_class_bytes, export_bytes}
 use Rattle.cjc_components.specs.CapWrite.Descriptor.{class_descriptor_bytes, type_bytes, types_bytes, descriptor_bytes}
 use Rattle.cjc_components.specs.CapWrite.Files.{part}
-use Rattle.cjc_components.proofs.CapWrite.Lengths.{header_length, applet_entry_length, applet_length}
-use Rattle.cjc_components.proofs.CapWrite.Lengths.{imported_package_length}
-use Rattle.cjc_components.proofs.CapWrite.Lengths.{import_length, pool_length, interface_length, implemented_length}
-use Rattle.cjc_components.proofs.CapWrite.Lengths.{class_entry_length, class_info_length, method_length}
-use Rattle.cjc_components.proofs.CapWrite.Lengths.{array_init_length}
-use Rattle.cjc_components.proofs.CapWrite.Lengths.{static_field_length, locations_length, exported_class_length}
-use Rattle.cjc_components.proofs.CapWrite.Lengths.{export_length}
-use Rattle.cjc_components.proofs.CapWrite.Lengths.{class_descriptor_length, type_length, types_length}
-use Rattle.cjc_components.proofs.CapWrite.Lengths.{descriptor_length}
+use Rattle.cjc_components.proofs.CapWriteLengths.{header_length, applet_entry_length, applet_length}
+use Rattle.cjc_components.proofs.CapWriteLengths.{imported_package_length}
+use Rattle.cjc_components.proofs.CapWriteLengths.{import_length, pool_length, interface_length, implemented_length}
+use Rattle.cjc_components.proofs.CapWriteLengths.{class_entry_length, class_info_length, method_length}
+use Rattle.cjc_components.proofs.CapWriteLengths.{array_init_length}
+use Rattle.cjc_components.proofs.CapWriteLengths.{static_field_length, locations_length, exported_class_length}
+use Rattle.cjc_components.proofs.CapWriteLengths.{export_length}
+use Rattle.cjc_components.proofs.CapWriteLengths.{class_descriptor_length, type_length, types_length}
+use Rattle.cjc_components.proofs.CapWriteLengths.{descriptor_length}
 use Rattle.cjc_check_rules.specs.Complete.{applet_size, package_size, interface_size, map_size, class_size, array_size}
 use Rattle.cjc_check_rules.specs.Complete.{exported_size, described_size, type_size, header_size, applets_size}
 use Rattle.cjc_check_rules.specs.Complete.{import_size, pool_size, class_info_size, method_size, statics_size}

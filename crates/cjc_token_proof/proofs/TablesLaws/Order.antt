@@ -9,7 +9,7 @@ use Rattle.std.specs.Str.{bytes_eq}
 use Rattle.std.proofs.lemmas.Bool.{eqb-true}
 use Rattle.std.proofs.lemmas.Bool.Decides.{nat_tests}
 use Rattle.cjc_bytes.specs.AccessFlags.{is_interface}
-use Rattle.cjc_vtable.proofs.ClassOrder.ClassesLaws.Standing.{is_in-more}
+use Rattle.cjc_vtable.proofs.ClassOrderStanding.{is_in-more}
 use Rattle.cjc_tokens.proofs.Facts.{position-cons}
 use Rattle.cjc_vtable.proofs.Filed.{Has, at_front, behind, has-get}
 use Rattle.cjc_vtable.proofs.SlotNames.{get-behind}

@@ -4,7 +4,7 @@ use Rattle.std.specs.Prelude.{Some, ◌==◌, ◌&&◌, nat_lt, if◌then◌else
 use Rattle.std.proofs.lemmas.Bool.Decides.{nat_tests}
 use Rattle.cjc_check_rules.specs.CapRead.MethodHeader.{is_extended, is_abstract, short_header, extended_header}
 use Rattle.cjc_check_rules.specs.CapRead.MethodHeader.{method_header}
-use Rattle.cjc_check_rules.proofs.CapRead.Headers.{short_read}
+use Rattle.cjc_check_rules.proofs.CapReadHeaders.{short_read}
 use Rattle.cjc_components.specs.Methods.{header_of, in_table_order, with_abstract}
 use Rattle.cjc_components.specs.Package.{LaidMethod}
 use Rattle.cjc_components.specs.Emit.Emitted.{is_short}

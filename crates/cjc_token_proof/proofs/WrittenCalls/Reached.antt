@@ -407,7 +407,8 @@ module _ (p : Package) (facts : Facts p) (subtypes : KeepsSubtypes (world p)) (t
             → finds_hidden (line_of w super) (signature m) ≡ false
             → n.dispatch_token m ≡ n.dispatch_token (of_class super m)
         open_same t is no_hidden =
-            dispatched_shown p facts tokens m c known class_here (hidden_alike ∙ no_hidden) t (once.inherited (signature m) t
+            dispatched_shown p facts tokens m c known class_here (hidden_alike ∙ no_hidden) t
+            (once.inherited (signature m) t
             is)
             ∙ sym (dispatched_shown p facts tokens (of_class super m) d super_is super_class no_hidden t is)
 

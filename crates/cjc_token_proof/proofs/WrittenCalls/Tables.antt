@@ -62,7 +62,8 @@ module _ (p : Package) (facts : Facts p) where
   -- ---- tables
 
   mapped : (c : Class) (is : List Class) → ((k : ℕ) (i : Class) → slice_get is k ≡ Some i → class_named (world p) i.name
-      ≡ Some i) → (k : ℕ) (m : InterfaceMap) → slice_get (map (interface_map (world p) (shown_token (line_at (world p) c)))
+      ≡ Some i) → (k : ℕ) (m : InterfaceMap) → slice_get (map
+      (interface_map (world p) (shown_token (line_at (world p) c)))
       is) k ≡ Some m → has_class (world p) m.interface ≡ true
   mapped c [] fine k m e = absurd (cc)
   mapped c (i ∷ is) fine zero m e =

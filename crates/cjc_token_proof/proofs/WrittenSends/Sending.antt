@@ -379,7 +379,8 @@ module _ (list : List ℕ) (p : Package) (sound : IsSound list p.files) (facts :
                   id) object_told (first finds (behind id.class))
                   (λ nowhere. behind_sent id.class d named sub (λ y i known_i here kind t is. interfaces.above_found
                   list p sound facts subtypes tokens keep kinds kinds_agree names_agree imported_calls told_kinds
-                  place begins ask send id plain not_constructor (only_object list p sound facts) y i known_i here t is id.class d named
+                  place begins ask send id plain not_constructor (only_object list p sound facts) y i known_i here t
+                  is id.class d named
                   named_here none kind))
                   ∙ ap (λ q. begun (sent_of (OfClass x) id true q))
                   (sym (found_is None (own_lacks none (finds d) refl)))

@@ -213,7 +213,8 @@ module _ (list : List ℕ) (p : Package) (sound : IsSound list p.files) (facts :
         let a = assigned_token in
         let small : nat_lt t 128 ≡ true = grind (arith, nat_tests, low) in
         has_token virtual
-        ∙ ap (λ o. by_byte (unwrap_or o 0xFF)) (a.1 ∙ open_token a.0 (shown_token (line_at w c)) (hidden_slots (line_at w c))
+        ∙ ap (λ o. by_byte (unwrap_or o 0xFF)) (a.1 ∙ open_token a.0 (shown_token (line_at w c))
+        (hidden_slots (line_at w c))
         c.methods i m shown_here ∙ ap (λ l. shown_token l (signature_of m)) (sym (line_same x c known))
         ∙ shown-place w facts.are_supertypes facts.one_supertypes facts.rules x c (signature_of m) known
         (λ far. class_here) ∙ is)

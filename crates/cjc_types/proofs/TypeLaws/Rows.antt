@@ -2,7 +2,7 @@
 -- rows of the
 -- opcodes are gone through range by range.
 use Rattle.std.proofs.Common.{◌≡◌, ◌-◌, ◌%◌, ◌==◌, ◌&&◌, ℕ, Bool, true, false, cond, nat_le, List, [], ◌∷◌, Option}
-use Rattle.std.proofs.Common.{Some, ℤ, refl, inl, inr}
+use Rattle.std.proofs.Common.{drop, Some, ℤ, refl, inl, inr}
 use Rattle.cjc_classfile.specs.PoolItem.{PoolItem}
 use Rattle.cjc_classfile.specs.PoolItem as items
 use Rattle.cjc_code.specs.declared.insn.JOp.{JOp}
@@ -71,6 +71,209 @@ lookup ts pool at opcode [] h = tt
 lookup ts pool at opcode (a ∷ []) h = tt
 lookup ts pool at opcode (a ∷ b ∷ zs) h = tt
 
+-- of those behind the first 56
+behind_56 : (ts : List (List ℕ)) → AllNamed ts (drop 56 ranges)
+unfolding row
+behind_56 ts = (
+  λ k pool at opcode zs h. tt,  -- invokedynamic
+  (
+    λ k pool at opcode zs h. class_found ts (item pool zs) h,  -- new
+    (
+      λ k pool at opcode zs h. tt,  -- newarray
+      (
+        λ k pool at opcode zs h. class_found ts (item pool zs) h,  -- anewarray
+        (
+          λ k pool at opcode zs h. tt,  -- arraylength
+          (
+            λ k pool at opcode zs h. tt,  -- athrow
+            (
+              λ k pool at opcode zs h. class_found ts (item pool zs) h,  -- checkcast
+              (
+                λ k pool at opcode zs h. tt,  -- instanceof
+                (
+                  λ k pool at opcode zs h. tt,  -- monitorenter, monitorexit
+                  (
+                    λ k pool at opcode zs h. tt,  -- wide
+                    (
+                      λ k pool at opcode zs h. tt,  -- multianewarray
+                      (
+                        λ k pool at opcode zs h. tt,  -- ifnull, ifnonnull
+                        (
+                          λ k pool at opcode zs h. tt,  -- goto_w
+                          (
+                            λ k pool at opcode zs h. tt,  -- jsr_w
+                            tt,
+                          ),
+                        ),
+                      ),
+                    ),
+                  ),
+                ),
+              ),
+            ),
+          ),
+        ),
+      ),
+    ),
+  ),
+)
+
+-- of those behind the first 42
+behind_42 : (ts : List (List ℕ)) → AllNamed ts (drop 42 ranges)
+unfolding row
+behind_42 ts = (
+  λ k pool at opcode zs h. tt,  -- jsr
+  (
+    λ k pool at opcode zs h. tt,  -- ret
+    (
+      λ k. table ts,  -- tableswitch
+      (
+        λ k. lookup ts,  -- lookupswitch
+        (
+          λ k pool at opcode zs h. tt,  -- ireturn
+          (
+            λ k pool at opcode zs h. tt,  -- lreturn, freturn, dreturn
+            (
+              λ k pool at opcode zs h. tt,  -- areturn, return
+              (
+                λ k pool at opcode zs h. field_found ts (item pool zs) h,  -- getstatic
+                (
+                  λ k pool at opcode zs h. field_found ts (item pool zs) h,  -- putstatic
+                  (
+                    λ k pool at opcode zs h. field_found ts (item pool zs) h,  -- getfield
+                    (
+                      λ k pool at opcode zs h. field_found ts (item pool zs) h,  -- putfield
+                      (
+                        -- invokevirtual
+                        λ k pool at opcode zs h. method_found ts (item pool zs) h,
+                        (
+                          -- invokespecial,
+                          -- invokestatic
+                          λ k pool at opcode zs h. method_found ts (item pool zs) h,
+                          (
+                            -- invokeinterface
+                            λ k pool at opcode zs h. method_found ts (item pool zs) h,
+                            behind_56 ts,
+                          ),
+                        ),
+                      ),
+                    ),
+                  ),
+                ),
+              ),
+            ),
+          ),
+        ),
+      ),
+    ),
+  ),
+)
+
+-- of those behind the first 28
+behind_28 : (ts : List (List ℕ)) → AllNamed ts (drop 28 ranges)
+unfolding row
+behind_28 ts = (
+  λ k pool at opcode zs h. tt,  -- aastore, bastore
+  (
+    λ k pool at opcode zs h. tt,  -- castore
+    (
+      λ k pool at opcode zs h. tt,  -- sastore
+      (
+        -- pop, pop2, dup, dup_x1, dup_x2, dup2, dup2_x1,
+        -- dup2_x2, swap
+        λ k pool at opcode zs h. tt,
+        (
+          -- of int, long, float and double: add, sub, mul, div,
+          -- rem, neg
+          λ k. arith_or_unsupported ts (k % 4 == 0),
+          (
+            -- of int and long: shl, shr, ushr, and, or, xor
+            λ k. arith_or_unsupported ts (k % 2 == 0),
+            (
+              λ k pool at opcode zs h. tt,  -- iinc
+              (
+                -- i2l, i2f, i2d, l2i, l2f, l2d, f2i, f2l, f2d,
+                -- d2i, d2l, d2f
+                λ k pool at opcode zs h. tt,
+                (
+                  λ k pool at opcode zs h. tt,  -- i2b
+                  (
+                    λ k pool at opcode zs h. tt,  -- i2c
+                    (
+                      λ k pool at opcode zs h. tt,  -- i2s
+                      (
+                        λ k pool at opcode zs h. tt,  -- lcmp, fcmpl, fcmpg, dcmpl, dcmpg
+                        (
+                          -- ifeq, ifne, iflt, ifge, ifgt, ifle,
+                          -- if_icmpeq to if_icmple,
+                          -- if_acmpeq, if_acmpne
+                          λ k pool at opcode zs h. tt,
+                          (
+                            λ k pool at opcode zs h. tt,  -- goto
+                            behind_42 ts,
+                          ),
+                        ),
+                      ),
+                    ),
+                  ),
+                ),
+              ),
+            ),
+          ),
+        ),
+      ),
+    ),
+  ),
+)
+
+-- of those behind the first 14
+behind_14 : (ts : List (List ℕ)) → AllNamed ts (drop 14 ranges)
+unfolding row
+behind_14 ts = (
+  λ k pool at opcode zs h. tt,  -- aload_0 to aload_3
+  (
+    λ k pool at opcode zs h. tt,  -- iaload
+    (
+      λ k pool at opcode zs h. tt,  -- laload, faload, daload
+      (
+        λ k pool at opcode zs h. tt,  -- aaload, baload
+        (
+          λ k pool at opcode zs h. tt,  -- caload
+          (
+            λ k pool at opcode zs h. tt,  -- saload
+            (
+              λ k pool at opcode zs h. tt,  -- istore
+              (
+                λ k pool at opcode zs h. tt,  -- lstore, fstore, dstore
+                (
+                  λ k pool at opcode zs h. tt,  -- astore
+                  (
+                    λ k pool at opcode zs h. tt,  -- istore_0 to istore_3
+                    (
+                      -- lstore_0 to lstore_3, fstore_0 to fstore_3, dstore_0 to dstore_3
+                      λ k pool at opcode zs h. tt,
+                      (
+                        λ k pool at opcode zs h. tt,  -- astore_0 to astore_3
+                        (
+                          λ k pool at opcode zs h. tt,  -- iastore
+                          (
+                            λ k pool at opcode zs h. tt,  -- lastore, fastore, dastore
+                            behind_28 ts,
+                          ),
+                        ),
+                      ),
+                    ),
+                  ),
+                ),
+              ),
+            ),
+          ),
+        ),
+      ),
+    ),
+  ),
+)
+
 all_named : (ts : List (List ℕ)) → AllNamed ts ranges
 unfolding row
 all_named ts = (
@@ -101,190 +304,7 @@ all_named ts = (
                           λ k pool at opcode zs h. tt,  -- iload_0 to iload_3
                           (
                             λ k pool at opcode zs h. tt,  -- lload_0 to lload_3, fload_0 to fload_3, dload_0 to dload_3
-                            (
-                              λ k pool at opcode zs h. tt,  -- aload_0 to aload_3
-                              (
-                                λ k pool at opcode zs h. tt,  -- iaload
-                                (
-                                  λ k pool at opcode zs h. tt,  -- laload, faload, daload
-                                  (
-                                    λ k pool at opcode zs h. tt,  -- aaload, baload
-                                    (
-                                      λ k pool at opcode zs h. tt,  -- caload
-                                      (
-                                        λ k pool at opcode zs h. tt,  -- saload
-                                        (
-                                          λ k pool at opcode zs h. tt,  -- istore
-                                          (
-                                            λ k pool at opcode zs h. tt,  -- lstore, fstore, dstore
-                                            (
-                                              λ k pool at opcode zs h. tt,  -- astore
-                                              (
-                                                λ k pool at opcode zs h. tt,  -- istore_0 to istore_3
-                                                (
-                                                  -- lstore_0 to lstore_3, fstore_0 to fstore_3, dstore_0 to dstore_3
-                                                  λ k pool at opcode zs h. tt,
-                                                  (
-                                                    λ k pool at opcode zs h. tt,  -- astore_0 to astore_3
-                                                    (
-                                                      λ k pool at opcode zs h. tt,  -- iastore
-                                                      (
-                                                        λ k pool at opcode zs h. tt,  -- lastore, fastore, dastore
-                                                        (
-                                                          λ k pool at opcode zs h. tt,  -- aastore, bastore
-                                                          (
-                                                            λ k pool at opcode zs h. tt,  -- castore
-                                                            (
-                                                              λ k pool at opcode zs h. tt,  -- sastore
-                                                              (
-                                                                -- pop, pop2, dup, dup_x1, dup_x2, dup2, dup2_x1,
-                                                                -- dup2_x2, swap
-                                                                λ k pool at opcode zs h. tt,
-                                                                (
-                                                                  -- of int, long, float and double: add, sub, mul, div,
-                                                                  -- rem, neg
-                                                                  λ k. arith_or_unsupported ts (k % 4 == 0),
-                                                                  (
-                                                                    -- of int and long: shl, shr, ushr, and, or, xor
-                                                                    λ k. arith_or_unsupported ts (k % 2 == 0),
-                                                                    (
-                                                                      λ k pool at opcode zs h. tt,  -- iinc
-                                                                      (
-                                                                        -- i2l, i2f, i2d, l2i, l2f, l2d, f2i, f2l, f2d,
-                                                                        -- d2i, d2l, d2f
-                                                                        λ k pool at opcode zs h. tt,
-                                                                        (
-                                                                          λ k pool at opcode zs h. tt,  -- i2b
-                                                                          (
-                                                                            λ k pool at opcode zs h. tt,  -- i2c
-                                                                            (
-                                                                              λ k pool at opcode zs h. tt,  -- i2s
-                                                                              (
-                                                                                λ k pool at opcode zs h. tt,  -- lcmp, fcmpl, fcmpg, dcmpl, dcmpg
-                                                                                (
-                                                                                  -- ifeq, ifne, iflt, ifge, ifgt, ifle,
-                                                                                  -- if_icmpeq to if_icmple,
-                                                                                  -- if_acmpeq, if_acmpne
-                                                                                  λ k pool at opcode zs h. tt,
-                                                                                  (
-                                                                                    λ k pool at opcode zs h. tt,  -- goto
-                                                                                    (
-                                                                                      λ k pool at opcode zs h. tt,  -- jsr
-                                                                                      (
-                                                                                        λ k pool at opcode zs h. tt,  -- ret
-                                                                                        (
-                                                                                          λ k. table ts,  -- tableswitch
-                                                                                          (
-                                                                                            λ k. lookup ts,  -- lookupswitch
-                                                                                            (
-                                                                                              λ k pool at opcode zs h. tt,  -- ireturn
-                                                                                              (
-                                                                                                λ k pool at opcode zs h. tt,  -- lreturn, freturn, dreturn
-                                                                                                (
-                                                                                                  λ k pool at opcode zs h. tt,  -- areturn, return
-                                                                                                  (
-                                                                                                    λ k pool at opcode zs h. field_found ts (item pool zs) h,  -- getstatic
-                                                                                                    (
-                                                                                                      λ k pool at opcode zs h. field_found ts (item pool zs) h,  -- putstatic
-                                                                                                      (
-                                                                                                        λ k pool at opcode zs h. field_found ts (item pool zs) h,  -- getfield
-                                                                                                        (
-                                                                                                          λ k pool at opcode zs h. field_found ts (item pool zs) h,  -- putfield
-                                                                                                          (
-                                                                                                            -- invokevirtual
-                                                                                                            λ k pool at opcode zs h. method_found ts (item pool zs) h,
-                                                                                                            (
-                                                                                                              -- invokespecial,
-                                                                                                              -- invokestatic
-                                                                                                              λ k pool at opcode zs h. method_found ts (item pool zs) h,
-                                                                                                              (
-                                                                                                                -- invokeinterface
-                                                                                                                λ k pool at opcode zs h. method_found ts (item pool zs) h,
-                                                                                                                (
-                                                                                                                  λ k pool at opcode zs h. tt,  -- invokedynamic
-                                                                                                                  (
-                                                                                                                    λ k pool at opcode zs h. class_found ts (item pool zs) h,  -- new
-                                                                                                                    (
-                                                                                                                      λ k pool at opcode zs h. tt,  -- newarray
-                                                                                                                      (
-                                                                                                                        λ k pool at opcode zs h. class_found ts (item pool zs) h,  -- anewarray
-                                                                                                                        (
-                                                                                                                          λ k pool at opcode zs h. tt,  -- arraylength
-                                                                                                                          (
-                                                                                                                            λ k pool at opcode zs h. tt,  -- athrow
-                                                                                                                            (
-                                                                                                                              λ k pool at opcode zs h. class_found ts (item pool zs) h,  -- checkcast
-                                                                                                                              (
-                                                                                                                                λ k pool at opcode zs h. tt,  -- instanceof
-                                                                                                                                (
-                                                                                                                                  λ k pool at opcode zs h. tt,  -- monitorenter, monitorexit
-                                                                                                                                  (
-                                                                                                                                    λ k pool at opcode zs h. tt,  -- wide
-                                                                                                                                    (
-                                                                                                                                      λ k pool at opcode zs h. tt,  -- multianewarray
-                                                                                                                                      (
-                                                                                                                                        λ k pool at opcode zs h. tt,  -- ifnull, ifnonnull
-                                                                                                                                        (
-                                                                                                                                          λ k pool at opcode zs h. tt,  -- goto_w
-                                                                                                                                          (
-                                                                                                                                            λ k pool at opcode zs h. tt,  -- jsr_w
-                                                                                                                                            tt,
-                                                                                                                                          ),
-                                                                                                                                        ),
-                                                                                                                                      ),
-                                                                                                                                    ),
-                                                                                                                                  ),
-                                                                                                                                ),
-                                                                                                                              ),
-                                                                                                                            ),
-                                                                                                                          ),
-                                                                                                                        ),
-                                                                                                                      ),
-                                                                                                                    ),
-                                                                                                                  ),
-                                                                                                                ),
-                                                                                                              ),
-                                                                                                            ),
-                                                                                                          ),
-                                                                                                        ),
-                                                                                                      ),
-                                                                                                    ),
-                                                                                                  ),
-                                                                                                ),
-                                                                                              ),
-                                                                                            ),
-                                                                                          ),
-                                                                                        ),
-                                                                                      ),
-                                                                                    ),
-                                                                                  ),
-                                                                                ),
-                                                                              ),
-                                                                            ),
-                                                                          ),
-                                                                        ),
-                                                                      ),
-                                                                    ),
-                                                                  ),
-                                                                ),
-                                                              ),
-                                                            ),
-                                                          ),
-                                                        ),
-                                                      ),
-                                                    ),
-                                                  ),
-                                                ),
-                                              ),
-                                            ),
-                                          ),
-                                        ),
-                                      ),
-                                    ),
-                                  ),
-                                ),
-                              ),
-                            ),
+                            behind_14 ts,
                           ),
                         ),
                       ),

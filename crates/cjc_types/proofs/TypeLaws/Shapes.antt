@@ -3,7 +3,7 @@
 -- opcodes are gone through range by range.
 use Rattle.std.proofs.Common.{◌≡◌, ◌≤◌, ◌+◌, ◌-◌, ◌%◌, ◌==◌, ◌&&◌, ℕ, zero, suc, Bool, true, false, cond, nat_le, List}
 use Rattle.std.proofs.Common.{[], ◌∷◌, map, length, slice_get, Option, Some, None, option_map, unwrap_or, ℤ, refl, sym}
-use Rattle.std.proofs.Common.{ap, subst, ◌∙◌, arith}
+use Rattle.std.proofs.Common.{ap, drop, subst, ◌∙◌, arith}
 use Rattle.std.proofs.lemmas.Bool.{eqb-true}
 use Rattle.std.proofs.lemmas.Option.{same_Some}
 use Rattle.std.proofs.lemmas.List.{length-append}
@@ -86,6 +86,452 @@ lookup pool at opcode (other ∷ pairs ∷ zs) enough fine = record {
   local = λ j h. absurd cc;
 }
 
+-- of those behind the first 56
+behind_56 : AllHold (drop 56 ranges)
+unfolding row
+behind_56 = (
+  λ k pool at opcode zs enough fine. record {
+    leads = refl;
+    goes = λ h. refl;
+    local = λ j h. absurd cc;
+  },
+  λ k. refl,  -- invokedynamic
+  (
+    λ k pool at opcode zs enough fine. record {
+      leads = refl;
+      goes = λ h. refl;
+      local = λ j h. absurd cc;
+    },
+    λ k. refl,  -- new
+    (
+      λ k pool at opcode zs enough fine. record {
+        leads = refl;
+        goes = λ h. refl;
+        local = λ j h. absurd cc;
+      },
+      λ k. refl,  -- newarray
+      (
+        λ k pool at opcode zs enough fine. record {
+          leads = refl;
+          goes = λ h. refl;
+          local = λ j h. absurd cc;
+        },
+        λ k. refl,  -- anewarray
+        (
+          λ k pool at opcode zs enough fine. record {
+            leads = refl;
+            goes = λ h. refl;
+            local = λ j h. absurd cc;
+          },
+          λ k. refl,  -- arraylength
+          (
+            λ k pool at opcode zs enough fine. record {
+              leads = refl;
+              goes = λ h. absurd cc;
+              local = λ j h. absurd cc;
+            },
+            λ k. refl,  -- athrow
+            (
+              λ k pool at opcode zs enough fine. record {
+                leads = refl;
+                goes = λ h. refl;
+                local = λ j h. absurd cc;
+              },
+              λ k. refl,  -- checkcast
+              (
+                λ k pool at opcode zs enough fine. record {
+                  leads = refl;
+                  goes = λ h. refl;
+                  local = λ j h. absurd cc;
+                },
+                λ k. refl,  -- instanceof
+                (
+                  λ k pool at opcode zs enough fine. record {
+                    leads = refl;
+                    goes = λ h. refl;
+                    local = λ j h. absurd cc;
+                  },
+                  λ k. refl,  -- monitorenter, monitorexit
+                  (
+                    λ k pool at opcode zs enough fine. record {
+                      leads = refl;
+                      goes = λ h. refl;
+                      local = λ j h. absurd cc;
+                    },
+                    λ k. refl,  -- wide
+                    (
+                      λ k pool at opcode zs enough fine. record {
+                        leads = refl;
+                        goes = λ h. refl;
+                        local = λ j h. absurd cc;
+                      },
+                      λ k. refl,  -- multianewarray
+                      (
+                        λ k pool at opcode zs enough fine. record {
+                          leads = refl;
+                          goes = λ h. refl;
+                          local = λ j h. absurd cc;
+                        },
+                        λ k. refl,  -- ifnull, ifnonnull
+                        (
+                          λ k pool at opcode zs enough fine. record {
+                            leads = refl;
+                            goes = λ h. absurd cc;
+                            local = λ j h. absurd cc;
+                          },
+                          λ k. refl,  -- goto_w
+                          (
+                            λ k pool at opcode zs enough fine. absurd cc,
+                            λ k. refl,  -- jsr_w
+                            tt,
+                          ),
+                        ),
+                      ),
+                    ),
+                  ),
+                ),
+              ),
+            ),
+          ),
+        ),
+      ),
+    ),
+  ),
+)
+
+-- of those behind the first 42
+behind_42 : AllHold (drop 42 ranges)
+unfolding row
+behind_42 = (
+  λ k pool at opcode zs enough fine. absurd cc,
+  λ k. refl,  -- jsr
+  (
+    λ k pool at opcode zs enough fine. absurd cc,
+    λ k. refl,  -- ret
+    (
+      λ k. table,
+      λ k. refl,  -- tableswitch
+      (
+        λ k. lookup,
+        λ k. refl,  -- lookupswitch
+        (
+          λ k pool at opcode zs enough fine. record {
+            leads = refl;
+            goes = λ h. absurd cc;
+            local = λ j h. absurd cc;
+          },
+          λ k. refl,  -- ireturn
+          (
+            λ k pool at opcode zs enough fine. absurd cc,
+            λ k. refl,  -- lreturn, freturn, dreturn
+            (
+              λ k pool at opcode zs enough fine. record {
+                leads = refl;
+                goes = λ h. absurd cc;
+                local = λ j h. absurd cc;
+              },
+              λ k. refl,  -- areturn, return
+              (
+                λ k pool at opcode zs enough fine. record {
+                  leads = refl;
+                  goes = λ h. refl;
+                  local = λ j h. absurd cc;
+                },
+                λ k. refl,  -- getstatic
+                (
+                  λ k pool at opcode zs enough fine. record {
+                    leads = refl;
+                    goes = λ h. refl;
+                    local = λ j h. absurd cc;
+                  },
+                  λ k. refl,  -- putstatic
+                  (
+                    λ k pool at opcode zs enough fine. record {
+                      leads = refl;
+                      goes = λ h. refl;
+                      local = λ j h. absurd cc;
+                    },
+                    λ k. refl,  -- getfield
+                    (
+                      λ k pool at opcode zs enough fine. record {
+                        leads = refl;
+                        goes = λ h. refl;
+                        local = λ j h. absurd cc;
+                      },
+                      λ k. refl,  -- putfield
+                      (
+                        λ k pool at opcode zs enough fine. record {
+                          leads = refl;
+                          goes = λ h. refl;
+                          local = λ j h. absurd cc;
+                        },
+                        λ k. refl,  -- invokevirtual
+                        (
+                          λ k pool at opcode zs enough fine. record {
+                            leads = refl;
+                            goes = λ h. refl;
+                            local = λ j h. absurd cc;
+                          },
+                          λ k. refl,  -- invokespecial, invokestatic
+                          (
+                            λ k pool at opcode zs enough fine. record {
+                              leads = refl;
+                              goes = λ h. refl;
+                              local = λ j h. absurd cc;
+                            },
+                            λ k. refl,  -- invokeinterface
+                            behind_56,
+                          ),
+                        ),
+                      ),
+                    ),
+                  ),
+                ),
+              ),
+            ),
+          ),
+        ),
+      ),
+    ),
+  ),
+)
+
+-- of those behind the first 28
+behind_28 : AllHold (drop 28 ranges)
+unfolding row
+behind_28 = (
+  λ k pool at opcode zs enough fine. record {
+    leads = refl;
+    goes = λ h. refl;
+    local = λ j h. absurd cc;
+  },
+  λ k. refl,  -- aastore, bastore
+  (
+    λ k pool at opcode zs enough fine. record {
+      leads = refl;
+      goes = λ h. refl;
+      local = λ j h. absurd cc;
+    },
+    λ k. refl,  -- castore
+    (
+      λ k pool at opcode zs enough fine. record {
+        leads = refl;
+        goes = λ h. refl;
+        local = λ j h. absurd cc;
+      },
+      λ k. refl,  -- sastore
+      (
+        λ k pool at opcode zs enough fine. record {
+          leads = refl;
+          goes = λ h. refl;
+          local = λ j h. absurd cc;
+        },
+        -- pop, pop2, dup, dup_x1, dup_x2, dup2, dup2_x1,
+        -- dup2_x2, swap
+        λ k. refl,
+        (
+          λ k. arith_or_unsupported (k % 4 == 0),
+          -- of int, long, float and double: add, sub, mul, div,
+          -- rem, neg
+          λ k. refl,
+          (
+            λ k. arith_or_unsupported (k % 2 == 0),
+            λ k. refl,  -- of int and long: shl, shr, ushr, and, or, xor
+            (
+              λ k pool at opcode zs enough fine. record {
+                leads = refl;
+                goes = λ h. refl;
+                local = λ j h. h;
+              },
+              λ k. refl,  -- iinc
+              (
+                λ k pool at opcode zs enough fine. record {
+                  leads = refl;
+                  goes = λ h. refl;
+                  local = λ j h. absurd cc;
+                },
+                -- i2l, i2f, i2d, l2i, l2f, l2d, f2i, f2l, f2d,
+                -- d2i, d2l, d2f
+                λ k. refl,
+                (
+                  λ k pool at opcode zs enough fine. record {
+                    leads = refl;
+                    goes = λ h. refl;
+                    local = λ j h. absurd cc;
+                  },
+                  λ k. refl,  -- i2b
+                  (
+                    λ k pool at opcode zs enough fine. record {
+                      leads = refl;
+                      goes = λ h. refl;
+                      local = λ j h. absurd cc;
+                    },
+                    λ k. refl,  -- i2c
+                    (
+                      λ k pool at opcode zs enough fine. record {
+                        leads = refl;
+                        goes = λ h. refl;
+                        local = λ j h. absurd cc;
+                      },
+                      λ k. refl,  -- i2s
+                      (
+                        λ k pool at opcode zs enough fine. record {
+                          leads = refl;
+                          goes = λ h. refl;
+                          local = λ j h. absurd cc;
+                        },
+                        λ k. refl,  -- lcmp, fcmpl, fcmpg, dcmpl, dcmpg
+                        (
+                          λ k pool at opcode zs enough fine. record {
+                            leads = refl;
+                            goes = λ h. refl;
+                            local = λ j h. absurd cc;
+                          },
+                          -- ifeq, ifne, iflt, ifge, ifgt, ifle,
+                          -- if_icmpeq to if_icmple,
+                          -- if_acmpeq, if_acmpne
+                          λ k. refl,
+                          (
+                            λ k pool at opcode zs enough fine. record {
+                              leads = refl;
+                              goes = λ h. absurd cc;
+                              local = λ j h. absurd cc;
+                            },
+                            λ k. refl,  -- goto
+                            behind_42,
+                          ),
+                        ),
+                      ),
+                    ),
+                  ),
+                ),
+              ),
+            ),
+          ),
+        ),
+      ),
+    ),
+  ),
+)
+
+-- of those behind the first 14
+behind_14 : AllHold (drop 14 ranges)
+unfolding row
+behind_14 = (
+  λ k pool at opcode zs enough fine. record {
+    leads = refl;
+    goes = λ h. refl;
+    local = λ j h. h;
+  },
+  λ k. refl,  -- aload_0 to aload_3
+  (
+    λ k pool at opcode zs enough fine. record {
+      leads = refl;
+      goes = λ h. refl;
+      local = λ j h. absurd cc;
+    },
+    λ k. refl,  -- iaload
+    (
+      λ k pool at opcode zs enough fine. record {
+        leads = refl;
+        goes = λ h. refl;
+        local = λ j h. absurd cc;
+      },
+      λ k. refl,  -- laload, faload, daload
+      (
+        λ k pool at opcode zs enough fine. record {
+          leads = refl;
+          goes = λ h. refl;
+          local = λ j h. absurd cc;
+        },
+        λ k. refl,  -- aaload, baload
+        (
+          λ k pool at opcode zs enough fine. record {
+            leads = refl;
+            goes = λ h. refl;
+            local = λ j h. absurd cc;
+          },
+          λ k. refl,  -- caload
+          (
+            λ k pool at opcode zs enough fine. record {
+              leads = refl;
+              goes = λ h. refl;
+              local = λ j h. absurd cc;
+            },
+            λ k. refl,  -- saload
+            (
+              λ k pool at opcode zs enough fine. record {
+                leads = refl;
+                goes = λ h. refl;
+                local = λ j h. h;
+              },
+              λ k. refl,  -- istore
+              (
+                λ k pool at opcode zs enough fine. record {
+                  leads = refl;
+                  goes = λ h. refl;
+                  local = λ j h. absurd cc;
+                },
+                λ k. refl,  -- lstore, fstore, dstore
+                (
+                  λ k pool at opcode zs enough fine. record {
+                    leads = refl;
+                    goes = λ h. refl;
+                    local = λ j h. h;
+                  },
+                  λ k. refl,  -- astore
+                  (
+                    λ k pool at opcode zs enough fine. record {
+                      leads = refl;
+                      goes = λ h. refl;
+                      local = λ j h. h;
+                    },
+                    λ k. refl,  -- istore_0 to istore_3
+                    (
+                      λ k pool at opcode zs enough fine. record {
+                        leads = refl;
+                        goes = λ h. refl;
+                        local = λ j h. absurd cc;
+                      },
+                      -- lstore_0 to lstore_3, fstore_0 to fstore_3, dstore_0 to dstore_3
+                      λ k. refl,
+                      (
+                        λ k pool at opcode zs enough fine. record {
+                          leads = refl;
+                          goes = λ h. refl;
+                          local = λ j h. h;
+                        },
+                        λ k. refl,  -- astore_0 to astore_3
+                        (
+                          λ k pool at opcode zs enough fine. record {
+                            leads = refl;
+                            goes = λ h. refl;
+                            local = λ j h. absurd cc;
+                          },
+                          λ k. refl,  -- iastore
+                          (
+                            λ k pool at opcode zs enough fine. record {
+                              leads = refl;
+                              goes = λ h. refl;
+                              local = λ j h. absurd cc;
+                            },
+                            λ k. refl,  -- lastore, fastore, dastore
+                            behind_28,
+                          ),
+                        ),
+                      ),
+                    ),
+                  ),
+                ),
+              ),
+            ),
+          ),
+        ),
+      ),
+    ),
+  ),
+)
+
 all_hold : AllHold ranges
 unfolding row
 all_hold = (
@@ -146,433 +592,7 @@ all_hold = (
                               local = λ j h. absurd cc;
                             },
                             λ k. refl,  -- lload_0 to lload_3, fload_0 to fload_3, dload_0 to dload_3
-                            (
-                              λ k pool at opcode zs enough fine. record {
-                                leads = refl;
-                                goes = λ h. refl;
-                                local = λ j h. h;
-                              },
-                              λ k. refl,  -- aload_0 to aload_3
-                              (
-                                λ k pool at opcode zs enough fine. record {
-                                  leads = refl;
-                                  goes = λ h. refl;
-                                  local = λ j h. absurd cc;
-                                },
-                                λ k. refl,  -- iaload
-                                (
-                                  λ k pool at opcode zs enough fine. record {
-                                    leads = refl;
-                                    goes = λ h. refl;
-                                    local = λ j h. absurd cc;
-                                  },
-                                  λ k. refl,  -- laload, faload, daload
-                                  (
-                                    λ k pool at opcode zs enough fine. record {
-                                      leads = refl;
-                                      goes = λ h. refl;
-                                      local = λ j h. absurd cc;
-                                    },
-                                    λ k. refl,  -- aaload, baload
-                                    (
-                                      λ k pool at opcode zs enough fine. record {
-                                        leads = refl;
-                                        goes = λ h. refl;
-                                        local = λ j h. absurd cc;
-                                      },
-                                      λ k. refl,  -- caload
-                                      (
-                                        λ k pool at opcode zs enough fine. record {
-                                          leads = refl;
-                                          goes = λ h. refl;
-                                          local = λ j h. absurd cc;
-                                        },
-                                        λ k. refl,  -- saload
-                                        (
-                                          λ k pool at opcode zs enough fine. record {
-                                            leads = refl;
-                                            goes = λ h. refl;
-                                            local = λ j h. h;
-                                          },
-                                          λ k. refl,  -- istore
-                                          (
-                                            λ k pool at opcode zs enough fine. record {
-                                              leads = refl;
-                                              goes = λ h. refl;
-                                              local = λ j h. absurd cc;
-                                            },
-                                            λ k. refl,  -- lstore, fstore, dstore
-                                            (
-                                              λ k pool at opcode zs enough fine. record {
-                                                leads = refl;
-                                                goes = λ h. refl;
-                                                local = λ j h. h;
-                                              },
-                                              λ k. refl,  -- astore
-                                              (
-                                                λ k pool at opcode zs enough fine. record {
-                                                  leads = refl;
-                                                  goes = λ h. refl;
-                                                  local = λ j h. h;
-                                                },
-                                                λ k. refl,  -- istore_0 to istore_3
-                                                (
-                                                  λ k pool at opcode zs enough fine. record {
-                                                    leads = refl;
-                                                    goes = λ h. refl;
-                                                    local = λ j h. absurd cc;
-                                                  },
-                                                  -- lstore_0 to lstore_3, fstore_0 to fstore_3, dstore_0 to dstore_3
-                                                  λ k. refl,
-                                                  (
-                                                    λ k pool at opcode zs enough fine. record {
-                                                      leads = refl;
-                                                      goes = λ h. refl;
-                                                      local = λ j h. h;
-                                                    },
-                                                    λ k. refl,  -- astore_0 to astore_3
-                                                    (
-                                                      λ k pool at opcode zs enough fine. record {
-                                                        leads = refl;
-                                                        goes = λ h. refl;
-                                                        local = λ j h. absurd cc;
-                                                      },
-                                                      λ k. refl,  -- iastore
-                                                      (
-                                                        λ k pool at opcode zs enough fine. record {
-                                                          leads = refl;
-                                                          goes = λ h. refl;
-                                                          local = λ j h. absurd cc;
-                                                        },
-                                                        λ k. refl,  -- lastore, fastore, dastore
-                                                        (
-                                                          λ k pool at opcode zs enough fine. record {
-                                                            leads = refl;
-                                                            goes = λ h. refl;
-                                                            local = λ j h. absurd cc;
-                                                          },
-                                                          λ k. refl,  -- aastore, bastore
-                                                          (
-                                                            λ k pool at opcode zs enough fine. record {
-                                                              leads = refl;
-                                                              goes = λ h. refl;
-                                                              local = λ j h. absurd cc;
-                                                            },
-                                                            λ k. refl,  -- castore
-                                                            (
-                                                              λ k pool at opcode zs enough fine. record {
-                                                                leads = refl;
-                                                                goes = λ h. refl;
-                                                                local = λ j h. absurd cc;
-                                                              },
-                                                              λ k. refl,  -- sastore
-                                                              (
-                                                                λ k pool at opcode zs enough fine. record {
-                                                                  leads = refl;
-                                                                  goes = λ h. refl;
-                                                                  local = λ j h. absurd cc;
-                                                                },
-                                                                -- pop, pop2, dup, dup_x1, dup_x2, dup2, dup2_x1,
-                                                                -- dup2_x2, swap
-                                                                λ k. refl,
-                                                                (
-                                                                  λ k. arith_or_unsupported (k % 4 == 0),
-                                                                  -- of int, long, float and double: add, sub, mul, div,
-                                                                  -- rem, neg
-                                                                  λ k. refl,
-                                                                  (
-                                                                    λ k. arith_or_unsupported (k % 2 == 0),
-                                                                    λ k. refl,  -- of int and long: shl, shr, ushr, and, or, xor
-                                                                    (
-                                                                      λ k pool at opcode zs enough fine. record {
-                                                                        leads = refl;
-                                                                        goes = λ h. refl;
-                                                                        local = λ j h. h;
-                                                                      },
-                                                                      λ k. refl,  -- iinc
-                                                                      (
-                                                                        λ k pool at opcode zs enough fine. record {
-                                                                          leads = refl;
-                                                                          goes = λ h. refl;
-                                                                          local = λ j h. absurd cc;
-                                                                        },
-                                                                        -- i2l, i2f, i2d, l2i, l2f, l2d, f2i, f2l, f2d,
-                                                                        -- d2i, d2l, d2f
-                                                                        λ k. refl,
-                                                                        (
-                                                                          λ k pool at opcode zs enough fine. record {
-                                                                            leads = refl;
-                                                                            goes = λ h. refl;
-                                                                            local = λ j h. absurd cc;
-                                                                          },
-                                                                          λ k. refl,  -- i2b
-                                                                          (
-                                                                            λ k pool at opcode zs enough fine. record {
-                                                                              leads = refl;
-                                                                              goes = λ h. refl;
-                                                                              local = λ j h. absurd cc;
-                                                                            },
-                                                                            λ k. refl,  -- i2c
-                                                                            (
-                                                                              λ k pool at opcode zs enough fine. record {
-                                                                                leads = refl;
-                                                                                goes = λ h. refl;
-                                                                                local = λ j h. absurd cc;
-                                                                              },
-                                                                              λ k. refl,  -- i2s
-                                                                              (
-                                                                                λ k pool at opcode zs enough fine. record {
-                                                                                  leads = refl;
-                                                                                  goes = λ h. refl;
-                                                                                  local = λ j h. absurd cc;
-                                                                                },
-                                                                                λ k. refl,  -- lcmp, fcmpl, fcmpg, dcmpl, dcmpg
-                                                                                (
-                                                                                  λ k pool at opcode zs enough fine. record {
-                                                                                    leads = refl;
-                                                                                    goes = λ h. refl;
-                                                                                    local = λ j h. absurd cc;
-                                                                                  },
-                                                                                  -- ifeq, ifne, iflt, ifge, ifgt, ifle,
-                                                                                  -- if_icmpeq to if_icmple,
-                                                                                  -- if_acmpeq, if_acmpne
-                                                                                  λ k. refl,
-                                                                                  (
-                                                                                    λ k pool at opcode zs enough fine. record {
-                                                                                      leads = refl;
-                                                                                      goes = λ h. absurd cc;
-                                                                                      local = λ j h. absurd cc;
-                                                                                    },
-                                                                                    λ k. refl,  -- goto
-                                                                                    (
-                                                                                      λ k pool at opcode zs enough fine. absurd cc,
-                                                                                      λ k. refl,  -- jsr
-                                                                                      (
-                                                                                        λ k pool at opcode zs enough fine. absurd cc,
-                                                                                        λ k. refl,  -- ret
-                                                                                        (
-                                                                                          λ k. table,
-                                                                                          λ k. refl,  -- tableswitch
-                                                                                          (
-                                                                                            λ k. lookup,
-                                                                                            λ k. refl,  -- lookupswitch
-                                                                                            (
-                                                                                              λ k pool at opcode zs enough fine. record {
-                                                                                                leads = refl;
-                                                                                                goes = λ h. absurd cc;
-                                                                                                local = λ j h. absurd cc;
-                                                                                              },
-                                                                                              λ k. refl,  -- ireturn
-                                                                                              (
-                                                                                                λ k pool at opcode zs enough fine. absurd cc,
-                                                                                                λ k. refl,  -- lreturn, freturn, dreturn
-                                                                                                (
-                                                                                                  λ k pool at opcode zs enough fine. record {
-                                                                                                    leads = refl;
-                                                                                                    goes = λ h. absurd cc;
-                                                                                                    local = λ j h. absurd cc;
-                                                                                                  },
-                                                                                                  λ k. refl,  -- areturn, return
-                                                                                                  (
-                                                                                                    λ k pool at opcode zs enough fine. record {
-                                                                                                      leads = refl;
-                                                                                                      goes = λ h. refl;
-                                                                                                      local = λ j h. absurd cc;
-                                                                                                    },
-                                                                                                    λ k. refl,  -- getstatic
-                                                                                                    (
-                                                                                                      λ k pool at opcode zs enough fine. record {
-                                                                                                        leads = refl;
-                                                                                                        goes = λ h. refl;
-                                                                                                        local = λ j h. absurd cc;
-                                                                                                      },
-                                                                                                      λ k. refl,  -- putstatic
-                                                                                                      (
-                                                                                                        λ k pool at opcode zs enough fine. record {
-                                                                                                          leads = refl;
-                                                                                                          goes = λ h. refl;
-                                                                                                          local = λ j h. absurd cc;
-                                                                                                        },
-                                                                                                        λ k. refl,  -- getfield
-                                                                                                        (
-                                                                                                          λ k pool at opcode zs enough fine. record {
-                                                                                                            leads = refl;
-                                                                                                            goes = λ h. refl;
-                                                                                                            local = λ j h. absurd cc;
-                                                                                                          },
-                                                                                                          λ k. refl,  -- putfield
-                                                                                                          (
-                                                                                                            λ k pool at opcode zs enough fine. record {
-                                                                                                              leads = refl;
-                                                                                                              goes = λ h. refl;
-                                                                                                              local = λ j h. absurd cc;
-                                                                                                            },
-                                                                                                            λ k. refl,  -- invokevirtual
-                                                                                                            (
-                                                                                                              λ k pool at opcode zs enough fine. record {
-                                                                                                                leads = refl;
-                                                                                                                goes = λ h. refl;
-                                                                                                                local = λ j h. absurd cc;
-                                                                                                              },
-                                                                                                              λ k. refl,  -- invokespecial, invokestatic
-                                                                                                              (
-                                                                                                                λ k pool at opcode zs enough fine. record {
-                                                                                                                  leads = refl;
-                                                                                                                  goes = λ h. refl;
-                                                                                                                  local = λ j h. absurd cc;
-                                                                                                                },
-                                                                                                                λ k. refl,  -- invokeinterface
-                                                                                                                (
-                                                                                                                  λ k pool at opcode zs enough fine. record {
-                                                                                                                    leads = refl;
-                                                                                                                    goes = λ h. refl;
-                                                                                                                    local = λ j h. absurd cc;
-                                                                                                                  },
-                                                                                                                  λ k. refl,  -- invokedynamic
-                                                                                                                  (
-                                                                                                                    λ k pool at opcode zs enough fine. record {
-                                                                                                                      leads = refl;
-                                                                                                                      goes = λ h. refl;
-                                                                                                                      local = λ j h. absurd cc;
-                                                                                                                    },
-                                                                                                                    λ k. refl,  -- new
-                                                                                                                    (
-                                                                                                                      λ k pool at opcode zs enough fine. record {
-                                                                                                                        leads = refl;
-                                                                                                                        goes = λ h. refl;
-                                                                                                                        local = λ j h. absurd cc;
-                                                                                                                      },
-                                                                                                                      λ k. refl,  -- newarray
-                                                                                                                      (
-                                                                                                                        λ k pool at opcode zs enough fine. record {
-                                                                                                                          leads = refl;
-                                                                                                                          goes = λ h. refl;
-                                                                                                                          local = λ j h. absurd cc;
-                                                                                                                        },
-                                                                                                                        λ k. refl,  -- anewarray
-                                                                                                                        (
-                                                                                                                          λ k pool at opcode zs enough fine. record {
-                                                                                                                            leads = refl;
-                                                                                                                            goes = λ h. refl;
-                                                                                                                            local = λ j h. absurd cc;
-                                                                                                                          },
-                                                                                                                          λ k. refl,  -- arraylength
-                                                                                                                          (
-                                                                                                                            λ k pool at opcode zs enough fine. record {
-                                                                                                                              leads = refl;
-                                                                                                                              goes = λ h. absurd cc;
-                                                                                                                              local = λ j h. absurd cc;
-                                                                                                                            },
-                                                                                                                            λ k. refl,  -- athrow
-                                                                                                                            (
-                                                                                                                              λ k pool at opcode zs enough fine. record {
-                                                                                                                                leads = refl;
-                                                                                                                                goes = λ h. refl;
-                                                                                                                                local = λ j h. absurd cc;
-                                                                                                                              },
-                                                                                                                              λ k. refl,  -- checkcast
-                                                                                                                              (
-                                                                                                                                λ k pool at opcode zs enough fine. record {
-                                                                                                                                  leads = refl;
-                                                                                                                                  goes = λ h. refl;
-                                                                                                                                  local = λ j h. absurd cc;
-                                                                                                                                },
-                                                                                                                                λ k. refl,  -- instanceof
-                                                                                                                                (
-                                                                                                                                  λ k pool at opcode zs enough fine. record {
-                                                                                                                                    leads = refl;
-                                                                                                                                    goes = λ h. refl;
-                                                                                                                                    local = λ j h. absurd cc;
-                                                                                                                                  },
-                                                                                                                                  λ k. refl,  -- monitorenter, monitorexit
-                                                                                                                                  (
-                                                                                                                                    λ k pool at opcode zs enough fine. record {
-                                                                                                                                      leads = refl;
-                                                                                                                                      goes = λ h. refl;
-                                                                                                                                      local = λ j h. absurd cc;
-                                                                                                                                    },
-                                                                                                                                    λ k. refl,  -- wide
-                                                                                                                                    (
-                                                                                                                                      λ k pool at opcode zs enough fine. record {
-                                                                                                                                        leads = refl;
-                                                                                                                                        goes = λ h. refl;
-                                                                                                                                        local = λ j h. absurd cc;
-                                                                                                                                      },
-                                                                                                                                      λ k. refl,  -- multianewarray
-                                                                                                                                      (
-                                                                                                                                        λ k pool at opcode zs enough fine. record {
-                                                                                                                                          leads = refl;
-                                                                                                                                          goes = λ h. refl;
-                                                                                                                                          local = λ j h. absurd cc;
-                                                                                                                                        },
-                                                                                                                                        λ k. refl,  -- ifnull, ifnonnull
-                                                                                                                                        (
-                                                                                                                                          λ k pool at opcode zs enough fine. record {
-                                                                                                                                            leads = refl;
-                                                                                                                                            goes = λ h. absurd cc;
-                                                                                                                                            local = λ j h. absurd cc;
-                                                                                                                                          },
-                                                                                                                                          λ k. refl,  -- goto_w
-                                                                                                                                          (
-                                                                                                                                            λ k pool at opcode zs enough fine. absurd cc,
-                                                                                                                                            λ k. refl,  -- jsr_w
-                                                                                                                                            tt,
-                                                                                                                                          ),
-                                                                                                                                        ),
-                                                                                                                                      ),
-                                                                                                                                    ),
-                                                                                                                                  ),
-                                                                                                                                ),
-                                                                                                                              ),
-                                                                                                                            ),
-                                                                                                                          ),
-                                                                                                                        ),
-                                                                                                                      ),
-                                                                                                                    ),
-                                                                                                                  ),
-                                                                                                                ),
-                                                                                                              ),
-                                                                                                            ),
-                                                                                                          ),
-                                                                                                        ),
-                                                                                                      ),
-                                                                                                    ),
-                                                                                                  ),
-                                                                                                ),
-                                                                                              ),
-                                                                                            ),
-                                                                                          ),
-                                                                                        ),
-                                                                                      ),
-                                                                                    ),
-                                                                                  ),
-                                                                                ),
-                                                                              ),
-                                                                            ),
-                                                                          ),
-                                                                        ),
-                                                                      ),
-                                                                    ),
-                                                                  ),
-                                                                ),
-                                                              ),
-                                                            ),
-                                                          ),
-                                                        ),
-                                                      ),
-                                                    ),
-                                                  ),
-                                                ),
-                                              ),
-                                            ),
-                                          ),
-                                        ),
-                                      ),
-                                    ),
-                                  ),
-                                ),
-                              ),
-                            ),
+                            behind_14,
                           ),
                         ),
                       ),

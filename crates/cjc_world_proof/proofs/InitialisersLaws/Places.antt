@@ -20,7 +20,7 @@ use Rattle.cjc_world.specs.Classes.{Class, Member, all_classes, class_at, class_
 use Rattle.cjc_world.specs.Supertypes.{Supertypes, supertypes_within, in_a_row, supertypes, known_as}
 use Rattle.cjc_world.specs.Lookup.{field_in, find_field, is_called, member_at, or_else, own_field}
 use Rattle.cjc_world.proofs.Settled.{bytes-true}
-use Rattle.cjc_vtable.proofs.Tokens.Supers.{class_at-number}
+use Rattle.cjc_vtable.proofs.TokensSupers.{class_at-number}
 use Rattle.cjc_vtable.proofs.Numbers.{named-number}
 use Rattle.cjc_jvm_semantics.specs.Linked.{Static, Instance}
 use Rattle.cjc_jvm_semantics.specs.OnePackage.{ResolvedMember, constant_at, constant_in, field_by, field_hit}

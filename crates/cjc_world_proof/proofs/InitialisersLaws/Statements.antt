@@ -12,7 +12,7 @@ use Rattle.cjc_bytes.specs.declared.descriptor.Kind.{Kind}
 use Rattle.cjc_bytes.specs.declared.descriptor.Kind.TheVariants as kinds
 use Rattle.cjc_bytes.specs.Spots.{after, bad_at, types_from, parts_of, desc_of}
 use Rattle.cjc_vtable.specs.Range.Words.{low_word, low_byte}
-use Rattle.cjc_vtable.proofs.Range.WordsLaws.Words.{fits16, low_byte_fixed, low_word_fixed}
+use Rattle.cjc_vtable.proofs.RangeWords.{fits16, low_byte_fixed, low_word_fixed}
 use Rattle.cjc_jvm_semantics.specs.Bytecode.declared.insn.JInsn.{JInsn}
 use Rattle.cjc_jvm_semantics.specs.Bytecode.declared.insn.JOp.{JOp}
 use Rattle.cjc_jvm_semantics.specs.Bytecode.declared.insn.JOp.TheVariants as jop

@@ -18,5 +18,6 @@ returns-clause-puts c =
     c.args.codes.now) c.classes_break-in_classes.result c.in_ok-in_codes.in_codes c.first.result (Unit {0}) _ _
     c.classes_break-in_classes.ensures c.in_ok-in_codes.ensures.first
     (c.first.ensures _ _ c.classes_break-in_classes.ensures c.in_ok-in_codes.ensures.first)
-    (λ (_ : Unit {0}) (p : after_codes w (puts c.args.rows.now c.args.arrays.now) c.args.codes.now ≡ Ok (puts c.codes_break.new.rows c.codes_break.new.arrays)). p)
+    (λ (_ : Unit {0}) (p : after_codes w (puts c.args.rows.now c.args.arrays.now) c.args.codes.now ≡ Ok
+    (puts c.codes_break.new.rows c.codes_break.new.arrays)). p)
     (no-premise c.classes_break-in_classes.result) c.in_ok-in_codes.ensures.puts

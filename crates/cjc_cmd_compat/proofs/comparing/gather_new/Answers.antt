@@ -1,8 +1,8 @@
 use Rattle.std.proofs.Common.{List, ℕ}
 use Rattle.std.proofs.lemmas.Result.{err_from_is_err_and}
 use Rattle.cjc_cmd_check.specs.Shelf.Command.Plan.{has, read}
-use Rattle.cjc_cmd_check.proofs.Shelf.CommandLaws.Gathering.{gathers_then, gathers_end}
-use Rattle.cjc_cmd_check.proofs.Shelf.CommandLaws.Judging.{gathers_judged}
+use Rattle.cjc_cmd_check.proofs.ShelfGathering.{gathers_then, gathers_end}
+use Rattle.cjc_cmd_check.proofs.ShelfJudging.{gathers_judged}
 use Rattle.cjc_cmd_compat.specs.Compat.{Compares}
 use Rattle.cjc_cmd_compat.proofs.comparing.gather_new.Goals as goal
 

@@ -8,5 +8,6 @@ use Rattle.cjc_compat.proofs.versions.fields_break.Given as goal
 
 abbrev pub invariant-loop-place : goal.invariant-loop-place
 invariant-loop-place l = (f : FilePlace) (n : ℕ) → spot_of l.spot ≡ at_class f n l.old
-    → IsFirstOf (each (λ i m. at (is_lost_field l.new.fields m) (at_field f n l.old i m) 743) (take l.place l.old.fields))
+    → IsFirstOf (each (λ i m. at (is_lost_field l.new.fields m) (at_field f n l.old i m) 743)
+    (take l.place l.old.fields))
     (option_map break_of l.least)

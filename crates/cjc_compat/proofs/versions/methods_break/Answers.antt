@@ -17,7 +17,8 @@ loop-place-preserved c = λ f n e.
     let within = subst (λ (xs : List ExportMethod). i < length xs) c.items-methods.ensures c.loop-place-test.true in
     let is = c.index-methods-place.is ∙ ap (λ (xs : List ExportMethod). get_or xs i c.index-methods-place.result)
     c.items-methods.ensures in
-    each_more (λ i (m : ExportMethod). at (is_lost_method c.args.new.now.methods m) (at_method f n c.args.old.now i m) 743)
+    each_more (λ i (m : ExportMethod). at (is_lost_method c.args.new.now.methods m) (at_method f n c.args.old.now i m)
+    743)
     i c.args.old.now.methods c.index-methods-place.result (option_map break_of c.first-least.result) within is
     (c.first-least.ensures _ _ (c.loop-place.invariant f n e)
     (at_same 743 _ (c.is_lost_method.ensures ∙ ap (λ (xs : List ExportMethod). is_lost_method xs
@@ -27,6 +28,7 @@ pub returns : goal.returns
 returns c = λ f n e.
     let past = subst (λ (xs : List ExportMethod). length xs ≤ c.loop-place.place) c.items-methods.ensures
     c.loop-place-test.false in
-    each_all (λ i (m : ExportMethod). at (is_lost_method c.args.new.now.methods m) (at_method f n c.args.old.now i m) 743)
+    each_all (λ i (m : ExportMethod). at (is_lost_method c.args.new.now.methods m) (at_method f n c.args.old.now i m)
+    743)
     c.loop-place.place c.args.old.now.methods (option_map break_of c.loop-place.least) past (c.loop-place.invariant f n
     e)

@@ -8,5 +8,6 @@ use Rattle.cjc_compat.proofs.versions.methods_break.Given as goal
 
 abbrev pub invariant-loop-place : goal.invariant-loop-place
 invariant-loop-place l = (f : FilePlace) (n : ℕ) → spot_of l.spot ≡ at_class f n l.old
-    → IsFirstOf (each (λ i m. at (is_lost_method l.new.methods m) (at_method f n l.old i m) 743) (take l.place l.old.methods))
+    → IsFirstOf (each (λ i m. at (is_lost_method l.new.methods m) (at_method f n l.old i m) 743)
+    (take l.place l.old.methods))
     (option_map break_of l.least)

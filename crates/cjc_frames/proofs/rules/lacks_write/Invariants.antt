@@ -3,5 +3,6 @@ use Rattle.std.specs.List.{list_any}
 use Rattle.cjc_frames.proofs.rules.lacks_write.Given as goal
 
 abbrev pub invariant-loop-write : goal.invariant-loop-write
-invariant-loop-write l = list_any (λ r. nat_le l.count r.local) (drop l.write-index l.writes) ≡ list_any (λ r. nat_le l.count
+invariant-loop-write l = list_any (λ r. nat_le l.count r.local) (drop l.write-index l.writes) ≡ list_any
+    (λ r. nat_le l.count
     r.local) l.writes

@@ -11,5 +11,6 @@ pub solve-requires-clause-stays : goal.solve-requires-clause-stays
 solve-requires-clause-stays c = rw c.places-places.ensures (frame_flow_stays c.args.method.now)
 
 pub solve-requires-clause-meets : goal.solve-requires-clause-meets
-solve-requires-clause-meets c = rw (c.in_ok-marks.ensures, c.places-places.ensures) (all_meet (frame_flow c.args.method.now)
+solve-requires-clause-meets c = rw (c.in_ok-marks.ensures, c.places-places.ensures)
+    (all_meet (frame_flow c.args.method.now)
     (length (let m = c.args.method.now in m.steps)) (frame_flow_stays c.args.method.now))

@@ -2,7 +2,7 @@ use Rattle.std.proofs.Common.{sym, subst}
 use Rattle.std.specs.Prelude.{option_map}
 use Rattle.cjc_code.specs.declared.method_code.MethodCode.{MethodCode}
 use Rattle.cjc_bytes.specs.Told.{break_of}
-use Rattle.cjc_types.specs.Tables.{IsOfPackage}
+use Rattle.cjc_flow.specs.Types.Tables.{IsOfPackage}
 use Rattle.cjc_judge.specs.Rules.{BreaksType}
 use Rattle.cjc_judge.proofs.Folds.{none_below, more_below, all_below}
 use Rattle.cjc_judge.proofs.Tables.{joined, mapped, more_tables, all_tables}

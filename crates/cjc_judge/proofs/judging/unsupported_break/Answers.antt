@@ -6,7 +6,7 @@ use Rattle.cjc_bytes.specs.Told.{file_place_of, spot_of}
 use Rattle.cjc_vtable.specs.Subset.Places.{at_method}
 use Rattle.cjc_bytes.specs.Breaks.{RulePlace, IsFirstOf, broken_at}
 use Rattle.cjc_bytes.specs.Order.{FilePlace, file_of}
-use Rattle.cjc_vtable.proofs.Subset.Codes.{code_there}
+use Rattle.cjc_vtable.proofs.SubsetCodes.{code_there}
 use Rattle.cjc_judge.specs.Rules.{unsupported_break}
 use Rattle.cjc_bytes.proofs.Firsts.{first_of_one}
 use Rattle.cjc_judge.proofs.judging.unsupported_break.Goals as goal

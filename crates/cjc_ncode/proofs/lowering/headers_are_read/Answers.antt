@@ -1,5 +1,5 @@
 use Rattle.std.proofs.Common.{refl}
-use Rattle.cjc_card_semantics.proofs.CapRead.Headers.{short_read}
+use Rattle.cjc_card_semantics.proofs.CapReadHeaders.{short_read}
 use Rattle.cjc_ncode.proofs.lowering.headers_are_read.Goals as goal
 
 pub returns-clause-short : goal.returns-clause-short

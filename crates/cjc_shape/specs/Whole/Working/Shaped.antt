@@ -7,7 +7,7 @@ use Rattle.cjc_world.specs.Bytes.declared.fault.Refusal.{Refusal}
 use Rattle.cjc_methods.specs.Components.ExportFile.{export_of}
 use Rattle.cjc_methods.specs.Components.Limits.{code_breaks, of_methods, word_breaks}
 use Rattle.cjc_methods.specs.Components.Package.{Package, tokens}
-use Rattle.cjc_methods.specs.Components.Subset.Ints.{any_works_on_int}
+use Rattle.cjc_narrow_proof.specs.Subset.Ints.{any_works_on_int}
 use Rattle.cjc_judge.specs.declared.judged.Judged.{Judged}
 use Rattle.cjc_methods.specs.Layouts.Laid.{AreLaid, laid_methods}
 use Rattle.cjc_judge.specs.List.Listed.{ListTree}

@@ -37,7 +37,7 @@ use Rattle.cjc_narrow_proof.proofs.LawsLaws.Own.{own_kept}
 use Rattle.cjc_shape.proofs.PreparedLaws.Sound as Sound
 use Rattle.cjc_shape.proofs.WholeLaws.Second.{forms_of}
 use Rattle.cjc_narrow_proof.specs.Range.Span.{Holds, full}
-use Rattle.cjc_subset.proofs.Bytecode.ReadLaws.Members.{read_class}
+use Rattle.cjc_subset.proofs.BytecodeMembers.{read_class}
 use Rattle.cjc_subset.specs.Bytecode.ReadLaws.Members.{IsDescOf}
 use Rattle.cjc_tokens.specs.Rules.{FewCells}
 use Rattle.cjc_vtable.proofs.Numbers.{at-tree}

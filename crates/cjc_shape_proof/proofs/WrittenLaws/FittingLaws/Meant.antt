@@ -22,7 +22,7 @@ use Rattle.cjc_export.specs.declared.tree.ExportMethod.{ExportMethod}
 use Rattle.cjc_shape.specs.Judge.Rules.{settings_of}
 use Rattle.cjc_shape.specs.Judge.declared.judged.Judged.{Judged}
 use Rattle.cjc_components.specs.List.Listed.{ListTree}
-use Rattle.cjc_subset.proofs.Bytecode.ReadLaws.Members.{read_class}
+use Rattle.cjc_subset.proofs.BytecodeMembers.{read_class}
 use Rattle.cjc_subset.specs.Bytecode.ReadLaws.Members.{IsDescOf}
 use Rattle.cjc_subset.specs.Members.{imports}
 use Rattle.cjc_tokens.specs.Lines.{Declared, Imported, line_in}

@@ -5,8 +5,8 @@ use Rattle.std.specs.Prelude.{not, ◌&&◌, ◌||◌, ◌==◌, ◌⊎◌, opti
 use Rattle.std.proofs.lemmas.Bool.Decides.{nat_tests}
 use Rattle.std.proofs.lemmas.List.Sums.{sum_by-cons}
 use Rattle.cjc_bytes.specs.AccessFlags.{is_interface}
-use Rattle.cjc_vtable.proofs.ClassOrder.ClassesLaws.Declared.{order_declared}
-use Rattle.cjc_vtable.proofs.ClassOrder.ClassesLaws.Standing.{is_in-more}
+use Rattle.cjc_vtable.proofs.ClassOrderDeclared.{order_declared}
+use Rattle.cjc_vtable.proofs.ClassOrderStanding.{is_in-more}
 use Rattle.cjc_vtable.specs.ClassOrder.Classes.Numbers.{declared_at, numbered_from}
 use Rattle.cjc_classfile.specs.declared.tree.ClassTree.{ClassTree}
 use Rattle.cjc_vtable.proofs.Filed.{Has, at_front, behind}

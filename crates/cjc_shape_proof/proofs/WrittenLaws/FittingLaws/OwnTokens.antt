@@ -231,7 +231,8 @@ unfolding field_tokens
 fields_long exported fs i [] = refl
 fields_long exported fs i (f ∷ rest) = ap suc (fields_long exported fs (i + 1) rest)
 
-methods_long : (exported : Bool) (shown : Signature → Option ℕ) (hidden : Slots) (ms : List Member) (i : ℕ) (rest : List Member)
+methods_long : (exported : Bool) (shown : Signature → Option ℕ) (hidden : Slots) (ms : List Member) (i : ℕ)
+    (rest : List Member)
     → length (class_method_tokens exported shown hidden ms i rest) ≡ length rest
 unfolding class_method_tokens
 methods_long exported shown hidden ms i [] = refl

@@ -185,7 +185,8 @@ module _ (c : Class) (given : List Member) (above : Line) (plain : c.is_imported
       let hidden = signatures is_hidden c.methods in
       let all : hidden_slots line ≡ S ++ (map Some (new_in S hidden) ++ []) = ap (λ (x : Slots). S
       ++ x) (sym (append-nil (map Some (new_in S hidden)))) in
-      let r = few_new (hidden_slots line) S hidden [] all (hidden_low (shown_token line) (hidden_slots line) c.methods e) few
+      let r = few_new (hidden_slots line) S hidden [] all (hidden_low (shown_token line) (hidden_slots line) c.methods
+      e) few
       in
       let long = length_new S hidden in
       omega (arith, r, long)

@@ -265,7 +265,8 @@ module _ (list : List ℕ) (files : Files) (own_listed : length files.classes �
     there : class_named w t.name ≡ Some c
     there = class_by_name files list own_listed unbroken n t at
 
-    maps_few : (all : Signature → Option ℕ) (is : List Class) → ((d : Class) → Has d is → length (interface_methods w d) ≤ 255)
+    maps_few : (all : Signature → Option ℕ) (is : List Class) →
+        ((d : Class) → Has d is → length (interface_methods w d) ≤ 255)
         → AllByRecursion (λ (m : InterfaceMap). length m.index ≤ 255) (map (interface_map w all) is)
     maps_few all [] few = tt
     maps_few all (d ∷ is) few =
@@ -276,7 +277,8 @@ module _ (list : List ℕ) (files : Files) (own_listed : length files.classes �
         )
 
     pub own_maps : AllByRecursion (λ (m : InterfaceMap). length m.index ≤ 255) (let u = table_of w c in u.maps)
-    own_maps = maps_few (shown_token (line_at w c)) (interfaces_of w c) (λ d h. let r = are_interfaces list files own_listed
+    own_maps = maps_few (shown_token (line_at w c)) (interfaces_of w c)
+        (λ d h. let r = are_interfaces list files own_listed
         imports_listed unbroken acyclic are_supertypes t.name c d there h in interface_few r.1.0 d r.1.1 r.0)
 
     pub few_slots : is_interface t.flags ≡ false → length (slots (line_at w c)) ≤ 128

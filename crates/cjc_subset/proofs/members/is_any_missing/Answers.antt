@@ -11,5 +11,6 @@ returns c =
     let d = c.args.desc.now in
     let all = YieldsList-from_first (λ one. part_by one.0 one.1.now) (λ rest. rest) (d.params ++ d.result ∷ [])
     c.types.ensures in
-    any_from_yields_List (λ p. is_type_missing (all_classes c.args.world.now) p.class) _ _ c.any.result c.any.ensures.ran
+    any_from_yields_List (λ p. is_type_missing (all_classes c.args.world.now) p.class) _ _ c.any.result
+    c.any.ensures.ran
     all (λ x b q k. search (rules, tests))

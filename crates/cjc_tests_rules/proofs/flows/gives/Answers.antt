@@ -1,5 +1,5 @@
 use Rattle.std.proofs.Common.{length}
-use Rattle.cjc_types.proofs.Fixpoint.AllMarked.{all_are, all_meet}
+use Rattle.cjc_types.proofs.FixpointAllMarked.{all_are, all_meet}
 use Rattle.cjc_tests_rules.specs.Flows.Names.{name_flow}
 use Rattle.cjc_tests_rules.specs.Flows.NameLaws.{names_stay}
 use Rattle.cjc_tests_rules.proofs.flows.gives.Goals as goal

@@ -5,7 +5,7 @@ use Rattle.cjc_shape_proof.specs.Written.LaidOut.{IsLaidOut}
 use Rattle.cjc_judge.specs.declared.judged.Judged.{Judged}
 use Rattle.cjc_components.specs.List.Listed.{ListTree}
 use Rattle.cjc_shape_proof.specs.Written.Converted.{IsConverted}
-use Rattle.cjc_theorem.proofs.AlikeLaws.MetLaws.Aids.{aids_short}
+use Rattle.cjc_shape_proof.proofs.WritingLaws.Aids.{aids_short}
 
 pub laid_out : (list : ListTree) (files : List (List ℕ)) (judged : Judged) (p : Package)
     → IsConverted list files judged p → IsLaidOut list files judged p

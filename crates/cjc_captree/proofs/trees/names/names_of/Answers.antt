@@ -9,7 +9,7 @@ use Rattle.cjc_components.specs.Names.{class_ref}
 use Rattle.cjc_classes.specs.ClassInfo.Refs.{ref_of}
 use Rattle.cjc_classes.specs.TypeInfo.TypeTable.{class_at}
 use Rattle.cjc_captree.specs.Trees.Working.{offsets_in}
-use Rattle.cjc_classes.proofs.Tokens.Steps.{map_same}
+use Rattle.cjc_classes.proofs.TokensSteps.{map_same}
 use Rattle.cjc_methods.specs.Ready.{AreOrdered}
 use Rattle.cjc_captree.proofs.trees.names.names_of.Goals as goal
 

@@ -4,7 +4,7 @@ use Rattle.cjc_capread.specs.declared.tree.ClassRef.{ClassRef}
 use Rattle.cjc_world.specs.Classes.{Class, all_classes}
 use Rattle.cjc_world.specs.Working.Known.{class_of}
 use Rattle.cjc_world.specs.Working.Places.{at_places}
-use Rattle.cjc_components.proofs.VTable.MapPlaces.{interfaces-are}
+use Rattle.cjc_components.proofs.VTableMapPlaces.{interfaces-are}
 use Rattle.cjc_classes.specs.ClassInfo.Refs.{ref_of}
 use Rattle.cjc_classes.proofs.class_info.entries.superinterfaces.Goals as goal
 

@@ -4,7 +4,7 @@ use Rattle.cjc_world.specs.Classes.{all_classes}
 use Rattle.cjc_world.specs.Working.Known.{class_of}
 use Rattle.cjc_world.specs.Working.Places.{at_places}
 use Rattle.cjc_components.specs.Class.{interfaces_of}
-use Rattle.cjc_components.proofs.VTable.MapPlaces.{interfaces-are}
+use Rattle.cjc_components.proofs.VTableMapPlaces.{interfaces-are}
 use Rattle.cjc_classes.proofs.class_info.sizes.interface_bytes.Goals as goal
 
 twice : (n m l : ℕ) → n ≡ m + m → m ≡ l → 1 + n ≡ 1 + 2 * l

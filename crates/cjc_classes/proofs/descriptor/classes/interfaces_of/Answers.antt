@@ -1,7 +1,7 @@
 use Rattle.std.proofs.Common.{ℕ, List, map, ap, ◌∙◌}
 use Rattle.cjc_world.specs.Classes.{Class, all_classes, declared}
 use Rattle.cjc_world.specs.Working.Places.{at_places}
-use Rattle.cjc_components.proofs.VTable.MapPlaces.{interfaces-are}
+use Rattle.cjc_components.proofs.VTableMapPlaces.{interfaces-are}
 use Rattle.cjc_classes.specs.ClassInfo.Refs.{ref_of}
 use Rattle.cjc_classes.proofs.descriptor.classes.interfaces_of.Goals as goal
 

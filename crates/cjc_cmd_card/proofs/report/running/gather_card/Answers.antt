@@ -1,5 +1,5 @@
-use Rattle.cjc_cmd_jvm.proofs.Shelf.CommandLaws.Gathering.{gathers_then, gathers_end}
-use Rattle.cjc_cmd_jvm.proofs.Shelf.CommandLaws.Judging.{gathers_judged}
+use Rattle.cjc_cmd_jvm.proofs.ShelfGathering.{gathers_then, gathers_end}
+use Rattle.cjc_cmd_jvm.proofs.ShelfJudging.{gathers_judged}
 use Rattle.cjc_cmd_jvm.specs.Shelf.Command.Plan.{has}
 use Rattle.std.proofs.lemmas.Result.{err_from_is_err_and}
 use Rattle.cjc_cmd_card.specs.Running.Reads.{plan_of_card}

@@ -2,9 +2,9 @@ use Rattle.std.proofs.Common.{◌≡◌, sym, ap, ◌∙◌, subst, List, Option
 use Rattle.cjc_classfile.specs.Code.{CodeTree}
 use Rattle.cjc_classfile.specs.declared.tree.ClassTree.{ClassTree}
 use Rattle.cjc_classfile.specs.declared.tree.MethodTree.{MethodTree}
-use Rattle.cjc_types.specs.declared.state.State.{State}
-use Rattle.cjc_types.specs.Flow.{Body, body_of}
-use Rattle.cjc_types.specs.Tables.{IsMethodOf, rows_of}
+use Rattle.cjc_flow.specs.Types.declared.state.State.{State}
+use Rattle.cjc_flow.specs.Types.Flow.{Body, body_of}
+use Rattle.cjc_flow.specs.Types.Tables.{IsMethodOf, rows_of}
 use Rattle.cjc_flow.specs.Constants.{values_of}
 use Rattle.cjc_flow.specs.Tables.{IsRangeTable}
 use Rattle.cjc_flow.specs.Working.Kept.{Ranged}

@@ -7,5 +7,6 @@ use Rattle.cjc_tokens.proofs.told.Told.note_methods.Given as goal
 
 abbrev pub invariant-loop-method : goal.invariant-loop-method
 invariant-loop-method l = (s : Signature)
-    → or_next (token_under l.self s) (first_answer (λ m. told_by s (method_of_export m)) (drop l.method-index l.methods))
+    → or_next (token_under l.self s) (first_answer (λ m. told_by s (method_of_export m))
+    (drop l.method-index l.methods))
     ≡ or_next (token_under l.fn.self s) (first_answer (λ m. told_by s (method_of_export m)) l.methods)
