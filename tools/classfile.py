@@ -153,6 +153,17 @@ def read(path):
         return ClassFile(source.read())
 
 
+def bare(descriptor):
+    """A descriptor without the names of classes."""
+    for name in classes_of(descriptor):
+        descriptor = descriptor.replace(f"L{name};", "L")
+    return descriptor
+
+
+def has_int(descriptor):
+    return "I" in bare(descriptor)
+
+
 def classes_of(descriptor):
     """The names of classes in a descriptor, in order, each once."""
     names, at = [], 0

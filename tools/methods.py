@@ -58,11 +58,9 @@ def of_descriptor(told, member):
         return [f"missing: {name}, of its descriptor{in_no_file(told)}" for name in missing]
     if told.rule not in (301, 302):
         return []
-    bare, types = member.descriptor, []
-    for name in classfile.classes_of(bare):
-        bare = bare.replace(f"L{name};", "L")
+    bare = classfile.bare(member.descriptor)
     if told.rule == 302:
-        return ["its descriptor has the type int"] if "I" in bare else []
+        return ["its descriptor has the type int"] if classfile.has_int(member.descriptor) else []
     types = [word for letter, word in TYPES.items() if letter in bare.replace("V", "")]
     types += ["an array of arrays"] if "[[" in bare else []
     return [f"its descriptor has the type {', '.join(types)}"] if types else []

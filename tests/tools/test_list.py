@@ -32,7 +32,10 @@ WRONG = [
     (b"package p A000000001", b"", "it has 3 words; the form is: package NAME AID MAJOR.MINOR"),
     (b"class T.class", b"", "has to be the package line"),
     (b"package p A000000001 1.0", GOOD, "a second package line"),
-    (b"int", GOOD, "there is no line `int` yet"),
+    (b"int", GOOD + b"int\n", "a second line `int`"),
+    (b"int 1", GOOD, "it has 2 words; the form is: int"),
+    (b"int", b"", "has to be the package line"),
+    (b"INT", GOOD, "in small letters: int"),
     (b"Class T.class", GOOD, "in small letters: class"),
     (b"import lang.exp", GOOD, "`import` begins no line"),
     (b"class My T.class", GOOD, "it has 3 words"),
@@ -55,9 +58,10 @@ class Lists(unittest.TestCase):
 
     def test_good_lines(self):
         text = (b"# c\r\n\r\npackage p/q A000000001 001.255\r\nclass  T.class\nexport a\tb\napplet p/q/T a00000000101\n"
-                b"class T\r\r\nclass last")
+                b"int\r\nclass T\r\r\nclass last")
         listing = listfile.Listing(text)
         self.assertIsNone(listing.wrong)
+        self.assertTrue(listing.ints)
         self.assertEqual((listing.package, listing.version, listing.aid.hex()), ("p/q", (1, 255), "a000000001"))
         self.assertEqual((listing.classes, listing.exports), (["T.class", "T\r", "last"], ["a\tb"]))
 

@@ -1,7 +1,9 @@
 pub mod Upwards
 pub mod Worlds
+pub mod Fewer
 pub mod Beside
 pub mod Once
+pub mod Hidden
 pub mod Entries
 pub mod Fields
-pub mod Test
+pub mod Built

@@ -1,5 +1,5 @@
 pub mod FairExports
-pub mod Open
+pub mod Built
 pub mod Alike
 -- Definitions of lower crates, for those above.
 pub use Rattle.cjc_classfile.specs as ClassFile

@@ -1,0 +1,4 @@
+package p;
+
+public abstract class T extends q.Base implements q.Meter {
+}

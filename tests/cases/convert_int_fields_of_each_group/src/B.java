@@ -1,0 +1,7 @@
+package p;
+
+class B extends A {
+    int h;
+    Object i;
+    public int j;
+}

@@ -1,0 +1,7 @@
+package p;
+
+public class T {
+    static int[] f() {
+        return null;
+    }
+}

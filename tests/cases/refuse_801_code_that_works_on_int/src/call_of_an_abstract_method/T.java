@@ -1,0 +1,9 @@
+package p;
+
+public abstract class T {
+    abstract int g();
+
+    short f() {
+        return (short) g();
+    }
+}

@@ -1,0 +1,5 @@
+package p;
+
+public class T {
+    int i = 3;
+}

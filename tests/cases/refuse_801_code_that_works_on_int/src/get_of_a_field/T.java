@@ -1,0 +1,9 @@
+package p;
+
+public class T {
+    int i;
+
+    short f() {
+        return (short) i;
+    }
+}

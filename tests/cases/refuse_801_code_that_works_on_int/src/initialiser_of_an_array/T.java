@@ -1,0 +1,5 @@
+package p;
+
+public class T {
+    static final int[] A = {1, 70000};
+}

@@ -1,0 +1,6 @@
+package p;
+
+public class T {
+    static void f(int a) {
+    }
+}

@@ -1,0 +1,9 @@
+package p;
+
+public class T {
+    int i;
+
+    void f() {
+        i = 1;
+    }
+}

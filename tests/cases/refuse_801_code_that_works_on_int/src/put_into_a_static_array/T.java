@@ -1,0 +1,9 @@
+package p;
+
+public class T {
+    static int[] a;
+
+    static void f() {
+        a = null;
+    }
+}

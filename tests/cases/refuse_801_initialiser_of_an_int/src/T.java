@@ -1,0 +1,5 @@
+package p;
+
+public class T {
+    static int k = 70000;
+}
