@@ -3,6 +3,7 @@
 //! read or written.
 mod by_name;
 mod by_token;
+mod ends;
 mod laws;
 mod making;
 mod shelf;

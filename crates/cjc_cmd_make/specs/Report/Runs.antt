@@ -3,6 +3,7 @@
 use Rattle.std.specs.Prelude.{◌≡◌, ℕ, [], map, Result, Ok, Err}
 use Rattle.cjc_bytes.specs.declared.fault.Refusal.{Refusal}
 use Rattle.cjc_cmd_card.specs.Report.Runs as card_runs
+use Rattle.cjc_cmd_card.specs.Report.Runs.{AnyBreaks}
 use Rattle.cjc_cmd_card.specs.Running.Reads.{plan_of_card}
 use Rattle.cjc_cmd_card.specs.Running.Ready as components
 use Rattle.cjc_cmd_card.specs.declared.running.input.Input.{Input as ComponentsInput}
@@ -47,13 +48,22 @@ pub record IsComponentsReport (input : ComponentsInput) (report : Report) : Type
   pub is_ready : components.IsReady input script_name ready
   pub is_report : card_runs.IsReport input ready 3000000 report
 
+-- how the reads of the list, of its files, of the components in the folder and of the script end over these files
+abbrev pub card_end : Files → Verdict ComponentsInput
+card_end files = verdict files (plan_of_card list_name folder script_name)
+
 -- The list, its files, the components in the folder and the script are read of these files, and this is the report of
 -- the
 -- components by token.
 pub record IsReportByToken (files : Files) (report : Report) : Type 0 where
   pub input : ComponentsInput
-  pub read : verdict files (plan_of_card list_name folder script_name) ≡ complete input
+  pub read : card_end files ≡ complete input
   pub reported : IsComponentsReport input report
+
+-- these files with those of a conversion below the folder
+abbrev pub with_made : Files → Input → Conversion → Files
+with_made files input made = written_files (map (below folder) (files_made (let list = input.list in list.package)
+    made.caps made.export)) files
 
 -- The files of a conversion are put beside these; class files and components are run; no file is to be written, and the
 -- summary
@@ -62,8 +72,7 @@ pub record IsSummary (size : ℕ) (files : Files) (input : Input) (made : Conver
   pub by_name : Report
   pub is_by_name : IsReportByName input by_name
   pub by_token : Report
-  pub is_by_token : IsReportByToken (written_files (map (below folder) (files_made (let list = input.list
-      in list.package) made.caps made.export)) files) by_token
+  pub is_by_token : IsReportByToken (with_made files input made) by_token
   pub is : todo ≡ record {
     files = [];
     lines = summary_lines size (size_item (let caps = made.caps in caps.method))
@@ -81,17 +90,29 @@ pub record IsMade (number size : ℕ) (todo : Todo) : Type 0 where
   pub kept : KeepsPromise input.list input.files made
   pub summary : IsSummary size (made_files number size) input made todo
 
+-- The list is refused where it is read again with the components; or this is the first rule that the package, the
+-- components in the folder and the script break, or that they break together.
+pub data RefusesComponents (files : Files) (r : Refusal) : Type 0 where
+  of_reads : card_end files ≡ refused r → RefusesComponents files r
+  of_rules : (input : ComponentsInput) → card_end files ≡ complete input
+      → IsFirstRefused (AnyBreaks input script_name) r → RefusesComponents files r
+
+-- This is the first rule that the package and the script break where class files are run; or they are run, and the
+-- components that were put beside these files are refused.
+pub data RefusesRuns (files : Files) (input : Input) (made : Conversion) (r : Refusal) : Type 0 where
+  of_class_files : IsFirstRefused (Breaks input.list input.files script_name input.script) r → RefusesRuns files input made r
+  of_components : (report : Report) → IsReportByName input report → RefusesComponents (with_made files input made) r
+      → RefusesRuns files input made r
+
 -- The list of the package is refused; or its files break a rule of a conversion, and this is the first; or the package
--- is converted,
--- and this is the first rule that it and the script break where class files are run.
+-- is converted, and its runs are refused.
 pub data Refuses (number size : ℕ) (r : Refusal) : Type 0 where
   of_list : reads_end (made_files number size) ≡ refused r → Refuses number size r
   of_package : (input : Input) → reads_end (made_files number size) ≡ complete input
       → IsRefused input.list input.files r → Refuses number size r
-  of_script :
-      (input : Input) → reads_end (made_files number size) ≡ complete input → (made : Conversion)
-      → IsConverted input.list input.files made
-      → IsFirstRefused (Breaks input.list input.files script_name input.script) r → Refuses number size r
+  of_runs : (input : Input) → reads_end (made_files number size) ≡ complete input → (made : Conversion)
+      → IsConverted input.list input.files made → RefusesRuns (made_files number size) input made r
+      → Refuses number size r
 
 -- What is printed of a number and a size, or which rule is broken first.
 abbrev pub Makes : ℕ × ℕ → Result Todo Refusal → Type 0

@@ -8,8 +8,8 @@ use Rattle.cjc_shelf.specs.declared.command.status.Status.{Status}
 use Rattle.cjc_shelf.specs.declared.command.status.Status.TheVariants as status
 use Rattle.cjc_cmd_card.specs.CmdJvm.declared.running.input.Input.{Input}
 use Rattle.cjc_shelf.specs.Shelf.{Files}
-use Rattle.cjc_cmd_convert.specs.Conversion.Conversion.{IsRefused}
-use Rattle.cjc_cmd_make.specs.Report.Runs.{Refuses, reads_end}
+use Rattle.cjc_cmd_convert.specs.Conversion.Conversion.{Conversion, IsRefused}
+use Rattle.cjc_cmd_make.specs.Report.Runs.{Refuses, RefusesComponents, RefusesRuns, card_end, reads_end}
 
 -- the fault for an end of reads in memory
 abbrev pub fault_of : Status → Fault
@@ -25,6 +25,19 @@ fault_of status.NoMemory = faults.NoMemory
 -- The list of these files is refused; or memory ran out.
 abbrev pub IsListFault : Files → Fault → Type 0
 IsListFault files e = (e ≡ faults.NoMemory) ⊎ ((r : Refusal) × (reads_end files ≡ refused r) × (e ≡ faults.Refused r))
+
+-- The list is refused where it is read again with the components; or memory ran out.
+abbrev pub IsReadFault : Files → Fault → Type 0
+IsReadFault files e = (e ≡ faults.NoMemory) ⊎ ((r : Refusal) × (card_end files ≡ refused r) × (e ≡ faults.Refused r))
+
+-- The components among these files are refused; or memory ran out.
+abbrev pub IsTokenFault : Files → Fault → Type 0
+IsTokenFault files e = (e ≡ faults.NoMemory) ⊎ ((r : Refusal) × RefusesComponents files r × (e ≡ faults.Refused r))
+
+-- The runs of what was read and made are refused; or memory ran out.
+abbrev pub IsRunsFault : Files → Input → Conversion → Fault → Type 0
+IsRunsFault files input made e = (e ≡ faults.NoMemory) ⊎ ((r : Refusal) × RefusesRuns files input made r
+    × (e ≡ faults.Refused r))
 
 -- What was read breaks a rule of a conversion; or memory ran out.
 abbrev pub IsConversionFault : Input → Fault → Type 0

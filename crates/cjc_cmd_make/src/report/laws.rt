@@ -5,6 +5,7 @@ ghost use Rattle.cjc_bytes.specs.declared.fault.Refusal.{Refusal};
 ghost use Rattle.cjc_shelf.specs.declared.command.status.Todo.{Todo};
 ghost use Rattle.cjc_cmd_make.specs.Report.Runs.{Makes};
 
+use cjc_cmd_card::report::one_answer as one_run;
 use cjc_cmd_convert::conversion::one_answer as one_conversion;
 
 /// A number and a size decide one answer: one refusal, or a summary, and not both.
@@ -13,4 +14,5 @@ pub fn one_answer()
     ensures not_both { (given : ℕ × ℕ) (todo : Todo) (r : Refusal) → Makes given (Ok todo) → Makes given (Err r) → ⊥ }
 {
     one_conversion();
+    one_run();
 }

@@ -7,17 +7,16 @@ ghost use Rattle.cjc_shelf.specs.Command.Plan.{complete};
 ghost use Rattle.cjc_shelf.specs.Command.Publish.{written_files};
 ghost use Rattle.cjc_cmd_convert.specs.Conversion.Promise.{KeepsPromise};
 ghost use Rattle.cjc_cmd_convert.specs.Conversion.Conversion.{IsConverted};
-ghost use Rattle.cjc_cmd_card.specs.Judge.Rules.{IsFirstFault};
 ghost use Rattle.cjc_cmd_convert.specs.Publication.{below, files_made};
 ghost use Rattle.cjc_cmd_card.specs.CmdJvm.Running.Reads.{IsInput};
-ghost use Rattle.cjc_cmd_card.specs.CmdJvm.Running.Ready.{Breaks};
 ghost use Rattle.cjc_shelf.specs.Memory.{clean_shelved, files_of};
-ghost use Rattle.cjc_cmd_make.specs.Report.Package.{folder, made_files, script_name};
+ghost use Rattle.cjc_cmd_make.specs.Report.Package.{folder, made_files};
 ghost use Rattle.cjc_cmd_make.specs.Report.Runs.{IsMade, IsSummary, Makes, plan_of_make, reads_end};
-ghost use Rattle.cjc_cmd_make.specs.Report.Working.{IsConversionFault, IsListFault, IsMakeFault, fault_of};
+ghost use Rattle.cjc_cmd_make.specs.Report.Working.{IsConversionFault, IsListFault, IsMakeFault, IsRunsFault};
 
 use crate::report::by_name::report_by_name;
 use crate::report::by_token::report_by_token;
+use crate::report::ends::fault_of;
 use crate::report::shelf::{add_files, package_shelf};
 use crate::report::summary::{size_item, summary};
 use cjc_bytes::{Bytes, Fault, NoMemory};
@@ -27,17 +26,6 @@ use cjc_cmd_convert::publication::publication;
 use cjc_shelf::command::{Status, Todo};
 use cjc_shelf::{CleanShelf, LONGEST, Shelf};
 use std::alloc::Global;
-
-/// The fault for an end of reads. A made package has all files that its list names, none of them too long, and a shelf
-/// in memory does not fail: where the reads end otherwise than by a rule, memory is wanting.
-fn fault_of(end: Status) -> Fault
-    ensures { result ≡ fault_of end }
-{
-    match end {
-        Status::Refused(refusal) => Fault::Refused(refusal),
-        _ => Fault::NoMemory,
-    }
-}
 
 /// The list, its files and the script.
 fn read_package(alloc: Global, shelf: &mut CleanShelf) -> Result<Input, Fault>
@@ -106,7 +94,7 @@ fn report_converted(
     requires input { IsInput input.now }
     requires size { size ≤ 250 }
     ensures made { IfOk result (IsSummary size (files_of (clean_shelved shelf.old)) input.now made) }
-    ensures refused { IfErr result (IsFirstFault (Breaks input.now.list input.now.files script_name input.now.script)) }
+    ensures refused { IfErr result (IsRunsFault (files_of (clean_shelved shelf.old)) input.now made) }
 {
     let method_bytes = size_item(made.caps.method.items());
     add_converted(alloc, shelf, input.list.package.items(), made)?;
@@ -165,7 +153,7 @@ fn judge(alloc: Global, number: u32, size: u32) -> Result<Todo, Status>
 ///
 /// # Errors
 ///
-/// The first broken rule of a conversion; want of memory.
+/// The first broken rule of a conversion, of a run by name or of a run by token, tested in this order; want of memory.
 pub fn gather_make<S: Shelf>(
     alloc: Global,
     number: u32,

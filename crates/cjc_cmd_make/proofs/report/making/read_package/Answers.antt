@@ -1,5 +1,5 @@
 use Rattle.cjc_shelf.specs.Command.Gather.{IsSame}
-use Rattle.cjc_cmd_make.proofs.ReportLaws.Ends.{files_stay, gathered, list_fault}
+use Rattle.cjc_cmd_make.proofs.ReportLaws.Ends.{files_stay, gathered, read_fault}
 use Rattle.cjc_cmd_make.specs.Report.Package.{list_name, script_name}
 use Rattle.cjc_cmd_card.specs.CmdJvm.Running.Reads.{plan_of_run}
 use Rattle.cjc_cmd_make.proofs.report.making.read_package.Goals as goal
@@ -14,4 +14,5 @@ pub returns-in-Err-clause-kept : goal.returns-in-Err-clause-kept
 returns-in-Err-clause-kept c = files_stay (plan_of_run list_name script_name) IsSame _ _ _ c.in-Err.ensures.gathers
 
 pub returns-in-Err-clause-refused : goal.returns-in-Err-clause-refused
-returns-in-Err-clause-refused c = rw c.fault_of.ensures (list_fault c.args.shelf.now _ _ c.in-Err.ensures.gathers)
+returns-in-Err-clause-refused c = rw c.fault_of.ensures (read_fault (plan_of_run list_name script_name)
+    c.args.shelf.now _ _ c.in-Err.ensures.gathers)
