@@ -1,1 +1,4 @@
 pub mod Counted
+pub mod Descriptors
+pub mod Nibbles
+pub mod Opcodes

@@ -1,2 +1,3 @@
 pub mod CardTypes
+pub mod Told
 pub mod Rows

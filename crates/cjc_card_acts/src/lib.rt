@@ -1,5 +1,8 @@
 //! The types of values as components write them, and what the opcodes of the card take and give.
 #![tactic(auto)]
 
+pub mod described;
 pub mod rows;
-mod words;
+pub mod table;
+pub mod types;
+pub mod words;

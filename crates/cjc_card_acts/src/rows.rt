@@ -1,6 +1,6 @@
 //! What opcodes take and give that see the stack and the locals alone, by their operands.
 
-ghost use Rattle.std.specs.Prelude.{◌≡◌, ◌≤◌, ◌+◌, IfOk};
+ghost use Rattle.std.specs.Prelude.{◌≡◌, ◌<◌, ◌≤◌, ◌+◌, ◌^◌, IfOk};
 ghost use Rattle.cjc_card_acts.specs.Rows.{calculating, copying, copying_below, idle, increasing, loading};
 ghost use Rattle.cjc_card_acts.specs.Rows.{loading_item, pushing, storing, storing_item, swapping, swapping_by};
 ghost use Rattle.cjc_card_acts.specs.Rows.{unknown};
@@ -51,21 +51,22 @@ pub fn unknown(alloc: Global) -> Act
 }
 
 /// What is loaded from a local.
-pub fn loading(alloc: Global, letter: Letter, local: u8) -> Result<Act, NoMemory>
+pub fn loading(alloc: Global, letter: Letter, local: u32) -> Result<Act, NoMemory>
+    requires { local < 2 ^ 31 }
     ensures { IfOk result (λ act. act ≡ loading (letter_of letter) local) }
 {
     let mut act = idle(alloc);
     match letter {
         Letter::Reference => {
-            act.reads = words::reading(alloc, u16::from(local), Need::ReferenceWord)?;
-            act.gives.push(Given::Local(u16::from(local)))?;
+            act.reads = words::reading(alloc, local, Need::ReferenceWord)?;
+            act.gives.push(Given::Local(local))?;
         }
         Letter::Byte => {
-            act.reads = words::reading(alloc, u16::from(local), Need::NumberWord)?;
+            act.reads = words::reading(alloc, local, Need::NumberWord)?;
             act.gives.push(Given::ANumber)?;
         }
         Letter::Short => {
-            act.reads = words::reading(alloc, u16::from(local), Need::NumberWord)?;
+            act.reads = words::reading(alloc, local, Need::NumberWord)?;
             act.gives.push(Given::ANumber)?;
         }
         Letter::Int => {
@@ -78,32 +79,34 @@ pub fn loading(alloc: Global, letter: Letter, local: u8) -> Result<Act, NoMemory
 }
 
 /// What is stored into a local.
-pub fn storing(alloc: Global, letter: Letter, local: u8) -> Result<Act, NoMemory>
+pub fn storing(alloc: Global, letter: Letter, local: u32) -> Result<Act, NoMemory>
+    requires { local < 2 ^ 31 }
     ensures { IfOk result (λ act. act ≡ storing (letter_of letter) local) }
 {
     let mut act = idle(alloc);
     act.takes = words::letter_needs(alloc, letter)?;
     act.writes = match letter {
-        Letter::Reference => words::writing(alloc, u16::from(local), Given::Reference(0))?,
-        Letter::Byte => words::writing(alloc, u16::from(local), Given::ANumber)?,
-        Letter::Short => words::writing(alloc, u16::from(local), Given::ANumber)?,
+        Letter::Reference => words::writing(alloc, local, Given::Reference(0))?,
+        Letter::Byte => words::writing(alloc, local, Given::ANumber)?,
+        Letter::Short => words::writing(alloc, local, Given::ANumber)?,
         Letter::Int => words::writing_int(alloc, local)?,
     };
     Ok(act)
 }
 
 /// A number in a local is increased, of one word.
-fn increasing_word(alloc: Global, local: u8) -> Result<Act, NoMemory>
+fn increasing_word(alloc: Global, local: u32) -> Result<Act, NoMemory>
     ensures { IfOk result (λ act. act ≡ increasing Short local) }
 {
     let mut act = idle(alloc);
-    act.reads = words::reading(alloc, u16::from(local), Need::NumberWord)?;
-    act.writes = words::writing(alloc, u16::from(local), Given::ANumber)?;
+    act.reads = words::reading(alloc, local, Need::NumberWord)?;
+    act.writes = words::writing(alloc, local, Given::ANumber)?;
     Ok(act)
 }
 
 /// The same of an int.
-fn increasing_int(alloc: Global, local: u8) -> Result<Act, NoMemory>
+fn increasing_int(alloc: Global, local: u32) -> Result<Act, NoMemory>
+    requires { local < 2 ^ 31 }
     ensures { IfOk result (λ act. act ≡ increasing Int local) }
 {
     let mut act = idle(alloc);
@@ -113,7 +116,8 @@ fn increasing_int(alloc: Global, local: u8) -> Result<Act, NoMemory>
 }
 
 /// A number in a local is increased.
-pub fn increasing(alloc: Global, letter: Letter, local: u8) -> Result<Act, NoMemory>
+pub fn increasing(alloc: Global, letter: Letter, local: u32) -> Result<Act, NoMemory>
+    requires { local < 2 ^ 31 }
     ensures { IfOk result (λ act. act ≡ increasing (letter_of letter) local) }
 {
     match letter {

@@ -1,12 +1,12 @@
 //! Words that rows of opcodes take, give, read and write, as rows in memory.
 
-ghost use Rattle.std.specs.Prelude.{◌≡◌, ◌≤◌, ◌+◌, ◌++◌, ◌∷◌, [], replicate, IfOk, OnOk};
+ghost use Rattle.std.specs.Prelude.{◌≡◌, ◌<◌, ◌≤◌, ◌+◌, ◌^◌, ◌++◌, ◌∷◌, [], replicate, IfOk, OnOk};
 ghost use Rattle.cjc_card_acts.specs.CardTypes.{arrays_of};
 ghost use Rattle.cjc_card_acts.specs.Rows.{any_words, items_of, letter_needs, number_words, operands_from, reading};
 ghost use Rattle.cjc_card_acts.specs.Rows.{reading_int, writing, writing_int};
 ghost use Rattle.cjc_card_frame.specs.Meanings.{letter_of};
 ghost use Rattle.cjc_frames.specs.declared.acts.Given.TheVariants.{ANumber};
-ghost use Rattle.cjc_frames.specs.declared.acts.Need.TheVariants.{NumberWord, OfArrays};
+ghost use Rattle.cjc_frames.specs.declared.acts.Need.TheVariants.{NumberWord, OfArrays, ReferenceWord};
 
 use cjc_card_frame::opcodes::Letter;
 use cjc_check_rules::bytes::{Bytes, NoMemory, Row};
@@ -14,7 +14,7 @@ use cjc_frames::{Given, Need, Read, Write};
 use std::alloc::Global;
 
 /// So many words of any kind.
-pub(crate) fn any_words(alloc: Global, count: u8) -> Result<Row<Need>, NoMemory>
+pub fn any_words(alloc: Global, count: u8) -> Result<Row<Need>, NoMemory>
     ensures { IfOk result (λ needs. needs ≡ any_words count) }
 {
     let mut needs = Row::new(alloc);
@@ -25,7 +25,7 @@ pub(crate) fn any_words(alloc: Global, count: u8) -> Result<Row<Need>, NoMemory>
 }
 
 /// So many numbers.
-pub(crate) fn number_words(alloc: Global, count: u8) -> Result<Row<Need>, NoMemory>
+pub fn number_words(alloc: Global, count: u8) -> Result<Row<Need>, NoMemory>
     ensures { IfOk result (λ needs. needs ≡ number_words count) }
 {
     let mut needs = Row::new(alloc);
@@ -35,8 +35,19 @@ pub(crate) fn number_words(alloc: Global, count: u8) -> Result<Row<Need>, NoMemo
     Ok(needs)
 }
 
+/// So many references.
+pub fn reference_words(alloc: Global, count: u8) -> Result<Row<Need>, NoMemory>
+    ensures { IfOk result (λ needs. needs ≡ replicate count ReferenceWord) }
+{
+    let mut needs = Row::new(alloc);
+    for _ in 0..count {
+        needs.push(Need::ReferenceWord)?;
+    }
+    Ok(needs)
+}
+
 /// So many numbers that are given.
-pub(crate) fn numbers(alloc: Global, count: u8) -> Result<Row<Given>, NoMemory>
+pub fn numbers(alloc: Global, count: u8) -> Result<Row<Given>, NoMemory>
     ensures { IfOk result (λ words. words ≡ replicate count ANumber) }
 {
     let mut words = Row::new(alloc);
@@ -59,7 +70,7 @@ pub(crate) fn put_operands(words: &mut Row<Given>, first: u8, count: u8) -> Resu
 }
 
 /// What the words of a value that a letter moves are to be.
-pub(crate) fn letter_needs(alloc: Global, letter: Letter) -> Result<Row<Need>, NoMemory>
+pub fn letter_needs(alloc: Global, letter: Letter) -> Result<Row<Need>, NoMemory>
     ensures { IfOk result (λ needs. needs ≡ letter_needs (letter_of letter)) }
 {
     let mut needs = Row::new(alloc);
@@ -114,7 +125,7 @@ pub(crate) fn items_of(alloc: Global, letter: Letter) -> Result<Row<Given>, NoMe
 }
 
 /// A local that holds this.
-pub(crate) fn reading(alloc: Global, local: u16, need: Need) -> Result<Row<Read>, NoMemory>
+pub(crate) fn reading(alloc: Global, local: u32, need: Need) -> Result<Row<Read>, NoMemory>
     ensures { IfOk result (λ reads. reads ≡ reading local need ∷ []) }
 {
     let mut reads = Row::new(alloc);
@@ -123,19 +134,20 @@ pub(crate) fn reading(alloc: Global, local: u16, need: Need) -> Result<Row<Read>
 }
 
 /// Two locals that hold an int.
-pub(crate) fn reading_int(alloc: Global, local: u8) -> Result<Row<Read>, NoMemory>
+pub(crate) fn reading_int(alloc: Global, local: u32) -> Result<Row<Read>, NoMemory>
+    requires { local < 2 ^ 31 }
     ensures { IfOk result (λ reads. reads ≡ reading_int local) }
 {
-    let mut reads = reading(alloc, u16::from(local), Need::NumberWord)?;
+    let mut reads = reading(alloc, local, Need::NumberWord)?;
     reads.push(Read {
-        local: u16::from(local) + 1,
+        local: local + 1,
         need: Need::NumberWord,
     })?;
     Ok(reads)
 }
 
 /// A local that holds this afterwards.
-pub(crate) fn writing(alloc: Global, local: u16, given: Given) -> Result<Row<Write>, NoMemory>
+pub(crate) fn writing(alloc: Global, local: u32, given: Given) -> Result<Row<Write>, NoMemory>
     ensures { IfOk result (λ writes. writes ≡ writing local given ∷ []) }
 {
     let mut writes = Row::new(alloc);
@@ -144,12 +156,13 @@ pub(crate) fn writing(alloc: Global, local: u16, given: Given) -> Result<Row<Wri
 }
 
 /// Two locals that hold an int afterwards.
-pub(crate) fn writing_int(alloc: Global, local: u8) -> Result<Row<Write>, NoMemory>
+pub(crate) fn writing_int(alloc: Global, local: u32) -> Result<Row<Write>, NoMemory>
+    requires { local < 2 ^ 31 }
     ensures { IfOk result (λ writes. writes ≡ writing_int local) }
 {
-    let mut writes = writing(alloc, u16::from(local), Given::ANumber)?;
+    let mut writes = writing(alloc, local, Given::ANumber)?;
     writes.push(Write {
-        local: u16::from(local) + 1,
+        local: local + 1,
         given: Given::ANumber,
     })?;
     Ok(writes)

@@ -29,7 +29,7 @@ pub enum Given {
     /// The same, where it is a reference.
     Reference(u8),
     /// The reference in a local.
-    Local(u16),
+    Local(u32),
     /// An element of the array of references that is the operand of this number.
     Element(u8),
     /// A word of an element of the array of numbers that is the operand of this number.
@@ -39,14 +39,14 @@ pub enum Given {
 /// A local that is read, and what it is to hold.
 #[derive(Drop)]
 pub struct Read {
-    pub local: u16,
+    pub local: u32,
     pub need: Need,
 }
 
 /// A local that is written, and what it then holds.
 #[derive(Drop)]
 pub struct Write {
-    pub local: u16,
+    pub local: u32,
     pub given: Given,
 }
 

@@ -33,7 +33,7 @@ fn given(alloc: Global, locals: &[Cell], stack: &[Cell], what: &Given) -> Result
         Given::Lost => Ok(Cell::unusable()),
         Given::Operand(k) => operand(alloc, stack, usize::from(*k)),
         Given::Reference(k) => operand(alloc, stack, usize::from(*k))?.as_reference(alloc),
-        Given::Local(k) => operand(alloc, locals, usize::from(*k))?.as_reference(alloc),
+        Given::Local(k) => operand(alloc, locals, *k as usize)?.as_reference(alloc),
         Given::Element(k) => operand(alloc, stack, usize::from(*k))?.element(alloc),
         Given::Item(k) => Ok(operand(alloc, stack, usize::from(*k))?.item()),
     }
@@ -143,7 +143,7 @@ fn write(
         (stack_in stack.now) what.now.given)) }
 {
     let cell = written(alloc, act, before, stack, &what.given)?;
-    let at = usize::from(what.local);
+    let at = what.local as usize;
     if at < locals.len() {
         locals[at] = cell;
     }

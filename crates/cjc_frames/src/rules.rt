@@ -97,7 +97,7 @@ fn has_wrong<T: Subtypes>(types: &T, needs: &[Need], stack: &[Cell]) -> bool
 fn is_wrong_local<T: Subtypes>(types: &T, read: &Read, locals: &[Cell]) -> bool
     ensures { result ≡ is_wrong_local (T.subtype types.now) read.now.need (slice_get locals.now read.now.local) }
 {
-    match locals.get(usize::from(read.local)) {
+    match locals.get(read.local as usize) {
         Some(cell) => !meets(types, &read.need, cell),
         None => false,
     }
@@ -129,7 +129,7 @@ fn lacks_read(reads: &[Read], count: usize) -> bool
     ensures { result ≡ list_any (λ r. nat_le count r.local) reads.now }
 {
     for read in reads {
-        if usize::from(read.local) >= count {
+        if read.local as usize >= count {
             return true;
         }
     }
@@ -141,7 +141,7 @@ fn lacks_write(writes: &[Write], count: usize) -> bool
     ensures { result ≡ list_any (λ w. nat_le count w.local) writes.now }
 {
     for write in writes {
-        if usize::from(write.local) >= count {
+        if write.local as usize >= count {
             return true;
         }
     }
