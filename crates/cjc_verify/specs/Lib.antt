@@ -1,0 +1,9 @@
+pub mod ClassTypes
+pub mod Pairs
+pub mod Named
+pub mod Instructions
+pub mod Bodies
+pub mod Headers
+pub mod Infos
+pub mod Described
+pub mod Verified
