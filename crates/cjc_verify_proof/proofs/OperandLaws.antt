@@ -1,0 +1,56 @@
+-- Operands of a decoded instruction are read as the form of its opcode says.
+use Rattle.std.specs.Prelude.{◌≡◌, ℕ, ◌+◌, ◌*◌, List, [], ◌∷◌, Option, Some, None, pos}
+use Rattle.std.proofs.Common.{refl, subst}
+use Rattle.cjc_capread.specs.Opcodes.{Operand, Byte, Signed1, Signed2, Signed4, Index1, Index2, Form, Fields, form}
+use Rattle.cjc_capread.specs.Decode.{Instruction, First, Front, operand, operands_of, put_first, first_and}
+use Rattle.cjc_capread.specs.Decode.{with_operands}
+use Rattle.cjc_capread.specs.Decode.{decode, decode_as}
+use Rattle.cjc_verify_proof.specs.Beside.{IsRead, AreRead}
+
+read_one : (k : Operand) (bytes : List ℕ) (first : First) → operand k bytes ≡ Some first → IsRead k first.value
+read_one Byte [] first e = cc
+read_one Byte (a ∷ rest) first e = let same : record { value = pos a; rest = rest } ≡ first = cc
+    in subst (λ (f : First). IsRead Byte f.value) same tt
+read_one Index1 [] first e = cc
+read_one Index1 (a ∷ rest) first e = let same : record { value = pos a; rest = rest } ≡ first = cc
+    in subst (λ (f : First). IsRead Index1 f.value) same tt
+read_one Index2 [] first e = cc
+read_one Index2 (a ∷ []) first e = cc
+read_one Index2 (a ∷ b ∷ rest) first e = let same : record { value = pos (256 * a + b); rest = rest } ≡ first = cc
+    in subst (λ (f : First). IsRead Index2 f.value) same tt
+read_one Signed1 bytes first e = tt
+read_one Signed2 bytes first e = tt
+read_one Signed4 bytes first e = tt
+
+read_all : (kinds : List Operand) (bytes : List ℕ) (front : Front) → operands_of kinds bytes ≡ Some front
+    → AreRead kinds front.values
+read_all [] bytes front e = let same : record { values = []; rest = bytes } ≡ front = cc
+    in subst (λ (f : Front). AreRead [] f.values) same tt
+read_all (k ∷ kinds) bytes front e = go (read_all kinds) (operand k bytes) refl e
+  where
+    more : ((bs : List ℕ) (f : Front) → operands_of kinds bs ≡ Some f → AreRead kinds f.values) → (first : First)
+        → operand k bytes ≡ Some first → (o : Option Front) → operands_of kinds first.rest ≡ o
+        → put_first first.value o ≡ Some front → AreRead (k ∷ kinds) front.values
+    more others first is None f e = cc
+    more others first is (Some rest) f e =
+        let same : record { values = first.value ∷ rest.values; rest = rest.rest } ≡ front = cc in
+        subst (λ (g : Front). AreRead (k ∷ kinds) g.values) same (read_one k bytes first is, others first.rest rest f)
+
+    go : ((bs : List ℕ) (f : Front) → operands_of kinds bs ≡ Some f → AreRead kinds f.values) → (o : Option First)
+        → operand k bytes ≡ o → first_and o (operands_of kinds) ≡ Some front
+        → AreRead (k ∷ kinds) front.values
+    go others None is e = cc
+    go others (Some first) is e = more others first is (operands_of kinds first.rest) refl e
+
+-- the operands of an instruction without a table
+pub operands_read : (opcode : ℕ) (bytes : List ℕ) (i : Instruction) (kinds : List Operand) → form opcode ≡ Some
+    (Fields kinds) → decode (opcode ∷ bytes) ≡ Some i → AreRead kinds i.operands
+operands_read opcode bytes i kinds f e = go (operands_of kinds bytes) refl
+    (subst (λ (o : Option Form). decode_as opcode o bytes ≡ Some i) f e)
+  where
+    go : (o : Option Front) → operands_of kinds bytes ≡ o → with_operands opcode (Fields kinds) o ≡ Some i
+        → AreRead kinds i.operands
+    go None is e = cc
+    go (Some front) is e =
+        let same : record { opcode = opcode; operands = front.values; table = [] } ≡ i = cc in
+        subst (λ (j : Instruction). AreRead kinds j.operands) same (read_all kinds bytes front is)

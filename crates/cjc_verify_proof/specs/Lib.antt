@@ -1,0 +1,4 @@
+pub mod Words
+pub mod Beside
+pub mod Acts
+pub mod Heaps

@@ -1,0 +1,6 @@
+//! Components that the type checker passes are never stuck: what a row of the table of opcodes says of words and
+//! locals, the machine keeps.
+#![tactic(auto)]
+
+pub mod arrays;
+pub mod rows;
