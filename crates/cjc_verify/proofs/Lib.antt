@@ -1,0 +1,4 @@
+pub mod Operands
+pub mod Jumps
+pub mod InfosLaws
+pub mod DescribedLaws

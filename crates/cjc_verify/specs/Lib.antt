@@ -7,3 +7,7 @@ pub mod Headers
 pub mod Infos
 pub mod Described
 pub mod Verified
+pub mod Wanted
+pub mod WantedDescriptor
+pub mod Types
+pub mod Working

@@ -2,6 +2,14 @@
 //! components say of classes and members what the package says.
 #![tactic(auto)]
 
+pub mod class_types;
+mod described;
+mod infos;
+pub mod kinds;
+pub mod members;
+pub mod plain;
+pub mod targets;
+
 ghost use Rattle.std.specs.Prelude.{◌≡◌};
 ghost use Rattle.cjc_bytes.specs.Breaks.{Break};
 ghost use Rattle.cjc_verify.specs.Pairs.{Pair};
