@@ -31,7 +31,7 @@ use Rattle.cjc_types.proofs.Answering.{first_breach, unbroken_rows, framed_rows,
 
 -- ---- one least table
 
-same_by_get : {X : Type 0} (xs ys : List X) → ((k : ℕ) → slice_get xs k ≡ slice_get ys k) → xs ≡ ys
+pub same_by_get : {X : Type 0} (xs ys : List X) → ((k : ℕ) → slice_get xs k ≡ slice_get ys k) → xs ≡ ys
 same_by_get [] [] h = refl
 same_by_get [] (y ∷ ys) h = let e = h 0 in absurd cc
 same_by_get (x ∷ xs) [] h = let e = h 0 in absurd cc
@@ -41,7 +41,7 @@ same_by_get (x ∷ xs) (y ∷ ys) h =
     cc
 
 -- a place of one list is one of another that is as long
-not_past : {X : Type 0} (xs ys : List X) (k : ℕ) (x : X) → length xs ≡ length ys → slice_get xs k ≡ Some x
+pub not_past : {X : Type 0} (xs ys : List X) (k : ℕ) (x : X) → length xs ≡ length ys → slice_get xs k ≡ Some x
     → slice_get ys k ≡ None → ⊥
 not_past xs ys k x sized has none =
     let lt = slice_get_within xs k x has in
