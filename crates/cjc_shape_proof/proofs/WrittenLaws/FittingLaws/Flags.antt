@@ -2,7 +2,7 @@
 use Rattle.std.proofs.Common.{ℕ, zero, suc, ◌^◌, ◌<◌, subst, List}
 use Rattle.std.specs.List.{AllByRecursion}
 use Rattle.cjc_bytes.proofs.Inverse.{InBytes, given, inner, u2_is}
-use Rattle.cjc_bytes.specs.Format.{FileSpells, Format, Spells, gives, in_a_row, repeated, u2}
+use Rattle.cjc_bytes.specs.Format.{FileSpells, Format, Spells, gives, in_a_row, repeated, u2, ◌>>=◌}
 use Rattle.cjc_classfile.specs.ClassFile.{back_part, class_file}
 use Rattle.cjc_classfile.specs.Entry.{Entry}
 use Rattle.cjc_classfile.specs.Members.{attribute, field_tree}
