@@ -1,0 +1,3 @@
+pub mod Walks
+-- Definitions of lower crates, for those above.
+pub use Rattle.cjc_ncode.specs as NCode
