@@ -123,7 +123,8 @@ module _ (which : Tested) (b : Body) where
   some_at place [] types ranges f e = absurd cc
   some_at place (insn ∷ insns) [] ranges f e = absurd cc
   some_at place (insn ∷ insns) (t ∷ types) [] f e = absurd cc
-  some_at place (insn ∷ insns) (t ∷ types) (x ∷ ranges) f e = go (row_rule which b insn t x) refl e (some_at (place + 1) insns
+  some_at place (insn ∷ insns) (t ∷ types) (x ∷ ranges) f e = go (row_rule which b insn t x) refl e (some_at
+      (place + 1) insns
       types ranges f)
     where
       here : (r : ℕ) → row_rule which b insn t x ≡ Some r → IsFirstAt place (insn ∷ insns) (t ∷ types) (x ∷ ranges)
@@ -135,7 +136,8 @@ module _ (which : Tested) (b : Body) where
         before = λ j q lt at. absurd (omega (arith, lt));
       }
 
-      go : (o : Option ℕ) → row_rule which b insn t x ≡ o → or_later o place (first_from which b (place + 1) insns types ranges)
+      go : (o : Option ℕ) → row_rule which b insn t x ≡ o → or_later o place (first_from which b
+          (place + 1) insns types ranges)
           ≡ Some f
           → (first_from which b (place + 1) insns types ranges ≡ Some f → IsFirstAt (place + 1) insns types ranges f)
           → IsFirstAt place (insn ∷ insns) (t ∷ types) (x ∷ ranges) f
@@ -164,12 +166,14 @@ module _ (which : Tested) (b : Body) where
     holds_of P None r h e = absurd cc
     holds_of P (Some q) r h e = let same : q ≡ r = cc in subst P same h.0
 
-    breach_at : (place rule : ℕ) → is_tested which rule ≡ true → Breach b types ranges place rule → (q : ℕ) × At b.insns types ranges place q
+    breach_at : (place rule : ℕ) → is_tested which rule ≡ true → Breach b types ranges place rule
+        → (q : ℕ) × At b.insns types ranges place q
         × (q ≤ rule)
-    breach_at place rule yes h =
-        let low = some_of (λ r. (is_tested which r ≡ true) × Broken b (cells_of h.typed.stack) (spans_of h.ranged.stack) h.insn.op r) _ rule
+    breach_at place rule holds h =
+        let low = some_of (λ r. (is_tested which r ≡ true) × Broken b (cells_of h.typed.stack)
+            (spans_of h.ranged.stack) h.insn.op r) _ rule
         (lowest_of b (cells_of h.typed.stack) (spans_of h.ranged.stack) which h.insn.op) (
-          yes,
+          holds,
           (
             h.k,
             h.bound,
@@ -193,7 +197,8 @@ module _ (which : Tested) (b : Body) where
     at_breach : (place rule : ℕ) → At b.insns types ranges place rule → (is_tested which rule ≡ true)
         × Breach b types ranges place rule
     at_breach place rule at =
-        let broken = holds_of (λ r. (is_tested which r ≡ true) × Broken b (cells_of at.typed.stack) (spans_of at.ranged.stack) at.insn.op r) _ rule
+        let broken = holds_of (λ r. (is_tested which r ≡ true) × Broken b (cells_of at.typed.stack)
+            (spans_of at.ranged.stack) at.insn.op r) _ rule
         (lowest_of b (cells_of at.typed.stack) (spans_of at.ranged.stack) which at.insn.op) at.fails in
         let is = broken.1 in (
           broken.0,
@@ -212,7 +217,8 @@ module _ (which : Tested) (b : Body) where
         )
 
     pub nothing_broken : first_from which b 0 b.insns types ranges ≡ None → NoBreach (is_tested which) b types ranges
-    nothing_broken e place rule yes h = let at = breach_at place rule yes h in none_at 0 b.insns types ranges e place at.0 at.1
+    nothing_broken e place rule holds h = let at = breach_at place rule holds h in none_at 0 b.insns types ranges e
+    place at.0 at.1
 
     same_rule : (k r q : ℕ) → At b.insns types ranges k r → At b.insns types ranges k q → r ≡ q
     same_rule k r q one two =
@@ -220,7 +226,8 @@ module _ (which : Tested) (b : Body) where
         let typed : one.typed ≡ two.typed = let e = one.has_types in let f = two.has_types in cc in
         let ranged : one.ranged ≡ two.ranged = let e = one.has_ranges in let f = two.has_ranges in cc in
         let fails : Some r ≡ Some q =
-        sym one.fails ∙ ap (λ (i : JInsn). lowest_rule which b i.op (cells_of one.typed.stack) (spans_of one.ranged.stack))
+        sym one.fails ∙ ap (λ (i : JInsn). lowest_rule which b i.op (cells_of one.typed.stack)
+        (spans_of one.ranged.stack))
         insn
         ∙ ap (λ (t : State). lowest_rule which b two.insn.op (cells_of t.stack) (spans_of one.ranged.stack)) typed
         ∙ ap (λ (x : RangeState). lowest_rule which b two.insn.op (cells_of two.typed.stack) (spans_of x.stack)) ranged
@@ -233,7 +240,7 @@ module _ (which : Tested) (b : Body) where
         ∙ zero-add found.index)) (record {
           is_wanted = here.0;
           breach = here.1;
-          first = λ k r yes h. first k r (yes, h);
+          first = λ k r holds h. first k r (holds, h);
         })
       where
         found : IsFirstAt 0 b.insns types ranges f
@@ -255,11 +262,13 @@ module _ (which : Tested) (b : Body) where
 
         first : (k r : ℕ) → (is_tested which r ≡ true) × Breach b types ranges k r → (found.index < k)
             ⊎ ((found.index ≡ k) × (f.rule ≤ r))
-        first = is_first (λ (k r : ℕ). (is_tested which r ≡ true) × Breach b types ranges k r) found.index f.rule earlier level
+        first = is_first (λ (k r : ℕ). (is_tested which r ≡ true) × Breach b types ranges k r) found.index f.rule
+            earlier level
 
 -- ---- the loop
 
-module _ (which : Tested) (b : Body) (insns : List JInsn) (types : List (Option State)) (ranges : List (Option RangeState)) (k : ℕ)
+module _ (which : Tested) (b : Body) (insns : List JInsn) (types : List (Option State)) (ranges : List
+    (Option RangeState)) (k : ℕ)
     (insn : JInsn) (t : Option State) (x : Option RangeState) (is : slice_get insns k ≡ Some insn)
     (is_t : slice_get types k ≡ Some t) (is_x : slice_get ranges k ≡ Some x) (total : Option Found)
     (so_far : first_from which b k (drop k insns) (drop k types) (drop k ranges) ≡ total) where
@@ -269,31 +278,39 @@ module _ (which : Tested) (b : Body) (insns : List JInsn) (types : List (Option 
       sym (ap (λ (is : List JInsn). first_from which b k is (drop k types) (drop k ranges)) (drop_at insns k insn is)
       ∙ ap (λ (ts : List (Option State)). first_from which b k (insn ∷ drop (k + 1) insns) ts (drop k ranges))
       (drop_at types k t is_t)
-      ∙ ap (λ (xs : List (Option RangeState)). first_from which b k (insn ∷ drop (k + 1) insns) (t ∷ drop (k + 1) types) xs)
+      ∙ ap (λ (xs : List (Option RangeState)). first_from which b k (insn ∷ drop (k + 1) insns) (t ∷ drop
+      (k + 1) types) xs)
       (drop_at ranges k x is_x))
       ∙ so_far
 
-  pub found_later : row_rule which b insn t x ≡ None → first_from which b (k + 1) (drop (k + 1) insns) (drop (k + 1) types)
+  pub found_later : row_rule which b insn t x ≡ None → first_from which b (k + 1) (drop (k + 1) insns) (drop
+      (k + 1) types)
       (drop (k + 1) ranges) ≡ total
   found_later none =
-      sym (ap (λ o. or_later o k (first_from which b (k + 1) (drop (k + 1) insns) (drop (k + 1) types) (drop (k + 1) ranges)))
+      sym (ap (λ o. or_later o k (first_from which b (k + 1) (drop (k + 1) insns) (drop (k + 1) types)
+      (drop (k + 1) ranges)))
       none) ∙ opened
 
   pub found_here : (r : ℕ) → row_rule which b insn t x ≡ Some r → Some (record { place = k; rule = r }) ≡ total
   found_here r some =
-      sym (ap (λ o. or_later o k (first_from which b (k + 1) (drop (k + 1) insns) (drop (k + 1) types) (drop (k + 1) ranges)))
+      sym (ap (λ o. or_later o k (first_from which b (k + 1) (drop (k + 1) insns) (drop (k + 1) types)
+      (drop (k + 1) ranges)))
       some) ∙ opened
 
 -- what is found of the method that the code names
-pub found_same : (which : Tested) (table : TypeTable) (constant : MemberId → Option ℤ) (marks : List ℕ) (rows : List (Option RangeState))
+pub found_same : (which : Tested) (table : TypeTable) (constant : MemberId
+    → Option ℤ) (marks : List ℕ) (rows : List (Option RangeState))
     (b method body : Body) (typed : List (Option State)) (insns : List JInsn) (found : Option Found) → method ≡ b
     → body ≡ b → typed ≡ rows_of b table → insns ≡ b.insns
     → found ≡ first_from which method 0 insns (rows_of method table) (ranges_of body constant typed marks rows)
     → found ≡ first_from which b 0 b.insns (rows_of b table) (ranges_of b constant (rows_of b table) marks rows)
 found_same which table constant marks rows b method body typed insns found is_method is_body is_typed is_insns is =
     is
-    ∙ ap (λ (n : Body). first_from which n 0 insns (rows_of n table) (ranges_of body constant typed marks rows)) is_method
-    ∙ ap (λ (js : List JInsn). first_from which b 0 js (rows_of b table) (ranges_of body constant typed marks rows)) is_insns
+    ∙ ap (λ (n : Body). first_from which n 0 insns (rows_of n table)
+    (ranges_of body constant typed marks rows)) is_method
+    ∙ ap (λ (js : List JInsn). first_from which b 0 js (rows_of b table)
+    (ranges_of body constant typed marks rows)) is_insns
     ∙ ap (λ (n : Body). first_from which b 0 b.insns (rows_of b table) (ranges_of n constant typed marks rows)) is_body
-    ∙ ap (λ (ts : List (Option State)). first_from which b 0 b.insns (rows_of b table) (ranges_of b constant ts marks rows))
+    ∙ ap (λ (ts : List (Option State)). first_from which b 0 b.insns (rows_of b table)
+    (ranges_of b constant ts marks rows))
     is_typed

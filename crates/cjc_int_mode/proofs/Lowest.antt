@@ -1,10 +1,10 @@
 -- The lowest rule of one kind that is found is the lowest of that kind that is broken.
-use Rattle.std.proofs.Common.{◌≡◌, ◌≤◌, ◌&&◌, ◌==◌, ℕ, Bool, true, false, cond, List, Option, Some, None, refl, sym, ap}
+use Rattle.std.proofs.Common.{◌≡◌, ◌&&◌, ◌==◌, ℕ, Bool, true, false, cond, List, Option, Some, None, refl, sym, ap}
 use Rattle.std.proofs.Common.{subst, arith, int_le}
 use Rattle.std.specs.Prelude.{not}
 use Rattle.std.proofs.lemmas.Bool.{eqb-true}
 use Rattle.std.proofs.lemmas.Int.{ints}
-use Rattle.cjc_range.specs.Span.{Span, Within, short_range}
+use Rattle.cjc_range.specs.Span.{Span, Within}
 use Rattle.cjc_bytes.specs.Descriptor.{Part}
 use Rattle.cjc_flow.specs.Types.Bytecode.declared.insn.JOp.{JOp}
 use Rattle.cjc_flow.specs.Types.Bytecode.declared.insn.JOp.TheVariants as jop
@@ -56,7 +56,11 @@ tested_is rule bound s = go (lies_in s bound) refl
   where
     go : (b : Bool) → lies_in s bound ≡ b → IsLowest (λ r. (r ≡ rule) × Outside s bound) (cond b None (Some rule))
     go true e = λ r h. h.1 (lies_within s bound e)
-    go false e = ((refl, λ w. (let yes = within_lies s bound w in cc)), λ r h. (let same = h.0 in omega (arith, same)))
+    go false e = (
+      (refl, λ w. (let holds = within_lies s bound w in cc)),
+      λ r h. (let same = h.0 in omega
+          (arith, same)),
+    )
 
 -- ---- a kind of rules
 
@@ -68,7 +72,7 @@ all_kept : (wanted : ℕ → Bool) (P : ℕ → Type 0) (o : Option ℕ) → IsL
 all_kept wanted P o h f = same_rules P (Kept wanted P) o h (λ r p. (f r p, p)) (λ r q. q.1)
 
 none_kept : (wanted : ℕ → Bool) (P : ℕ → Type 0) → ((r : ℕ) → P r → wanted r ≡ false) → IsLowest (Kept wanted P) None
-none_kept wanted P f = λ r h. (let no = f r h.1 in let yes = h.0 in cc)
+none_kept wanted P f = λ r h. (let fails = f r h.1 in let holds = h.0 in cc)
 
 value_bound : (p : Part) (r : ℕ) (t : Span) → IsBoundOf p r t → is_of_low_word r ≡ false
 value_bound p _ _ (a_short e) = refl
@@ -123,14 +127,14 @@ module _ (b : Body) (types : List Cell) (s : List Span) where
 
   store_low : (opcode r k : ℕ) (t : Span) → Bounds b (jop.ArrayStore opcode) types r k t → is_of_low_word r ≡ true
       → (r ≡ 606) × ((k ≡ 1) × (t ≡ index_range))
-  store_low opcode _ _ _ a_store yes = (refl, (refl, refl))
-  store_low _ _ _ _ (a_boolean_element h) yes = absurd cc
+  store_low opcode _ _ _ a_store holds = (refl, (refl, refl))
+  store_low _ _ _ _ (a_boolean_element h) holds = absurd cc
 
   store_value : (opcode r k : ℕ) (t : Span) → Bounds b (jop.ArrayStore opcode) types r k t → is_of_low_word r ≡ false
       → (((opcode == 0x54) && may_hold_booleans (typed.operand types 2)) ≡ true)
       × ((r ≡ 609) × ((k ≡ 0) × (t ≡ boolean_range)))
-  store_value opcode _ _ _ a_store no = absurd cc
-  store_value _ _ _ _ (a_boolean_element h) no = (h, (refl, (refl, refl)))
+  store_value opcode _ _ _ a_store fails = absurd cc
+  store_value _ _ _ _ (a_boolean_element h) fails = (h, (refl, (refl, refl)))
 
   abbrev Low : ℕ → (j : ℕ) → Span → ℕ → Type 0
   Low rule j bound r = (r ≡ rule) × Outside (operand s j) bound

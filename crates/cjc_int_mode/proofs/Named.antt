@@ -1,7 +1,6 @@
 -- What a method names, by its code in the package.
-use Rattle.std.proofs.Common.{◌≡◌, Bool, true, false, List, [], ◌∷◌, Option, Some, None, slice_get, refl, sym, ap, ◌∙◌}
-use Rattle.std.specs.Prelude.{◌||◌, option_and_then}
-use Rattle.std.specs.List.{list_any}
+use Rattle.std.proofs.Common.{◌≡◌, Bool, true, false, List, [], ◌∷◌, Option, refl, ap, ◌∙◌}
+use Rattle.std.specs.Prelude.{◌||◌}
 use Rattle.cjc_flow.specs.Types.ClassFile.Code.{CodeTree}
 use Rattle.cjc_flow.specs.Types.ClassFile.declared.tree.ClassTree.{ClassTree}
 use Rattle.cjc_flow.specs.Types.ClassFile.declared.tree.MethodTree.{MethodTree}

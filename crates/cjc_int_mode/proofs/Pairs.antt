@@ -12,7 +12,7 @@ use Rattle.cjc_flow.specs.Types.declared.cell.Cell.TheVariants.{Number, Refs, Un
 use Rattle.cjc_flow.specs.Types.declared.state.State.{State}
 use Rattle.cjc_flow.specs.Types.Search.{cells_of}
 use Rattle.cjc_int_mode.specs.Written.{most_pairs}
-use Rattle.cjc_int_mode.specs.Working.Pairs.{is_unusable, pairs_at, pairs_from}
+use Rattle.cjc_int_mode.specs.Working.Pairs.{is_unusable, pairs_from}
 
 -- ---- cells
 

@@ -1,19 +1,15 @@
 -- Whether there is room, by what was counted.
-use Rattle.std.proofs.Common.{◌≡◌, ℕ, suc, ◌+◌, ◌*◌, ◌<◌, ◌≤◌, max, Bool, true, false, leb, List, [], ◌∷◌, length, drop}
-use Rattle.std.proofs.Common.{slice_get, Option, Some, None, refl, sym, ap, ◌∙◌, arith}
+use Rattle.std.proofs.Common.{◌≡◌, ℕ, ◌+◌, ◌*◌, ◌<◌, ◌≤◌, Bool, true, false, leb, List, [], ◌∷◌, length, drop}
+use Rattle.std.proofs.Common.{slice_get, Option, Some, None, sym, ap, ◌∙◌, arith}
 use Rattle.std.proofs.lemmas.Bool.{leb-true, leb-false}
 use Rattle.std.specs.Prelude.{option_and_then}
 use Rattle.cjc_bytes.proofs.Gets.{drop_at}
-use Rattle.cjc_ncode.specs.Written.{reached}
-use Rattle.cjc_flow.specs.Fixpoint.Tables.{HasRow}
 use Rattle.cjc_flow.specs.Types.Bytecode.declared.insn.JInsn.{JInsn}
-use Rattle.cjc_flow.specs.Types.declared.cell.Cell.TheVariants.{Unusable}
 use Rattle.cjc_flow.specs.Types.declared.state.State.{State}
 use Rattle.cjc_flow.specs.Types.Flow.{Body}
-use Rattle.cjc_flow.specs.Types.Search.{cells_of}
 use Rattle.cjc_int_mode.specs.declared.modes.Mode.{Mode}
 use Rattle.cjc_int_mode.specs.declared.modes.Mode.TheVariants as modes
-use Rattle.cjc_int_mode.specs.Written.{argument_words, local_words, stack_words, most_pairs}
+use Rattle.cjc_int_mode.specs.Written.{argument_words, stack_words}
 use Rattle.cjc_int_mode.specs.Room.{LacksRoom, many_arguments, many_words, high_stack, an_unusable_cell, IsRoom}
 use Rattle.cjc_int_mode.specs.Working.Pairs.{pairs_at, pairs_from}
 use Rattle.cjc_int_mode.proofs.Pairs.{greatest, usable, unusable}

@@ -1,7 +1,7 @@
 -- The words that rule 417 speaks of are those of the written method.
-use Rattle.std.proofs.Common.{◌≡◌, ℕ, ◌+◌, ◌*◌, max, List, [], ◌∷◌, Option, Some, None, refl, ap}
+use Rattle.std.proofs.Common.{◌≡◌, ℕ, ◌+◌, max, List, [], ◌∷◌, Option, Some, None, refl, ap}
 use Rattle.cjc_ncode.specs.Written.{reached}
-use Rattle.cjc_ncode.specs.IntCode.IntCode.{Reached, scratch_pairs, scratch_pairs_of}
+use Rattle.cjc_ncode.specs.IntCode.IntCode.{scratch_pairs, scratch_pairs_of}
 use Rattle.cjc_flow.specs.Types.Bytecode.declared.insn.JInsn.{JInsn}
 use Rattle.cjc_flow.specs.Types.declared.state.State.{State}
 use Rattle.cjc_flow.specs.Intervals.Frames.{RangeState}

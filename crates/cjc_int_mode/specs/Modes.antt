@@ -35,7 +35,8 @@ pub data NeedsInt (b : Body) (types : List (Option State)) (ranges : List (Optio
   -- the method names int
   by_name : names_int b ≡ true → NeedsInt b types ranges
   -- an operand may lie outside of what a rule on low words allows
-  by_operand : (place rule : ℕ) → is_of_low_word rule ≡ true → Breach b types ranges place rule → NeedsInt b types ranges
+  by_operand : (place rule : ℕ) → is_of_low_word rule ≡ true → Breach b types ranges place rule
+      → NeedsInt b types ranges
 
 module _ (ints : Bool) (b : Body) (types : List (Option State)) (ranges : List (Option RangeState)) where
   -- The card has the type int, and the method needs it.

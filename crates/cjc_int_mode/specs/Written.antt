@@ -1,6 +1,6 @@
 -- What is written for a method in int mode, by its least tables: its parameters and result as int code sees them, and
 -- what the tables say before each instruction that they reach.
-use Rattle.std.specs.Prelude.{ℕ, ◌+◌, ◌*◌, max, Bool, List, [], ◌∷◌, ◌++◌, map, get_or, Option, Some, None}
+use Rattle.std.specs.Prelude.{ℕ, ◌+◌, ◌*◌, max, List, [], ◌∷◌, ◌++◌, map, get_or, Option, Some, None}
 use Rattle.std.specs.Prelude.{if◌then◌else◌}
 use Rattle.cjc_bytes.specs.AccessFlags.{is_static}
 use Rattle.cjc_ncode.specs.ClassFile.Code.{CodeTree}

@@ -1,6 +1,6 @@
 //! Which mode a method is in.
 
-ghost use Rattle.std.specs.Prelude.{◌≡◌, Option, ℤ, IfOk};
+ghost use Rattle.std.specs.Prelude.{◌≡◌, true, Option, ℤ, IfOk};
 ghost use Rattle.cjc_bytes.specs.declared.fault.MemberId.{MemberId as Field};
 ghost use Rattle.cjc_flow.specs.Types.ClassFile.Code.{CodeTree};
 ghost use Rattle.cjc_flow.specs.Types.ClassFile.declared.tree.ClassTree.{ClassTree as ClassFile};
@@ -29,6 +29,40 @@ fn names_int(world: &World<'_>, code: &MethodCode) -> bool
         → result ≡ names_int (body_of c m t code.now.insns) }
 {
     any_works_on_int(world, slice::from_ref(code))
+}
+
+/// The mode of a method where the list has the line `int`.
+fn mode_by_need(
+    alloc: Global,
+    world: &World<'_>,
+    code: &MethodCode,
+    types: &TypeTable,
+    ranging: &Ranging<'_>,
+    table: &RangeTable,
+) -> Result<Mode, NoMemory>
+    requires code { IsOfPackage world.now code.now }
+    requires types { (c : ClassFile) (m : ClassMethod) (t : CodeTree) → IsMethodOf world.now code.now c m t
+        → IsTypeTable (all_classes world.now) (body_of c m t code.now.insns) types.now }
+    requires body { (c : ClassFile) (m : ClassMethod) (t : CodeTree) → IsMethodOf world.now code.now c m t
+        → ranging.now.body ≡ body_of c m t code.now.insns }
+    requires rows { (c : ClassFile) (m : ClassMethod) (t : CodeTree) → IsMethodOf world.now code.now c m t
+        → ranging.now.types ≡ rows_of (body_of c m t code.now.insns) types.now }
+    requires table { (constant : Field → Option ℤ) × (numbers : AreNumbers constant)
+        × (values : ranging.now.values ≡ values_of constant ranging.now.body.insns)
+        × IsRangeTable ranging.now.body constant ranging.now.types table.now.marks table.now.rows }
+    ensures { (c : ClassFile) (m : ClassMethod) (t : CodeTree) → IsMethodOf world.now code.now c m t
+        → (constant : Field → Option ℤ) → AreNumbers constant → ranging.now.values ≡ values_of constant code.now.insns
+        → IfOk result (IsModeOf true (body_of c m t code.now.insns)
+        (rows_of (body_of c m t code.now.insns) types.now) (ranges_of (body_of c m t code.now.insns) constant
+        (rows_of (body_of c m t code.now.insns) types.now) table.now.marks table.now.rows)) }
+{
+    if names_int(world, code) {
+        return Ok(Mode::Int);
+    }
+    match first_broken(alloc, Tested::LowWords, world, code, types, ranging, table)? {
+        Some(_) => Ok(Mode::Int),
+        None => Ok(Mode::Short),
+    }
 }
 
 /// The mode of a method, where `ints` says whether the list has the line `int`: Int exactly where it has, and the
@@ -61,15 +95,8 @@ pub fn mode(
         (rows_of (body_of c m t code.now.insns) types.now) (ranges_of (body_of c m t code.now.insns) constant
         (rows_of (body_of c m t code.now.insns) types.now) table.now.marks table.now.rows)) }
 {
-    if !ints {
-        return Ok(Mode::Short);
+    if ints {
+        return mode_by_need(alloc, world, code, types, ranging, table);
     }
-    if names_int(world, code) {
-        return Ok(Mode::Int);
-    }
-    let found = first_broken(alloc, Tested::LowWords, world, code, types, ranging, table)?;
-    match found {
-        Some(_broken) => Ok(Mode::Int),
-        None => Ok(Mode::Short),
-    }
+    Ok(Mode::Short)
 }

@@ -2,13 +2,14 @@
 //! Nothing here takes memory; a descriptor whose length 32 bits don't count, which no class file has, is taken for want
 //! of it.
 
-ghost use Rattle.std.specs.Prelude.{◌≡◌, ◌+◌, ◌<◌, ◌≤◌, ◌^◌, ℕ, List, map, IfOk};
+ghost use Rattle.std.specs.Prelude.{◌≡◌, ◌+◌, ◌<◌, ◌≤◌, ◌^◌, ◌&&◌, ℕ, List, map, false, if◌then◌else◌, IfOk};
 ghost use Rattle.cjc_bytes.specs.Spots.{desc_of};
 ghost use Rattle.cjc_flow.specs.Types.Flow.{Body};
-ghost use Rattle.cjc_ncode.specs.Script.Sorts.{signature_of, sort_by, sort_of};
+ghost use Rattle.cjc_ncode.specs.Script.Sorts.{signature_by, signature_of, sort_by, sort_of};
 ghost use Rattle.cjc_ncode.specs.CardSemantics.Bytecode.Arguments.{width, widths};
-ghost use Rattle.cjc_ncode.specs.IntCode.IntCode.{is_by_scratch, is_short, scratch_pairs_by, scratch_pairs_of};
+ghost use Rattle.cjc_ncode.specs.IntCode.IntCode.{is_short, scratch_pairs_by, scratch_pairs_of};
 ghost use Rattle.cjc_int_mode.specs.Written.{argument_words, params_by};
+ghost use Rattle.cjc_int_mode.specs.Working.Scratch.{has_short_before};
 
 use cjc_bytes::{Desc, Kind, NoMemory, is_static};
 use cjc_flow::types::bytecode::JOp;
@@ -66,18 +67,23 @@ fn parameter_words(desc: &[u8]) -> Result<u64, NoMemory>
     }
 }
 
+/// These words, and one for the receiver of a method that is not static.
+fn with_receiver(is_static: bool, words: u64) -> u64
+    requires { words < 2 ^ 34 }
+    ensures words { result ≡ (if is_static then words else 1 + words) }
+    ensures few { result < 2 ^ 35 }
+{
+    if is_static { words } else { 1 + words }
+}
+
 /// How many words a method with these flags and this descriptor takes, its receiver counted.
 pub(crate) fn argument_words(flags: u16, desc: &[u8]) -> Result<u64, NoMemory>
     ensures words { (b : Body) → b.flags ≡ flags → b.desc ≡ desc.now
         → IfOk result (λ words. words ≡ argument_words b) }
-    ensures few { IfOk result (λ words. words < 2 ^ 34 + 1) }
+    ensures few { IfOk result (λ words. words < 2 ^ 35) }
 {
     let words = parameter_words(desc)?;
-    if is_static(flags) {
-        Ok(words)
-    } else {
-        Ok(1 + words)
-    }
+    Ok(with_receiver(is_static(flags), words))
 }
 
 /// Whether values of a kind are one word.
@@ -90,9 +96,10 @@ fn is_short(kind: Kind) -> bool
     }
 }
 
-/// Whether a call hands its arguments over by scratch pairs: a parameter of one word stands before the last.
-fn is_by_scratch(desc: &Desc<'_>) -> bool
-    ensures { result ≡ is_by_scratch (map sort_of desc.now.params) }
+/// Whether a parameter of one word stands before the last.
+#[tactic(auto, using(crate::proofs::Words::scratch_found, crate::proofs::Words::scratch_end))]
+fn has_short_before(desc: &Desc<'_>) -> bool
+    ensures { result ≡ has_short_before false (map sort_of desc.now.params) }
 {
     let mut short_before = false;
     for (kind, _) in desc.parameters() {
@@ -104,13 +111,33 @@ fn is_by_scratch(desc: &Desc<'_>) -> bool
     false
 }
 
-/// The scratch pairs of a call of a method with this descriptor.
+/// Whether a call hands its arguments over by scratch pairs.
+fn goes_by_scratch(desc: &Desc<'_>) -> bool
+    ensures { result ≡ (desc.now.is_method && has_short_before false (map sort_of desc.now.params)) }
+{
+    desc.is_method() && has_short_before(desc)
+}
+
+fn pairs_if(by_scratch: bool, count: u32) -> u32
+    ensures { result ≡ (if by_scratch then count else 0) }
+{
+    if by_scratch { count } else { 0 }
+}
+
+/// The scratch pairs of a call of a method with a descriptor of these parts.
+fn scratch_pairs(desc: &Desc<'_>) -> u32
+    ensures { result ≡ scratch_pairs_by (signature_by desc.now) }
+{
+    pairs_if(goes_by_scratch(desc), desc.params())
+}
+
+/// The same of a call of a method with this descriptor.
 fn scratch_pairs_by(desc: &[u8]) -> Result<u32, NoMemory>
     ensures { IfOk result (λ pairs. pairs ≡ scratch_pairs_by (signature_of desc.now)) }
 {
     match parsed(desc)? {
-        Some(parsed) if parsed.is_method() && is_by_scratch(&parsed) => Ok(parsed.params()),
-        _ => Ok(0),
+        Some(parsed) => Ok(scratch_pairs(&parsed)),
+        None => Ok(0),
     }
 }
 

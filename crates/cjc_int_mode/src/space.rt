@@ -91,8 +91,7 @@ fn pairs_where_usable(
     let insns = method.insns();
     let mut pairs = 0;
     for place in 0..insns.len() {
-        let found = pairs_at(walk.frame(), &insns[place].op, pairs)?;
-        match found {
+        match pairs_at(walk.frame(), &insns[place].op, pairs)? {
             Some(more) => {
                 pairs = more;
                 walk.advance(alloc)?;
@@ -120,8 +119,7 @@ fn has_int_room(
     if 2 * u32::from(max_stack) + 4 > 255 {
         return Ok(false);
     }
-    let counted = pairs_where_usable(alloc, method, types)?;
-    match counted {
+    match pairs_where_usable(alloc, method, types)? {
         Some(pairs) => {
             let locals = 2 * u64::from(method.max_locals()) + 2 * u64::from(pairs);
             Ok(words + locals <= 255)

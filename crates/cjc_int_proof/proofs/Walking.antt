@@ -1,9 +1,9 @@
 -- Turns of a machine whose innermost frame makes instructions one behind the other.
-use Rattle.std.proofs.Common.{◌≡◌, ℕ, zero, suc, ◌+◌, ◌*◌, ◌≤◌, List, ◌∷◌, Option, Some, None, refl, ap, subst, ◌∙◌}
+use Rattle.std.proofs.Common.{◌≡◌, ℕ, zero, suc, ◌+◌, ◌≤◌, List, ◌∷◌, Option, Some, None, refl, ap, subst, ◌∙◌}
 use Rattle.std.proofs.Common.{arith, zero-add}
 use Rattle.std.proofs.Math.Nat.{mul-le-mul_right}
 use Rattle.cjc_ncode.specs.Script.declared.report.Report.{Report}
-use Rattle.cjc_ncode.specs.CardSemantics.Bytecode.Effects.{Effect, Go, Raise, Toss, Invoke, Leave, Stick, effect}
+use Rattle.cjc_ncode.specs.CardSemantics.Bytecode.Effects.{Effect, Go, Raise, Toss, Invoke, Leave, Stick}
 use Rattle.cjc_ncode.specs.CardSemantics.Bytecode.Machine.{Setting, State, Fetched, Frame, turn_after_fetch, made}
 use Rattle.cjc_ncode.specs.CardSemantics.Bytecode.Machine.{spent_by}
 use Rattle.cjc_ncode.specs.CardSemantics.Bytecode.Runs.{Move, On, Leads, last, first, device, led, Agree}

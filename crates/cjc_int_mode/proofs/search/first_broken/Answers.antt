@@ -39,12 +39,14 @@ returns-in-Some c = λ k m t of constant numbers values.
     let b = body_of k m t c.args.code.now.insns in
     let body = c.requires.body k m t of in
     let types = rows_of b c.args.types.now in
-    let found = found_same c.args.tested c.args.types.now constant c.args.table.now.marks c.args.table.now.rows b c.new-method.result
+    let found = found_same c.args.tested c.args.types.now constant c.args.table.now.marks c.args.table.now.rows b
+    c.new-method.result
     c.args.ranging.now.body c.args.ranging.now.types c.items-insns.result.now c.in_ok-found.found
     (c.new-method.ensures k m t of) body (c.requires.rows k m t of) c.items-insns.ensures
     (c.in_ok-found.ensures.first constant numbers (values ∙ ap (λ (n : Body). values_of constant n.insns) (sym body)))
     in
-    let first = first_broken c.args.tested b types (ranges_of b constant types c.args.table.now.marks c.args.table.now.rows)
+    let first = first_broken c.args.tested b types (ranges_of b constant types c.args.table.now.marks
+    c.args.table.now.rows)
     c.in-Some.found (sym found ∙ c.in-Some.is) in
     record {
       place = c.in-Some.found.place;
@@ -60,10 +62,12 @@ returns-in-None c = λ k m t of constant numbers values.
     let b = body_of k m t c.args.code.now.insns in
     let body = c.requires.body k m t of in
     let types = rows_of b c.args.types.now in
-    let found = found_same c.args.tested c.args.types.now constant c.args.table.now.marks c.args.table.now.rows b c.new-method.result
+    let found = found_same c.args.tested c.args.types.now constant c.args.table.now.marks c.args.table.now.rows b
+    c.new-method.result
     c.args.ranging.now.body c.args.ranging.now.types c.items-insns.result.now c.in_ok-found.found
     (c.new-method.ensures k m t of) body (c.requires.rows k m t of) c.items-insns.ensures
     (c.in_ok-found.ensures.first constant numbers (values ∙ ap (λ (n : Body). values_of constant n.insns) (sym body)))
     in
-    nothing_broken c.args.tested b types (ranges_of b constant types c.args.table.now.marks c.args.table.now.rows) (sym found
+    nothing_broken c.args.tested b types (ranges_of b constant types c.args.table.now.marks c.args.table.now.rows)
+    (sym found
     ∙ c.in-None.is)

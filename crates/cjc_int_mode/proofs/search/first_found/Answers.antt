@@ -16,7 +16,8 @@ returns-in-Some-clause-first c = λ constant numbers values.
     let types = rows_of b c.args.types.now in
     let ranges = c.walk-rows.result.rows in
     let insn = c.index-insns-place.result in
-    found_here c.args.tested b c.args.insns.now types ranges c.loop-place.place insn (option_map state_of c.frame.result.now)
+    found_here c.args.tested b c.args.insns.now types ranges c.loop-place.place insn
+    (option_map state_of c.frame.result.now)
     c.row.result.now
     (slice_get-get_or c.args.insns.now c.loop-place.place insn c.loop-place-test.true
     ∙ ap Some (sym c.index-insns-place.is))

@@ -1,7 +1,7 @@
 use Rattle.std.proofs.Common.{◌≡◌, map, false}
 use Rattle.cjc_ncode.specs.Script.Sorts.{sort_of}
 use Rattle.cjc_int_mode.specs.Working.Scratch.{has_short_before}
-use Rattle.cjc_int_mode.proofs.descriptors.is_by_scratch.Given as goal
+use Rattle.cjc_int_mode.proofs.descriptors.has_short_before.Given as goal
 
 abbrev pub invariant-loop-kind : goal.invariant-loop-kind
 invariant-loop-kind l = record {
