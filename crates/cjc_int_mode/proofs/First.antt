@@ -171,7 +171,7 @@ module _ (which : Tested) (b : Body) where
         × (q ≤ rule)
     breach_at place rule holds h =
         let low = some_of (λ r. (is_tested which r ≡ true) × Broken b (cells_of h.typed.stack)
-            (spans_of h.ranged.stack) h.insn.op r) _ rule
+        (spans_of h.ranged.stack) h.insn.op r) _ rule
         (lowest_of b (cells_of h.typed.stack) (spans_of h.ranged.stack) which h.insn.op) (
           holds,
           (
@@ -198,7 +198,7 @@ module _ (which : Tested) (b : Body) where
         × Breach b types ranges place rule
     at_breach place rule at =
         let broken = holds_of (λ r. (is_tested which r ≡ true) × Broken b (cells_of at.typed.stack)
-            (spans_of at.ranged.stack) at.insn.op r) _ rule
+        (spans_of at.ranged.stack) at.insn.op r) _ rule
         (lowest_of b (cells_of at.typed.stack) (spans_of at.ranged.stack) which at.insn.op) at.fails in
         let is = broken.1 in (
           broken.0,
@@ -218,7 +218,7 @@ module _ (which : Tested) (b : Body) where
 
     pub nothing_broken : first_from which b 0 b.insns types ranges ≡ None → NoBreach (is_tested which) b types ranges
     nothing_broken e place rule holds h = let at = breach_at place rule holds h in none_at 0 b.insns types ranges e
-    place at.0 at.1
+        place at.0 at.1
 
     same_rule : (k r q : ℕ) → At b.insns types ranges k r → At b.insns types ranges k q → r ≡ q
     same_rule k r q one two =
