@@ -21,26 +21,28 @@ module _ {S W P C F N M X : Type 0} (a : Device S) (set : Setting P C F N M X) (
     pub is : right w ≡ at_spot set code frame outer state spot 0
 
   -- What one step of the first machine is to the second.
-  pub data LongSteps (w : W) : Type 0 where
+  pub data LongSteps : W → Type 0 where
     -- nothing is written for it
-    silent : (v : W) → a.move (left w) ≡ On (left v) → (device set).move (right w) ≡ (device set).move (right v)
+    silent : {w : W} (v : W) → a.move (left w) ≡ On (left v) → (device set).move (right w) ≡ (device set).move (right v)
         → Alike ((device set).rest (right w)) ((device set).rest (right v)) → measure v + 1 ≤ measure w → LongSteps w
     -- instructions that stay in their frame, one at least
-    stays : (v : W) (h : Stands w) (n : ℕ) (to : Spot C F X) → walk set h.code (suc n) h.spot ≡ Within to → suc n ≤ most
+    stays : {w : W} (v : W) (h : Stands w) (n : ℕ) (to : Spot C F X) → walk set h.code (suc n) h.spot ≡ Within to
+        → suc n ≤ most
         → a.move (left w) ≡ On (left v) → right v ≡ at_spot set h.code h.frame h.outer h.state to (suc n) → LongSteps w
     -- instructions of which one leads out of the frame: to another couple, whatever was spent before it
-    leaves : (v : (turns : ℕ) → W) (h : Stands w) (n next : ℕ) (to : Spot C F X) (asked : Effect C F M X)
+    leaves : {w : W} (v : (turns : ℕ) → W) (h : Stands w) (n next : ℕ) (to : Spot C F X) (asked : Effect C F M X)
         → walk set h.code n h.spot ≡ Out to next asked → n ≤ most
         → ((turns : ℕ) → a.move (left w) ≡ On (left (v turns)))
         → ((turns : ℕ) → led set (turn_out set h.code h.frame h.outer h.state to next turns asked)
         ≡ On (right (v turns))) → LongSteps w
     -- or to the end of both
-    ends : (r : Report) (r' : (turns : ℕ) → Report) (h : Stands w) (n next : ℕ) (to : Spot C F X)
+    ends : {w : W} (r : Report) (r' : (turns : ℕ) → Report) (h : Stands w) (n next : ℕ) (to : Spot C F X)
         (asked : Effect C F M X) → walk set h.code n h.spot ≡ Out to next asked → n ≤ most → a.move (left w) ≡ Over r
         → ((turns : ℕ) → led set (turn_out set h.code h.frame h.outer h.state to next turns asked) ≡ Over (r' turns))
         → ((turns : ℕ) → Alike (r' turns) r) → r.outcome ≢ Running → ((at : ℕ) → r.outcome ≢ Stuck at) → LongSteps w
     -- the step of the couple in which an entry has begun
-    begins : (v : W) → a.move (left w) ≡ a.move (left v) → (device set).move (right w) ≡ (device set).move (right v)
+    begins : {w : W} (v : W) → a.move (left w) ≡ a.move (left v)
+        → (device set).move (right w) ≡ (device set).move (right v)
         → Alike ((device set).rest (right w)) ((device set).rest (right v)) → measure v ≤ measure w → LongSteps v
         → LongSteps w
 
