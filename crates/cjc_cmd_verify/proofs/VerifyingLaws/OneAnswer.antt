@@ -1,23 +1,19 @@
 -- What was read decides one answer.
-use Rattle.std.proofs.Common.{◌≡◌, ℕ, ◌+◌, inl, inr, List, [], ◌∷◌, ◌++◌, map, refl, sym, ap, subst}
+use Rattle.std.proofs.Common.{◌≡◌, ◌+◌, inl, inr, List, [], ◌++◌, map, refl}
 use Rattle.std.specs.Prelude.{Ok, Err, flat_map}
 use Rattle.cjc_card.specs.CheckRules.Consistent.{break_at}
-use Rattle.cjc_card.specs.CheckRules.declared.spot.ComponentPlace.{ComponentPlace}
-use Rattle.cjc_cmd_card.proofs.ReportLaws.Free.{one_pair}
+use Rattle.cjc_cmd_card.proofs.ReportLaws.OneAnswer.{one_of_pair}
 use Rattle.cjc_cmd_card.proofs.ReportLaws.Once.{SentencesHold, one_break}
-use Rattle.cjc_cmd_card.specs.Report.Runs.{BreaksPair}
 use Rattle.cjc_cmd_card.specs.declared.running.input.Input.{Input}
-use Rattle.cjc_cmd_check.proofs.CheckingLaws.OneAnswer.{OfComponent, of_components}
+use Rattle.cjc_cmd_check.proofs.CheckingLaws.OneAnswer.{OfComponent, in_spots, of_components}
 use Rattle.cjc_cmd_jvm.specs.Shelf.declared.command.status.Todo.{Todo}
 use Rattle.cjc_cmd_verify.proofs.VerifyingLaws.Free.{none_first, of_typing}
 use Rattle.cjc_cmd_verify.specs.Verify.{AnyBreaks, BreaksTyping, Verifies}
-use Rattle.cjc_judge.proofs.BytesBrokenRules.{none_among}
 use Rattle.cjc_judge.proofs.BytesFirsts.{among_either}
 use Rattle.cjc_judge.proofs.OneRefusal.{one_first_of, one_on_levels}
-use Rattle.cjc_judge.specs.Bytes.Breaks.{Among, Break, after, foremost}
+use Rattle.cjc_judge.specs.Bytes.Breaks.{Among, Break}
 use Rattle.cjc_judge.specs.Bytes.declared.fault.Refusal.{Refusal}
-use Rattle.cjc_judge.specs.Rules.{files_spelt, on_first, on_second}
-use Rattle.cjc_pairing.specs.Components.Paired.Pairs.{head_of, pair_breaks}
+use Rattle.cjc_judge.specs.Rules.{on_first, on_second}
 use Rattle.cjc_verify.specs.Bodies.{bodies}
 use Rattle.cjc_verify.specs.Described.{all_array_spots, described_spots}
 use Rattle.cjc_verify.specs.Headers.{header_spots}
@@ -25,29 +21,7 @@ use Rattle.cjc_verify.specs.Infos.{all_abstract_spots, all_info_spots, all_table
 use Rattle.cjc_verify.specs.Pairs.{Pair}
 use Rattle.cjc_verify.specs.Verified.{Breaks, class_breaks, header_breaks, in_code, listed, listed_breaks}
 
--- ---- 719 is told of one place
-
-one_head : (spots : List ComponentPlace) (a b : Break) → Among a (map (break_at 719) (head_of spots))
-    → Among b (map (break_at 719) (head_of spots)) → a ≡ b
-one_head [] a b h g = none_among a h
-one_head (s ∷ spots) a b foremost foremost = refl
-one_head (s ∷ spots) a b foremost (after g) = none_among b g
-one_head (s ∷ spots) a b (after h) g = none_among a h
-
-one_of_pair : (input : Input) (a b : Break) → BreaksPair input a → BreaksPair input b → a.rank ≡ b.rank
-    → a.refusal ≡ b.refusal
-one_of_pair input a b p q e =
-    let there : Among b (pair_breaks (files_spelt input.list p.trees) p.image p.whole) =
-    subst (Among b) (sym (one_pair input a b p q)) q.broken in
-    ap (λ (x : Break). x.refusal) (one_head _ a b p.broken there)
-
 -- ---- 721 to 729 are told of places in components
-
-in_spots : (number : ℕ) (spots : List ComponentPlace) (b : Break) → Among b (map (break_at number) spots)
-    → OfComponent b
-in_spots number [] b among = none_among b among
-in_spots number (s ∷ spots) b foremost = record { tag = s.component; place = s.offset; rule = number; is = refl }
-in_spots number (s ∷ spots) b (after more) = in_spots number spots b more
 
 -- of the first list, or of the other
 in_both : (xs ys : List Break) (b : Break) → ((b : Break) → Among b xs → OfComponent b)
