@@ -33,16 +33,24 @@ in_both xs ys b left right among = elim (among_either b xs ys among) [
 
 in_classes : (p : Pair) (b : Break) → Among b (class_breaks p) → OfComponent b
 in_classes p b among =
-    in_both (map (break_at 725) (all_table_spots p)) _ b (in_spots 725 (all_table_spots p))
-    (λ b rest. in_both (map (break_at 727) (all_abstract_spots p)) _ b (in_spots 727 (all_abstract_spots p))
-    (in_spots 729 (all_info_spots p)) rest) among
+    in_both (map (break_at 725) (all_table_spots p) ++ map (break_at 727) (all_abstract_spots p))
+    (map (break_at 729) (all_info_spots p)) b
+    (λ b front. in_both (map (break_at 725) (all_table_spots p)) (map (break_at 727) (all_abstract_spots p)) b
+    (in_spots 725 (all_table_spots p)) (in_spots 727 (all_abstract_spots p)) front)
+    (in_spots 729 (all_info_spots p)) among
+
+in_methods : (p : Pair) (b : Break) → Among b (class_breaks p ++ header_breaks p) → OfComponent b
+in_methods p b among =
+    in_both (class_breaks p) (header_breaks p) b (in_classes p)
+    (in_spots 727 (flat_map (header_spots p) (bodies p.components))) among
 
 in_listed : (p : Pair) (b : Break) → Among b (listed_breaks p) → OfComponent b
 in_listed p b among =
-    in_both (class_breaks p) _ b (in_classes p)
-    (λ b rest. in_both (header_breaks p) _ b (in_spots 727 (flat_map (header_spots p) (bodies p.components)))
-    (λ b rest. in_both (map (break_at 728) (all_array_spots p)) _ b (in_spots 728 (all_array_spots p))
-    (in_spots 721 (described_spots p)) rest) rest) among
+    in_both (class_breaks p ++ header_breaks p ++ map (break_at 728) (all_array_spots p))
+    (map (break_at 721) (described_spots p)) b
+    (λ b front. in_both (class_breaks p ++ header_breaks p) (map (break_at 728) (all_array_spots p)) b (in_methods p)
+    (in_spots 728 (all_array_spots p)) front)
+    (in_spots 721 (described_spots p)) among
 
 of_types : (p : Pair) (b : Break) → Breaks p b → OfComponent b
 of_types p b (listed broken among) = in_listed p broken among
