@@ -1,4 +1,4 @@
-use Rattle.std.proofs.Common.{IsSome, sym, subst}
+use Rattle.std.proofs.Common.{IsSome, refl, sym, subst}
 use Rattle.cjc_cmd_card.proofs.ReportLaws.Free.{few_cells, few_exported, has_tokens}
 use Rattle.cjc_cmd_check.proofs.CheckingLaws.Sizes.{small_cap}
 use Rattle.cjc_cmd_verify.proofs.VerifyingLaws.Free.{are_typed, types_fault}
@@ -24,7 +24,7 @@ tokens_of-requires-clause-unbroken c =
 pub verify-requires-clause-whole : goal.verify-requires-clause-whole
 verify-requires-clause-whole c =
     let is = c.requires.checked.is_ready in
-    subst IsSome (sym is.complete_is) tt
+    subst IsSome (sym is.complete_is) refl
 
 pub verify-requires-clause-small : goal.verify-requires-clause-small
 verify-requires-clause-small c =
