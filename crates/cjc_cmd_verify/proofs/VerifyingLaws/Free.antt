@@ -1,6 +1,6 @@
 -- What is known of components that were tested: they break none of the rules that `card` tests, and what they break of
 -- 721 to 729 is broken of what is spelt, and the other way.
-use Rattle.std.proofs.Common.{◌≡◌, inl, inr, ℕ, List, [], map, refl, sym, ap, subst, ◌∙◌}
+use Rattle.std.proofs.Common.{◌≡◌, inl, inr, [], map, refl, sym, ap, subst, ◌∙◌}
 use Rattle.std.specs.Prelude.{Some, Result, Ok, Err, IfErr, OnOk}
 use Rattle.cjc_card.specs.CheckRules.Complete.{Complete, complete}
 use Rattle.cjc_card.specs.CheckRules.Consistent.{break_at}
@@ -24,7 +24,7 @@ use Rattle.cjc_judge.specs.Rules.{IsFirstFault, files_spelt, has_applets, on_fir
 use Rattle.cjc_judge.specs.Spelt.{classes_of}
 use Rattle.cjc_judge.specs.World.Files.{Files}
 use Rattle.cjc_judge.specs.World.declared.image.StaticImage.{StaticImage}
-use Rattle.cjc_pairing.specs.Components.Paired.Pairs.{ArePaired, pair_breaks}
+use Rattle.cjc_pairing.specs.Components.Paired.Pairs.{ArePaired}
 use Rattle.cjc_verify.specs.Pairs.{Pair, pair_of}
 use Rattle.cjc_verify.specs.Verified.{Breaks, IsRefused, IsVerified}
 
