@@ -1,4 +1,4 @@
-mod Members
+pub mod Members
 mod Ordered
 mod Reach
 mod Placing

@@ -20,5 +20,5 @@ mod words;
 
 pub use codes::narrow_codes;
 pub use laws::{codes_are_by_their_own_pool, methods_can_be_laid_out};
-pub use order::{method_order, methods_are_own};
+pub use order::{method_order, methods_are_own, put_methods};
 pub use words::{method_spot, test_words};

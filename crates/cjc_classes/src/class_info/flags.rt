@@ -54,7 +54,7 @@ fn flags_of(interface: bool, shareable: bool) -> u8
 }
 
 /// The flags of the info of a class.
-pub(crate) fn info_flags(
+pub fn info_flags(
     alloc: Global,
     world: &World<'_>,
     class: Known<'_, '_>,

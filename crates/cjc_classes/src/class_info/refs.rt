@@ -19,7 +19,7 @@ pub struct ClassRefs {
 
 impl ClassRefs {
     /// No names. Takes no memory.
-    pub(crate) fn new(alloc: Global) -> ClassRefs
+    pub fn new(alloc: Global) -> ClassRefs
         ensures { (x : List ℕ) → ref_in result x ≡ None }
     {
         ClassRefs {
@@ -56,7 +56,7 @@ impl ClassRefs {
     }
 
     /// Notes the class_ref of a name, where none is noted.
-    pub(crate) fn note(
+    pub fn note(
         &mut self,
         alloc: Global,
         name: &[u8],

@@ -116,7 +116,7 @@ fn nibbles_of_parts<'a>(alloc: Global, refs: &ClassRefs, desc: &Desc<'a>) -> Res
 
 /// The nibbles of what a descriptor says.
 #[tactic(auto, using(crate::proofs::TypeInfo::Parts::nibbles_of_none, crate::proofs::TypeInfo::Parts::nibbles_of_some))]
-pub(crate) fn nibbles_in<'a>(
+pub fn nibbles_in<'a>(
     alloc: Global,
     refs: &ClassRefs,
     desc: &'a [u8],
