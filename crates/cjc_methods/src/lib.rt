@@ -6,6 +6,7 @@
 // Lower crates, for those above.
 pub use cjc_components::class_order;
 pub use cjc_ncode as ncode;
+pub use cjc_pool as pool;
 
 mod codes;
 pub mod component;
