@@ -15,6 +15,7 @@ use Rattle.cjc_bytes.specs.Spots.{role_of, cut_by, types_from, types, part_of, p
 use Rattle.cjc_bytes.specs.Spots.{parts_of, bad_at, where_none, desc_of}
 use Rattle.cjc_bytes.specs.declared.descriptor.ParseState.TheVariants as spots
 use Rattle.cjc_bytes.proofs.DescriptorRead.{differs, byte_differs, is_descriptor, descriptor_reads, start_of, no_longer}
+use Rattle.cjc_bytes.proofs.Gets.{all_but_last}
 
 -- ---- one type
 
@@ -60,10 +61,6 @@ type_cut (object {name = name} c) begun rest =
 type_cut (array {bytes = bytes} t) begun rest =
     type_cut t (begun ++ 91 ∷ []) rest ∙ ap (λ (q : List ℕ). q ∷ types rest) (append_assoc begun (91 ∷ []) bytes)
 
-take_front : (name : List ℕ) → take (length (name ++ 59 ∷ []) - 1) (name ++ 59 ∷ []) ≡ name
-take_front name = let n : length name ≡ length (name ++ 59 ∷ []) - 1 = omega (arith, length-append name (59 ∷ []))
-    in take_at name (59 ∷ []) _ n
-
 part_is : {p : Part} {bytes : List ℕ} → IsType p bytes → part_of bytes ≡ p
 part_is (base {b = b} {kind = kind} good) = rw (
   differs base_kind 91 b kind refl good,
@@ -71,7 +68,7 @@ part_is (base {b = b} {kind = kind} good) = rw (
       good,
   good,
 ) refl
-part_is (object {name = name} c) = rw (take_front name) refl
+part_is (object {name = name} c) = rw (all_but_last name) refl
 part_is (array t) = refl
 
 -- ---- a whole descriptor

@@ -9,6 +9,7 @@ use Rattle.cjc_bytes.specs.Order.{numbers, AreUpTo}
 use Rattle.cjc_bytes.specs.Breaks.{Break, RulePlace, Among, foremost, after, IsFirst, IsFirstOf, broken_at, at}
 use Rattle.cjc_bytes.specs.Breaks.{each_from}
 use Rattle.cjc_bytes.specs.Working.Ranks.{is_up_to}
+use Rattle.cjc_bytes.proofs.BrokenRules.{among_left, among_right}
 
 -- ---- the order of two ranks
 
@@ -85,15 +86,6 @@ at_same {b} {b'} {s} {s'} rule o e f h =
     subst (λ (v : RulePlace). IsFirstOf (at b' v rule) o) f (subst (λ (v : Bool). IsFirstOf (at v s rule) o) e h)
 
 -- ---- two lists
-
-pub among_left : (b : Break) (xs ys : List Break) → Among b xs → Among b (xs ++ ys)
-among_left b [] ys i = elim i [ ]
-among_left b (x ∷ xs) ys foremost = foremost
-among_left b (x ∷ xs) ys (after i) = after (among_left b xs ys i)
-
-pub among_right : (b : Break) (xs ys : List Break) → Among b ys → Among b (xs ++ ys)
-among_right b [] ys i = i
-among_right b (x ∷ xs) ys i = after (among_right b xs ys i)
 
 pub among_either : (b : Break) (xs ys : List Break) → Among b (xs ++ ys) → Among b xs ⊎ Among b ys
 among_either b [] ys i = inr i

@@ -1,7 +1,7 @@
 -- What bytes that spell a value by a format say of it and of their number.
-use Rattle.std.proofs.Common.{◌≡◌, ℕ, zero, suc, ◌+◌, ◌<◌, ◌^◌, List, [], ◌∷◌, ◌++◌, Option, Some, None, Result, Ok}
-use Rattle.std.proofs.Common.{option_map, length, refl, sym, ap, subst, ◌∙◌, arith, length-append}
-use Rattle.std.specs.List.{AllByRecursion, slice_get}
+use Rattle.std.proofs.Common.{◌≡◌, ℕ, ◌+◌, ◌<◌, ◌^◌, List, [], ◌∷◌, ◌++◌, Option, Some, Result, Ok}
+use Rattle.std.proofs.Common.{length, sym, ap, subst, ◌∙◌, arith, length-append}
+use Rattle.std.specs.List.{AllByRecursion}
 use Rattle.std.specs.Int.{w8, w16, w32, from_be_bytes}
 use Rattle.cjc_bytes.specs.Format.{Format, number, here, looked_up, gives, followed_by, Spells, u1, u2, u4, raw}
 
@@ -17,13 +17,6 @@ all_front P (x ∷ xs) ys h = (h.0, all_front P xs ys h.1)
 all_back : {A : Type 0} (P : A → Type 0) (xs ys : List A) → AllByRecursion P (xs ++ ys) → AllByRecursion P ys
 all_back P [] ys h = h
 all_back P (x ∷ xs) ys h = all_back P xs ys h.1
-
--- what holds of all items holds of the one at an index
-pub all_at : {A : Type 0} (P : A → Type 0) (xs : List A) (i : ℕ) (x : A) → AllByRecursion P xs → slice_get xs i ≡ Some x
-    → P x
-all_at P [] i x h e = absurd cc
-all_at P (y ∷ ys) zero x h e = let same : y ≡ x = cc in subst P same h.0
-all_at P (y ∷ ys) (suc i) x h e = all_at P ys i x h.1 e
 
 -- the two parts of a format that follows another
 pub record Inner {A B : Type 0} (p : Format B) (f : B → Format A) (at : ℕ) (a : A) (bytes : List ℕ) : Type 0 where
@@ -146,8 +139,3 @@ pub given : {A : Type 0} (x : A) (at : ℕ) (a : A) (bytes : List ℕ) → Spell
     × (length bytes ≡ 0)
 unfolding Spells
 given x at a bytes h = (h.1, ap length h.0)
-
-pub mapped : {A B : Type 0} (f : A → B) (o : Option A) (y : B) → option_map f o ≡ Some y → (x : A) × (o ≡ Some x)
-    × (f x ≡ y)
-mapped f None y e = absurd cc
-mapped f (Some x) y e = (x, refl, cc)

@@ -12,15 +12,12 @@ use Rattle.std.proofs.lemmas.List.Sums.{fails_before_first}
 use Rattle.std.proofs.lemmas.List.Splits.{slice_split_none, slice_split_first, length-slice_split}
 use Rattle.cjc_bytes.specs.Text.{TextLine, lines_from, is_kept, kept, is_filled, filled_parts, is_digit, decimal_from}
 use Rattle.cjc_bytes.specs.Text.{decimal}
+use Rattle.cjc_bytes.proofs.Numbers.{passed_at}
 
 -- the first separator cuts off the first part
 pub record Cut (p : ℕ → Bool) (xs : List ℕ) (n : ℕ) : Type 0 where
   pub within : n < length xs
   pub parts : slice_split p xs ≡ take n xs ∷ slice_split p (drop (n + 1) xs)
-
-found_at : (b : Bool) (m n : ℕ) → cond b (Some m) None ≡ Some n → (b ≡ true) × (m ≡ n)
-found_at true m n e = (refl, cc)
-found_at false m n e = absurd cc
 
 not_found : (b : Bool) (m : ℕ) → cond b (Some m) None ≡ None → b ≡ false
 not_found true m e = absurd cc
@@ -28,7 +25,7 @@ not_found false m e = refl
 
 pub cut_at : (p : ℕ → Bool) (xs : List ℕ) (n : ℕ) → position p xs ≡ Some n → Cut p xs n
 cut_at p xs n e =
-    let found = found_at (ltb (position_or_len p xs) (length xs)) (position_or_len p xs) n e in
+    let found = passed_at (ltb (position_or_len p xs) (length xs)) (position_or_len p xs) n e in
     let within : position_or_len p xs < length xs = ltb-true _ _ found.0 in
     let parts : slice_split p xs ≡ take (position_or_len p xs) xs ∷ slice_split p (drop (position_or_len p xs + 1) xs) =
     slice_split_first p xs 0 within in

@@ -1,5 +1,5 @@
 -- Decoding what was written gives it back.
-use Rattle.std.proofs.Common.{◌≡◌, ℕ, zero, suc, ◌+◌, ◌-◌, ◌*◌, ◌/◌, ◌%◌, ◌^◌, ◌<◌, ◌≤◌, refl, sym, ap, ◌∙◌, arith}
+use Rattle.std.proofs.Common.{◌≡◌, ℕ, zero, suc, ◌+◌, ◌-◌, ◌^◌, ◌<◌, ◌≤◌, refl, sym, ap, ◌∙◌, arith}
 use Rattle.std.proofs.Common.{Bool, true, false, List, [], ◌∷◌, ◌++◌, length, append_assoc, length-append, ℤ, pos}
 use Rattle.std.proofs.Common.{negsuc}
 use Rattle.std.specs.Prelude.{Option, Some, None, nat_lt, if◌then◌else◌}
@@ -11,6 +11,7 @@ use Rattle.cjc_capread.specs.Decode.{operands_bytes, put_first, first_and, opera
 use Rattle.cjc_capread.specs.Decode.{is_whole, with_table, with_operands, decode_as, decode, emitted, size_as, size_by}
 use Rattle.cjc_capread.specs.Decode.{size, IsBelow, below, IsWithin, positive, negative, Fits, AllFit, none, more}
 use Rattle.cjc_capread.specs.Decode.{IsWritable}
+use Rattle.cjc_bytes.proofs.Numbers.{two_back, four_back}
 
 signed_low : (half n : ℕ) → n < half → signed half n ≡ pos n
 signed_low half n h = let e : nat_lt n half ≡ true = grind (arith, nat_tests) in ap (λ t. if t then pos n
@@ -26,12 +27,6 @@ signed_high half n h =
 pub signed_unsigned : (half : ℕ) (z : ℤ) → IsWithin half z → signed half (unsigned half z) ≡ z
 signed_unsigned half (pos n) (positive h) = signed_low half n h
 signed_unsigned half (negsuc n) (negative h) = signed_high half n h
-
-two_back : (n : ℕ) → 256 * (n / 256) + n % 256 ≡ n
-two_back n = omega arith
-
-four_back : (n : ℕ) → 16777216 * (n / 16777216) + 65536 * (n / 65536 % 256) + 256 * (n / 256 % 256) + n % 256 ≡ n
-four_back n = omega arith
 
 one_byte : (z : ℤ) (rest : List ℕ) → IsBelow 256 z → operand Byte (operand_bytes Byte z ++ rest)
     ≡ Some (record { value = z; rest = rest })

@@ -1,7 +1,7 @@
 -- The files of a tree that can be written and keeps its limits spell it.
 use Rattle.std.proofs.Common.{◌≡◌, ℕ, ◌≤◌, Bool, true, false, cond, ltb, List, length, Option, Some, None, refl, arith}
-use Rattle.std.specs.Prelude.{◌||◌, IfSome, IsSomeAnd, is_some}
-use Rattle.std.proofs.lemmas.Bool.{ltb-false}
+use Rattle.std.specs.Prelude.{IfSome, IsSomeAnd, is_some}
+use Rattle.std.proofs.lemmas.Bool.{ltb-false, or_parts}
 use Rattle.cjc_capread.specs.declared.tree.CapTree.{CapTree}
 use Rattle.cjc_capread.specs.declared.tree.Component.{Component}
 use Rattle.cjc_capread.specs.declared.tree.Component.TheVariants as components
@@ -22,10 +22,6 @@ use Rattle.cjc_capwrite.proofs.FilesWritten.{class_spells, method_spells, static
 use Rattle.cjc_capwrite.proofs.FilesWritten.{descriptor_spells}
 
 -- ---- sizes within the limits
-
-neither : (a b : Bool) → (a || b) ≡ false → (a ≡ false) × (b ≡ false)
-neither true b e = absurd cc
-neither false b e = (refl, e)
 
 short : (info : List ℕ) → is_long info ≡ false → Fits2 (length info)
 short info e = let le : length info ≤ 65535 = ltb-false 65535 (length info) e in omega arith
@@ -51,15 +47,15 @@ pub record AreShort (i : Infos) : Type 0 where
 
 are_short : (i : Infos) → is_too_large i ≡ false → AreShort i
 are_short i large =
-    let class = neither _ _ large in
-    let header = neither _ _ class.1 in
-    let directory = neither _ _ header.1 in
-    let applet = neither _ _ directory.1 in
-    let import = neither _ _ applet.1 in
-    let pool = neither _ _ import.1 in
-    let statics = neither _ _ pool.1 in
-    let locations = neither _ _ statics.1 in
-    let export = neither _ _ locations.1 in
+    let class = or_parts _ _ large in
+    let header = or_parts _ _ class.1 in
+    let directory = or_parts _ _ header.1 in
+    let applet = or_parts _ _ directory.1 in
+    let import = or_parts _ _ applet.1 in
+    let pool = or_parts _ _ import.1 in
+    let statics = or_parts _ _ pool.1 in
+    let locations = or_parts _ _ statics.1 in
+    let export = or_parts _ _ locations.1 in
     let few : length i.class ≤ 32767 = ltb-false 32767 (length i.class) class.0 in
     record {
       header = short i.header header.0;

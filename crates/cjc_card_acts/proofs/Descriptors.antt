@@ -1,23 +1,19 @@
 -- Type descriptors one behind the other, and the one at an offset.
-use Rattle.std.proofs.Common.{◌≡◌, ℕ, ◌+◌, ◌-◌, ◌<◌, ◌≤◌, ◌^◌, Bool, true, false, List, [], ◌∷◌, length, take, drop, get_or}
+use Rattle.std.proofs.Common.{◌≡◌, ℕ, ◌+◌, ◌-◌, ◌<◌, ◌≤◌, ◌^◌, Bool, true, false, List, [], ◌∷◌, length, take, drop}
+use Rattle.std.proofs.Common.{get_or}
 use Rattle.std.proofs.Common.{sum_by, refl, sym, ap, ◌∙◌, arith, Option, Some, None, option_map, ◌==◌}
 use Rattle.std.proofs.lemmas.List.Sums.{sum_by-cons}
 use Rattle.std.proofs.lemmas.Slice.{between_to_end}
-use Rattle.std.proofs.lemmas.Grind.{common_steps}
 use Rattle.std.specs.Prelude.{if◌then◌else◌}
 use Rattle.std.specs.List.{find}
 use Rattle.cjc_check_rules.specs.CapRead.declared.tree.TypeDescriptor.{TypeDescriptor}
 use Rattle.cjc_check_rules.specs.Complete.{type_size}
 use Rattle.cjc_check_rules.specs.Spots.{Placed, item_at, placed}
-
-same_number : (n k : ℕ) → n ≡ k → (n == k) ≡ true
-same_number n k is = grind (arith, common_steps)
-
-other_number : (n k : ℕ) → (n ≡ k → ⊥) → (n == k) ≡ false
-other_number n k is = grind (arith, common_steps)
+use Rattle.cjc_check_rules.proofs.BytesNumbers.{number_same_number, other_number}
 
 stands : (at offset : ℕ) (t : Bool) (x : TypeDescriptor) (xs : List TypeDescriptor) → (at == offset) ≡ t
-    → item_at (placed type_size at (x ∷ xs)) offset ≡ (if t then Some x else item_at (placed type_size (at + type_size x)
+    → item_at (placed type_size at (x ∷ xs)) offset ≡ (if t then Some x else item_at (placed type_size
+    (at + type_size x)
     xs) offset)
 unfolding placed
 stands at offset true x xs is = ap (λ (t : Bool). option_map (λ (p : Placed TypeDescriptor). p.item)
@@ -34,7 +30,7 @@ pub starts_here : (at offset : ℕ) (x : TypeDescriptor) (left : List TypeDescri
 starts_here at offset x [] all some is here so_far = absurd (omega (arith, some))
 starts_here at offset x (y ∷ ys) all some is here so_far =
     ap (λ (z : TypeDescriptor). Some z) is
-    ∙ sym (stands at offset true y ys (same_number at offset here))
+    ∙ sym (stands at offset true y ys (number_same_number at offset here))
     ∙ so_far
 
 -- the first one stands elsewhere
@@ -55,13 +51,15 @@ add_up : (at next size some rest all : ℕ) → next ≡ at + size → rest ≡ 
 add_up at next size some rest all on same is small = omega arith
 
 -- and the others have few bytes
-pub still_small : (at next : ℕ) (x : TypeDescriptor) (left : List TypeDescriptor) → 1 ≤ length left → x ≡ get_or left 0 x
+pub still_small : (at next : ℕ) (x : TypeDescriptor) (left : List TypeDescriptor) → 1 ≤ length left → x
+    ≡ get_or left 0 x
     → next ≡ at + type_size x → at + sum_by type_size left < 2 ^ 32
     → next + sum_by type_size (take (length left - 1) (drop 1 left)) < 2 ^ 32
 still_small at next x [] some is on small = absurd (omega (arith, some))
 still_small at next x (y ∷ ys) some is on small =
     let rest : sum_by type_size (take (length (y ∷ ys) - 1) (drop 1 (y ∷ ys))) ≡ sum_by type_size ys =
-    ap (λ (ts : List TypeDescriptor). sum_by type_size ts) (between_to_end (y ∷ ys) 1 (length (y ∷ ys)) (omega arith)) in
+    ap (λ (ts : List TypeDescriptor). sum_by type_size ts) (between_to_end (y ∷ ys) 1 (length (y ∷ ys))
+    (omega arith)) in
     add_up at next (type_size y) (sum_by type_size ys) (sum_by type_size (take (length (y ∷ ys) - 1) (drop 1 (y ∷ ys))))
     (sum_by type_size (y ∷ ys)) (on ∙ ap (λ (z : TypeDescriptor). at + type_size z) is) rest
     (sum_by-cons type_size y ys) small

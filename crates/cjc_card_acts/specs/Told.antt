@@ -4,7 +4,8 @@ use Rattle.cjc_card_frame.specs.Meanings.{letter_if, letter_of, use_of}
 use Rattle.cjc_frames.specs.declared.acts.Given.TheVariants.{ANumber, ANull}
 use Rattle.cjc_frames.specs.declared.acts.Need.TheVariants.{NumberWord, ReferenceWord}
 use Rattle.cjc_card_acts.specs.CardTypes.{ValueType, Void, Boolean, Byte, Short, Int, Reference}
-use Rattle.cjc_card_acts.specs.Rows.{Row, Pushes, Loads, Stores, Increases, Pops, Copies, CopiesBelow, Swaps, Calculates}
+use Rattle.cjc_card_acts.specs.Rows.{Row, Pushes, Loads, Stores, Increases, Pops, Copies, CopiesBelow, Swaps}
+use Rattle.cjc_card_acts.specs.Rows.{Calculates}
 use Rattle.cjc_card_acts.specs.Rows.{LoadsItem, StoresItem, CountsItems, Throws, Jumps, Switches, Returns, Uses}
 use Rattle.cjc_card_acts.specs.Rows.{CallsInterface, MakesNumbers, Casts, Asks, Forbidden}
 use Rattle.cjc_card_acts.specs.declared.table.OpcodeRow.{OpcodeRow}

@@ -1,7 +1,8 @@
 //! The types that the nibbles of a type descriptor say (Java Card Virtual Machine Specification 2.2.2, section 6.13.4),
 //! and what is known and needed of the words of their values.
 
-ghost use Rattle.std.specs.Prelude.{◌≡◌, ◌≤◌, ◌<◌, ◌++◌, ◌∷◌, true, ℕ, List, [], flat_map, length, map, option_map, None, Some};
+ghost use Rattle.std.specs.Prelude.{◌≡◌, ◌≤◌, ◌<◌, ◌++◌, ◌∷◌, true, ℕ, List, [], flat_map, length, map, option_map};
+ghost use Rattle.std.specs.Prelude.{None, Some};
 ghost use Rattle.std.specs.Prelude.{IfOk, MatchOption, OnOk};
 ghost use Rattle.cjc_card_acts.specs.CardTypes.{by_nibble as said_by, has_class, is_moved_by, is_returned_by};
 ghost use Rattle.cjc_card_acts.specs.CardTypes.{member_type as type_of_types, needs_of, needs_of_all, onto, type_by};

@@ -9,6 +9,6 @@ mod interfaces;
 
 pub use arguments::words;
 pub use calls::reached;
-pub use dispatch::dispatched_on;
+pub use dispatch::{dispatched_above, dispatched_on};
 pub use found::Found;
-pub use interfaces::dispatched_interface;
+pub use interfaces::{dispatched_interface, interface_method};

@@ -2,6 +2,7 @@
 #![tactic(auto)]
 
 // Lower crates, for those above.
+pub use cjc_card_frame as card_frame;
 pub use cjc_card_link as card_link;
 pub use cjc_card_link::{check_index, check_rules};
 

@@ -1,6 +1,6 @@
 -- Classes are put on a pile, and a line grows by those that were not met.
 use Rattle.std.proofs.Common.{◌≡◌, ℕ, zero, suc, ◌+◌, ◌-◌, ◌<◌, List, [], ◌∷◌, ◌++◌, length, get_or, drop, map, reverse}
-use Rattle.std.proofs.Common.{refl, sym, ap, ◌∙◌, Bool, true, false, arith, Option, Some, None, Result, Ok, Err, OnOk}
+use Rattle.std.proofs.Common.{refl, sym, ap, ◌∙◌, Bool, true, false, arith, Option, Some, None}
 use Rattle.std.specs.Prelude.{option_to_list, flat_map, if◌then◌else◌, is_some, ◌||◌}
 use Rattle.std.proofs.lemmas.List.{append-nil, append_assoc, drop_more, map-append, nil_from_length, reverse-append}
 use Rattle.std.proofs.lemmas.Grind.{flat_map-append}
@@ -151,7 +151,3 @@ pub met_after : (x c : Class) (old new : Option Bool) → new ≡ or_else old (i
     → is_some new ≡ same_class x c || is_some old
 met_after x c old new e = ap is_some e ∙ by_test old (same_class c x)
     ∙ ap (λ (b : Bool). b || is_some old) (classes-equivalence.symm c x)
-
-pub on_ok : {A E P Q : Type 0} (r : Result A E) → (P → Q) → OnOk r P → OnOk r Q
-on_ok (Ok a) f p = f p
-on_ok (Err e) f p = p

@@ -15,6 +15,7 @@ use Rattle.cjc_card_semantics.specs.Machine.Classes.{Info, IsInterface, IsClass,
 use Rattle.cjc_card_semantics.specs.Machine.Classes.{offset_from}
 use Rattle.cjc_card_link.specs.Indices.{first_place}
 use Rattle.cjc_card_link.specs.Infos.{infos_in}
+use Rattle.cjc_capread.proofs.BytesPlain.{none_is_some}
 
 map_bytes : (maps : List ImplementedInterface) → sum_by map_size maps ≡ map_sizes maps
 map_bytes [] = refl
@@ -69,9 +70,6 @@ starts_count at [] = refl
 starts_count at (i ∷ infos) = ap suc (starts_count (at + info_size i) infos)
 
 -- ---- offsets are below the component's size
-
-none_is_some : {A : Type 0} (k : A) → None ≡ Some k → ⊥
-none_is_some k e = cc
 
 below_by : (b : Bool) (at x k size rest : ℕ) (later : Option ℕ) → ((at == x) ≡ b) → ((m : ℕ) → later ≡ Some m
     → x ≤ at + size + rest)

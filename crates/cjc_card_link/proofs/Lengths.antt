@@ -1,7 +1,6 @@
 -- The lengths of methods, kept one by one.
 use Rattle.std.proofs.Common.{◌≡◌, ℕ, ◌<◌, ◌≤◌, ◌^◌, ◌+◌, List, [], ◌∷◌, length, get_or, drop, refl, sym, ap, ◌∙◌, Bool}
 use Rattle.std.proofs.Common.{true, false, Option, Some, None, subst, arith}
-use Rattle.std.proofs.lemmas.Bool.Decides.{nat_tests}
 use Rattle.std.specs.Prelude.{option_map, option_and_then, if◌then◌else◌, ◌==◌, slice_get}
 use Rattle.cjc_capread.specs.declared.tree.ClassDescriptor.{ClassDescriptor}
 use Rattle.cjc_capread.specs.declared.tree.ClassRef.{ClassRef}
@@ -17,6 +16,7 @@ use Rattle.cjc_card_link.specs.declared.indices.Numbers.{Numbers}
 use Rattle.cjc_card_link.specs.Indices.{number_under}
 use Rattle.cjc_card_link.proofs.OrElse.{note_more}
 use Rattle.cjc_card_link.specs.Described.{is_class_ref, bytes_of, bytes_among, started, AreSmall}
+use Rattle.cjc_capread.proofs.BytesNumbers.{number_same, some_same}
 
 -- one method, then the others
 by_test : (b : Bool) (m : MethodDescriptor) (rest : Option MethodDescriptor)
@@ -40,12 +40,6 @@ methods_more x i d ms old new total lt noted so_far =
     else None) (λ n. one_method x)
     i (get_or ms i d) d ms old new total lt refl noted so_far
 
-same_number : (a b : ℕ) → (a == b) ≡ true → a ≡ b
-same_number a b e = grind (arith, nat_tests)
-
-some_same : (a b : ℕ) → Some a ≡ Some b → a ≡ b
-some_same a b e = cc
-
 small_by : (b : Bool) (x n offset count : ℕ) (old : Option ℕ) → (b ≡ true → offset ≡ x) → offset < 2 ^ 30
     → count < 2 ^ 30
     → (old ≡ Some n → (x < 2 ^ 30) × (n < 2 ^ 30)) → or_else old (if b then Some count else None) ≡ Some n
@@ -61,7 +55,7 @@ pub small_more : (old new : Numbers) (offset count : ℕ) → offset < 2 ^ 30 �
     → ((x : ℕ) → number_under new x ≡ or_else (number_under old x) (if offset == x then Some count else None))
     → AreSmall new
 small_more old new offset count low few before noted x n e =
-    small_by (offset == x) x n offset count (number_under old x) (same_number offset x) low few (before x n)
+    small_by (offset == x) x n offset count (number_under old x) (number_same offset x) low few (before x n)
     (sym (noted x) ∙ e)
 
 -- the length of the method that is described at an offset

@@ -12,3 +12,4 @@ mod Stepping
 mod Outer
 -- Lemmas of lower crates, for those above.
 pub use Rattle.cjc_check_index.proofs.CheckRulesFirsts as CheckRulesFirsts
+pub use Rattle.cjc_check_index.proofs.ImportedLaws.Loops as CheckIndexLoops

@@ -7,7 +7,6 @@
 pub use cjc_capread as capread;
 pub use cjc_card_frame as card_frame;
 pub use cjc_card_frame::classfile;
-pub use cjc_card_semantics::script;
 pub use cjc_check_index as check_index;
 pub use cjc_check_index::{check_rules, export_file};
 

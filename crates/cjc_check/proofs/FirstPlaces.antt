@@ -1,24 +1,18 @@
 -- The first place of a sentence is its first break.
 use Rattle.std.proofs.Common.{◌≡◌, ℕ, ◌+◌, ◌*◌, ◌^◌, ◌/◌, ◌<◌, ◌≤◌, ◌==◌, Bool, true, false, List, [], ◌∷◌, ◌++◌, map}
 use Rattle.std.proofs.Common.{refl, sym, ap, subst, ◌∙◌, arith, inl, inr, Option, Some, None}
-use Rattle.std.specs.Prelude.{if◌then◌else◌, ◌&&◌, ◌||◌, ◌⊎◌, nat_lt, nat_le, is_some, not}
+use Rattle.std.specs.Prelude.{if◌then◌else◌, ◌&&◌, ◌⊎◌, nat_lt, nat_le, is_some, not}
 use Rattle.std.proofs.lemmas.Bool.Decides.{nat_tests}
+use Rattle.std.proofs.lemmas.Bool.{or_parts}
 use Rattle.cjc_capread.specs.Bytes.Breaks.{Break, IsFirst, IsFirstOf}
 use Rattle.cjc_capread.specs.Bytes.Order.{AreUpTo, NotAfter, numbers}
 use Rattle.cjc_capread.proofs.BytesFirsts.{first_left, first_of_one, first_right}
 use Rattle.cjc_check_rules.specs.Consistent.{break_at, breaks_of, is_true, sentence}
 use Rattle.cjc_check_rules.specs.declared.spot.ComponentPlace.{ComponentPlace}
 use Rattle.cjc_check_rules.specs.Spots.{earlier, first, is_up_to}
-use Rattle.cjc_check_rules.proofs.Firsts.{either, first_empty}
+use Rattle.cjc_check_rules.proofs.Firsts.{first_empty}
 use Rattle.cjc_check.specs.Order.{as_break}
-
-split_or : (a b : Bool) {P : Type 0} → (a || b) ≡ true → (a ≡ true → P) → (b ≡ true → P) → P
-split_or true b e p q = p refl
-split_or false b e p q = q e
-
-nor : (a b : Bool) → (a || b) ≡ false → (a ≡ false) × (b ≡ false)
-nor true b e = absurd cc
-nor false b e = (refl, e)
+use Rattle.cjc_capread.proofs.BytesBools.{bool_either, split_or}
 
 -- by component, then by offset
 by_parts : (number : ℕ) (a b : ComponentPlace) → (a.component < b.component) ⊎ ((a.component ≡ b.component)
@@ -26,7 +20,7 @@ by_parts : (number : ℕ) (a b : ComponentPlace) → (a.component < b.component)
 by_parts number a b (inl lt) = inr (refl, inl (omega (arith, lt)))
 by_parts number a b (inr (e, le)) =
     let offsets : (a.offset < b.offset) ⊎ ((a.offset ≡ b.offset) × AreUpTo (number ∷ []) (number ∷ [])) =
-    either (nat_lt a.offset b.offset)
+    bool_either (nat_lt a.offset b.offset)
     (λ t. let lt : a.offset < b.offset = grind (arith, nat_tests, t) in inl lt)
     (λ t. let ge : b.offset ≤ a.offset = grind (arith, nat_tests, t) in inr (omega (arith, le, ge), inr (refl, tt))) in
     inr (refl, inr (ap (λ (c : ℕ). 2 ^ 64 + c) e, inr (refl, inr (refl, offsets))))
@@ -42,10 +36,10 @@ in_order number a b t =
 pub out_of_order : (number : ℕ) (a b : ComponentPlace) → is_up_to a b ≡ false
     → NotAfter (break_at number b).rank (break_at number a).rank
 out_of_order number a b t =
-    let h = nor (nat_lt a.component b.component) ((a.component == b.component) && nat_le a.offset b.offset) t in
+    let h = or_parts (nat_lt a.component b.component) ((a.component == b.component) && nat_le a.offset b.offset) t in
     let ge : b.component ≤ a.component = let f = h.0 in grind (arith, nat_tests, f) in
     by_parts number b a
-    (either (nat_lt b.component a.component)
+    (bool_either (nat_lt b.component a.component)
     (λ lt. inl (grind (arith, nat_tests)))
     (λ le. let low : a.component ≤ b.component = grind (arith, nat_tests, le) in
     let same : a.component ≡ b.component = omega (arith, ge, low) in
@@ -61,7 +55,7 @@ first_with number s spots None e h =
 first_with number s spots (Some t) e h =
     let one = break_at number s in
     let other = break_at number t in
-    either (is_up_to s t)
+    bool_either (is_up_to s t)
     (λ up. subst (λ (b : Bool). IsFirstOf (map (break_at number) (s ∷ spots)) (as_break number true (if b then Some s
     else Some t))) (sym up)
     (first_left one other (one ∷ []) (map (break_at number) spots) (first_of_one one) h (in_order number s t up)))

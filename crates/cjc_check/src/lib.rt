@@ -4,6 +4,7 @@
 
 // Lower crates, for those above.
 pub use cjc_check_rules::export_file;
+pub use cjc_check_tables::check_index;
 
 mod checked;
 mod coded;

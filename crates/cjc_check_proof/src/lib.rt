@@ -2,9 +2,6 @@
 //! components.
 #![tactic(auto)]
 
-// Lower crates, for those above.
-pub use cjc_pool as pool;
-
 pub mod classes;
 pub mod code;
 pub mod consistent;

@@ -7,6 +7,7 @@ use Rattle.std.proofs.lemmas.Bool.Decides.{nat_tests}
 use Rattle.std.specs.Prelude.{if◌then◌else◌}
 use Rattle.std.specs.Prelude.{sum_by}
 use Rattle.cjc_check_rules.specs.Spots.{ComponentPlace, along, is_up_to, earlier, first}
+use Rattle.cjc_export.proofs.BytesBools.{bool_either}
 
 -- ---- two places
 
@@ -16,18 +17,14 @@ up_to_trans a b c p q = grind (arith, nat_tests)
 not_up_to_trans : (a b c : ComponentPlace) → is_up_to a b ≡ false → is_up_to b c ≡ false → is_up_to a c ≡ false
 not_up_to_trans a b c p q = grind (arith, nat_tests)
 
-pub either : {P : Type 0} → (t : Bool) → (t ≡ true → P) → (t ≡ false → P) → P
-either true p q = p refl
-either false p q = q refl
-
 three : (a b c : ComponentPlace) → earlier (earlier (Some a) (Some b)) (Some c)
     ≡ earlier (Some a) (earlier (Some b) (Some c))
 three a b c =
-    either (is_up_to a b)
-    (λ ab. either (is_up_to b c)
+    bool_either (is_up_to a b)
+    (λ ab. bool_either (is_up_to b c)
     (λ bc. let ac = up_to_trans a b c ab bc in rw (ab, bc, ac) (rw ab refl))
     (λ bc. rw (ab, bc) refl))
-    (λ ab. either (is_up_to b c)
+    (λ ab. bool_either (is_up_to b c)
     (λ bc. rw (ab, bc) (rw ab refl))
     (λ bc. let ac = not_up_to_trans a b c ab bc in rw (ab, bc, ac) refl))
 
@@ -60,7 +57,7 @@ first_empty (x ∷ xs) e = absurd (never (first xs) e)
   where
     never : (rest : Option ComponentPlace) → earlier (Some x) rest ≡ None → ⊥
     never None e = cc
-    never (Some y) e = either (is_up_to x y) (λ t. let f : Some x ≡ None = ap (λ (b : Bool). if b then Some x
+    never (Some y) e = bool_either (is_up_to x y) (λ t. let f : Some x ≡ None = ap (λ (b : Bool). if b then Some x
         else Some y) (sym t) ∙ e in cc) (λ t. let f : Some y ≡ None = ap (λ (b : Bool). if b then Some x
         else Some y) (sym t) ∙ e in cc)
 

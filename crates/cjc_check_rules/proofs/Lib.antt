@@ -4,4 +4,5 @@ pub mod Firsts
 pub mod Numbered
 pub mod Starts
 -- Lemmas of lower crates, for those above.
+pub use Rattle.cjc_export.proofs.BytesNumbers as BytesNumbers
 pub use Rattle.cjc_capread.proofs.Headers as CapReadHeaders

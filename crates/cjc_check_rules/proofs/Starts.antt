@@ -32,7 +32,7 @@ starts_all {A} size at i xs done total le so_far =
 
 -- ---- order
 
-above : {A : Type 0} (size : A → ℕ) (from : ℕ) (xs : List A) (k d : ℕ) → k < length (starts size from xs)
+pub above : {A : Type 0} (size : A → ℕ) (from : ℕ) (xs : List A) (k d : ℕ) → k < length (starts size from xs)
     → from ≤ get_or (starts size from xs) k d
 unfolding placed
 above size from [] k d lt = absurd (omega (arith, lt))

@@ -2,4 +2,3 @@ pub mod Kept
 pub mod Lines
 pub mod Walked
 pub mod Here
-pub mod Next

@@ -11,7 +11,11 @@ mod sizes;
 mod starts;
 mod tree;
 
-pub use entries::offset_in;
+pub use entries::{implemented_interfaces, interface_entry, offset_in};
+pub use fields::{FieldCells, field_cells};
+pub use flags::info_flags;
 pub use infos::{class_refs, refs_of_classes};
+pub use outside::note_files;
 pub use refs::ClassRefs;
+pub use starts::note_class;
 pub use tree::class_info;

@@ -12,5 +12,7 @@ mod statics;
 
 pub use cells::{cell_offsets, key_cells};
 pub use classes::descriptor;
+pub use fields::is_constant;
+pub use flags::{class_flags, field_flags, method_flags};
 pub use parts::{Extent, Parts};
 pub use statics::static_field;

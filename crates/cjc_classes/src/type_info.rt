@@ -5,5 +5,6 @@ mod nibbles;
 mod sort;
 mod types;
 
-pub use sort::{Sort, field_sort};
+pub use nibbles::nibbles_in;
+pub use sort::{Sort, field_sort, parsed, result_sort, sort_by};
 pub use types::Types;

@@ -1,13 +1,15 @@
 -- A class that bytes spell keeps to the widths of its fields.
 use Rattle.std.proofs.Common.{◌≡◌, ℕ, zero, suc, ◌+◌, ◌-◌, ◌<◌, ◌≤◌, Bool, true, false, cond, List, [], ◌∷◌, ◌++◌}
-use Rattle.std.proofs.Common.{Option, Some, None, IfSome, length, option_and_then, refl, sym, ap, subst, ◌∙◌, arith}
+use Rattle.std.proofs.Common.{Option, Some, None, IfSome, length, refl, sym, ap, subst, ◌∙◌, arith}
 use Rattle.std.specs.Prelude.{slice_get, nat_lt, nat_le}
 use Rattle.std.specs.List.{AllByRecursion}
 use Rattle.std.proofs.lemmas.Bool.{leb-true}
 use Rattle.std.proofs.lemmas.Bool.Decides.{Decides-ltb}
 use Rattle.cjc_bytes.specs.Format.{Format, number, followed_by, gives, ◌>>=◌, Spells, FileSpells, repeated, in_a_row}
 use Rattle.cjc_bytes.specs.Format.{iterated, u2}
-use Rattle.cjc_bytes.proofs.Inverse.{InBytes, all_at, inner, given, u2_is, raw_is, number16, number32}
+use Rattle.cjc_bytes.proofs.Inverse.{InBytes, inner, given, u2_is, raw_is, number16, number32}
+use Rattle.cjc_bytes.proofs.Gets.{all_at}
+use Rattle.cjc_bytes.proofs.Options.{then_some}
 use Rattle.cjc_classfile.specs.declared.pool.Tag.{Tag}
 use Rattle.cjc_classfile.specs.declared.pool.Tag.TheVariants as tags
 use Rattle.cjc_classfile.specs.declared.pool.Index.{Index}
@@ -97,11 +99,6 @@ pool_fits n at pool bytes ok h =
 
 -- ---- what is found in it
 
-found : {A B : Type 0} (f : A → Option B) (o : Option A) (b : B) → option_and_then f o ≡ Some b → (a : A) × (o ≡ Some a)
-    × (f a ≡ Some b)
-found f None b e = absurd cc
-found f (Some a) b e = (a, refl, e)
-
 as_text_fits : (e : Entry) (t : List ℕ) → EntryFits e → as_text e ≡ Some t → IsText t
 as_text_fits (text b d) t fits e = let same : b ≡ t = cc in subst IsText same fits
 as_text_fits _ t fits e = absurd cc
@@ -111,7 +108,7 @@ as_desc_fits true (text b (Some true)) t fits e = let same : b ≡ t = cc in sub
 as_desc_fits false (text b (Some false)) t fits e = let same : b ≡ t = cc in subst IsText same fits
 as_desc_fits _ _ t fits e = absurd cc
 
-not_empty_is : (a b : List ℕ) → not_empty a ≡ Some b → a ≡ b
+pub not_empty_is : (a b : List ℕ) → not_empty a ≡ Some b → a ≡ b
 not_empty_is [] b e = absurd cc
 not_empty_is (x ∷ xs) b e = cc
 
@@ -132,19 +129,19 @@ length_limits n x e = some_is n x (nat_lt 0 n) refl e
 module _ (pool : List Entry) (fit : PoolFits pool) where
   text_fits : (i : ℕ) (t : List ℕ) → text_at pool i ≡ Some t → IsText t
   unfolding text_at
-  text_fits i t e = let f = found as_text (slice_get pool i) t e
+  text_fits i t e = let f = then_some as_text (slice_get pool i) t e
       in as_text_fits f.0 t (all_at EntryFits pool i f.0 fit f.1) f.2
 
   desc_fits : (is_method : Bool) (i : ℕ) (t : List ℕ) → desc_of_at pool is_method i ≡ Some t → IsText t
   unfolding desc_of_at
-  desc_fits is_method i t e = let f = found (as_desc_of is_method) (slice_get pool i) t e
+  desc_fits is_method i t e = let f = then_some (as_desc_of is_method) (slice_get pool i) t e
       in as_desc_fits is_method f.0 t (all_at EntryFits pool i f.0 fit f.1) f.2
 
   class_fits : (i : ℕ) (t : List ℕ) → class_name_at pool i ≡ Some t → IsText t
   unfolding class_name_at class_text_at
   class_fits i t e =
-      let f = found (λ (name : Index). class_text_at pool name.to) (class_at pool i) t e in
-      let g = found not_empty (text_at pool f.0.to) t f.2 in
+      let f = then_some (λ (name : Index). class_text_at pool name.to) (class_at pool i) t e in
+      let g = then_some not_empty (text_at pool f.0.to) t f.2 in
       subst IsText (not_empty_is g.0 t g.2) (text_fits f.0.to g.0 g.1)
 
   text_field_fits : (at : ℕ) (t : List ℕ) (bytes : List ℕ) → InBytes bytes → Spells (text_field pool) at t bytes
@@ -269,7 +266,7 @@ module _ (pool : List Entry) (fit : PoolFits pool) where
 
 -- ---- the class
 
-all_fit : {A : Type 0} (p : Format A) (P : A → Type 0) → ((at : ℕ) (a : A) (bytes : List ℕ) → InBytes bytes
+pub all_fit : {A : Type 0} (p : Format A) (P : A → Type 0) → ((at : ℕ) (a : A) (bytes : List ℕ) → InBytes bytes
     → Spells p at a bytes → P a)
     → (n at : ℕ) (xs : List A) (bytes : List ℕ) → InBytes bytes → Spells (repeated n p) at xs bytes
     → AllByRecursion P xs

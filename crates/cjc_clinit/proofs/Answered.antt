@@ -1,14 +1,11 @@
 -- What is answered of what is broken.
-use Rattle.std.proofs.Common.{◌≡◌, subst, List, [], inl, inr, Option, Some, None}
-use Rattle.std.specs.Prelude.{option_map, IfNone}
+use Rattle.std.proofs.Common.{◌≡◌, subst, List, [], inl, inr}
 use Rattle.cjc_bytes.specs.declared.fault.Fault.{Fault}
-use Rattle.cjc_bytes.specs.Breaks.{Break, Among, IsFirstOf, IsFirstRefusal}
+use Rattle.cjc_bytes.specs.Breaks.{Break, Among, IsFirstRefusal}
+use Rattle.cjc_bytes.proofs.BrokenRules.{none_among}
 use Rattle.cjc_subset.specs.Bytecode.declared.method_code.MethodCode.{MethodCode}
 use Rattle.cjc_subset.specs.World.Files.{Files}
 use Rattle.cjc_clinit.specs.Rules.{AreBreaks, BreaksImage, IsFirstRefused}
-
-none-among : {P : Type 0} (b : Break) → Among b [] → P
-none-among b i = elim i [ ]
 
 module _ (files : Files) (codes : List MethodCode) (bs : List Break) (all : AreBreaks files codes bs) where
   pub refusing : (e : Fault) → IsFirstRefusal bs e → IsFirstRefused files codes e
@@ -16,9 +13,4 @@ module _ (files : Files) (codes : List MethodCode) (bs : List Break) (all : AreB
   refusing e (inr (b, first, is)) = inr (b, (all b).0 first.among, (λ a h. first.least a ((all a).1 h)), is)
 
   pub unbroken : bs ≡ [] → (b : Break) → BreaksImage files codes b → ⊥
-  unbroken none b h = none-among b (subst (λ (q : List Break). Among b q) none ((all b).1 h))
-
-pub kept : {X : Type 0} (f : X → Break) (o : Option X) (bs : List Break) (P : Type 0) → bs ≡ []
-    → IsFirstOf bs (option_map f o) → IfNone o P → P
-kept f None bs P e first p = p
-kept f (Some x) bs P e first p = none-among (f x) (subst (Among (f x)) e first.among)
+  unbroken none b h = none_among b (subst (λ (q : List Break). Among b q) none ((all b).1 h))

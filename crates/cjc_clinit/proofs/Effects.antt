@@ -4,7 +4,9 @@ use Rattle.std.proofs.Common.{append-nil, length, drop, get_or, map}
 use Rattle.std.specs.Prelude.{Option, Some, None, Result, Ok, Err, slice_get, slice_set, option_map, IfNone}
 use Rattle.cjc_bytes.specs.Breaks.{Break, Among, IsFirstOf}
 use Rattle.cjc_bytes.specs.declared.fault.MemberId.{MemberId}
-use Rattle.cjc_bytes.proofs.Firsts.{among_left, among_right}
+use Rattle.cjc_bytes.proofs.BrokenRules.{among_left, among_right, none_among}
+use Rattle.cjc_bytes.proofs.Gets.{drop_next, drop_past}
+use Rattle.cjc_bytes.proofs.Options.{when_none, option_had}
 use Rattle.cjc_subset.specs.ClassFile.declared.tree.ClassTree.{ClassTree}
 use Rattle.cjc_subset.specs.ClassFile.declared.tree.FieldTree.{FieldTree}
 use Rattle.cjc_subset.specs.Bytecode.declared.method_code.MethodCode.{MethodCode}
@@ -20,7 +22,6 @@ use Rattle.cjc_clinit.specs.Image.AreInitialised.{none, one, other}
 use Rattle.cjc_clinit.specs.Working.Reading.{Puts, State, after_class, after_code, after_codes, after_initialiser}
 use Rattle.cjc_clinit.specs.Working.Reading.{and_then, ended, puts, read, with_read}
 use Rattle.cjc_clinit.proofs.Wrong.{start, ended-so}
-use Rattle.cjc_clinit.proofs.Walks.{drop-next, drop-past}
 
 -- ---- all initialisers
 
@@ -122,12 +123,12 @@ fields_next class held fields i x old new all lt is n inv =
     ap (λ (q : StaticImage). joined q (of_fields class held (i + 1) (drop (i + 1) fields))) n
     ∙ joined_assoc old (of_start (field_id class x) (start_of x (held_in (slice_get held i))))
     (of_fields class held (i + 1) (drop (i + 1) fields))
-    ∙ ap (λ (q : List FieldTree). joined old (of_fields class held i q)) (sym (drop-next fields i x lt is)) ∙ inv
+    ∙ ap (λ (q : List FieldTree). joined old (of_fields class held i q)) (sym (drop_next fields i x lt is)) ∙ inv
 
 pub fields_end : (class : List ℕ) (held : List Held) (fields : List FieldTree) (i : ℕ) (old all : StaticImage)
     → length fields ≤ i → joined old (of_fields class held i (drop i fields)) ≡ all → old ≡ all
 fields_end class held fields i old all le inv = sym (joined-empty old)
-    ∙ ap (λ (q : List FieldTree). joined old (of_fields class held i q)) (sym (drop-past fields i le)) ∙ inv
+    ∙ ap (λ (q : List FieldTree). joined old (of_fields class held i q)) (sym (drop_past fields i le)) ∙ inv
 
 -- a class more
 pub classes_next : (rows : List (List Held)) (classes : List ClassTree) (i : ℕ) (x : ClassTree) (old new all :
@@ -139,49 +140,34 @@ classes_next rows classes i x old new all lt is n inv =
     ap (λ (q : StaticImage). joined q (of_classes rows (i + 1) (drop (i + 1) classes))) n
     ∙ joined_assoc old (of_fields x.name (fields_in (slice_get rows i)) 0 x.fields) (of_classes rows (i + 1)
     (drop (i + 1) classes))
-    ∙ ap (λ (q : List ClassTree). joined old (of_classes rows i q)) (sym (drop-next classes i x lt is)) ∙ inv
+    ∙ ap (λ (q : List ClassTree). joined old (of_classes rows i q)) (sym (drop_next classes i x lt is)) ∙ inv
 
 pub classes_end : (rows : List (List Held)) (classes : List ClassTree) (i : ℕ) (old all : StaticImage)
     → length classes ≤ i → joined old (of_classes rows i (drop i classes)) ≡ all → old ≡ all
 classes_end rows classes i old all le inv = sym (joined-empty old)
-    ∙ ap (λ (q : List ClassTree). joined old (of_classes rows i q)) (sym (drop-past classes i le)) ∙ inv
+    ∙ ap (λ (q : List ClassTree). joined old (of_classes rows i q)) (sym (drop_past classes i le)) ∙ inv
 
 -- ---- the first of two
-
-none-among : {P : Type 0} (b : Break) → Among b [] → P
-none-among b i = elim i [ ]
 
 both-none : (xs ys : List Break) (o p : Option Break) → IsFirstOf xs o → IsFirstOf ys p → xs ++ ys ≡ [] → (o ≡ None)
     × (p ≡ None)
 both-none xs ys None None f g e = (refl, refl)
-both-none xs ys (Some b) p f g e = none-among b (subst (λ (q : List Break). Among b q) e (among_left b xs ys f.among))
+both-none xs ys (Some b) p f g e = none_among b (subst (λ (q : List Break). Among b q) e (among_left b xs ys f.among))
 both-none xs ys None (Some b) f g e =
-    none-among b (subst (λ (q : List Break). Among b q) e (among_right b xs ys g.among))
+    none_among b (subst (λ (q : List Break). Among b q) e (among_right b xs ys g.among))
 
 none-was : {X : Type 0} (f : X → Break) (o : Option X) → option_map f o ≡ None → o ≡ None
 none-was f None e = refl
 none-was f (Some x) e = absurd (cc)
 
-when-none : {X : Type 0} (o : Option X) (P : Type 0) → (o ≡ None → P) → IfNone o P
-when-none None P p = p refl
-when-none (Some x) P p = tt
-
-had : {X : Type 0} (o : Option X) (P : Type 0) → o ≡ None → IfNone o P → P
-had None P e p = p
-had (Some x) P e p = absurd (cc)
-
 -- What holds where neither is broken holds where the first of both is not.
 pub joining : {X : Type 0} (f : X → Break) (xs ys : List Break) (o p q : Option X) (P Q R : Type 0)
     → IsFirstOf xs (option_map f o) → IsFirstOf ys (option_map f p) → IsFirstOf (xs ++ ys) (option_map f q)
     → (P → Q → R) → IfNone o P → IfNone p Q → IfNone q R
-joining f xs ys o p q P Q R first next all go had_o had_p = when-none q R (λ e.
+joining f xs ys o p q P Q R first next all go had_o had_p = when_none q R (λ e.
     let none : xs ++ ys ≡ [] = subst (λ v. IsFirstOf (xs ++ ys) (option_map f v)) e all in
     let both = both-none xs ys (option_map f o) (option_map f p) first next none in
-    go (had o P (none-was f o both.0) had_o) (had p Q (none-was f p both.1) had_p))
-
-pub mapped : {X : Type 0} (o : Option X) (P Q : Type 0) → (P → Q) → IfNone o P → IfNone o Q
-mapped None P Q f p = f p
-mapped (Some x) P Q f p = tt
+    go (option_had o P (none-was f o both.0) had_o) (option_had p Q (none-was f p both.1) had_p))
 
 pub when-first : {X : Type 0} (f : X → Break) (bs : List Break) (o : Option X) (P : Type 0)
     → IsFirstOf bs (option_map f o) → (IsFirstOf bs None → P) → IfNone o P

@@ -6,6 +6,9 @@ use Rattle.std.specs.Prelude.{◌==◌, ◌&&◌, if◌then◌else◌, Option, S
 use Rattle.std.specs.Prelude.{slice_set, ℤ, pos, negsuc}
 use Rattle.cjc_bytes.specs.declared.fault.MemberId.{MemberId}
 use Rattle.cjc_bytes.specs.declared.descriptor.Kind.{Kind}
+use Rattle.cjc_bytes.proofs.Options.{option_mapped, then_some}
+use Rattle.cjc_bytes.proofs.Bools.{and_true}
+use Rattle.cjc_bytes.proofs.Numbers.{number_same}
 use Rattle.cjc_bytes.specs.declared.descriptor.Kind.TheVariants as kinds
 use Rattle.cjc_subset.specs.ClassFile.declared.tree.ClassTree.{ClassTree}
 use Rattle.cjc_subset.specs.Bytecode.declared.insn.JOp.{JOp}
@@ -26,7 +29,7 @@ use Rattle.cjc_clinit.specs.Working.Reading.{State, state, stage_if, index_in, a
 use Rattle.cjc_clinit.specs.Working.Reading.{after_stack, after_store, after_newarray, new_array, count_in, stage_after}
 use Rattle.cjc_clinit.specs.Working.Reading.{contents_of, state_with, after_put, after_static, state_after, is_ended}
 use Rattle.cjc_clinit.specs.Working.Reading.{ended}
-use Rattle.cjc_clinit.proofs.Runs.{run, run-cons, run-append, run-both, bound}
+use Rattle.cjc_clinit.proofs.Runs.{run, run-cons, run-append, run-both}
 
 -- ---- stores and arrays, one store more
 
@@ -74,11 +77,6 @@ if-stage : (b : Bool) (s t : Stage) → stage_if b s ≡ Some t → (b ≡ true)
 if-stage true s t e = (refl, (let f : s ≡ t = cc in f))
 if-stage false s t e = absurd (cc)
 
-both : (a b : Bool) → (a && b) ≡ true → (a ≡ true) × (b ≡ true)
-both true true e = (refl, refl)
-both true false e = absurd (cc)
-both false b e = absurd (cc)
-
 index-of : (items : List ℤ) (z : ℤ) (i : ℕ) → index_in items z ≡ Some i → (z ≡ pos i) × (i < length items)
 index-of items (pos n) i e = by (nat_lt n (length items)) refl e
   where
@@ -87,11 +85,6 @@ index-of items (pos n) i e = by (nat_lt n (length items)) refl e
     by true t h = let f : n ≡ i = cc in (ap (λ q. pos q) f, subst (λ q. q < length items) f (grind (arith, nat_tests)))
     by false t h = absurd (cc)
 index-of items (negsuc n) i e = absurd (cc)
-
-mapped : {A B : Type 0} (f : A → B) (o : Option A) (y : B) → option_map f o ≡ Some y → (x : A) × (o ≡ Some x)
-    × (f x ≡ y)
-mapped f None y e = absurd (cc)
-mapped f (Some x) y e = (x, refl, (let g : f x ≡ y = cc in g))
 
 count-of : (z : ℤ) (n : ℕ) → count_in z ≡ Some n → (z ≡ pos n) × (n ≤ most_items)
 count-of (pos m) n e = by (nat_le m most_items) refl e
@@ -107,7 +100,7 @@ step-number : (z : ℤ) (s t : Stage) (pre : List JOp) → after_number z s ≡ 
 step-number z stages.Free t pre e h = let f : stages.Number z ≡ t = cc in subst (λ q. At q (pre ++ jop.Number z ∷ [])) f
     (ap (λ (q : List JOp). q ++ jop.Number z ∷ []) h)
 step-number z (stages.Copied kind items) t pre e h =
-    let p = mapped (λ i. stages.Indexed kind items i) (index_in items z) t e in
+    let p = option_mapped (λ i. stages.Indexed kind items i) (index_in items z) t e in
     let q = index-of items z p.0 p.1 in
     subst (λ v. At v (pre ++ jop.Number z ∷ [])) p.2 (
       h.0,
@@ -143,15 +136,12 @@ step-null (stages.Indexed kind items i) t pre e h = absurd (cc)
 step-null (stages.Valued kind items i y) t pre e h = absurd (cc)
 step-null stages.Ended t pre e h = absurd (cc)
 
-eq-of : (a b : ℕ) → (a == b) ≡ true → a ≡ b
-eq-of a b e = grind (arith, nat_tests)
-
 step-return : (op : ℕ) (s t : Stage) (pre : List JOp) → after_return op s ≡ Some t → At s pre
     → At t (pre ++ jop.Return op ∷ [])
 step-return op stages.Free t pre e h =
     let p = if-stage (op == return) stages.Ended t e in
     subst (λ q. At q (pre ++ jop.Return op ∷ [])) p.1 (ap (λ (q : List JOp). q ++ jop.Return op ∷ []) h
-    ∙ ap (λ q. jop.Return q ∷ []) (eq-of op return p.0))
+    ∙ ap (λ q. jop.Return q ∷ []) (number_same op return p.0))
 step-return op (stages.Number y) t pre e h = absurd (cc)
 step-return op stages.Null t pre e h = absurd (cc)
 step-return op (stages.Array kind items) t pre e h = absurd (cc)
@@ -164,9 +154,15 @@ step-stack : (op : ℕ) (s t : Stage) (pre : List JOp) → after_stack op s ≡ 
     → At t (pre ++ jop.Stack op ∷ [])
 step-stack op (stages.Array kind items) t pre e h =
     let p = if-stage (op == dup && nat_lt 0 (length items)) (stages.Copied kind items) t e in
-    let q = both (op == dup) (nat_lt 0 (length items)) p.0 in
+    let q = and_true (op == dup) (nat_lt 0 (length items)) p.0 in
     let lt : 0 < length items = (let b = q.1 in grind (arith, nat_tests)) in
-    subst (λ v. At v (pre ++ jop.Stack op ∷ [])) p.1 (pre, h, lt, ap (λ v. pre ++ jop.Stack v ∷ []) (eq-of op dup q.0))
+    subst (λ v. At v (pre ++ jop.Stack op ∷ [])) p.1 (
+      pre,
+      h,
+      lt,
+      ap (λ v. pre ++ jop.Stack v ∷ [])
+          (number_same op dup q.0),
+    )
 step-stack op stages.Free t pre e h = absurd (cc)
 step-stack op (stages.Number y) t pre e h = absurd (cc)
 step-stack op stages.Null t pre e h = absurd (cc)
@@ -182,7 +178,8 @@ step-store op (stages.Valued kind items i z) t pre e h =
     let parts : h.0 ++ storing kind i z ≡ pre ++ jop.ArrayStore op ∷ [] =
     sym (ap (λ (v : List JOp). v ++ jop.ArrayStore op ∷ []) h.4 ∙ append_assoc h.0 (jop.Stack dup ∷ jop.Number (pos i)
     ∷ jop.Number z ∷ []) (jop.ArrayStore op ∷ [])
-    ∙ ap (λ v. h.0 ++ jop.Stack dup ∷ jop.Number (pos i) ∷ jop.Number z ∷ jop.ArrayStore v ∷ []) (eq-of op (store kind)
+    ∙ ap (λ v. h.0 ++ jop.Stack dup ∷ jop.Number (pos i) ∷ jop.Number z ∷ jop.ArrayStore v ∷ []) (number_same op
+    (store kind)
     p.0)) in
     subst (λ v. At v (pre ++ jop.ArrayStore op ∷ [])) p.1 (subst (λ v. Makes v (AnArray kind (slice_set items i z)))
     parts (array-more i z h.1 h.2 h.3))
@@ -266,13 +263,13 @@ pub data Stepped (files : Files) (class : ℕ) (c : ClassTree) (s : State) (t : 
 module _ (files : Files) (class : ℕ) (c : ClassTree) where
   going : (s t : State) (op : JOp) → option_map (λ u. state s.fields s.arrays u) (stage_after s.stage op) ≡ Some t
       → Stepped files class c s t op
-  going s t op e = let p = mapped (λ u. state s.fields s.arrays u) (stage_after s.stage op) t e
+  going s t op e = let p = option_mapped (λ u. state s.fields s.arrays u) (stage_after s.stage op) t e
       in goes p.0 p.1 (sym p.2)
 
   putting : (s t : State) (id : MemberId) (o : Option Contents) → contents_of s.stage ≡ o
       → after_put files class c o id s ≡ Some t → Stepped files class c s t (jop.Static true id)
   putting s t id None is e = absurd (cc)
-  putting s t id (Some contents) is e = let p = mapped (λ k. state_with files class c contents id s k)
+  putting s t id (Some contents) is e = let p = option_mapped (λ k. state_with files class c contents id s k)
       (place_for files class c s.fields contents id) t e in puts contents p.0 is p.1 (sym p.2)
 
   static : (s t : State) (put : Bool) (id : MemberId) → after_static files class c put id s ≡ Some t
@@ -319,7 +316,7 @@ module _ (files : Files) (class : ℕ) (c : ClassTree) where
       (stepped s p.0 op p.1)
     where
       p : (u : State) × (state_after files class c s op ≡ Some u) × (run files class c u ops ≡ Some t)
-      p = bound (λ u. run files class c u ops) (state_after files class c s op) t e
+      p = then_some (λ u. run files class c u ops) (state_after files class c s op) t e
 
       by : ((u : State) (front : List JOp) → At u.stage front → run files class c u ops ≡ Some t
           → Rest u.fields u.arrays (front ++ ops) t) → (x : JOp) → Stepped files class c s p.0 x
@@ -379,7 +376,7 @@ module _ (files : Files) (class : ℕ) (c : ClassTree) where
   begins-so (op ∷ ops) s t pre h e = by (λ u front on go. begins-so ops u t front on go) op (stepped s p.0 op p.1)
     where
       p : (u : State) × (state_after files class c s op ≡ Some u) × (run files class c u ops ≡ Some t)
-      p = bound (λ u. run files class c u ops) (state_after files class c s op) t e
+      p = then_some (λ u. run files class c u ops) (state_after files class c s op) t e
 
       by : ((u : State) (front : List JOp) → At u.stage front → run files class c u ops ≡ Some t
           → IsBeginning files class c u.fields (front ++ ops)) → (x : JOp) → Stepped files class c s p.0 x
@@ -489,7 +486,7 @@ module _ (files : Files) (class : ℕ) (c : ClassTree) where
       ≡ Some t)
   unfolding state_after stage_after
   beginning-runs {fields} {ops} arrays (IsBeginning.begins more contents m) =
-      let p = bound (λ u. run files class c u more) (run files class c (state fields arrays stages.Free) ops)
+      let p = then_some (λ u. run files class c u more) (run files class c (state fields arrays stages.Free) ops)
       (state fields arrays (stage_of contents))
       (sym (run-append files class c ops more (state fields arrays stages.Free)) ∙ makes-run fields arrays m)
       in (p.0, p.1)

@@ -7,12 +7,7 @@ use Rattle.cjc_subset.specs.Bytecode.declared.insn.JOp.{JOp}
 use Rattle.cjc_subset.specs.World.Files.{Files}
 use Rattle.cjc_clinit.specs.Initialiser.{ops_of}
 use Rattle.cjc_clinit.specs.Working.Reading.{State, read, state_after, or_wrong}
-
--- what a value was made of
-pub bound : {A B : Type 0} (f : A → Option B) (o : Option A) (y : B) → option_and_then f o ≡ Some y → (x : A)
-    × (o ≡ Some x) × (f x ≡ Some y)
-bound f None y e = absurd (cc)
-bound f (Some x) y e = (x, refl, e)
+use Rattle.cjc_bytes.proofs.Options.{then_some}
 
 -- where reading stops
 pub record Stop (files : Files) (number : ℕ) (c : ClassTree) (s : State) (insns : List JInsn) (at : ℕ) : Type 0 where
@@ -53,7 +48,7 @@ module _ (files : Files) (number : ℕ) (c : ClassTree) where
   unfolding read
   read-ok [] s t e = let f : s ≡ t = cc in ap (λ (q : State). Ok q) f
   read-ok (i ∷ insns) s t e =
-      let p = bound (λ u. run u (ops_of insns)) (state_after files number c s i.op) t e in
+      let p = then_some (λ u. run u (ops_of insns)) (state_after files number c s i.op) t e in
       ap (λ (o : Option State). or_wrong i.at o (λ u. read files number c u insns)) p.1 ∙ read-ok insns p.0 t p.2
 
   went : (at : ℕ) (o : Option State) (go : State → Result State ℕ) (t : State) → or_wrong at o go ≡ Ok t → (u : State)

@@ -10,9 +10,10 @@ use Rattle.cjc_clinit.specs.declared.stage.Stage.TheVariants as stages
 use Rattle.cjc_clinit.specs.Initialiser.{Initialises, IsBeginning, IsInitialiser, IsWrongAt, Put}
 use Rattle.cjc_clinit.specs.Image.{arrays_of}
 use Rattle.cjc_clinit.specs.Working.Reading.{State, state, read, ended}
-use Rattle.cjc_clinit.proofs.Runs.{run, run-append, bound}
+use Rattle.cjc_clinit.proofs.Runs.{run, run-append}
 use Rattle.cjc_clinit.proofs.Grammar.{begins-so, initialises-run, beginning-runs}
 use Rattle.cjc_clinit.proofs.Wrong.{start, wrong-so, ended-so, initialiser-reads, wrong-reads}
+use Rattle.cjc_bytes.proofs.Options.{then_some}
 
 module _ (files : Files) (class : ℕ) (c : ClassTree) where
   pub either-way : (insns : List JInsn) → IsInitialiser files class c insns
@@ -53,6 +54,6 @@ module _ (files : Files) (class : ℕ) (c : ClassTree) where
       → IsBeginning files class c before ops
   fronts before ops more h =
       let p = beginning-runs files class c [] h in
-      let q = bound (λ u. run files class c u more) (run files class c (state before [] stages.Free) ops) p.0
+      let q = then_some (λ u. run files class c u more) (run files class c (state before [] stages.Free) ops) p.0
       (sym (run-append files class c ops more (state before [] stages.Free)) ∙ p.1) in
       begins-so files class c ops (state before [] stages.Free) q.0 [] refl q.1

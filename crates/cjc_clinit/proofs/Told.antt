@@ -4,7 +4,8 @@ use Rattle.std.proofs.Common.{Bool, true, false}
 use Rattle.std.specs.Prelude.{Option, Some, None, Result, Ok, Err, slice_get, if◌then◌else◌}
 use Rattle.cjc_bytes.specs.Breaks.{Break, RulePlace, Among, foremost, IsFirstOf, broken_at, at, each_from, each}
 use Rattle.cjc_bytes.specs.Order.{FilePlace, file_of}
-use Rattle.cjc_bytes.proofs.Firsts.{among_one, among_left, among_right, among_either}
+use Rattle.cjc_bytes.proofs.Firsts.{among_one, among_either}
+use Rattle.cjc_bytes.proofs.BrokenRules.{among_left, among_right, no_among}
 use Rattle.cjc_subset.specs.ClassFile.declared.tree.ClassTree.{ClassTree}
 use Rattle.cjc_subset.specs.ClassFile.declared.tree.MethodTree.{MethodTree}
 use Rattle.cjc_subset.specs.Bytecode.declared.method_code.MethodCode.{MethodCode}
@@ -18,16 +19,13 @@ use Rattle.cjc_clinit.specs.Working.Reading.{class_breaks, code_breaks, ended, i
 use Rattle.cjc_clinit.specs.Working.Reading.{with_read, wrong_in}
 use Rattle.cjc_clinit.proofs.Wrong.{start, wrong-so, ended-so, initialiser-reads, wrong-reads}
 
-none-among : (b : Break) → Among b [] → ⊥
-none-among b i = elim i [ ]
-
 -- ---- lists of breaks
 
 module _ {A : Type 0} (f : ℕ → A → List Break) (b : Break) where
   pub each-of : (xs : List A) (n : ℕ) → Among b (each_from f n xs) → (i : ℕ) × (x : A) × (slice_get xs i ≡ Some x)
       × Among b (f (n + i) x)
   unfolding each_from
-  each-of [] n h = absurd (none-among b h)
+  each-of [] n h = absurd (no_among b h)
   each-of (x ∷ xs) n h =
       ⊎_elim
       (λ here. (0, x, refl, subst (λ (m : ℕ). Among b (f m x)) (let e : n ≡ n + 0 = omega arith in e) here))
@@ -167,7 +165,7 @@ module _ (files : Files) (code : MethodCode) where
   code-among b i = by (after_code files (puts [] []) code) refl
     where
       by : (r : Result Puts ℕ) → after_code files (puts [] []) code ≡ r → BreaksCode files code b
-      by (Ok later) e = absurd (none-among b (subst (λ (q : List Break). Among b q) (none-broken (puts [] []) later e)
+      by (Ok later) e = absurd (no_among b (subst (λ (q : List Break). Among b q) (none-broken (puts [] []) later e)
           i))
       by (Err at) e =
           let x = err-class (puts [] []) at e in
@@ -206,7 +204,7 @@ module _ (files : Files) (code : MethodCode) where
 
 at-of : (b : Break) (t : Bool) (s : RulePlace) (rule : ℕ) → Among b (at t s rule) → (t ≡ true) × (b ≡ broken_at s rule)
 at-of b true s rule i = (refl, among_one b (broken_at s rule) i)
-at-of b false s rule i = absurd (none-among b i)
+at-of b false s rule i = absurd (no_among b i)
 
 module _ (files : Files) (number : ℕ) (c : ClassTree) (b : Break) where
   pub class-among : Among b (class_breaks (file_of files.lines number) c) → BreaksClass files number c b

@@ -1,9 +1,6 @@
 -- Walks over instructions, methods, classes and fields, one further.
-use Rattle.std.proofs.Common.{◌≡◌, ℕ, suc, ◌+◌, ◌<◌, ◌≤◌, refl, sym, ap, ◌∙◌, List, [], ◌∷◌, length, drop, get_or}
-use Rattle.std.proofs.Common.{add-one, arith}
-use Rattle.std.proofs.Math.Seq.{drop-cons}
-use Rattle.std.proofs.lemmas.Grind.{common_steps}
-use Rattle.std.proofs.Common.{◌++◌, Bool, true, false, subst, take, append_assoc, append-nil}
+use Rattle.std.proofs.Common.{◌≡◌, ℕ, ◌+◌, ◌<◌, ◌≤◌, refl, sym, ap, ◌∙◌, List, [], ◌∷◌, length, drop, get_or}
+use Rattle.std.proofs.Common.{◌++◌, Bool, true, false, subst, append_assoc, append-nil}
 use Rattle.std.specs.Prelude.{Option, Some, None, Result, Ok, Err, map, slice_set, if◌then◌else◌}
 use Rattle.cjc_subset.specs.World.declared.image.ArrayCell.{ArrayCell}
 use Rattle.cjc_clinit.specs.declared.stage.Held.{Held}
@@ -14,14 +11,7 @@ use Rattle.cjc_subset.specs.World.Files.{Files}
 use Rattle.cjc_clinit.specs.Initialiser.{nothing_in}
 use Rattle.cjc_clinit.specs.Working.Reading.{IsRead, State, Puts, puts, read, state_after, or_wrong, is_ended, ended}
 use Rattle.cjc_clinit.specs.Working.Reading.{with_read, after_code, after_codes, and_then}
-
-pub drop-next : {A : Type 0} (xs : List A) (i : ℕ) (x : A) → i < length xs → x ≡ get_or xs i x
-    → drop i xs ≡ x ∷ drop (i + 1) xs
-drop-next xs i x lt is = drop-cons xs i x lt ∙ ap (λ q. q ∷ drop (suc i) xs) (sym is)
-    ∙ ap (λ n. x ∷ drop n xs) (sym (add-one i))
-
-pub drop-past : {A : Type 0} (xs : List A) (i : ℕ) → length xs ≤ i → drop i xs ≡ []
-drop-past xs i le = grind (arith, common_steps)
+use Rattle.cjc_bytes.proofs.Gets.{drop_next, drop_past}
 
 -- ---- instructions
 
@@ -31,13 +21,13 @@ module _ (files : Files) (number : ℕ) (c : ClassTree) where
       → read files number c s (drop i insns) ≡ or_wrong x.at o (λ t. read files number c t (drop (i + 1) insns))
   unfolding read
   read-next insns i x s o lt is e =
-      ap (read files number c s) (drop-next insns i x lt is)
+      ap (read files number c s) (drop_next insns i x lt is)
       ∙ ap (λ (q : Option State). or_wrong x.at q (λ t. read files number c t (drop (i + 1) insns))) e
 
   pub read-end : (insns : List JInsn) (i : ℕ) (s : State) → length insns ≤ i → read files number c s (drop i insns)
       ≡ Ok s
   unfolding read
-  read-end insns i s le = ap (read files number c s) (drop-past insns i le)
+  read-end insns i s le = ap (read files number c s) (drop_past insns i le)
 
 -- ---- methods
 
@@ -46,13 +36,13 @@ pub codes-next : (files : Files) (codes : List MethodCode) (i : ℕ) (x : Method
     → after_codes files p (drop i codes) ≡ and_then r (λ later. after_codes files later (drop (i + 1) codes))
 unfolding after_codes
 codes-next files codes i x p r lt is e =
-    ap (after_codes files p) (drop-next codes i x lt is)
+    ap (after_codes files p) (drop_next codes i x lt is)
     ∙ ap (λ (q : Result Puts ℕ). and_then q (λ later. after_codes files later (drop (i + 1) codes))) e
 
 pub codes-end : (files : Files) (codes : List MethodCode) (i : ℕ) (p : Puts) → length codes ≤ i
     → after_codes files p (drop i codes) ≡ Ok p
 unfolding after_codes
-codes-end files codes i p le = ap (after_codes files p) (drop-past codes i le)
+codes-end files codes i p le = ap (after_codes files p) (drop_past codes i le)
 
 -- ---- what reading an initialiser left
 
@@ -92,18 +82,9 @@ pub nothing_next : (cs : List ClassTree) (i : ℕ) (x : ClassTree) (old new all 
 nothing_next cs i x old new all lt is n inv =
     ap (λ q. q ++ map nothing_in (drop (i + 1) cs)) n ∙ append_assoc old (nothing_in x
     ∷ []) (map nothing_in (drop (i + 1) cs))
-    ∙ ap (λ q. old ++ map nothing_in q) (sym (drop-next cs i x lt is)) ∙ inv
+    ∙ ap (λ q. old ++ map nothing_in q) (sym (drop_next cs i x lt is)) ∙ inv
 
 pub nothing_end : (cs : List ClassTree) (i : ℕ) (old all : List (List Held)) → length cs ≤ i
     → old ++ map nothing_in (drop i cs) ≡ all → old ≡ all
-nothing_end cs i old all le inv = sym (append-nil old) ∙ ap (λ q. old ++ map nothing_in q) (sym (drop-past cs i le))
+nothing_end cs i old all le inv = sym (append-nil old) ∙ ap (λ q. old ++ map nothing_in q) (sym (drop_past cs i le))
     ∙ inv
-
--- a vector whose items were all lent and written
-pub written-back : {A : Type 0} (new old : List A) (len : ℕ) → length new ≡ length old → len ≡ length old
-    → take len (new ++ drop (length new) old) ≡ new
-written-back {A} new old len a b =
-    let rest : drop (length new) old ≡ [] = drop-past old (length new) (omega arith) in
-    let all : length new ≤ len = omega arith in
-    let whole : take len new ≡ new = grind (arith, common_steps) in
-    ap (λ (q : List A). take len (new ++ q)) rest ∙ ap (take len) (append-nil new) ∙ whole

@@ -10,8 +10,9 @@ use Rattle.cjc_clinit.specs.declared.stage.Stage.TheVariants as stages
 use Rattle.cjc_clinit.specs.Initialiser.{IsBeginning, IsInitialiser, IsWrongAt, nothing_in, ops_of}
 use Rattle.cjc_clinit.specs.Image.{arrays_of}
 use Rattle.cjc_clinit.specs.Working.Reading.{State, state, state_after, read, is_ended, ended}
-use Rattle.cjc_clinit.proofs.Runs.{run, run-cons, run-both, bound, read-ok, run-ok, read-append, stopped, Stop}
+use Rattle.cjc_clinit.proofs.Runs.{run, run-cons, run-both, read-ok, run-ok, read-append, stopped, Stop}
 use Rattle.cjc_clinit.proofs.Grammar.{Rest, follows, begins-so, initialises-run, beginning-runs}
+use Rattle.cjc_bytes.proofs.Options.{then_some}
 
 ops-append : (xs ys : List JInsn) → ops_of (xs ++ ys) ≡ ops_of xs ++ ops_of ys
 ops-append [] ys = refl
@@ -49,7 +50,7 @@ module _ (files : Files) (class : ℕ) (c : ClassTree) (arrays : List ArrayCell)
               ap (run files class c (start c arrays)) (sym (ops-append stop.front (stop.insn ∷ []))) ∙ p.1 in
               let behind = sym (run-both files class c (ops_of stop.front) (stop.insn.op ∷ []) (start c arrays)
               stop.before front) ∙ all in
-              let q = bound (λ u. run files class c u []) (state_after files class c stop.before stop.insn.op) p.0
+              let q = then_some (λ u. run files class c u []) (state_after files class c stop.before stop.insn.op) p.0
               behind in
               no-some (state_after files class c stop.before stop.insn.op) q.0 stop.stops q.1
 

@@ -19,7 +19,7 @@ use crate::stage::Held;
 use cjc_bytes::{Break, NoMemory, Row, RulePlace, broken, file_of, first, is_interface};
 use cjc_subset::bytecode::MethodCode;
 use cjc_subset::classfile::{ClassTree, FieldTree, MethodTree};
-use cjc_subset::lower_world::{ArrayCell, World};
+use cjc_subset::world::{ArrayCell, World};
 use cjc_subset::{class_spot, method_spot};
 use std::alloc::Global;
 

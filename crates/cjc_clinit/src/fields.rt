@@ -6,7 +6,7 @@ ghost use Rattle.cjc_clinit.specs.Fields.{number_kind, value_fits};
 
 use cjc_bytes::{Kind, is_static};
 use cjc_subset::classfile::FieldTree;
-use cjc_subset::lower_export_file::may_be_constant;
+use cjc_subset::export_file::may_be_constant;
 
 /// Whether a field is static and no constant.
 pub(crate) fn is_cell(field: &FieldTree) -> bool

@@ -15,7 +15,7 @@ use crate::stages::{held_by, stage_after, takes};
 use cjc_bytes::{Bytes, MemberId, NoMemory, Row};
 use cjc_subset::bytecode::{JInsn, JOp, MethodCode};
 use cjc_subset::classfile::{ClassTree, FieldTree, MethodTree};
-use cjc_subset::lower_world::{ArrayCell, Found, World};
+use cjc_subset::world::{ArrayCell, Found, World};
 use std::alloc::Global;
 
 // ---- one put

@@ -17,7 +17,7 @@ use crate::stage::{Held, Start};
 use cjc_bytes::{Break, Bytes, Fault, MemberId, NoMemory, Row, answer};
 use cjc_subset::bytecode::{Codes, MethodCode};
 use cjc_subset::classfile::{ClassTree, FieldTree};
-use cjc_subset::lower_world::{ArrayCell, StaticImage, ValueCell, World};
+use cjc_subset::world::{ArrayCell, StaticImage, ValueCell, World};
 use std::alloc::Global;
 
 // ---- one field

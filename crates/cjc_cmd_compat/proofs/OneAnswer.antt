@@ -6,7 +6,7 @@ use Rattle.cjc_compat.specs.Bytes.Reading.{read_file}
 use Rattle.cjc_compat.specs.Bytes.declared.fault.Refusal.{Refusal}
 use Rattle.cjc_compat.specs.Bytes.declared.order.FileKey.TheVariants as keys
 use Rattle.cjc_compat.proofs.BytesFirsts.{among_either}
-use Rattle.cjc_cmd_check.proofs.CheckingLaws.OneAnswer.{HaveOneRefusal, firsts_agree, none, unless_one}
+use Rattle.cjc_cmd_check.proofs.CheckingLaws.OneAnswer.{HaveOneRefusal, firsts_agree, unless_one}
 use Rattle.cjc_cmd_check.specs.Folder.Breaks.{break_in, file_spot}
 use Rattle.cjc_cmd_compat.specs.Compat.{Compares, compat_breaks, format_breaks, old_file, version_breaks}
 use Rattle.cjc_compat.proofs.OneRank.{breaks_once}
@@ -14,15 +14,16 @@ use Rattle.cjc_compat.specs.Rules.{new_file}
 use Rattle.cjc_compat.specs.ExportFile.ExportFile.{export_file}
 use Rattle.cjc_compat.specs.ExportFile.declared.tree.ExportTree.{ExportTree}
 use Rattle.cjc_cmd_check.specs.Shelf.declared.command.status.Todo.{Todo}
+use Rattle.cjc_compat.proofs.BytesBrokenRules.{none_among}
 
 in_file : (f : FilePlace) (r : Result ExportTree ℕ) (b : Break) → Among b (break_in 104 f r) → (k : ℕ) × (r ≡ Err k)
     × (b ≡ broken_at (file_spot f k) 104)
-in_file f (Ok tree) b among = none b among
+in_file f (Ok tree) b among = none_among b among
 in_file f (Err k) b foremost = (k, refl, refl)
-in_file f (Err k) b (after more) = none b more
+in_file f (Err k) b (after more) = none_among b more
 
 same_file : (f : FilePlace) (r : Result ExportTree ℕ) → HaveOneRefusal (break_in 104 f r)
-same_file f (Ok tree) a b h g e = none a h
+same_file f (Ok tree) a b h g e = none_among a h
 same_file f (Err k) a b h g e =
     let x = in_file f (Err k) a h in
     let y = in_file f (Err k) b g in
@@ -55,9 +56,9 @@ formats_one old new files a b h g e =
 
 versions_one : (new : List ℕ) (r s : Result ExportTree ℕ) → HaveOneRefusal (version_breaks new r s)
 versions_one new (Ok old_tree) (Ok new_tree) a b h g e = breaks_once new old_tree new_tree a b h g e
-versions_one new (Ok old_tree) (Err k) a b h g e = none a h
-versions_one new (Err k) (Ok new_tree) a b h g e = none a h
-versions_one new (Err k) (Err l) a b h g e = none a h
+versions_one new (Ok old_tree) (Err k) a b h g e = none_among a h
+versions_one new (Err k) (Ok new_tree) a b h g e = none_among a h
+versions_one new (Err k) (Err l) a b h g e = none_among a h
 
 all_one : (old new : List ℕ) (files : List ℕ × List ℕ) → HaveOneRefusal (compat_breaks old new files)
 all_one old new files = unless_one (format_breaks old new files) (version_breaks new (read_file export_file files.0)
@@ -71,4 +72,4 @@ one_refusal old new files r s h g =
 
 pub never_both : (old new : List ℕ) (files : List ℕ × List ℕ) (todo : Todo) (r : Refusal)
     → Compares old new files (Ok todo) → Compares old new files (Err r) → ⊥
-never_both old new files todo r h g = none g.0 (subst (Among g.0) h.0 g.1.among)
+never_both old new files todo r h g = none_among g.0 (subst (Among g.0) h.0 g.1.among)

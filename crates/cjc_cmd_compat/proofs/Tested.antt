@@ -10,7 +10,6 @@ use Rattle.cjc_compat.specs.Bytes.declared.fault.Fault.{Fault}
 use Rattle.cjc_compat.specs.Bytes.declared.fault.Fault.TheVariants as faults
 use Rattle.cjc_compat.proofs.BytesFirsts.{among_one, first_of_one, upto_refl}
 use Rattle.cjc_compat.proofs.BytesLaws.{file_breaks, file_spelt}
-use Rattle.cjc_cmd_check.proofs.CheckingLaws.OneAnswer.{none}
 use Rattle.cjc_cmd_check.specs.Folder.Breaks.{break_in, file_spot, unless_broken}
 use Rattle.cjc_cmd_compat.specs.Compat.{AreCompatible, Compares, compat_breaks, format_breaks, old_file, version_breaks}
 use Rattle.cjc_compat.specs.References.{KeepsReferences}
@@ -19,6 +18,7 @@ use Rattle.cjc_compat.specs.ExportFile.ExportFile.{export_file}
 use Rattle.cjc_compat.specs.ExportFile.declared.tree.ExportTree.{ExportTree}
 use Rattle.cjc_cmd_check.specs.Shelf.Command.Gather.{Judged, status_of_fault}
 use Rattle.cjc_cmd_check.specs.Shelf.declared.command.status.Todo.{Todo}
+use Rattle.cjc_compat.proofs.BytesBrokenRules.{none_among}
 
 -- the breaks by what reading each version gives
 abbrev breaks_by : (old new : List ℕ) → Result ExportTree ℕ → Result ExportTree ℕ → List Break
@@ -39,7 +39,7 @@ old_first old new k (Err l) = record { among = foremost; least = least }
 
 pub old_broken : (old new : List ℕ) (files : List ℕ × List ℕ) (e : Fault)
     → IsBreak export_file files.0 (refusal old 104) e → IsFirstRefusal (compat_breaks old new files) e
-old_broken old new files e (inl none) = inl none
+old_broken old new files e (inl none_among) = inl none_among
 old_broken old new files e (inr (k, broken, is)) =
     let at = file_breaks export_file files.0 k broken in
     inr (
@@ -52,7 +52,7 @@ old_broken old new files e (inr (k, broken, is)) =
 pub new_broken : (old new : List ℕ) (files : List ℕ × List ℕ) (tree : ExportTree) (e : Fault)
     → FileSpells export_file tree files.0 → IsBreak export_file files.1 (refusal new 104) e
     → IsFirstRefusal (compat_breaks old new files) e
-new_broken old new files tree e spelt (inl none) = inl none
+new_broken old new files tree e spelt (inl none_among) = inl none_among
 new_broken old new files tree e spelt (inr (k, broken, is)) =
     let at = file_breaks export_file files.1 k broken in
     let first : IsFirst (broken_at (file_spot (new_file new) k) 104) (breaks_by old new (Ok tree) (Err k)) =

@@ -4,5 +4,5 @@ pub mod Publication
 pub use Rattle.cjc_convert.specs.List as List
 pub use Rattle.cjc_theorem.specs.ClassFile as ClassFile
 pub use Rattle.cjc_theorem.specs.Bytecode as Bytecode
-pub use Rattle.cjc_theorem.specs.ExportFile as ExportFile
+pub use Rattle.cjc_convert.specs.ExportFile as ExportFile
 pub use Rattle.cjc_theorem.specs.Script as Script

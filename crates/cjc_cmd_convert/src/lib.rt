@@ -2,6 +2,7 @@
 #![tactic(auto)]
 
 // Lower crates, for those above.
+pub use cjc_convert::check_rules;
 pub use cjc_theorem::{bytecode, script};
 
 pub mod conversion;

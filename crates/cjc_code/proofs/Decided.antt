@@ -10,6 +10,7 @@ use Rattle.cjc_classfile.specs.declared.tree.MethodTree.{MethodTree}
 use Rattle.cjc_classfile.specs.PoolItem.{PoolItem}
 use Rattle.cjc_classfile.specs.Code.{CodeTree}
 use Rattle.cjc_bytes.specs.declared.breaks.BrokenAt.{BrokenAt}
+use Rattle.cjc_bytes.proofs.Bools.{not_true}
 use Rattle.cjc_code.specs.declared.insn.JInsn.{JInsn}
 use Rattle.cjc_code.specs.declared.raw.Raw.{Raw}
 use Rattle.cjc_code.specs.Cut.{cut}
@@ -18,7 +19,7 @@ use Rattle.cjc_code.specs.Named.{is_unsupported, named, all_named}
 use Rattle.cjc_code.specs.Decoded.{least_of, least, unless_unsupported, unless_unfit, decoding}
 use Rattle.cjc_code.specs.Rules.{IsUnfit, IsFirstUnfit, IsFirstUnsupported, IsFirstUnsupportedCode, IsDecoded}
 use Rattle.cjc_code.specs.Rules.{with_names}
-use Rattle.cjc_code.proofs.RuleLaws.{contains_first, is_not, unfit_is, is_unfit_there}
+use Rattle.cjc_code.proofs.RuleLaws.{contains_first, unfit_is, is_unfit_there}
 
 -- ---- the least
 
@@ -173,7 +174,7 @@ unfolding all_named each
 all_none pool = refl
 
 fine_is : (pool : List PoolItem) (i : Raw) → is_fine pool i ≡ true → unsupported pool i ≡ false
-fine_is pool i e = is_not (unsupported pool i) e
+fine_is pool i e = not_true (unsupported pool i) e
 
 is_fine_of : (pool : List PoolItem) (i : Raw) → unsupported pool i ≡ false → is_fine pool i ≡ true
 is_fine_of pool i e = rw e refl

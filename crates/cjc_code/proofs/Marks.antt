@@ -8,6 +8,7 @@ use Rattle.std.proofs.lemmas.List.{map-append}
 use Rattle.std.proofs.Math.Seq.{take-suc}
 use Rattle.cjc_code.specs.declared.raw.Raw.{Raw}
 use Rattle.cjc_code.specs.Unfit.{marks}
+use Rattle.cjc_bytes.proofs.Bools.{or_true}
 
 abbrev hits : List ℕ → ℕ → Bool
 hits ps k = list_any (λ p. p == k) ps
@@ -15,10 +16,6 @@ hits ps k = list_any (λ p. p == k) ps
 hit_other : (ps : List ℕ) (p k : ℕ) → p ≢ k → hits (ps ++ p ∷ []) k ≡ hits ps k
 hit_other [] p k ne = rw (ne_eqb p k ne) refl
 hit_other (q ∷ ps) p k ne = ap (λ (b : Bool). eqb q k || b) (hit_other ps p k ne)
-
-or_true : (b : Bool) → (b || true) ≡ true
-or_true true = refl
-or_true false = refl
 
 hit_same : (ps : List ℕ) (p : ℕ) → hits (ps ++ p ∷ []) p ≡ true
 hit_same [] p = rw (eq-eqb p p refl) refl

@@ -3,7 +3,7 @@ use Rattle.std.proofs.Common.{◌≡◌, ℕ, zero, suc, ◌-◌, ◌⊎◌, Boo
 use Rattle.std.proofs.Common.{◌++◌, length, Option, Some, None, refl, sym, subst, arith, inl, inr}
 use Rattle.std.specs.List.{Contains, flat_map}
 use Rattle.std.specs.Prelude.{slice_get}
-use Rattle.std.proofs.lemmas.Bool.{ltb-true, lt-ltb, eqb-true, eq-eqb, ne_eqb, eqb-false}
+use Rattle.std.proofs.lemmas.Bool.{ltb-true, lt-ltb, eqb-true, eq-eqb, ne_eqb, eqb-false, not_from_false}
 use Rattle.std.proofs.lemmas.List.Elements.{Contains-append_left, Contains-append_right, Contains-append_cases}
 use Rattle.cjc_classfile.specs.declared.tree.Catch.{Catch}
 use Rattle.cjc_classfile.specs.declared.tree.ClassTree.{ClassTree}
@@ -17,14 +17,13 @@ use Rattle.cjc_code.specs.Unfit.{where_it_may, last_places, fall_places, argumen
 use Rattle.cjc_code.specs.Unfit.{unfit_code}
 use Rattle.cjc_code.specs.Rules.{IsUnfit, starts_at, stopped, wrong_item, wrong_jump, wrong_local, wrong_values}
 use Rattle.cjc_code.specs.Rules.{wrong_type, falls, too_many, wrong_start, wrong_end, wrong_target}
+use Rattle.cjc_bytes.proofs.Bools.{or_true, not_true}
+use Rattle.cjc_bytes.proofs.Quantified.{contains_later}
 
 -- ---- what is in a list
 
 pub contains_first : {X : Type 0} (x : X) (xs : List X) → Contains (x ∷ xs) x
 contains_first x xs = (0, omega arith, refl)
-
-pub contains_later : {X : Type 0} (x y : X) (xs : List X) → Contains xs y → Contains (x ∷ xs) y
-contains_later x y xs (k, lt, e) = (suc k, omega arith, e)
 
 contains_flat : {X : Type 0} (f : X → List ℕ) (xs : List X) (k : ℕ) → Contains (flat_map f xs) k → (x : X)
     × Contains xs x × Contains (f x) k
@@ -44,31 +43,9 @@ flat_contains f (y ∷ xs) x k (suc n, lt, e) h = Contains-append_right (f y) (f
 
 -- ---- tests
 
-pub or_cases : (a b : Bool) → (a || b) ≡ true → (a ≡ true) ⊎ (b ≡ true)
-or_cases true b e = inl refl
-or_cases false b e = inr e
-
-or_true : (b : Bool) → (b || true) ≡ true
-or_true true = refl
-or_true false = refl
-
-or_left : (a b : Bool) → a ≡ true → (a || b) ≡ true
-or_left a b e = rw e refl
-
-pub or_right : (a b : Bool) → b ≡ true → (a || b) ≡ true
-or_right true b e = refl
-or_right false b e = e
-
-pub is_not : (b : Bool) → not b ≡ true → b ≡ false
-is_not true e = absurd cc
-is_not false e = refl
-
-not_is : (b : Bool) → b ≡ false → not b ≡ true
-not_is b e = rw e refl
-
 neither : (a b : Bool) → not (a || b) ≡ true → (a ≡ false) × (b ≡ false)
 neither true b e = absurd cc
-neither false b e = (refl, is_not b e)
+neither false b e = (refl, not_true b e)
 
 in_where : (b : Bool) (place k : ℕ) → Contains (where_true b place) k → (b ≡ true) × (k ≡ place)
 in_where true place k (zero, lt, e) = (refl, sym e)
@@ -156,10 +133,10 @@ unfit_catch class method code c k there h =
     let C = where_true (not target) c.target in
     elim (Contains-append_cases (A ++ B) C k h) [
       | inr t ↦ (let w = in_where (not target) c.target k t in subst (λ n. IsUnfit class method code n) (sym w.1)
-          (wrong_target c there (is_not target w.0)))
+          (wrong_target c there (not_true target w.0)))
       | inl ab ↦ elim (Contains-append_cases A B k ab) [
         | inl a ↦ (let w = in_where (not start) c.start k a in subst (λ n. IsUnfit class method code n) (sym w.1)
-            (wrong_start c there (is_not start w.0)))
+            (wrong_start c there (not_true start w.0)))
         | inr b ↦ (
             let w = in_where (not (end || eqb c.end size)) c.end k b in
             let n = neither end (eqb c.end size) w.0 in
@@ -264,17 +241,17 @@ five_of class method code k (wrong_start c there h) =
     of_catch class method code c c.start there (Contains-append_left (start_of code c ++ end_of code c)
     (target_of code c) c.start
     (Contains-append_left (start_of code c) (end_of code c) c.start (where_in (not (starts_at code c.start)) c.start
-    (not_is _ h))))
+    (not_from_false _ h))))
 five_of class method code k (wrong_end c there h ne) =
     let off : (starts_at code c.end || eqb c.end (length code.bytes)) ≡ false =
     rw (h, ne_eqb c.end (length code.bytes) ne) refl in
     of_catch class method code c c.end there (Contains-append_left (start_of code c ++ end_of code c) (target_of code c)
     c.end
     (Contains-append_right (start_of code c) (end_of code c) c.end (where_in (not (starts_at code c.end
-    || eqb c.end (length code.bytes))) c.end (not_is _ off))))
+    || eqb c.end (length code.bytes))) c.end (not_from_false _ off))))
 five_of class method code k (wrong_target c there h) =
     of_catch class method code c c.target there (Contains-append_right (start_of code c ++ end_of code c)
-    (target_of code c) c.target (where_in (not (starts_at code c.target)) c.target (not_is _ h)))
+    (target_of code c) c.target (where_in (not (starts_at code c.target)) c.target (not_from_false _ h)))
 
 pub is_unfit_there : (class : ClassTree) (method : MethodTree) (code : CodeTree) (k : ℕ) → IsUnfit class method code k
     → Contains (unfit_code class method code) k

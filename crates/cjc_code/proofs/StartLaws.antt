@@ -2,14 +2,16 @@
 use Rattle.std.proofs.Common.{◌≡◌, ℕ, zero, suc, ◌+◌, ◌<◌, Bool, true, false, ◌==◌, eqb, List, [], ◌∷◌, ◌++◌, length}
 use Rattle.std.proofs.Common.{map, get_or, refl, sym, ap, subst, ◌∙◌, arith, inl, inr}
 use Rattle.std.specs.List.{Contains, list_any}
-use Rattle.std.proofs.lemmas.Bool.{eqb-true, eq-eqb}
+use Rattle.std.proofs.lemmas.Bool.{eqb-true, eq-eqb, or_right}
 use Rattle.std.proofs.lemmas.List.Elements.{Contains-append_left, Contains-append_right, Contains-append_cases}
 use Rattle.cjc_classfile.specs.Code.{CodeTree}
 use Rattle.cjc_code.specs.declared.raw.Raw.{Raw}
 use Rattle.cjc_code.specs.Cut.{cut}
 use Rattle.cjc_code.specs.Unfit.{marks, starts}
 use Rattle.cjc_code.specs.Rules.{starts_at, IsStart}
-use Rattle.cjc_code.proofs.RuleLaws.{contains_first, contains_later, or_cases, or_right}
+use Rattle.cjc_code.proofs.RuleLaws.{contains_first}
+use Rattle.cjc_bytes.proofs.Quantified.{contains_later}
+use Rattle.cjc_bytes.proofs.Bools.{or_cases}
 
 abbrev hits : List ℕ → ℕ → Bool
 hits ps k = list_any (λ p. p == k) ps

@@ -1,14 +1,17 @@
 -- What 741 to 745 keep where none of them is broken: each reference and each listed super.
-use Rattle.std.proofs.Common.{◌≡◌, ℕ, zero, suc, ◌+◌, refl, sym, ap, subst, ◌∙◌, arith, Bool, true, false, cond}
-use Rattle.std.proofs.Common.{List, [], ◌∷◌, ◌++◌, length, Option, Some, None}
+use Rattle.std.proofs.Common.{◌≡◌, ℕ, zero, suc, ◌+◌, refl, sym, ap, subst, ◌∙◌, arith, Bool, true, false}
+use Rattle.std.proofs.Common.{List, [], ◌∷◌, length, Option, Some, None}
 use Rattle.std.specs.Prelude.{◌&&◌, ◌||◌, ◌==◌, not, if◌then◌else◌, slice_get, codes}
-use Rattle.std.specs.List.{find, list_any}
+use Rattle.std.specs.List.{list_any}
 use Rattle.std.specs.Str.{bytes_eq}
 use Rattle.std.proofs.lemmas.Bool.Decides.{nat_tests}
-use Rattle.std.proofs.lemmas.Slice.Eq.{bytes_eq-Decides}
 use Rattle.cjc_bytes.specs.AccessFlags.{is_interface, is_static}
-use Rattle.cjc_bytes.specs.Breaks.{Break, RulePlace, at, each_from}
+use Rattle.cjc_bytes.specs.Breaks.{Break, at, each_from}
 use Rattle.cjc_bytes.specs.Order.{FilePlace}
+use Rattle.cjc_bytes.proofs.Lists.{bytes_true, empty_both}
+use Rattle.cjc_bytes.proofs.Bools.{not_false}
+use Rattle.cjc_bytes.proofs.BrokenRules.{not_broken}
+use Rattle.cjc_bytes.proofs.Gets.{find_got, any_at}
 use Rattle.cjc_compat.specs.References.{InstanceField, KeepsReferences, Kind, ListsSuper, Meant, Reference, Resolves}
 use Rattle.cjc_compat.specs.References.{StaticField, StaticMethod, VirtualMethod, class, field, interface, is_class}
 use Rattle.cjc_compat.specs.References.{is_member}
@@ -32,63 +35,28 @@ or_none : (a b : Bool) → a || b ≡ false → (a ≡ false) × (b ≡ false)
 or_none true b e = absurd cc
 or_none false b e = (refl, e)
 
-not_false : (a : Bool) → not a ≡ false → a ≡ true
-not_false true e = refl
-not_false false e = absurd cc
-
 same_true : (a b : Bool) → same a b ≡ true → a ≡ b
 same_true true true e = refl
 same_true false false e = refl
 same_true true false e = absurd cc
 same_true false true e = absurd cc
 
-name_is : (x y : List ℕ) → bytes_eq x y ≡ true → x ≡ y
-name_is x y e = grind (arith, bytes_eq-Decides)
-
 number_is : (x y : ℕ) → x == y ≡ true → x ≡ y
 number_is x y e = grind (arith, nat_tests)
 
 -- ---- lists
-
-both_none : {A : Type 0} (xs ys : List A) → xs ++ ys ≡ [] → (xs ≡ []) × (ys ≡ [])
-both_none [] ys e = (refl, e)
-both_none (x ∷ xs) ys e = absurd cc
-
-at_none : (b : Bool) (s : RulePlace) (rule : ℕ) → at b s rule ≡ [] → b ≡ false
-at_none false s rule e = refl
-at_none true s rule e = absurd cc
 
 each_none_at : {A : Type 0} (f : ℕ → A → List Break) (i : ℕ) (xs : List A) → each_from f i xs ≡ [] → (n : ℕ) (x : A)
     → slice_get xs n ≡ Some x → (k : ℕ) × (f k x ≡ [])
 unfolding each_from
 each_none_at f i [] e n x g = absurd cc
 each_none_at f i (y ∷ xs) e zero x g =
-    let h = both_none (f i y) (each_from f (i + 1) xs) e in
+    let h = empty_both (f i y) (each_from f (i + 1) xs) e in
     let same : y ≡ x = cc in
     (i, subst (λ z. f i z ≡ []) same h.0)
-each_none_at f i (y ∷ xs) e (suc n) x g = each_none_at f (i + 1) xs (both_none (f i y) (each_from f (i + 1) xs) e).1 n x
+each_none_at f i (y ∷ xs) e (suc n) x g = each_none_at f (i + 1) xs (empty_both (f i y) (each_from f
+    (i + 1) xs) e).1 n x
     g
-
-find_got : {A : Type 0} (p : A → Bool) (xs : List A) (x : A) → find p xs ≡ Some x → (k : ℕ) × (slice_get xs k ≡ Some x)
-    × (p x ≡ true)
-find_got p [] x e = absurd cc
-find_got {A} p (y ∷ xs) x e = by (p y) refl e (λ g. find_got p xs x g)
-  where
-    by : (b : Bool) → p y ≡ b → cond b (Some y) (find p xs) ≡ Some x → (find p xs ≡ Some x → (k : ℕ)
-        × (slice_get xs k ≡ Some x) × (p x ≡ true)) → (k : ℕ) × (slice_get (y ∷ xs) k ≡ Some x) × (p x ≡ true)
-    by true h e on = let same : y ≡ x = cc in (0, e, subst (λ z. p z ≡ true) same h)
-    by false h e on = let more = on e in (suc more.0, more.1, more.2)
-
-any_got : {A : Type 0} (p : A → Bool) (xs : List A) → list_any p xs ≡ true → (k : ℕ) × (x : A)
-    × (slice_get xs k ≡ Some x) × (p x ≡ true)
-any_got p [] e = absurd cc
-any_got {A} p (y ∷ xs) e = by (p y) refl e (λ g. any_got p xs g)
-  where
-    by : (b : Bool) → p y ≡ b → b || list_any p xs ≡ true → (list_any p xs ≡ true → (k : ℕ) × (x : A)
-        × (slice_get xs k ≡ Some x) × (p x ≡ true)) → (k : ℕ) × (x : A) × (slice_get (y ∷ xs) k ≡ Some x)
-        × (p x ≡ true)
-    by true h e on = (0, y, refl, h)
-    by false h e on = let more = on e in (suc more.0, more.1, more.2, more.3)
 
 any_none : {A : Type 0} (p : A → Bool) (xs : List A) → list_any p xs ≡ false → (k : ℕ) (x : A)
     → slice_get xs k ≡ Some x → p x ≡ false
@@ -105,7 +73,7 @@ listed_at (y ∷ names) x e = by (bytes_eq y x) refl e (λ g. listed_at names x 
   where
     by : (b : Bool) → bytes_eq y x ≡ b → b || is_one_of names x ≡ true → (is_one_of names x ≡ true → (k : ℕ)
         × (slice_get names k ≡ Some x)) → (k : ℕ) × (slice_get (y ∷ names) k ≡ Some x)
-    by true h e on = (0, ap (λ z. Some z) (name_is y x h))
+    by true h e on = (0, ap (λ z. Some z) (bytes_true y x h))
     by false h e on = let more = on e in (suc more.0, more.1)
 
 still_listed : (new old : List (List ℕ)) → lacks_one new old ≡ false → (x : List ℕ) → is_one_of old x ≡ true
@@ -141,15 +109,15 @@ method_kept old new e =
     let b = and_cases (new.token == old.token) (bytes_eq new.name old.name) c.0 in
     record {
       token = number_is new.token old.token b.0;
-      name = name_is new.name old.name b.1;
-      desc = name_is new.desc old.desc c.1;
+      name = bytes_true new.name old.name b.1;
+      desc = bytes_true new.desc old.desc c.1;
       static = same_true (is_static new.flags) (is_static old.flags) d.1;
     }
 
 pub method_there : (old new : ExportClass) → IsKept old new → (i : ℕ) (m : ExportMethod) → slice_get old.methods i
     ≡ Some m → (k : ℕ) × (x : ExportMethod) × (slice_get new.methods k ≡ Some x) × IsKeptMethod m x
 method_there old new is i m e =
-    let one = any_got (λ x. is_method m x) new.methods (not_false (list_any (λ x. is_method m x) new.methods)
+    let one = any_at (λ x. is_method m x) new.methods (not_false (list_any (λ x. is_method m x) new.methods)
     (is.methods i m e)) in
     (one.0, one.1, one.2, method_kept m one.1 one.3)
 
@@ -164,27 +132,28 @@ kind_kept old new e = same_true (is_interface new) (is_interface old) (first_of_
 kept : (f : FilePlace) (n : ℕ) (old new : ExportClass) → new.token ≡ old.token → kept_breaks f n old new ≡ []
     → IsKept old new
 kept f n old new token e =
-    let methods = both_none _ (each_from (λ i m. at (is_lost_method new.methods m) (at_method f n old i m) 743) 0
+    let methods = empty_both _ (each_from (λ i m. at (is_lost_method new.methods m) (at_method f n old i m) 743) 0
     old.methods) e in
-    let fields = both_none _ (each_from (λ i m. at (is_lost_field new.fields m) (at_field f n old i m) 743) 0
+    let fields = empty_both _ (each_from (λ i m. at (is_lost_field new.fields m) (at_field f n old i m) 743) 0
     old.fields) methods.0 in
-    let supers = both_none _ (at (is_less old new) (at_class f n old) 745) fields.0 in
-    let table = both_none (at (is_other_class old new) (at_class f n old) 742) (at (is_other_table old new)
+    let supers = empty_both _ (at (is_less old new) (at_class f n old) 745) fields.0 in
+    let table = empty_both (at (is_other_class old new) (at_class f n old) 742) (at (is_other_table old new)
     (at_class f n old) 744) supers.0 in
     let class = or_none (not (bytes_eq new.name old.name)) (not (is_of_kind old.flags new.flags))
-    (at_none (is_other_class old new) _ 742 table.0) in
+    (not_broken (is_other_class old new) _ 742 table.0) in
     let less = or_none (lacks_one new.listed old.listed) (lacks_one new.interfaces old.interfaces)
-    (at_none (is_less old new) _ 745 supers.1) in
+    (not_broken (is_less old new) _ 745 supers.1) in
     record {
-      name = name_is new.name old.name (not_false _ class.0);
+      name = bytes_true new.name old.name (not_false _ class.0);
       token = token;
       interface = kind_kept old.flags new.flags (not_false _ class.1);
-      table = at_none (is_other_table old new) _ 744 table.1;
+      table = not_broken (is_other_table old new) _ 744 table.1;
       supers = less.0;
       interfaces = less.1;
-      fields = λ i m g. at_none (is_lost_field new.fields m) _ 743 (each_none_at (λ i m. at (is_lost_field new.fields m)
+      fields = λ i m g. not_broken (is_lost_field new.fields m) _ 743 (each_none_at (λ i m. at
+          (is_lost_field new.fields m)
           (at_field f n old i m) 743) 0 old.fields fields.1 i m g).1;
-      methods = λ i m g. at_none (is_lost_method new.methods m) _ 743 (each_none_at (λ i m. at (is_lost_method
+      methods = λ i m g. not_broken (is_lost_method new.methods m) _ 743 (each_none_at (λ i m. at (is_lost_method
           new.methods m) (at_method f n old i m) 743) 0 old.methods methods.1 i m g).1;
     }
 
@@ -192,7 +161,7 @@ module _ (file : List ℕ) (old new : ExportTree) (e : breaks file old new ≡ [
   pub classes_kept : (n : ℕ) (c : ExportClass) → slice_get old.classes n ≡ Some c → (k : ℕ) × (d : ExportClass)
       × (slice_get new.classes k ≡ Some d) × IsKept c d
   classes_kept n c g =
-      let all = both_none _ (each_from (λ n c. class_breaks (new_file file) n c (with_token c.token new.classes)) 0
+      let all = empty_both _ (each_from (λ n c. class_breaks (new_file file) n c (with_token c.token new.classes)) 0
       old.classes) e in
       let here = each_none_at (λ n c. class_breaks (new_file file) n c (with_token c.token new.classes)) 0 old.classes
       all.1 n c g in
@@ -225,7 +194,7 @@ module _ (file : List ℕ) (old new : ExportTree) (e : breaks file old new ≡ [
       let lost = is.fields i f h in
       let found : list_any (λ x. is_field f x) d.fields ≡ true = not_false _ (subst (λ b. not b && not (list_any (λ x.
       is_field f x) d.fields) ≡ false) variable lost) in
-      let one = any_got (λ x. is_field f x) d.fields found in
+      let one = any_at (λ x. is_field f x) d.fields found in
       let x = one.1 in
       let kept = field_kept f x one.3 in
       let there_is = field there.0 d there.2 one.0 x one.2 kept.0 in
@@ -253,8 +222,8 @@ module _ (file : List ℕ) (old new : ExportTree) (e : breaks file old new ≡ [
           let a = and_cases (not (is_constant new)) (new.token == old.token) b.0 in (
             constant (is_constant new) a.0,
             number_is new.token old.token a.1,
-            name_is new.name old.name b.1,
-            name_is new.desc old.desc c.1,
+            bytes_true new.name old.name b.1,
+            bytes_true new.desc old.desc c.1,
             same_true (is_static new.flags) (is_static old.flags) d.1,
           )
         where

@@ -1,25 +1,13 @@
 -- A name that is noted is among those that were, and other names are as before.
-use Rattle.std.proofs.Common.{◌≡◌, ℕ, refl, sym, ap, subst, ◌∙◌, arith, Bool, true, false, cond, List, [], ◌∷◌, ◌++◌}
+use Rattle.std.proofs.Common.{◌≡◌, ℕ, refl, sym, ap, subst, ◌∙◌, Bool, true, false, cond, List, [], ◌∷◌, ◌++◌}
 use Rattle.std.proofs.Common.{Option, Some, None}
 use Rattle.std.specs.Prelude.{◌||◌, is_some}
 use Rattle.std.specs.HashMap as hash
 use Rattle.std.specs.HashMap.{HashMap}
 use Rattle.std.specs.Map.{KeepsOthers}
 use Rattle.std.specs.Str.{bytes_eq}
-use Rattle.std.proofs.lemmas.Slice.Eq.{bytes_eq-Decides}
 use Rattle.cjc_export.specs.Supers.{is_one_of}
-
-same_name : (x y : List ℕ) → bytes_eq x y ≡ true → x ≡ y
-same_name x y e = grind (arith, bytes_eq-Decides)
-
-flipped : (x y : List ℕ) → bytes_eq x y ≡ bytes_eq y x
-flipped x y = by (bytes_eq x y) (bytes_eq y x) refl refl
-  where
-    by : (a b : Bool) → bytes_eq x y ≡ a → bytes_eq y x ≡ b → a ≡ b
-    by true true e f = refl
-    by false false e f = refl
-    by true false e f = grind (arith, bytes_eq-Decides)
-    by false true e f = grind (arith, bytes_eq-Decides)
+use Rattle.cjc_bytes.proofs.Lists.{bytes_true, bytes_flip}
 
 module _ {K X S : Type 0} (bytes : K → List ℕ) where
   pub put_noted : (name : List ℕ) (m n : HashMap K X S) (w : X)
@@ -31,13 +19,13 @@ module _ {K X S : Type 0} (bytes : K → List ℕ) where
     where
       by : (b : Bool) → bytes_eq name other ≡ b → is_some (hash.get_by (λ k. bytes_eq other (bytes k)) n)
           ≡ b || is_some (hash.get_by (λ k. bytes_eq other (bytes k)) m)
-      by true e = ap is_some (subst (λ z. hash.get_by (λ k. bytes_eq z (bytes k)) n ≡ Some w) (same_name name other e)
+      by true e = ap is_some (subst (λ z. hash.get_by (λ k. bytes_eq z (bytes k)) n ≡ Some w) (bytes_true name other e)
           h.1)
       by false e =
           let kept : hash.get_by (λ k. bytes_eq other (bytes k)) n ≡ hash.get_by (λ k. bytes_eq other (bytes k)) m =
           h.3 (λ k. bytes_eq other (bytes k))
-          (λ x y f. ap (λ z. bytes_eq z (bytes y)) (same_name other (bytes x) f))
-          (λ k f. flipped other (bytes k) ∙ ap (λ z. bytes_eq z other) (sym (same_name name (bytes k) f)) ∙ e) in
+          (λ x y f. ap (λ z. bytes_eq z (bytes y)) (bytes_true other (bytes x) f))
+          (λ k f. bytes_flip other (bytes k) ∙ ap (λ z. bytes_eq z other) (sym (bytes_true name (bytes k) f)) ∙ e) in
           ap is_some kept
 
 -- of a name that is noted
@@ -45,7 +33,7 @@ pub again : (name x : List ℕ) (noted : List ℕ → Bool) → noted name ≡ t
 again name x noted there = by (bytes_eq name x) refl
   where
     by : (b : Bool) → bytes_eq name x ≡ b → noted x ≡ b || noted x
-    by true e = subst (λ z. noted z ≡ true) (same_name name x e) there
+    by true e = subst (λ z. noted z ≡ true) (bytes_true name x e) there
     by false e = refl
 
 -- one name more at the end of a list

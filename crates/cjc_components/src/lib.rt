@@ -7,13 +7,14 @@
 // Lower crates, for those above.
 pub use cjc_capwrite as capwrite;
 pub use cjc_capwrite::capread;
+pub use cjc_check_rules as check_rules;
 pub use cjc_emit as emit;
 pub use cjc_emit::layout;
 pub use cjc_list as list;
 pub use cjc_narrow as narrow;
 pub use cjc_narrow::ncode;
 pub use cjc_vtable as vtable;
-pub use cjc_vtable::{class_order, subset, tokens, world};
+pub use cjc_vtable::{class_order, subset, tokens};
 
 pub mod paired;
 

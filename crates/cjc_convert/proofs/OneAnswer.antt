@@ -1,11 +1,9 @@
 -- What a conversion answers of a list and its files is one.
-use Rattle.std.proofs.Common.{◌≡◌, inl, inr, true, false, ℕ, suc, sym, ap, subst, ◌∙◌, Bool, List, [], ◌∷◌, length}
-use Rattle.std.specs.Prelude.{if◌then◌else◌}
+use Rattle.std.proofs.Common.{◌≡◌, inl, inr, true, false, ℕ, sym, ap, subst, ◌∙◌, List, length}
 use Rattle.cjc_shape_proof.specs.Bytes.Breaks.{Break}
 use Rattle.cjc_shape_proof.specs.Bytes.Order.{Rank}
 use Rattle.cjc_shape_proof.specs.Bytes.Refused.{refused_at}
 use Rattle.cjc_shape_proof.specs.Bytes.declared.fault.Refusal.{Refusal}
-use Rattle.cjc_shape_proof.specs.Bytes.declared.settings.FileLine.{FileLine}
 use Rattle.cjc_captree.specs.CapWrite.Files.{files_of}
 use Rattle.cjc_captree.specs.CapWrite.declared.files.CapFiles.{CapFiles}
 use Rattle.cjc_captree.specs.Components.Components.{components_of}
@@ -16,7 +14,7 @@ use Rattle.cjc_shape_proof.proofs.JudgeFirsts.{one_spelling}
 use Rattle.cjc_shape_proof.proofs.JudgeOneRefusal.{one_first_of, one_on_levels, one_refusal}
 use Rattle.cjc_shape_proof.proofs.JudgePlaces.{IsTold, class_files, place_at}
 use Rattle.cjc_shape_proof.specs.Judge.Rules.{Breach, OnLevels, files_spelt, on_first, on_second}
-use Rattle.cjc_shape_proof.specs.Judge.Spelt.{FileTree, SpellTrees, classes_of, of_class, of_export}
+use Rattle.cjc_shape_proof.specs.Judge.Spelt.{FileTree, SpellTrees}
 use Rattle.cjc_captree.specs.List.Listed.{ListTree}
 use Rattle.cjc_shape_proof.specs.Shape.Prepared.{tested}
 use Rattle.cjc_shape_proof.proofs.ShapeOne.{one_package}
@@ -27,17 +25,7 @@ use Rattle.cjc_convert.proofs.ConversionLaws.Stops.{none_written}
 use Rattle.cjc_convert.proofs.Told.{sizes_told, written_told}
 use Rattle.cjc_convert.specs.Conversion.{IsConverted}
 use Rattle.cjc_convert.specs.declared.conversion.Converted.{Converted}
-
--- as many classes as class files
-class_lines : (lines : List FileLine) (files : List (List ℕ)) (trees : List FileTree) → SpellTrees lines files trees
-    → length (classes_of trees) ≡ class_files lines
-class_lines [] files trees s = ap (λ (ts : List FileTree). length (classes_of ts)) s.1
-class_lines (l ∷ ls) [] trees s = absurd s
-class_lines (l ∷ ls) (b ∷ bs) [] s = absurd s
-class_lines (l ∷ ls) (b ∷ bs) (of_class t ∷ ts) s = ap suc (class_lines ls bs ts s.1)
-    ∙ sym (ap (λ (v : Bool). if v then suc (class_files ls) else class_files ls) s.0.0)
-class_lines (l ∷ ls) (b ∷ bs) (of_export t ∷ ts) s = class_lines ls bs ts s.1
-    ∙ sym (ap (λ (v : Bool). if v then suc (class_files ls) else class_files ls) s.0.0)
+use Rattle.cjc_shape_proof.proofs.JudgeOneRefusal.{class_lines}
 
 module _ (list : ListTree) (files : List (List ℕ)) where
   -- what is told of it stands at its place among what the files spell

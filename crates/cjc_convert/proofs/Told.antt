@@ -25,7 +25,6 @@ use Rattle.cjc_shape_proof.proofs.JudgeEach.{Each, each_append, each_at, each_mo
 use Rattle.cjc_shape_proof.proofs.JudgePlaces.{IsFileOf, IsTold, class_files, file_is_of, told_at_class}
 use Rattle.cjc_shape_proof.proofs.JudgePlaces.{told_at_method, told_list}
 use Rattle.cjc_captree.specs.Layout.Refusals.{least, overtaking}
-use Rattle.cjc_shape_proof.proofs.TokensHeld.{at_front}
 use Rattle.cjc_shape_proof.proofs.VTableFiled.{Has, get-has}
 use Rattle.cjc_shape_proof.proofs.VTableNumbers.{at-tree}
 use Rattle.cjc_captree.specs.World.Added.{added}
@@ -35,7 +34,9 @@ use Rattle.cjc_captree.specs.World.Files.{Files}
 use Rattle.cjc_captree.specs.World.Lookup.{member_at}
 use Rattle.cjc_captree.specs.World.Order.{in_order, method_order, methods_in_turn, methods_of_class, places, written}
 use Rattle.cjc_captree.specs.World.declared.found.Found.{Found}
-use Rattle.cjc_shape_proof.proofs.WrittenLaws.FittingLaws.Order.{has_cons, has_either, has_none}
+use Rattle.cjc_shape_proof.proofs.WrittenLaws.FittingLaws.Order.{has_cons, has_none}
+use Rattle.cjc_shape_proof.proofs.BytesGets.{in_front}
+use Rattle.cjc_shape_proof.proofs.VTableFiled.{has-either}
 
 -- ---- methods stand behind the fields of their classes
 
@@ -87,7 +88,7 @@ module _ (files : Files) (c : Class) (is : Some c ≡ declared_at files.classes 
   class_placed w f h = ⊎_elim
       (λ g. written_placed (length c.fields) c.methods (omega arith) f g)
       (λ g. places_placed (length c.fields + length c.methods) (length (added w c)) (omega arith) f g)
-      (has_either f (written c (length c.fields) c.methods) (places c (length c.fields + length c.methods)
+      (has-either f (written c (length c.fields) c.methods) (places c (length c.fields + length c.methods)
       (length (added w c))) h)
 
 turn_placed : (files : Files) (w cs : List Class) → map Some cs ≡ map (λ c. declared_at files.classes c.number) cs
@@ -97,7 +98,7 @@ turn_placed files w (c ∷ cs) e f h =
     let here : Some c ≡ declared_at files.classes c.number = cc in
     let rest : map Some cs ≡ map (λ (d : Class). declared_at files.classes d.number) cs = cc in
     ⊎_elim (λ g. class_placed files c here w f g) (λ g. turn_placed files w cs rest f g)
-    (has_either f (methods_of_class w c) (methods_in_turn w cs) h)
+    (has-either f (methods_of_class w c) (methods_in_turn w cs) h)
 
 all_placed : (files : Files) (f : Found) → Has f (method_order (all_classes files)) → IsPlaced files f
 unfolding method_order
@@ -179,7 +180,7 @@ module _ (p : Package) (counted : (let v = p.files in length v.classes ≡ class
               ∙ ap (option_map method_of_class) there in
               let is : m ≡ method_of_class x =
               ap (λ j. unwrap_or (slice_get (methods_with_added w c) j) no_member) at_it
-              ∙ ap (λ o. unwrap_or o no_member) (at_front c.methods (map as_added (added w c)) i (method_of_class x)
+              ∙ ap (λ o. unwrap_or o no_member) (in_front c.methods (map as_added (added w c)) i (method_of_class x)
               in_class_file) in
               let v = p.files in
               let told = told_at_method (let l = p.list in l.name) p.files f.class t (file_of v.lines f.class) file i x

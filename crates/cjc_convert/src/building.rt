@@ -18,13 +18,13 @@ use cjc_captree::capread::CapTree;
 use cjc_captree::class_order::classes::class_order;
 use cjc_captree::classes::key_tokens::key_tokens;
 use cjc_captree::extents::extents;
+use cjc_captree::methods::component::{Written, method_component};
+use cjc_captree::methods::layouts::offsets;
+use cjc_captree::pool::Pool;
 use cjc_captree::trees::{Given, components};
 use cjc_shape_proof::bytes::{Fault, NoMemory};
 use cjc_shape_proof::judge::Judged;
-use cjc_shape_proof::methods::component::{Written, method_component};
-use cjc_shape_proof::methods::layouts::offsets;
 use cjc_shape_proof::ncode::PoolKey;
-use cjc_shape_proof::pool::Pool;
 use cjc_shape_proof::shape::whole::Shaped;
 use cjc_shape_proof::writing::aids_are_short;
 use cjc_shape_proof::written::{
@@ -36,7 +36,7 @@ use std::alloc::Global;
 fn pool_of(alloc: Global, judged: &Judged<'_>, shaped: &Shaped) -> Result<Pool, NoMemory>
     ensures { IfOk result (IsPool judged.now.world shaped.now.tokens shaped.now.methods.codes) }
 {
-    match cjc_shape_proof::pool::build(
+    match cjc_captree::pool::build(
         alloc,
         judged.list.name.items(),
         &judged.world,

@@ -4,7 +4,7 @@
 #![tactic(auto)]
 
 // Lower crates, for those above.
-pub use cjc_captree::{capread, capwrite, list};
+pub use cjc_captree::{capread, capwrite, check_rules, list};
 
 mod building;
 mod conversion;

@@ -8,9 +8,10 @@ use Rattle.cjc_ncode.specs.declared.narrow.NMethod.{NMethod}
 use Rattle.cjc_ncode.specs.Lowering.Naming.{Naming}
 use Rattle.cjc_ncode.specs.Lowering.Laid.{laid}
 use Rattle.cjc_ncode.specs.Lowering.Placed.{Placed, bytes_before, bytes_of, code_bytes, first, insn_size, offset_of}
-use Rattle.cjc_ncode.proofs.LoweringLaws.Bytes.{code_at, drop_past, length_spelt, spelt_as}
+use Rattle.cjc_ncode.proofs.LoweringLaws.Bytes.{code_at, length_spelt, spelt_as}
 use Rattle.cjc_ncode.proofs.LoweringLaws.Places.{size_same}
 use Rattle.cjc_emit.specs.Emitted.{CanBeWritten, emitted_bytes, header_bytes, placed_at}
+use Rattle.cjc_capread.proofs.BytesGets.{get_drop_past}
 
 sized : (n : Naming) (p : Placed) → CanBeWritten n p → (k : ℕ) (i : NInsn) (w : Bool) → slice_get p.method.insns k
     ≡ Some i → slice_get p.wide k ≡ Some w → length (bytes_of (laid n (offset_of n p) (offset_of n p k) w i))
@@ -33,7 +34,7 @@ code_decoded n m wide behind whole k i w e f =
     let far : offset_of n p k ≡ length header + before = omega arith in
     ap (λ x. decode (drop x ((header ++ code) ++ behind))) far
     ∙ (ap (λ xs. decode (drop (length header + before) xs)) (append_assoc header code behind)
-    ∙ (ap decode (drop_past header (code ++ behind) before)
+    ∙ (ap decode (get_drop_past header (code ++ behind) before)
     ∙ (ap decode r.1
     ∙ (ap (λ xs. decode (xs ++ r.0)) (spelt_as raw s)
     ∙ decode_emitted s.form raw r.0 s.writable))))

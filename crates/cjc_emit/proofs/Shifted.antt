@@ -1,5 +1,5 @@
 -- Bytes at one offset and at another.
-use Rattle.std.proofs.Common.{◌≡◌, ℕ, suc, ◌+◌, ◌-◌, ◌<◌, refl, sym, ap, subst, true≢false, ◌∙◌, ⊎_elim, arith, Bool}
+use Rattle.std.proofs.Common.{◌≡◌, ℕ, suc, ◌+◌, ◌-◌, refl, sym, ap, subst, ◌∙◌, ⊎_elim, arith, Bool}
 use Rattle.std.proofs.Common.{true, false, List, [], ◌∷◌, ◌++◌, length, ℤ, pos, negsuc}
 use Rattle.std.specs.Prelude.{nat_le, nat_lt, if◌then◌else◌, ◌+ℤ◌, ◌-ℤ◌, ◌&&◌}
 use Rattle.std.proofs.lemmas.Bool.{cases_lt}
@@ -16,6 +16,8 @@ use Rattle.cjc_ncode.specs.Lowering.Laid.{distance, laid, matches, offsets, swit
 use Rattle.cjc_ncode.specs.Lowering.Placed.{bytes_before, bytes_of, code_bytes, extended_header, insn_size, IsHeader}
 use Rattle.cjc_ncode.specs.Lowering.Placed.{method_bytes, offset_of, short_header}
 use Rattle.cjc_emit.specs.Emitted.{emitted_bytes, header_bytes, is_short, placed_at}
+use Rattle.cjc_capread.proofs.BytesBools.{and_true}
+use Rattle.cjc_capread.proofs.BytesNumbers.{number_below}
 
 pub distance_shift : (b x y : ℕ) → distance (b + x) (b + y) ≡ distance x y
 distance_shift b x y = ⊎_elim
@@ -131,23 +133,16 @@ bytes_anywhere n offset m wide =
 
 -- ---- headers
 
-both : (a b : Bool) → (a && b) ≡ true → (a ≡ true) × (b ≡ true)
-both true true e = (refl, refl)
-both true false e = absurd (true≢false (sym e))
-both false b e = absurd (true≢false (sym e))
-
-below : (a b : ℕ) → nat_lt a b ≡ true → a < b
-below a b e = grind (arith, nat_tests)
-
 pub header_read : (m : NMethod) → IsHeader false m (header_bytes m)
 header_read m = by (is_short m) refl
   where
     by : (b : Bool) → is_short m ≡ b → IsHeader false m (header_bytes m)
     by true e =
-        let p = both (nat_lt m.max_stack 16) (nat_lt m.nargs 16 && nat_lt m.max_locals 16) e in
-        let q = both (nat_lt m.nargs 16) (nat_lt m.max_locals 16) p.1 in
+        let p = and_true (nat_lt m.max_stack 16) (nat_lt m.nargs 16 && nat_lt m.max_locals 16) e in
+        let q = and_true (nat_lt m.nargs 16) (nat_lt m.max_locals 16) p.1 in
         subst (λ b. IsHeader false m (if b then short_header m else extended_header m)) (sym e)
-        (λ behind. short_read m.max_stack m.nargs m.max_locals behind (below m.max_stack 16 p.0) (below m.nargs 16 q.0)
-        (below m.max_locals 16 q.1))
+        (λ behind. short_read m.max_stack m.nargs m.max_locals behind (number_below m.max_stack 16 p.0)
+        (number_below m.nargs 16 q.0)
+        (number_below m.max_locals 16 q.1))
     by false e = subst (λ b. IsHeader false m (if b then short_header m else extended_header m)) (sym e)
         (λ behind. refl)

@@ -1,5 +1,5 @@
 -- What is written of an instruction is how bytes say it.
-use Rattle.std.proofs.Common.{◌≡◌, ℕ, zero, suc, ◌+◌, ◌-◌, ◌*◌, ◌/◌, ◌%◌, ◌^◌, ◌<◌, ◌≤◌, refl, sym, ap, subst, ◌∙◌}
+use Rattle.std.proofs.Common.{◌≡◌, ℕ, zero, suc, ◌+◌, ◌-◌, ◌*◌, ◌/◌, ◌%◌, ◌^◌, ◌<◌, refl, sym, ap, subst, ◌∙◌}
 use Rattle.std.proofs.Common.{⊎_elim, arith, Bool, true, false, List, [], ◌∷◌, ◌++◌, length, replicate, append_assoc}
 use Rattle.std.proofs.Common.{append-nil, ℤ, pos, negsuc}
 use Rattle.std.specs.Prelude.{◌⊎◌, Option, Some, None, slice_get, option_map, option_and_then, nat_lt, ◌&&◌, ◌||◌, ◌==◌}
@@ -13,8 +13,7 @@ use Rattle.cjc_capread.specs.Opcodes.{Lookup, form, forms, info, op_info, width}
 use Rattle.cjc_capread.specs.Decode.{Instruction, operand_bytes, operands_bytes, two_bytes, four_bytes, before_table}
 use Rattle.cjc_capread.specs.Decode.{up_to, pairs, emitted, below, IsWithin, positive, negative, Fits, AllFit, none}
 use Rattle.cjc_capread.specs.Decode.{more, IsWritable}
-use Rattle.cjc_ncode.specs.CardSemantics.Bytecode.Meanings.{Meaning, Branches, Ranged, Paired, meanings, meaning}
-use Rattle.cjc_ncode.specs.CardSemantics.Bytecode.Meanings.{known_meaning}
+use Rattle.cjc_ncode.specs.CardSemantics.Bytecode.Meanings.{Meaning, Branches, Ranged, Paired, meaning}
 use Rattle.cjc_ncode.specs.declared.narrow.NCase.{NCase}
 use Rattle.cjc_ncode.specs.declared.narrow.NInsn.{NInsn}
 use Rattle.cjc_ncode.specs.declared.narrow.NInsn.TheVariants as insns
@@ -31,6 +30,9 @@ use Rattle.cjc_emit.specs.Emitted.{HasIndex, HasNames, IsNamedBy}
 use Rattle.cjc_emit.specs.Working.{bits, index_in, jump_opcode, known, last_bits, length_by, low_bytes, lookup_bytes}
 use Rattle.cjc_emit.specs.Working.{match_bytes, offset_bytes, range_bytes, switch_bytes, table_bytes, with_one}
 use Rattle.cjc_emit.specs.Working.{with_two, written}
+use Rattle.cjc_emit.proofs.EmitLaws.Forms.{below as known_below}
+use Rattle.cjc_capread.proofs.BytesBools.{and_true}
+use Rattle.cjc_capread.proofs.BytesNumbers.{number_same}
 
 -- ---- numbers
 
@@ -107,18 +109,13 @@ forms_first : all_first forms ≡ true
 unfolding forms
 forms_first = refl
 
-both : (a b : Bool) → (a && b) ≡ true → (a ≡ true) × (b ≡ true)
-both true true e = (refl, refl)
-both true false e = cc
-both false b e = cc
-
 first_at : (k : ℕ) (os : List (Option Form)) → all_first os ≡ true → (o : Option Form) → slice_get os k ≡ Some o
     → first_fine o ≡ true
 first_at k [] e o g = cc
 first_at zero (x ∷ os) e o g =
-    let h = both (first_fine x) (all_first os) e in
+    let h = and_true (first_fine x) (all_first os) e in
     let s : x ≡ o = cc in subst (λ y. first_fine y ≡ true) s h.0
-first_at (suc k) (x ∷ os) e o g = first_at k os (both (first_fine x) (all_first os) e).1 o g
+first_at (suc k) (x ∷ os) e o g = first_at k os (and_true (first_fine x) (all_first os) e).1 o g
 
 first_found : (o : Option (Option Form)) (f : Form) → ((x : Option Form) → o ≡ Some x → first_fine x ≡ true)
     → option_and_then (λ f. f) o ≡ Some f → first_fine (Some f) ≡ true
@@ -128,9 +125,6 @@ first_found (Some x) f h e = subst (λ y. first_fine y ≡ true) e (h x refl)
 first_of_two : (op : ℕ) (f : Form) → form op ≡ Some f → first_fine (Some f) ≡ true
 unfolding form
 first_of_two op f e = first_found (slice_get forms op) f (λ x g. first_at op forms forms_first x g) e
-
-same : (a b : ℕ) → (a == b) ≡ true → a ≡ b
-same a b e = grind (arith, nat_tests)
 
 byte_alone : (k : Operand) (n : ℕ) → width k ≡ 1 → operand_bytes k (pos n) ≡ n ∷ []
 byte_alone Byte n e = refl
@@ -169,36 +163,21 @@ switches_fine = refl
 fine_below : (n op : ℕ) → all_fine n ≡ true → op < n → switch_fine op ≡ true
 fine_below zero op e h = absurd (omega arith)
 fine_below (suc n) op e h =
-    let p = both (switch_fine n) (all_fine n) e in
+    let p = and_true (switch_fine n) (all_fine n) e in
     ⊎_elim (λ lt. fine_below n op p.1 lt) (λ le. let s : n ≡ op = omega arith in subst (λ k. switch_fine k ≡ true) s
     p.0) (cases_lt op n)
-
-get_past : {A : Type 0} (xs : List A) (k : ℕ) → length xs ≤ k → slice_get xs k ≡ None
-get_past [] k h = refl
-get_past (x ∷ xs) zero h = absurd (omega arith)
-get_past (x ∷ xs) (suc k) h = get_past xs k (omega arith)
-
-nothing_past : (op : ℕ) → 185 ≤ op → meaning op ≡ known_meaning None
-unfolding meaning
-nothing_past op h = ap known_meaning (get_past meanings op h)
-
--- what means something is an opcode of the table
-known_below : (test : Meaning → Bool) → test (known_meaning None) ≡ false → (op : ℕ) → test (meaning op) ≡ true
-    → op < 185
-known_below test off op e = ⊎_elim (λ lt. lt) (λ le. let clash : true ≡ false = sym e ∙ (ap test (nothing_past op le)
-    ∙ off) in cc) (cases_lt op 185)
 
 either : (op a b : ℕ) → (op == a || op == b) ≡ true → (op ≡ a) ⊎ (op ≡ b)
 either op a b e = grind (arith, nat_tests)
 
 ranged_opcode : (op : ℕ) → is_ranged (meaning op) ≡ true → (op ≡ 0x73) ⊎ (op ≡ 0x74)
 ranged_opcode op e =
-    let p = both _ _ (fine_below 185 op switches_fine (known_below is_ranged refl op e)) in
+    let p = and_true _ _ (fine_below 185 op switches_fine (known_below is_ranged refl op e)) in
     either op 0x73 0x74 (sym (ap (λ b. if b then op == 0x73 || op == 0x74 else true) e) ∙ p.0)
 
 paired_opcode : (op : ℕ) → is_paired (meaning op) ≡ true → (op ≡ 0x75) ⊎ (op ≡ 0x76)
 paired_opcode op e =
-    let p = both _ _ (fine_below 185 op switches_fine (known_below is_paired refl op e)) in
+    let p = and_true _ _ (fine_below 185 op switches_fine (known_below is_paired refl op e)) in
     either op 0x75 0x76 (sym (ap (λ b. if b then op == 0x75 || op == 0x76 else true) e) ∙ p.1)
 
 -- an opcode of two operands is no lookup switch, where it means none
@@ -215,7 +194,7 @@ two_as : (op first : ℕ) (f : Form) (z : ℤ) → form op ≡ Some f → ((m : 
 two_as op first (Fields []) z e away h = elim h [ ]
 two_as op first (Fields (k ∷ [])) z e away (more h hs) = elim hs [ ]
 two_as op first (Fields (k ∷ l ∷ [])) z e away (more h (more g hs)) =
-    let one : width k ≡ 1 = same (width k) 1 (first_of_two op (Fields (k ∷ l ∷ [])) e) in
+    let one : width k ≡ 1 = number_same (width k) 1 (first_of_two op (Fields (k ∷ l ∷ [])) e) in
     let last = operand_bytes l z in
     two_written op k l first (bits z) one (info_of op (Fields (k ∷ l ∷ [])) e)
     ∙ (ap (λ xs. op ∷ first ∷ xs) (number_low l z g)

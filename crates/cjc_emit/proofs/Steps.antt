@@ -1,19 +1,12 @@
 -- Steps of the loop over instructions.
-use Rattle.std.proofs.Common.{◌≡◌, ℕ, zero, suc, ◌+◌, ◌<◌, refl, sym, ap, ◌∙◌, arith, Bool, false, List, [], ◌∷◌, ◌++◌}
-use Rattle.std.proofs.Common.{length, get_or, drop, append_assoc, add-one}
+use Rattle.std.proofs.Common.{◌≡◌, ℕ, ◌+◌, ◌<◌, sym, ap, ◌∙◌, arith, Bool, false, List, ◌∷◌, ◌++◌}
+use Rattle.std.proofs.Common.{length, get_or, drop, append_assoc}
 use Rattle.std.specs.Prelude.{Option, slice_index}
 use Rattle.cjc_capread.specs.Bytes.declared.fault.MemberId.{MemberId}
 use Rattle.cjc_ncode.specs.declared.narrow.NInsn.{NInsn}
 use Rattle.cjc_ncode.specs.declared.narrow.PoolKey.{PoolKey}
 use Rattle.cjc_emit.specs.Working.{all_written, written}
-
-drop_next : {A : Type 0} (xs : List A) (k : ℕ) (d : A) → k < length xs → drop k xs ≡ get_or xs k d ∷ drop (k + 1) xs
-drop_next {A = A} xs k d h = rw add-one (by xs k h)
-  where
-    by : (xs : List A) (k : ℕ) → k < length xs → drop k xs ≡ get_or xs k d ∷ drop (suc k) xs
-    by [] k h = absurd (omega arith)
-    by (x ∷ xs) zero h = refl
-    by (x ∷ xs) (suc k) h = by xs k (omega arith)
+use Rattle.cjc_capread.proofs.BytesGets.{from_index}
 
 pub step_written : (keys : List PoolKey) (token_of : MemberId → Option ℕ) (to : ℕ
     → ℕ) (places : List ℕ) (insns : List NInsn) (wide : List Bool) (k : ℕ) (i : NInsn) (front now old : List ℕ)
@@ -25,8 +18,9 @@ step_written keys token_of to places insns wide k i front now old h count is e f
     let w = get_or wide k false in
     let this = written keys token_of to (slice_index places k) w i in
     let rest = all_written keys token_of to places (k + 1) (drop (k + 1) insns) (drop (k + 1) wide) in
-    let a : drop k insns ≡ i ∷ drop (k + 1) insns = drop_next insns k i h ∙ ap (λ x. x ∷ drop (k + 1) insns) (sym is) in
-    let b : drop k wide ≡ w ∷ drop (k + 1) wide = drop_next wide k false (omega arith) in
+    let a : drop k insns ≡ i ∷ drop (k + 1) insns = from_index insns k i h ∙ ap (λ x. x ∷ drop (k + 1) insns)
+    (sym is) in
+    let b : drop k wide ≡ w ∷ drop (k + 1) wide = from_index wide k false (omega arith) in
     let whole : front ++ (this ++ rest) ≡ old =
     ap (λ ws. front ++ all_written keys token_of to places k (i ∷ drop (k + 1) insns) ws) (sym b)
     ∙ ap (λ is. front ++ all_written keys token_of to places k is (drop k wide)) (sym a) ∙ e in

@@ -1,22 +1,15 @@
 -- Constants that are added one after the other.
-use Rattle.std.proofs.Common.{◌≡◌, ℕ, suc, ◌+◌, ◌<◌, ◌≤◌, List, [], ◌∷◌, ◌++◌, refl, sym, ap, ◌∙◌, length, get_or, drop}
-use Rattle.std.proofs.Common.{drop-cons, add-one}
+use Rattle.std.proofs.Common.{◌≡◌, ℕ, ◌+◌, ◌<◌, ◌≤◌, List, [], ◌∷◌, ◌++◌, refl, sym, ap, ◌∙◌, length, get_or, drop}
 use Rattle.std.specs.List.{flat_map}
 use Rattle.std.proofs.lemmas.List.{drop_all}
-use Rattle.std.proofs.lemmas.List.Concat.{flat_map-cons}
 use Rattle.indexmap.specs.IndexSet.{insert_all, insert_key}
 use Rattle.cjc_export.specs.Constant.{Constant, same}
+use Rattle.cjc_bytes.proofs.Gets.{get_step}
 
 pub needs_append : (ks xs ys : List Constant) → insert_all same ks (xs ++ ys) ≡ insert_all same (insert_all same ks xs)
     ys
 needs_append ks [] ys = refl
 needs_append ks (x ∷ xs) ys = needs_append (insert_key same ks x) xs ys
-
--- an item of a list that is mapped and joined
-pub step : {A : Type 0} {B : Type 0} (f : A → List B) (list : List A) (i : ℕ) (d : A) → i < length list
-    → flat_map f (drop i list) ≡ f (get_or list i d) ++ flat_map f (drop (i + 1) list)
-step f list i d lt = rw add-one (ap (flat_map f) (drop-cons list i d lt)
-    ∙ flat_map-cons f (get_or list i d) (drop (suc i) list))
 
 pub needs_next : {A : Type 0} (f : A → List Constant) (ks : List Constant) (list : List A) (i : ℕ) (d : A)
     (total : List Constant) → i < length list
@@ -24,7 +17,7 @@ pub needs_next : {A : Type 0} (f : A → List Constant) (ks : List Constant) (li
     (flat_map f (drop (i + 1) list)) ≡ total
 needs_next f ks list i d total lt so_far =
     sym (needs_append ks (f (get_or list i d)) (flat_map f (drop (i + 1) list)))
-    ∙ (ap (insert_all same ks) (sym (step f list i d lt)) ∙ so_far)
+    ∙ (ap (insert_all same ks) (sym (get_step f list i d lt)) ∙ so_far)
 
 pub needs_end : {A : Type 0} (f : A → List Constant) (ks : List Constant) (list : List A) (i : ℕ)
     (total : List Constant) → length list ≤ i

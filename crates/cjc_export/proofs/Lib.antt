@@ -10,3 +10,12 @@ pub mod Worth
 pub mod Entries
 pub mod Spelt
 pub mod Upwards
+-- Lemmas of lower crates, for those above.
+pub use Rattle.cjc_bytes.proofs.Bools as BytesBools
+pub use Rattle.cjc_bytes.proofs.BrokenRules as BytesBrokenRules
+pub use Rattle.cjc_bytes.proofs.Gets as BytesGets
+pub use Rattle.cjc_bytes.proofs.Integers as BytesIntegers
+pub use Rattle.cjc_bytes.proofs.Lists as BytesLists
+pub use Rattle.cjc_bytes.proofs.Numbers as BytesNumbers
+pub use Rattle.cjc_bytes.proofs.Plain as BytesPlain
+pub use Rattle.cjc_bytes.proofs.Quantified as BytesQuantified

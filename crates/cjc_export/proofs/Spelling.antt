@@ -9,7 +9,6 @@ use Rattle.std.specs.Int.{w8, w16, w32, to_be_bytes, from_be_bytes, cast_signed,
 use Rattle.std.proofs.lemmas.Nat.{from_be_bytes-to_be_bytes_2, from_be_bytes-to_be_bytes_4}
 use Rattle.std.proofs.lemmas.Int.{to_z-of_z}
 use Rattle.std.proofs.lemmas.List.{append-nil}
-use Rattle.cjc_bytes.proofs.Inverse.{all_at}
 use Rattle.cjc_bytes.specs.Format.{Format, number, looked_up, gives, ◌>>=◌, Spells, FileSpells, repeated, iterated, u1}
 use Rattle.cjc_bytes.specs.Format.{u2, u4, raw}
 use Rattle.cjc_bytes.specs.Found.{kept, all_of, ◌>>=◌ as ◌>>>◌}
@@ -22,6 +21,8 @@ use Rattle.cjc_export.specs.declared.tree.ExportTree.{ExportTree}
 use Rattle.cjc_export.specs.declared.file.Package.{Package}
 use Rattle.cjc_export.specs.Words.{exactly, broken_where}
 use Rattle.cjc_bytes.specs.AccessFlags.{is_static, is_final, is_interface}
+use Rattle.cjc_bytes.proofs.Gets.{all_at}
+use Rattle.cjc_bytes.proofs.Bools.{and_false}
 use Rattle.cjc_export.specs.Entry.{Entry, package_info}
 use Rattle.cjc_export.specs.Entry as entries
 use Rattle.cjc_export.specs.Pool.{tag_of, counted, index, aid_length, is_library, content, entry, as_text, as_class}
@@ -149,10 +150,6 @@ module _ (t : ExportTree) (pool : List Constant) where
   )
 
 -- ---- tests of tokens
-
-and_false : (b : Bool) → (b && false) ≡ false
-and_false true = refl
-and_false false = refl
 
 untaken : (taken x : Bool) → (taken && true) ≡ false → (taken && x) ≡ false
 untaken true x e = absurd (true≢false e)

@@ -12,6 +12,7 @@ use Rattle.std.proofs.lemmas.Slice.Eq.{bytes_eq-Decides}
 use Rattle.std.proofs.lemmas.List.{append-nil}
 use Rattle.std.proofs.lemmas.List.Elements.{recursion_from_All, All-from_get_or}
 use Rattle.std.proofs.lemmas.List.Folds.{list_any-append}
+use Rattle.std.proofs.lemmas.Bool.{or_right}
 use Rattle.cjc_bytes.specs.Format.{Spells, FileSpells, repeated, iterated, Format}
 use Rattle.cjc_bytes.specs.Descriptor.{Parts}
 use Rattle.cjc_bytes.specs.Spots.{desc_of}
@@ -43,9 +44,11 @@ use Rattle.cjc_export.specs.Written.{written}
 use Rattle.cjc_export.specs.Writable.{IsText, ValueFits, FieldFits, MethodStands, ClassFits, AreBytes, IsWritable}
 use Rattle.cjc_export.specs.Writable.{EachAfter}
 use Rattle.cjc_export.proofs.Numbering.{Has, all_append}
-use Rattle.cjc_export.proofs.Worth.{total, or_right, worth_at_most}
-use Rattle.cjc_bytes.proofs.Inverse.{all_at, InBytes, with_inner, number8, number16, number32, u1_is, u2_is, found_is}
-use Rattle.cjc_bytes.proofs.Inverse.{here_is, given, mapped}
+use Rattle.cjc_export.proofs.Worth.{total, worth_at_most}
+use Rattle.cjc_bytes.proofs.Inverse.{InBytes, with_inner, number8, number16, number32, u1_is, u2_is, found_is}
+use Rattle.cjc_bytes.proofs.Inverse.{here_is, given}
+use Rattle.cjc_bytes.proofs.Gets.{all_at}
+use Rattle.cjc_bytes.proofs.Options.{option_mapped}
 use Rattle.cjc_export.proofs.Entries.{entry_sizes, EntryFits, cond_same, cond_other, chosen, entries_read, named, meant}
 use Rattle.cjc_export.proofs.Entries.{size_of, one_each, meant_sizes, meant_ones}
 
@@ -731,7 +734,7 @@ record PackageFound (pool : List Entry) (p : Package) : Type 0 where
 package_entry : (pool : List Entry) → AllByRecursion EntryFits pool → (i : ℕ) (x : Entry) (p : Package)
     → slice_get pool i ≡ Some x → package_of pool x ≡ Some p → PackageFound pool p
 package_entry pool fit i (entries.package_info library name minor major aid) p is f =
-    let made = mapped (package_named library minor major aid) (text_at pool name.to) p f in
+    let made = option_mapped (package_named library minor major aid) (text_at pool name.to) p f in
     let fits = all_at EntryFits pool i (entries.package_info library name minor major aid) fit is in
     let t = text_here pool (length aid) fit name.to made.0 made.1 in
     let mine : (length aid == length aid) ≡ true = (Decides-eqb (length aid) (length aid)).1 refl in

@@ -4,44 +4,29 @@ use Rattle.std.proofs.Common.{[], ◌∷◌, ◌++◌, length, map, inl, inr, Op
 use Rattle.std.specs.Prelude.{◌⊎◌, ◌||◌, not, ◌&&◌, if◌then◌else◌}
 use Rattle.std.specs.List.{AllByRecursion}
 use Rattle.std.specs.Str.{bytes_eq}
-use Rattle.std.proofs.lemmas.Slice.Eq.{bytes_eq-Decides}
 use Rattle.std.proofs.lemmas.List.{length-append}
+use Rattle.std.proofs.lemmas.Bool.{or_left, or_right, or_parts, false_from_ne_true}
 use Rattle.cjc_export.specs.declared.tree.ExportClass.{ExportClass}
 use Rattle.cjc_export.specs.Supers.{class_named, is_one_of, are_apart, IsAtOrAbove, at, above, with_class, upwards_from}
 use Rattle.cjc_export.specs.Supers.{super_count, upwards}
+use Rattle.cjc_bytes.proofs.Lists.{name_is, bytes_true}
+use Rattle.cjc_bytes.proofs.Bools.{or_cases}
 
 -- ---- names
 
-same_name : (x y : List ℕ) → bytes_eq x y ≡ true → x ≡ y
-same_name x y e = grind (arith, bytes_eq-Decides)
-
-name_is : (x : List ℕ) → bytes_eq x x ≡ true
-name_is x = grind (arith, bytes_eq-Decides)
-
-or_cases : (a b : Bool) → (a || b) ≡ true → (a ≡ true) ⊎ (b ≡ true)
-or_cases true b e = inl refl
-or_cases false b e = inr e
-
-or_right : (a b : Bool) → b ≡ true → (a || b) ≡ true
-or_right true b e = refl
-or_right false b e = e
-
-or_left : (a b : Bool) → a ≡ true → (a || b) ≡ true
-or_left true b e = refl
-or_left false b e = absurd cc
-
 -- the name in front, or one behind it
-one_cases : (x : List ℕ) (names : List (List ℕ)) (y : List ℕ) → is_one_of (x ∷ names) y ≡ true → (x ≡ y)
+pub one_cases : (x : List ℕ) (names : List (List ℕ)) (y : List ℕ) → is_one_of (x ∷ names) y ≡ true → (x ≡ y)
     ⊎ (is_one_of names y ≡ true)
 one_cases x names y e = elim (or_cases (bytes_eq x y) (is_one_of names y) e) [
-  | inl h ↦ inl (same_name x y h)
+  | inl h ↦ inl (bytes_true x y h)
   | inr h ↦ inr h
 ]
 
-one_here : (x : List ℕ) (names : List (List ℕ)) → is_one_of (x ∷ names) x ≡ true
+pub one_here : (x : List ℕ) (names : List (List ℕ)) → is_one_of (x ∷ names) x ≡ true
 one_here x names = or_left (bytes_eq x x) (is_one_of names x) (name_is x)
 
-one_more : (x : List ℕ) (names : List (List ℕ)) (y : List ℕ) → is_one_of names y ≡ true → is_one_of (x ∷ names) y ≡ true
+pub one_more : (x : List ℕ) (names : List (List ℕ)) (y : List ℕ) → is_one_of names y ≡ true → is_one_of (x ∷ names) y
+    ≡ true
 one_more x names y h = or_right (bytes_eq x y) (is_one_of names y) h
 
 one_left : (xs ys : List (List ℕ)) (y : List ℕ) → is_one_of xs y ≡ true → is_one_of (xs ++ ys) y ≡ true
@@ -76,7 +61,7 @@ named_so (d ∷ classes) x c e = go (bytes_eq d.name x) refl e (named_so classes
   where
     go : (b : Bool) → bytes_eq d.name x ≡ b → (if b then Some d else class_named classes x) ≡ Some c
         → (class_named classes x ≡ Some c → c.name ≡ x) → c.name ≡ x
-    go true f g rest = let h : d ≡ c = cc in ap (λ (k : ExportClass). k.name) (sym h) ∙ same_name d.name x f
+    go true f g rest = let h : d ≡ c = cc in ap (λ (k : ExportClass). k.name) (sym h) ∙ bytes_true d.name x f
     go false f g rest = rest g
 
 -- ---- how many supers are left
@@ -128,7 +113,7 @@ weight_drop x passed (d ∷ classes) c e f = go (bytes_eq d.name x) refl e (λ g
     go : (b : Bool) → bytes_eq d.name x ≡ b → (if b then Some d else class_named classes x) ≡ Some c
         → (class_named classes x ≡ Some c → length c.supers + weight (x ∷ passed) classes ≤ weight passed classes)
         → length c.supers + weight (x ∷ passed) (d ∷ classes) ≤ weight passed (d ∷ classes)
-    go true g h rest = let same : d ≡ c = cc in here same (same_name d.name x g)
+    go true g h rest = let same : d ≡ c = cc in here same (bytes_true d.name x g)
     go false g h rest = omega (arith, rest h, load_less (bytes_eq x d.name) (is_one_of passed d.name) (length d.supers))
 
 -- ---- all that stands above is found
@@ -388,23 +373,16 @@ record Once (passed found : List (List ℕ)) : Type 0 where
   new : (y : List ℕ) → is_one_of found y ≡ true → is_one_of passed y ≡ false
   apart : are_apart found ≡ true
 
-or_no : (a b : Bool) → (a || b) ≡ false → (a ≡ false) × (b ≡ false)
-or_no true b e = absurd cc
-or_no false b e = (refl, e)
-
-no_then : (b : Bool) → (b ≡ true → ⊥) → b ≡ false
-no_then true h = absurd (h refl)
-no_then false h = refl
-
 put_once : (x name : List ℕ) (passed found : List (List ℕ)) → name ≡ x → is_one_of passed x ≡ false
     → Once (x ∷ passed) found → Once passed (name ∷ found)
 put_once x name passed found is f r = record {
   new = λ y h. elim (one_cases name found y h) [
     | inl same ↦ ap (λ z. is_one_of passed z) (sym same ∙ is) ∙ f
-    | inr g ↦ (or_no (bytes_eq x y) (is_one_of passed y) (r.new y g)).1
+    | inr g ↦ (or_parts (bytes_eq x y) (is_one_of passed y) (r.new y g)).1
   ];
   apart =
-      let absent : is_one_of found name ≡ false = no_then (is_one_of found name) (λ g. let not : is_one_of (x ∷ passed)
+      let absent : is_one_of found name ≡ false = false_from_ne_true (is_one_of found name) (λ g. let not : is_one_of
+      (x ∷ passed)
       name ≡ false = r.new name g in let yes : is_one_of (x ∷ passed) name ≡ true =
       ap (λ z. is_one_of (x ∷ passed) z) is ∙ one_here x passed in let clash : true ≡ false = sym yes ∙ not in cc)
       in
@@ -426,7 +404,7 @@ once_from classes (suc n) passed (x ∷ names) = go (once_from classes n) (is_on
     go on true o f e = on passed names
     go on false None f e =
         let r = on (x ∷ passed) names in
-        record { new = λ y h. (or_no (bytes_eq x y) (is_one_of passed y) (r.new y h)).1; apart = r.apart }
+        record { new = λ y h. (or_parts (bytes_eq x y) (is_one_of passed y) (r.new y h)).1; apart = r.apart }
     go on false (Some c) f e = put_once x c.name passed _ (named_so classes x c e) f (on (x ∷ passed) (c.supers
         ++ names))
 

@@ -3,6 +3,7 @@ use Rattle.std.proofs.Common.{◌≡◌, ℕ, ◌+◌, ◌≤◌, Bool, true, fa
 use Rattle.std.proofs.Common.{arith, true≢false}
 use Rattle.std.specs.List.{AllByRecursion, list_any}
 use Rattle.std.proofs.lemmas.List.Folds.{list_any-append}
+use Rattle.std.proofs.lemmas.Bool.{or_right}
 use Rattle.indexmap.specs.IndexSet.{insert_all}
 use Rattle.cjc_export.specs.Constant.{Constant, same}
 use Rattle.cjc_export.specs.Working.Same.{same-Decides}
@@ -17,10 +18,6 @@ pub total-append : (w : Constant → ℕ) (xs ys : List Constant) → total w (x
 total-append w [] ys = omega arith
 total-append w (x ∷ xs) ys = let rest : total w (xs ++ ys) ≡ total w xs + total w ys = total-append w xs ys
     in omega arith
-
-pub or_right : (a b : Bool) → b ≡ true → (a || b) ≡ true
-or_right true b e = refl
-or_right false b e = e
 
 -- the list without the constant's first place
 abbrev without : Constant → List Constant → List Constant

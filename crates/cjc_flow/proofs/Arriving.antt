@@ -10,6 +10,7 @@ use Rattle.cjc_types.specs.Steps as typed
 use Rattle.cjc_types.specs.Tables.{state_of}
 use Rattle.cjc_intervals.specs.Frames.{StackOf, Cells, Clash, RangeState}
 use Rattle.cjc_intervals.specs.Flow.{number_range, number_ranges, rounded, by_types}
+use Rattle.cjc_intervals.proofs.Flow.{rounded_length, number_length}
 use Rattle.cjc_flow.specs.Working.Arriving.{rounded_cells, rounded_span, known_in, all_known, stack_known}
 
 number_at : (types : List Cell) (s : List Span) (k : ℕ) (d e : Span) → k < length s → get_or (number_ranges types s) k d
@@ -20,11 +21,6 @@ number_at [] (x ∷ xs) (suc k) d e lt = number_at [] xs k d e (omega (arith, lt
 number_at (c ∷ cs) (x ∷ xs) zero d e lt = refl
 number_at (c ∷ cs) (x ∷ xs) (suc k) d e lt = number_at cs xs k d e (omega (arith, lt))
 
-pub number_sized : (types : List Cell) (s : List Span) → length (number_ranges types s) ≡ length s
-number_sized types [] = refl
-number_sized [] (x ∷ xs) = ap suc (number_sized [] xs)
-number_sized (c ∷ cs) (x ∷ xs) = ap suc (number_sized cs xs)
-
 known_at : (o : Option (List Cell)) (s : List Span) (k : ℕ) (d : Span) → k < length s → get_or (all_known o s) k d
     ≡ known_in o k (get_or s k d)
 known_at None s k d lt = refl
@@ -32,14 +28,10 @@ known_at (Some types) s k d lt = number_at types s k d d lt
 
 known_sized : (o : Option (List Cell)) (s : List Span) → length (all_known o s) ≡ length s
 known_sized None s = refl
-known_sized (Some types) s = number_sized types s
-
-map_sized : (s : List Span) → length (map round_row s) ≡ length s
-map_sized [] = refl
-map_sized (x ∷ xs) = ap suc (map_sized xs)
+known_sized (Some types) s = number_length types s
 
 rounded_sized : (is : Bool) (s : List Span) → length (rounded_cells is s) ≡ length s
-rounded_sized true s = map_sized s
+rounded_sized true s = rounded_length s
 rounded_sized false s = refl
 
 round_at : (s : List Span) (k : ℕ) (d e : Span) → k < length s → get_or (map round_row s) k d ≡ round_row (get_or s k e)

@@ -3,7 +3,7 @@ use Rattle.std.proofs.Common.{◌≡◌, ◌==◌, ◌<◌, ◌+◌, ℕ, zero, 
 use Rattle.std.proofs.Common.{map, drop, filter_map, length, slice_get, get_or, Option, Some, None, option_map, All}
 use Rattle.std.proofs.Common.{Contains, refl, sym, ◌∙◌, ap, subst, inl, inr, arith, ℤ}
 use Rattle.std.specs.List.{AllZip, cons_option, range_with_len}
-use Rattle.std.proofs.lemmas.Bool.{ltb-true, ltb-false}
+use Rattle.std.proofs.lemmas.Bool.{ltb-true, ltb-false, and_from}
 use Rattle.std.proofs.lemmas.List.Elements.{All-head, All-tail, Contains-append_cases}
 use Rattle.std.proofs.lemmas.Option.{slice_get-get_or, get_or_from_slice_get}
 use Rattle.cjc_fixpoint.specs.Bytes.declared.fault.MemberId.{MemberId}
@@ -56,7 +56,8 @@ use Rattle.cjc_flow.specs.Working.KeptLaws.{kept_laws, own_caught, own_after_at}
 use Rattle.cjc_flow.proofs.Loading.{rows_sized}
 use Rattle.cjc_flow.proofs.Marked.{not_target}
 use Rattle.cjc_flow.proofs.Normal.{fits, fits_stack, fits_state, HasArray, fits_same, fits_up, fits_numbers, stack_fits}
-use Rattle.cjc_flow.proofs.Normal.{locals_fit, both, first_of_two, second_of_two}
+use Rattle.cjc_flow.proofs.Normal.{locals_fit}
+use Rattle.cjc_fixpoint.proofs.BytesBools.{both_front, both_back}
 
 -- ---- rows that fit
 
@@ -74,8 +75,9 @@ row_up : (n : ℕ) (row : Option State) (x y : RangeState) → (states n).Below 
     → fits_row row y ≡ true
 row_up n None x y h e = refl
 row_up n (Some t) x y h e =
-    both _ _ (stack_up (cells_of t.stack) x.stack y.stack h.0 (first_of_two _ _ e)) (fits_up t.locals x.locals y.locals
-    h.1 (second_of_two (fits_stack (cells_of t.stack) x.stack) _ e))
+    and_from _ _ (stack_up (cells_of t.stack) x.stack y.stack h.0 (both_front _ _ e))
+    (fits_up t.locals x.locals y.locals
+    h.1 (both_back (fits_stack (cells_of t.stack) x.stack) _ e))
 
 stack_fits_types : (cells : List Cell) (s : StackOf Span) → fits_stack cells (stack_of_types cells s) ≡ true
 stack_fits_types cells (Cells s) = fits_numbers cells s
@@ -83,7 +85,7 @@ stack_fits_types cells Clash = refl
 
 types_fit : (row : Option State) (x : RangeState) → fits_row row (by_types row x) ≡ true
 types_fit None x = refl
-types_fit (Some t) x = both _ _ (stack_fits_types (cells_of t.stack) x.stack) (fits_numbers t.locals x.locals)
+types_fit (Some t) x = and_from _ _ (stack_fits_types (cells_of t.stack) x.stack) (fits_numbers t.locals x.locals)
 
 stack_same : (cells : List Cell) (s : StackOf Span) → IsStack spans s → fits_stack cells s ≡ true
     → stack_of_types cells s ≡ s
@@ -96,8 +98,8 @@ types_same n None x own e = refl
 types_same n (Some t) x own e =
     let make : StackOf Span → List Span → RangeState = λ s l. record { stack = s; locals = l } in
     ap (λ (s : StackOf Span). make s (number_ranges t.locals x.locals)) (stack_same (cells_of t.stack) x.stack own.0
-    (first_of_two _ _ e))
-    ∙ ap (make x.stack) (fits_same t.locals x.locals own.1.own (second_of_two (fits_stack (cells_of t.stack) x.stack) _
+    (both_front _ _ e))
+    ∙ ap (make x.stack) (fits_same t.locals x.locals own.1.own (both_back (fits_stack (cells_of t.stack) x.stack) _
     e))
 
 -- ---- what is below by types
@@ -230,11 +232,11 @@ step_fits : (constant : MemberId → Option ℤ) → AreNumbers constant → (op
 step_fits constant numbers op f g x same e array h =
     let is : typed.stack_after op f.locals (typed_stacks.Cells f.stack) ≡ typed_stacks.Cells g.stack =
     ap (λ (s : State). s.stack) e in
-    both _ _
+    and_from _ _
     (subst (λ (s : Stack). fits_stack (cells_of s) (stack_after constant op f.stack x.locals x.stack) ≡ true) (sym is)
     (stack_fits constant numbers op f.stack f.locals g.stack x.stack x.locals array is
-    (first_of_two (fits_stack f.stack x.stack) (fits f.locals x.locals) h)))
-    (locals_fit op f.stack f.locals x.stack x.locals same (second_of_two (fits_stack f.stack x.stack)
+    (both_front (fits_stack f.stack x.stack) (fits f.locals x.locals) h)))
+    (locals_fit op f.stack f.locals x.stack x.locals same (both_back (fits_stack f.stack x.stack)
     (fits f.locals x.locals) h))
 
 -- ---- the tables

@@ -5,7 +5,7 @@ use Rattle.std.proofs.Common.{ℤ, pos, negsuc, int_le}
 use Rattle.std.specs.List.{AllZip}
 use Rattle.std.proofs.lemmas.List.Elements.{All-head, All-tail}
 use Rattle.std.proofs.lemmas.Int.{ints}
-use Rattle.std.proofs.lemmas.Bool.{eqb-true}
+use Rattle.std.proofs.lemmas.Bool.{eqb-true, and_from}
 use Rattle.cjc_fixpoint.specs.Bytes.Descriptor.{Part}
 use Rattle.cjc_fixpoint.specs.Bytes.declared.fault.MemberId.{MemberId}
 use Rattle.cjc_fixpoint.specs.Bytes.declared.descriptor.Kind.{Kind}
@@ -32,6 +32,7 @@ use Rattle.cjc_intervals.specs.Steps.{operand, field_range, loaded, gives, stack
 use Rattle.cjc_intervals.specs.Steps.{locals_after}
 use Rattle.cjc_intervals.specs.Flow.{number_range, number_ranges}
 use Rattle.cjc_flow.specs.Constants.{AreNumbers}
+use Rattle.cjc_fixpoint.proofs.BytesBools.{both_front, both_back}
 
 -- ---- full intervals
 
@@ -83,19 +84,6 @@ or_same : (a b c : Bool) → (b ≡ true → c ≡ true) → (a || b) ≡ true �
 or_same true b c h e = refl
 or_same false b c h e = h e
 
-pub both : (a b : Bool) → a ≡ true → b ≡ true → (a && b) ≡ true
-both true true h k = refl
-both true false h k = absurd cc
-both false b h k = absurd cc
-
-pub first_of_two : (a b : Bool) → (a && b) ≡ true → a ≡ true
-first_of_two true b h = refl
-first_of_two false b h = absurd cc
-
-pub second_of_two : (a b : Bool) → (a && b) ≡ true → b ≡ true
-second_of_two true b h = h
-second_of_two false b h = absurd cc
-
 number_fits : (c : Cell) (s : Span) → fits_cell c (number_range c s) ≡ true
 number_fits c s = go (is_number c)
   where
@@ -120,31 +108,32 @@ fits (c ∷ cs) (s ∷ ss) = fits_cell c s && fits cs ss
 pub fits_same : (cells : List Cell) (s : List Span) → All IsWord s → fits cells s ≡ true → number_ranges cells s ≡ s
 fits_same cells [] own e = refl
 fits_same [] (x ∷ xs) own e =
-    ap (λ (y : Span). y ∷ number_ranges [] xs) (sym (full_is x (All-head IsWord x xs own) (first_of_two (is_full x)
+    ap (λ (y : Span). y ∷ number_ranges [] xs) (sym (full_is x (All-head IsWord x xs own) (both_front (is_full x)
     (fits [] xs) e)))
-    ∙ ap (λ (ys : List Span). x ∷ ys) (fits_same [] xs (All-tail IsWord x xs own) (second_of_two (is_full x)
+    ∙ ap (λ (ys : List Span). x ∷ ys) (fits_same [] xs (All-tail IsWord x xs own) (both_back (is_full x)
     (fits [] xs) e))
 fits_same (c ∷ cs) (x ∷ xs) own e =
-    ap (λ (y : Span). y ∷ number_ranges cs xs) (number_same c x (All-head IsWord x xs own) (first_of_two (fits_cell c x)
+    ap (λ (y : Span). y ∷ number_ranges cs xs) (number_same c x (All-head IsWord x xs own) (both_front (fits_cell c x)
     (fits cs xs) e))
-    ∙ ap (λ (ys : List Span). x ∷ ys) (fits_same cs xs (All-tail IsWord x xs own) (second_of_two (fits_cell c x)
+    ∙ ap (λ (ys : List Span). x ∷ ys) (fits_same cs xs (All-tail IsWord x xs own) (both_back (fits_cell c x)
     (fits cs xs) e))
 
 pub fits_up : (cells : List Cell) (s t : List Span) → AllZip Within s t → fits cells s ≡ true → fits cells t ≡ true
 fits_up cells [] [] h e = refl
 fits_up cells [] (y ∷ ys) h e = absurd h
 fits_up cells (x ∷ xs) [] h e = absurd h
-fits_up [] (x ∷ xs) (y ∷ ys) h e = both (is_full y) (fits [] ys) (full_up x y h.0 (first_of_two (is_full x) (fits [] xs)
-    e)) (fits_up [] xs ys h.1 (second_of_two (is_full x) (fits [] xs) e))
+fits_up [] (x ∷ xs) (y ∷ ys) h e = and_from (is_full y) (fits [] ys) (full_up x y h.0 (both_front (is_full x)
+    (fits [] xs)
+    e)) (fits_up [] xs ys h.1 (both_back (is_full x) (fits [] xs) e))
 fits_up (c ∷ cs) (x ∷ xs) (y ∷ ys) h e =
-    both (fits_cell c y) (fits cs ys) (or_same (is_number c) (is_full x) (is_full y) (full_up x y h.0)
-    (first_of_two (fits_cell c x) (fits cs xs) e))
-    (fits_up cs xs ys h.1 (second_of_two (fits_cell c x) (fits cs xs) e))
+    and_from (fits_cell c y) (fits cs ys) (or_same (is_number c) (is_full x) (is_full y) (full_up x y h.0)
+    (both_front (fits_cell c x) (fits cs xs) e))
+    (fits_up cs xs ys h.1 (both_back (fits_cell c x) (fits cs xs) e))
 
 pub fits_numbers : (cells : List Cell) (s : List Span) → fits cells (number_ranges cells s) ≡ true
 fits_numbers cells [] = refl
-fits_numbers [] (x ∷ xs) = both (is_full full) _ full_full (fits_numbers [] xs)
-fits_numbers (c ∷ cs) (x ∷ xs) = both _ _ (number_fits c x) (fits_numbers cs xs)
+fits_numbers [] (x ∷ xs) = and_from (is_full full) _ full_full (fits_numbers [] xs)
+fits_numbers (c ∷ cs) (x ∷ xs) = and_from _ _ (number_fits c x) (fits_numbers cs xs)
 
 fits_append : (cs ds : List Cell) (xs ys : List Span) → length cs ≡ length xs → fits cs xs ≡ true → fits ds ys ≡ true
     → fits (cs ++ ds) (xs ++ ys) ≡ true
@@ -152,43 +141,43 @@ fits_append [] ds [] ys same h k = k
 fits_append [] ds (x ∷ xs) ys same h k = absurd (omega (arith, same))
 fits_append (c ∷ cs) ds [] ys same h k = absurd (omega (arith, same))
 fits_append (c ∷ cs) ds (x ∷ xs) ys same h k =
-    both (fits_cell c x) (fits (cs ++ ds) (xs ++ ys)) (first_of_two (fits_cell c x) (fits cs xs) h)
-    (fits_append cs ds xs ys (omega (arith, same)) (second_of_two (fits_cell c x) (fits cs xs) h) k)
+    and_from (fits_cell c x) (fits (cs ++ ds) (xs ++ ys)) (both_front (fits_cell c x) (fits cs xs) h)
+    (fits_append cs ds xs ys (omega (arith, same)) (both_back (fits_cell c x) (fits cs xs) h) k)
 
 fits_drop : (n : ℕ) (cells : List Cell) (s : List Span) → fits cells s ≡ true → fits (drop n cells) (drop n s) ≡ true
 fits_drop zero cells s e = e
 fits_drop (suc n) [] [] e = refl
 fits_drop (suc n) (c ∷ cs) [] e = refl
-fits_drop (suc n) [] (x ∷ xs) e = drop_none n xs (second_of_two (is_full x) (fits [] xs) e)
+fits_drop (suc n) [] (x ∷ xs) e = drop_none n xs (both_back (is_full x) (fits [] xs) e)
   where
     drop_none : (n : ℕ) (xs : List Span) → fits [] xs ≡ true → fits [] (drop n xs) ≡ true
     drop_none zero xs e = e
     drop_none (suc n) [] e = refl
-    drop_none (suc n) (x ∷ xs) e = drop_none n xs (second_of_two (is_full x) (fits [] xs) e)
-fits_drop (suc n) (c ∷ cs) (x ∷ xs) e = fits_drop n cs xs (second_of_two (fits_cell c x) (fits cs xs) e)
+    drop_none (suc n) (x ∷ xs) e = drop_none n xs (both_back (is_full x) (fits [] xs) e)
+fits_drop (suc n) (c ∷ cs) (x ∷ xs) e = fits_drop n cs xs (both_back (fits_cell c x) (fits cs xs) e)
 
 fits_operand : (cells : List Cell) (s : List Span) (k : ℕ) → fits cells s ≡ true
     → fits_cell (typed.operand cells k) (operand s k) ≡ true
 fits_operand cells [] k e = or_full (is_number (typed.operand cells k))
-fits_operand [] (x ∷ xs) zero e = first_of_two (is_full x) (fits [] xs) e
-fits_operand [] (x ∷ xs) (suc k) e = fits_operand [] xs k (second_of_two (is_full x) (fits [] xs) e)
-fits_operand (c ∷ cs) (x ∷ xs) zero e = first_of_two (fits_cell c x) (fits cs xs) e
-fits_operand (c ∷ cs) (x ∷ xs) (suc k) e = fits_operand cs xs k (second_of_two (fits_cell c x) (fits cs xs) e)
+fits_operand [] (x ∷ xs) zero e = both_front (is_full x) (fits [] xs) e
+fits_operand [] (x ∷ xs) (suc k) e = fits_operand [] xs k (both_back (is_full x) (fits [] xs) e)
+fits_operand (c ∷ cs) (x ∷ xs) zero e = both_front (fits_cell c x) (fits cs xs) e
+fits_operand (c ∷ cs) (x ∷ xs) (suc k) e = fits_operand cs xs k (both_back (fits_cell c x) (fits cs xs) e)
 
 fits_set : (cells : List Cell) (s : List Span) (k : ℕ) (c : Cell) (x : Span) → length cells ≡ length s
     → fits cells s ≡ true → fits_cell c x ≡ true → fits (slice_set cells k c) (slice_set s k x) ≡ true
 fits_set [] [] k c x same e h = refl
 fits_set [] (y ∷ ys) k c x same e h = absurd (omega (arith, same))
 fits_set (d ∷ ds) [] k c x same e h = absurd (omega (arith, same))
-fits_set (d ∷ ds) (y ∷ ys) zero c x same e h = both (fits_cell c x) (fits ds ys) h (second_of_two (fits_cell d y)
+fits_set (d ∷ ds) (y ∷ ys) zero c x same e h = and_from (fits_cell c x) (fits ds ys) h (both_back (fits_cell d y)
     (fits ds ys) e)
-fits_set (d ∷ ds) (y ∷ ys) (suc k) c x same e h = both (fits_cell d y) _ (first_of_two (fits_cell d y) (fits ds ys) e)
-    (fits_set ds ys k c x (omega (arith, same)) (second_of_two (fits_cell d y) (fits ds ys) e) h)
+fits_set (d ∷ ds) (y ∷ ys) (suc k) c x same e h = and_from (fits_cell d y) _ (both_front (fits_cell d y) (fits ds ys) e)
+    (fits_set ds ys k c x (omega (arith, same)) (both_back (fits_cell d y) (fits ds ys) e) h)
 
 fits_shuffled : (ks : List ℕ) (cells : List Cell) (s : List Span) → fits cells s ≡ true
     → fits (map (typed.operand cells) ks) (map (operand s) ks) ≡ true
 fits_shuffled [] cells s e = refl
-fits_shuffled (k ∷ ks) cells s e = both _ _ (fits_operand cells s k e) (fits_shuffled ks cells s e)
+fits_shuffled (k ∷ ks) cells s e = and_from _ _ (fits_operand cells s k e) (fits_shuffled ks cells s e)
 
 shuffled_sized : (ks : List ℕ) (cells : List Cell) (s : List Span) → length (map (typed.operand cells) ks)
     ≡ length (map (operand s) ks)
@@ -206,7 +195,7 @@ none_fits : Fits [] []
 none_fits = record { sized = refl; fit = refl }
 
 one_fits : (c : Cell) (s : Span) → fits_cell c s ≡ true → Fits (c ∷ []) (s ∷ [])
-one_fits c s h = record { sized = refl; fit = both (fits_cell c s) true h refl }
+one_fits c s h = record { sized = refl; fit = and_from (fits_cell c s) true h refl }
 
 full_fits : (c : Cell) → Fits (c ∷ []) (full ∷ [])
 full_fits c = one_fits c full (or_full (is_number c))

@@ -2,8 +2,7 @@
 use Rattle.std.proofs.Common.{◌≡◌, ◌⊎◌, ◌≤◌, ◌<◌, ◌+◌, ℕ, zero, suc, Bool, true, false, cond, List, [], ◌∷◌, length}
 use Rattle.std.proofs.Common.{drop, slice_get, get_or, Option, Some, None, refl, sym, ◌∙◌, ap, subst, add-zero}
 use Rattle.std.proofs.Common.{zero-add, arith}
-use Rattle.std.proofs.lemmas.List.{drop_more}
-use Rattle.std.proofs.lemmas.Option.{slice_get_within, slice_get_read, get_or_from_slice_get}
+use Rattle.std.proofs.lemmas.Option.{slice_get_read, get_or_from_slice_get}
 use Rattle.cjc_types.specs.declared.cell.Cell.{Cell}
 use Rattle.cjc_types.specs.declared.state.Stack.{Stack}
 use Rattle.cjc_types.specs.declared.state.Stack.TheVariants.{Cells, Clash}
@@ -15,7 +14,8 @@ use Rattle.cjc_frames.specs.Acts.{Subtype, is_wrong, is_off, Breaks, clash, wron
 use Rattle.cjc_frames.specs.Flow.{Body}
 use Rattle.cjc_frames.specs.Search.{rule_of_act, rule_of_stack, first_rule, row_rule, or_later, first_from}
 use Rattle.cjc_frames.specs.Tables.{Breach, FirstBreach, IsLeastTable, IsUnbroken, IsBrokenAt}
-use Rattle.cjc_frames.proofs.Firsts.{is_first}
+use Rattle.cjc_fixpoint.proofs.BytesGets.{drop_at}
+use Rattle.cjc_fixpoint.proofs.BytesNumbers.{is_first}
 
 -- ---- the first rule of a state
 
@@ -270,10 +270,6 @@ first_breach is_of b rows f e = subst (λ (k : ℕ). FirstBreach is_of b rows k 
     first = is_first (λ (k r : ℕ). Breach is_of b rows k r) found.index f.rule earlier level
 
 -- ---- one place further
-
-drop_at : {X : Type 0} (xs : List X) (k : ℕ) (x : X) → slice_get xs k ≡ Some x → drop k xs ≡ x ∷ drop (k + 1) xs
-drop_at xs k x is = drop_more xs k x (slice_get_within xs k x is)
-    ∙ ap (λ y. y ∷ drop (k + 1) xs) (get_or_from_slice_get xs k x x is)
 
 -- what the rest of a search finds, where this row is next
 pub first_on : (is_of : Subtype) (n : ℕ) (steps : List Step) (rows : List (Option State)) (k : ℕ) (step : Step)

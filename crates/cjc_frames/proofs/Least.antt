@@ -1,7 +1,6 @@
 -- A method has one least table, and with it one answer.
-use Rattle.std.proofs.Common.{◌≡◌, ◌⊎◌, ◌≤◌, ◌<◌, ℕ, suc, List, [], ◌∷◌, length, slice_get, Option, Some, None}
+use Rattle.std.proofs.Common.{◌≡◌, ◌⊎◌, ◌≤◌, ◌<◌, ℕ, List, length, slice_get, Option, Some, None}
 use Rattle.std.proofs.Common.{MatchOption, refl, sym, ◌∙◌, ap, subst, inl, inr, arith}
-use Rattle.std.proofs.lemmas.Option.{slice_get_within, slice_get-get_or}
 use Rattle.cjc_fixpoint.specs.Bytes.declared.breaks.BrokenAt.{BrokenAt}
 use Rattle.cjc_fixpoint.specs.Tables.{HasRow}
 use Rattle.cjc_types.specs.declared.state.State.{State}
@@ -10,25 +9,9 @@ use Rattle.cjc_frames.specs.declared.acts.Step.{Step}
 use Rattle.cjc_frames.specs.Acts.{Subtype}
 use Rattle.cjc_frames.specs.Flow.{Body, frame_flow}
 use Rattle.cjc_frames.specs.Tables.{IsLeastTable, Breach, FirstBreach, IsUnbroken, IsBrokenAt}
+use Rattle.cjc_fixpoint.proofs.BytesGets.{same_by_get, not_past}
 
 -- ---- one least table
-
-same_by_get : {X : Type 0} (xs ys : List X) → ((k : ℕ) → slice_get xs k ≡ slice_get ys k) → xs ≡ ys
-same_by_get [] [] h = refl
-same_by_get [] (y ∷ ys) h = let e = h 0 in absurd cc
-same_by_get (x ∷ xs) [] h = let e = h 0 in absurd cc
-same_by_get (x ∷ xs) (y ∷ ys) h =
-    let first : x ≡ y = let e = h 0 in cc in
-    let rest : xs ≡ ys = same_by_get xs ys (λ k. h (suc k)) in
-    cc
-
--- a place of one list is one of another that is as long
-not_past : {X : Type 0} (xs ys : List X) (k : ℕ) (x : X) → length xs ≡ length ys → slice_get xs k ≡ Some x
-    → slice_get ys k ≡ None → ⊥
-not_past xs ys k x sized has none =
-    let lt = slice_get_within xs k x has in
-    let found = slice_get-get_or ys k x (omega (arith, lt, sized)) in
-    cc
 
 pub one_least : (b : Body) (xs ys : List (Option State)) → IsLeastTable b xs → IsLeastTable b ys → xs ≡ ys
 one_least b xs ys left right = same_by_get xs ys (λ k. go k (slice_get xs k) (slice_get ys k) refl refl)

@@ -1,22 +1,18 @@
 -- A search for a wrong operand, one place further.
 use Rattle.std.proofs.Common.{◌≡◌, ◌<◌, ◌≤◌, ◌+◌, ◌||◌, ℕ, Bool, true, false, not, List, [], ◌∷◌, length, drop, get_or}
 use Rattle.std.proofs.Common.{refl, sym, ◌∙◌, ap, drop_of_length-le}
-use Rattle.std.proofs.lemmas.List.{drop_more}
 use Rattle.cjc_types.specs.declared.cell.Cell.{Cell}
 use Rattle.cjc_frames.specs.declared.acts.Need.{Need}
 use Rattle.cjc_frames.specs.Acts.{Subtype, meets, has_wrong}
-
-dropped : {X : Type 0} (xs : List X) (k : ℕ) (x : X) → k < length xs → x ≡ get_or xs k x → drop k xs
-    ≡ x ∷ drop (k + 1) xs
-dropped xs k x lt is = drop_more xs k x lt ∙ ap (λ y. y ∷ drop (k + 1) xs) (sym is)
+use Rattle.cjc_fixpoint.proofs.BytesGets.{drop_next}
 
 module _ (is_of : Subtype) (needs : List Need) (stack : List Cell) (k : ℕ) (need : Need) (cell : Cell)
     (lt : k < length needs) (within : k < length stack) (is_need : need ≡ get_or needs k need)
     (is_cell : cell ≡ get_or stack k cell) where
   wrong_next : has_wrong is_of (drop k needs) (drop k stack) ≡ not (meets is_of need cell) || has_wrong is_of
       (drop (k + 1) needs) (drop (k + 1) stack)
-  wrong_next = ap (λ (ns : List Need). has_wrong is_of ns (drop k stack)) (dropped needs k need lt is_need)
-      ∙ ap (λ (xs : List Cell). has_wrong is_of (need ∷ drop (k + 1) needs) xs) (dropped stack k cell within is_cell)
+  wrong_next = ap (λ (ns : List Need). has_wrong is_of ns (drop k stack)) (drop_next needs k need lt is_need)
+      ∙ ap (λ (xs : List Cell). has_wrong is_of (need ∷ drop (k + 1) needs) xs) (drop_next stack k cell within is_cell)
 
   -- the operand here is wrong
   pub wrong_here : (met : Bool) → met ≡ meets is_of need cell → met ≡ false → has_wrong is_of (drop k needs)

@@ -5,3 +5,5 @@ pub mod Flow
 pub mod Tables
 pub mod Search
 pub mod Working
+-- Definitions of lower crates, for those above.
+pub use Rattle.cjc_types.specs as LowerTypes

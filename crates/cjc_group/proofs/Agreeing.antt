@@ -5,7 +5,11 @@ use Rattle.std.specs.Prelude.{◌&&◌, ◌||◌, not, slice_get}
 use Rattle.std.specs.List.{list_any}
 use Rattle.std.specs.Str.{bytes_eq}
 use Rattle.std.proofs.lemmas.Slice.Eq.{bytes_eq-Decides}
-use Rattle.cjc_bytes.specs.Breaks.{Break, RulePlace, at, each_from}
+use Rattle.std.proofs.lemmas.Bool.{or_parts, and_from}
+use Rattle.cjc_bytes.specs.Breaks.{Break, at, each_from}
+use Rattle.cjc_bytes.proofs.Bools.{not_false, true_not_false}
+use Rattle.cjc_bytes.proofs.BrokenRules.{not_broken, empty_both}
+use Rattle.cjc_bytes.proofs.Gets.{any_off}
 use Rattle.cjc_world.specs.ExportFile.declared.tree.ExportClass.{ExportClass}
 use Rattle.cjc_world.specs.ExportFile.declared.tree.ExportTree.{ExportTree}
 use Rattle.cjc_group.specs.Agree.{Agree, Imports, IsWrittenBefore}
@@ -19,37 +23,15 @@ use Rattle.cjc_group.proofs.Alike.{tree-Decides}
 
 -- ---- tests
 
-neither : (a b : Bool) → (a || b) ≡ false → (a ≡ false) × (b ≡ false)
-neither true b e = absurd cc
-neither false b e = (refl, e)
-
 not_both : (a b : Bool) → (a && b) ≡ false → a ≡ true → b ≡ false
 not_both true b e is = e
 not_both false b e is = absurd cc
-
-so : (b : Bool) → not b ≡ false → b ≡ true
-so true e = refl
-so false e = absurd cc
 
 either_true : (a b : Bool) → (a ≡ true) ⊎ (b ≡ true) → (a || b) ≡ true
 either_true true b h = refl
 either_true false b h = elim h [ inl e ↦ absurd cc | inr e ↦ e ]
 
-and_true : (a b : Bool) → a ≡ true → b ≡ true → (a && b) ≡ true
-and_true true b e f = f
-and_true false b e f = absurd cc
-
-no_both : (b : Bool) → b ≡ true → b ≡ false → ⊥
-no_both b e f = cc
-
 -- ---- lists
-
-none_of : {A : Type 0} (f : A → Bool) (xs : List A) (k : ℕ) (x : A) → list_any f xs ≡ false → slice_get xs k ≡ Some x
-    → f x ≡ false
-none_of f [] k x e g = absurd cc
-none_of f (y ∷ xs) zero x e g =
-    let same : y ≡ x = cc in subst (λ z. f z ≡ false) same (neither (f y) (list_any f xs) e).0
-none_of f (y ∷ xs) (suc k) x e g = none_of f xs k x (neither (f y) (list_any f xs) e).1 g
 
 -- one of a list, by its place
 record OneOf {A : Type 0} (f : A → Bool) (xs : List A) : Type 0 where
@@ -92,14 +74,6 @@ in_back (y ∷ xs) (suc i) (suc j) x le g =
 
 -- ---- breaks
 
-both_none : (xs ys : List Break) → xs ++ ys ≡ [] → (xs ≡ []) × (ys ≡ [])
-both_none [] ys e = (refl, e)
-both_none (x ∷ xs) ys e = absurd cc
-
-unbroken : (test : Bool) (s : RulePlace) (rule : ℕ) → at test s rule ≡ [] → test ≡ false
-unbroken true s rule e = absurd cc
-unbroken false s rule e = refl
-
 each_none : {A : Type 0} (f : ℕ → A → List Break) (n : ℕ) (xs : List A) (k : ℕ) (x : A) → each_from f n xs ≡ []
     → slice_get xs k ≡ Some x → f (n + k) x ≡ []
 unfolding each_from
@@ -107,10 +81,10 @@ each_none f n [] k x e g = absurd cc
 each_none f n (y ∷ xs) zero x e g =
     let same : y ≡ x = cc in
     let at_n : n ≡ n + 0 = omega arith in
-    subst (λ k. f k x ≡ []) at_n (subst (λ z. f n z ≡ []) same (both_none (f n y) (each_from f (n + 1) xs) e).0)
+    subst (λ k. f k x ≡ []) at_n (subst (λ z. f n z ≡ []) same (empty_both (f n y) (each_from f (n + 1) xs) e).0)
 each_none f n (y ∷ xs) (suc k) x e g =
     let at_k : n + 1 + k ≡ n + suc k = omega arith in
-    subst (λ m. f m x ≡ []) at_k (each_none f (n + 1) xs k x (both_none (f n y) (each_from f (n + 1) xs) e).1 g)
+    subst (λ m. f m x ≡ []) at_k (each_none f (n + 1) xs k x (empty_both (f n y) (each_from f (n + 1) xs) e).1 g)
 
 -- ---- a package
 
@@ -129,21 +103,21 @@ module _ (group : List Member) (none : breaks group ≡ []) where
       let here : member_breaks group i p ≡ [] =
       subst (λ k. member_breaks group k p ≡ []) (let z : 0 + i ≡ i = omega arith in z)
       (each_none (λ i p. member_breaks group i p) 0 group i p none g) in
-      let list : list_breaks group i p ≡ [] = (both_none (list_breaks group i p) (class_breaks group i p) here).0 in
+      let list : list_breaks group i p ≡ [] = (empty_both (list_breaks group i p) (class_breaks group i p) here).0 in
       let other = list_any (λ m. imports_other p m) (take i group) in
       let late = list_any (λ m. imports p m) (drop i group) || imports_resting group p in
       let named = list_any (λ m. is_named_alike p m) (take i group) in
       let differing = list_any (λ m. imports_differing group p m) (take i group) in
-      let three = both_none (at other s 731 ++ at late s 732 ++ at named s 733) (at differing s 734) list in
-      let two = both_none (at other s 731 ++ at late s 732) (at named s 733) three.0 in
-      let one = both_none (at other s 731) (at late s 732) two.0 in
-      let late_parts = neither _ _ (unbroken late s 732 one.1) in
+      let three = empty_both (at other s 731 ++ at late s 732 ++ at named s 733) (at differing s 734) list in
+      let two = empty_both (at other s 731 ++ at late s 732) (at named s 733) three.0 in
+      let one = empty_both (at other s 731) (at late s 732) two.0 in
+      let late_parts = or_parts _ _ (not_broken late s 732 one.1) in
       record {
-        other = unbroken other s 731 one.0;
+        other = not_broken other s 731 one.0;
         later = late_parts.0;
         resting = late_parts.1;
-        named = unbroken named s 733 two.1;
-        differing = unbroken differing s 734 three.1;
+        named = not_broken named s 733 two.1;
+        differing = not_broken differing s 734 three.1;
       }
 
   -- an import that is of a package of the group is what is written for it, and that stands before
@@ -152,10 +126,11 @@ module _ (group : List Member) (none : breaks group ≡ []) where
   of_group i k p t h o = elim (less_or i o.place) [
     | inl lt ↦
         let q = passes i p h.member in
-        let no = none_of (λ m. imports_other p m) (take i group) o.place o.item q.other (in_front group i o.place o.item
+        let no = any_off (λ m. imports_other p m) (take i group) o.place o.item q.other (in_front group i o.place o.item
         lt o.is) in
-        let at_t = none_of (λ t. is_of t o.item && not (same_tree t o.item.written)) p.files.exports k t no h.tree in
-        let same = so (same_tree t o.item.written) (not_both (is_of t o.item) (not (same_tree t o.item.written)) at_t
+        let at_t = any_off (λ t. is_of t o.item && not (same_tree t o.item.written)) p.files.exports k t no h.tree in
+        let same = not_false (same_tree t o.item.written) (not_both (is_of t o.item) (not
+        (same_tree t o.item.written)) at_t
         o.fits) in
         record {
           place = o.place;
@@ -166,9 +141,9 @@ module _ (group : List Member) (none : breaks group ≡ []) where
         }
     | inr le ↦
         let q = passes i p h.member in
-        let no = none_of (λ m. imports p m) (drop i group) (o.place - i) o.item q.later (in_back group i o.place o.item
+        let no = any_off (λ m. imports p m) (drop i group) (o.place - i) o.item q.later (in_back group i o.place o.item
         le o.is) in
-        absurd (no_both (is_of t o.item) o.fits (none_of (λ t. is_of t o.item) p.files.exports k t no h.tree))
+        absurd (true_not_false (is_of t o.item) o.fits (any_off (λ t. is_of t o.item) p.files.exports k t no h.tree))
   ]
 
   imports_agree : (i k : ℕ) (p : Member) (t : ExportTree) → Imports group i p k t → IsWrittenBefore group i t
@@ -181,39 +156,40 @@ module _ (group : List Member) (none : breaks group ≡ []) where
 
   unalike : (i j : ℕ) (p m : Member) → slice_get group i ≡ Some p → slice_get group j ≡ Some m → j < i
       → (bytes_eq p.list.«package» m.list.«package» ≡ false) × (bytes_eq p.list.aid m.list.aid ≡ false)
-  unalike i j p m g h lt = neither _ _ (none_of (λ m. is_named_alike p m) (take i group) j m (passes i p g).named
+  unalike i j p m g h lt = or_parts _ _ (any_off (λ m. is_named_alike p m) (take i group) j m (passes i p g).named
       (in_front group i j m lt h))
 
   outside_agree : (i j k n : ℕ) (p m : Member) (t u : ExportTree) → Imports group i p k t → Imports group j m n u
       → j < i → is_outside group t ≡ true → is_outside group u ≡ true → (t.name ≡ u.name) ⊎ (t.aid ≡ u.aid) → t ≡ u
   outside_agree i j k n p m t u h g lt out out' one =
-      let no = none_of (λ m. imports_differing group p m) (take i group) j m (passes i p h.member).differing
+      let no = any_off (λ m. imports_differing group p m) (take i group) j m (passes i p h.member).differing
       (in_front group i j m lt g.member) in
-      let at_t = none_of (λ t. differs_from_one group m.files.exports t) p.files.exports k t no h.tree in
+      let at_t = any_off (λ t. differs_from_one group m.files.exports t) p.files.exports k t no h.tree in
       let among = not_both (is_outside group t) (list_any (λ u. differs_from group t u) m.files.exports) at_t out in
-      let at_u = none_of (λ u. differs_from group t u) m.files.exports n u among g.tree in
+      let at_u = any_off (λ u. differs_from group t u) m.files.exports n u among g.tree in
       let alike : (bytes_eq t.name u.name || bytes_eq t.aid u.aid) ≡ true =
       either_true (bytes_eq t.name u.name) (bytes_eq t.aid u.aid) (elim one [
         | inl e ↦ inl ((bytes_eq-Decides t.name u.name).1 e)
         | inr e ↦ inr ((bytes_eq-Decides t.aid u.aid).1 e)
       ]) in
       let both : ((bytes_eq t.name u.name || bytes_eq t.aid u.aid) && is_outside group u) ≡ true =
-      and_true _ _ alike out' in
-      (tree-Decides t u).0 (so (same_tree t u) (not_both _ (not (same_tree t u)) at_u both))
+      and_from _ _ alike out' in
+      (tree-Decides t u).0 (not_false (same_tree t u) (not_both _ (not (same_tree t u)) at_u both))
 
   above_agree : (i k n : ℕ) (p : Member) (t : ExportTree) (c : ExportClass) → Imports group i p k t
       → is_outside group t ≡ true → slice_get t.classes n ≡ Some c → stands_below group c ≡ false
   above_agree i k n p t c h out g =
-      let at_t = none_of (λ t. rests_on group t) p.files.exports k t (passes i p h.member).resting h.tree in
+      let at_t = any_off (λ t. rests_on group t) p.files.exports k t (passes i p h.member).resting h.tree in
       let among = not_both (is_outside group t) (list_any (λ c. stands_below group c) t.classes) at_t out in
-      none_of (λ c. stands_below group c) t.classes n c among g
+      any_off (λ c. stands_below group c) t.classes n c among g
 
   pub packages_agree : Agree group
   packages_agree = record {
     imports = imports_agree;
-    names = λ i j p m g h lt e. no_both _ ((bytes_eq-Decides p.list.«package» m.list.«package»).1 e)
+    names = λ i j p m g h lt e. true_not_false _ ((bytes_eq-Decides p.list.«package» m.list.«package»).1 e)
         (unalike i j p m g h lt).0;
-    aids = λ i j p m g h lt e. no_both _ ((bytes_eq-Decides p.list.aid m.list.aid).1 e) (unalike i j p m g h lt).1;
+    aids = λ i j p m g h lt e. true_not_false _ ((bytes_eq-Decides p.list.aid m.list.aid).1 e)
+        (unalike i j p m g h lt).1;
     outside = outside_agree;
     above = above_agree;
   }

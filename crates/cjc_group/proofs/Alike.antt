@@ -7,7 +7,7 @@ use Rattle.std.specs.Ordering.{int_eq}
 use Rattle.std.specs.Str.{bytes_eq}
 use Rattle.std.proofs.lemmas.List.{drop_all}
 use Rattle.std.proofs.lemmas.Slice.Eq.{bytes_eq-Decides}
-use Rattle.std.proofs.lemmas.Bool.{and_parts}
+use Rattle.std.proofs.lemmas.Bool.{and_parts, and_from}
 use Rattle.std.proofs.lemmas.Bool.Decides.{Decides-and, Decides-eqb, Decides-int_eq, Decides-like}
 use Rattle.cjc_group.specs.Trees.{are_alike, same, same_class, same_constant, same_field, same_method, same_names}
 use Rattle.cjc_group.specs.Trees.{same_tree}
@@ -15,6 +15,8 @@ use Rattle.cjc_world.specs.ExportFile.declared.tree.ExportClass.{ExportClass}
 use Rattle.cjc_world.specs.ExportFile.declared.tree.ExportField.{ExportField}
 use Rattle.cjc_world.specs.ExportFile.declared.tree.ExportMethod.{ExportMethod}
 use Rattle.cjc_world.specs.ExportFile.declared.tree.ExportTree.{ExportTree}
+use Rattle.cjc_bytes.proofs.Lists.{name_is}
+use Rattle.cjc_bytes.proofs.Numbers.{like_number}
 
 -- ---- item by item
 
@@ -99,17 +101,6 @@ constant-Decides (Some x) (Some y) = Decides-like (int_eq x y) (ap (λ (z : ℤ)
 names-Decides : (xs ys : List (List ℕ)) → Decides (same_names xs ys) (xs ≡ ys)
 names-Decides xs ys = alike-Decides bytes_eq bytes_eq-Decides xs ys
 
-and_true : (a b : Bool) → a ≡ true → b ≡ true → (a && b) ≡ true
-and_true true b e f = f
-and_true false b e f = absurd cc
-
--- a number or a text is like itself
-like_number : (n : ℕ) → (n == n) ≡ true
-like_number n = (Decides-eqb n n).1 refl
-
-like_text : (bytes : List ℕ) → bytes_eq bytes bytes ≡ true
-like_text bytes = (bytes_eq-Decides bytes bytes).1 refl
-
 field_like_itself : (f : ExportField) → same_field f f ≡ true
 field_like_itself f =
     let t0 = (f.token == f.token) in
@@ -117,10 +108,10 @@ field_like_itself f =
     let t2 = bytes_eq f.name f.name in
     let t3 = bytes_eq f.desc f.desc in
     let t4 = same_constant f.constant f.constant in
-    let e1 = and_true t0 t1 (like_number f.token) (like_number f.flags) in
-    let e2 = and_true (t0 && t1) t2 e1 (like_text f.name) in
-    let e3 = and_true (t0 && t1 && t2) t3 e2 (like_text f.desc) in
-    let e4 = and_true (t0 && t1 && t2 && t3) t4 e3 ((constant-Decides f.constant f.constant).1 refl) in
+    let e1 = and_from t0 t1 (like_number f.token) (like_number f.flags) in
+    let e2 = and_from (t0 && t1) t2 e1 (name_is f.name) in
+    let e3 = and_from (t0 && t1 && t2) t3 e2 (name_is f.desc) in
+    let e4 = and_from (t0 && t1 && t2 && t3) t4 e3 ((constant-Decides f.constant f.constant).1 refl) in
     e4
 
 field_is_one : (f g : ExportField) → same_field f g ≡ true → f ≡ g
@@ -154,9 +145,9 @@ method_like_itself m =
     let t1 = (m.flags == m.flags) in
     let t2 = bytes_eq m.name m.name in
     let t3 = bytes_eq m.desc m.desc in
-    let e1 = and_true t0 t1 (like_number m.token) (like_number m.flags) in
-    let e2 = and_true (t0 && t1) t2 e1 (like_text m.name) in
-    let e3 = and_true (t0 && t1 && t2) t3 e2 (like_text m.desc) in
+    let e1 = and_from t0 t1 (like_number m.token) (like_number m.flags) in
+    let e2 = and_from (t0 && t1) t2 e1 (name_is m.name) in
+    let e3 = and_from (t0 && t1 && t2) t3 e2 (name_is m.desc) in
     e3
 
 method_is_one : (m n : ExportMethod) → same_method m n ≡ true → m ≡ n
@@ -191,14 +182,14 @@ class_like_itself c =
     let t5 = same_names c.interfaces c.interfaces in
     let t6 = are_alike same_field c.fields c.fields in
     let t7 = are_alike same_method c.methods c.methods in
-    let e1 = and_true t0 t1 (like_number c.token) (like_number c.flags) in
-    let e2 = and_true (t0 && t1) t2 e1 (like_text c.name) in
-    let e3 = and_true (t0 && t1 && t2) t3 e2 ((names-Decides c.listed c.listed).1 refl) in
-    let e4 = and_true (t0 && t1 && t2 && t3) t4 e3 ((names-Decides c.supers c.supers).1 refl) in
-    let e5 = and_true (t0 && t1 && t2 && t3 && t4) t5 e4 ((names-Decides c.interfaces c.interfaces).1 refl) in
-    let e6 = and_true (t0 && t1 && t2 && t3 && t4 && t5) t6 e5
+    let e1 = and_from t0 t1 (like_number c.token) (like_number c.flags) in
+    let e2 = and_from (t0 && t1) t2 e1 (name_is c.name) in
+    let e3 = and_from (t0 && t1 && t2) t3 e2 ((names-Decides c.listed c.listed).1 refl) in
+    let e4 = and_from (t0 && t1 && t2 && t3) t4 e3 ((names-Decides c.supers c.supers).1 refl) in
+    let e5 = and_from (t0 && t1 && t2 && t3 && t4) t5 e4 ((names-Decides c.interfaces c.interfaces).1 refl) in
+    let e6 = and_from (t0 && t1 && t2 && t3 && t4 && t5) t6 e5
     ((alike-Decides same_field field-Decides c.fields c.fields).1 refl) in
-    let e7 = and_true (t0 && t1 && t2 && t3 && t4 && t5 && t6) t7 e6
+    let e7 = and_from (t0 && t1 && t2 && t3 && t4 && t5 && t6) t7 e6
     ((alike-Decides same_method method-Decides c.methods c.methods).1 refl) in
     e7
 
@@ -244,11 +235,11 @@ tree_like_itself t =
     let t3 = (t.minor == t.minor) in
     let t4 = same t.library t.library in
     let t5 = are_alike same_class t.classes t.classes in
-    let e1 = and_true t0 t1 (like_text t.name) (like_text t.aid) in
-    let e2 = and_true (t0 && t1) t2 e1 (like_number t.major) in
-    let e3 = and_true (t0 && t1 && t2) t3 e2 (like_number t.minor) in
-    let e4 = and_true (t0 && t1 && t2 && t3) t4 e3 ((same-Decides t.library t.library).1 refl) in
-    let e5 = and_true (t0 && t1 && t2 && t3 && t4) t5 e4
+    let e1 = and_from t0 t1 (name_is t.name) (name_is t.aid) in
+    let e2 = and_from (t0 && t1) t2 e1 (like_number t.major) in
+    let e3 = and_from (t0 && t1 && t2) t3 e2 (like_number t.minor) in
+    let e4 = and_from (t0 && t1 && t2 && t3) t4 e3 ((same-Decides t.library t.library).1 refl) in
+    let e5 = and_from (t0 && t1 && t2 && t3 && t4) t5 e4
     ((alike-Decides same_class class-Decides t.classes t.classes).1 refl) in
     e5
 

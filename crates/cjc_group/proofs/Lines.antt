@@ -1,16 +1,17 @@
 -- What lines name, as a relation and as a function.
-use Rattle.std.proofs.Common.{◌≡◌, ℕ, ◌<◌, ◌≤◌, ◌⊎◌, inl, inr, cond, ltb, List, [], ◌∷◌, ◌++◌}
+use Rattle.std.proofs.Common.{◌≡◌, ℕ, ◌<◌, ◌≤◌, inl, inr, cond, ltb, List, [], ◌∷◌, ◌++◌}
 use Rattle.std.proofs.Common.{length, Option, Some, None, Result, Ok, Err, refl, sym, ap, ◌∙◌, subst, arith}
 use Rattle.std.proofs.Common.{append_assoc}
 use Rattle.std.proofs.Common.{length-append}
 use Rattle.std.specs.Prelude.{option_and_then}
 use Rattle.std.proofs.lemmas.List.{append-nil}
 use Rattle.std.proofs.lemmas.Bool.{ltb-true, lt-ltb}
+use Rattle.std.proofs.lemmas.Option.{cond_some}
 use Rattle.cjc_bytes.specs.Found.{◌>>=◌, kept}
 use Rattle.cjc_bytes.specs.Text.{TextLine, words}
+use Rattle.cjc_bytes.proofs.Options.{onward_ok, onward_err, kept_ok, not_both, ok_or_err, kept_err}
 use Rattle.cjc_list.specs.Spelling.{HasWords}
-use Rattle.cjc_list.proofs.Items.{onward, passed}
-use Rattle.cjc_list.proofs.Wholes.{onward_ok}
+use Rattle.cjc_list.proofs.Items.{onward}
 use Rattle.cjc_group.specs.declared.line.PackageLine.{PackageLine}
 use Rattle.cjc_group.specs.Grammar.{named_by, with_line}
 use Rattle.cjc_group.specs.Grouped.{said, with_lines}
@@ -41,7 +42,7 @@ with_line_is : (ps qs : List PackageLine) (ws : List (List ℕ)) → with_line p
 unfolding with_line
 with_line_is ps qs ws e =
     let p = onward (named_by ws) (λ p. cond (ltb (length ps) 16) (Some (ps ++ p ∷ [])) None) qs e in
-    let t = passed (ltb (length ps) 16) (ps ++ p.0 ∷ []) qs p.2 in
+    let t = cond_some (ltb (length ps) 16) (ps ++ p.0 ∷ []) qs p.2 in
     record { line = p.0; says = named_says ws p.0 p.1; room = ltb-true _ _ t.0; is = sym t.1 }
 
 with_line-fits : (ps : List PackageLine) (ws : List (List ℕ)) (p : PackageLine) → Says p ws → length ps < 16
@@ -50,14 +51,6 @@ unfolding with_line
 with_line-fits ps ws p says room = rw (says_named p ws says, lt-ltb (length ps) 16 room) refl
 
 -- ---- one line
-
-kept_ok : {A : Type 0} (o : Option A) (place : ℕ) (a : A) → kept place o ≡ Ok a → o ≡ Some a
-kept_ok (Some x) place a e = cc
-kept_ok None place a e = absurd cc
-
-kept_err : {A : Type 0} (o : Option A) (place k : ℕ) → kept place o ≡ Err k → k ≡ place
-kept_err (Some x) place k e = absurd cc
-kept_err None place k e = cc
 
 said_ok_at : (o : Option (List (List ℕ))) (reading : List (List ℕ) → Option (List PackageLine)) (at : ℕ)
     (qs : List PackageLine) → kept at (option_and_then reading o) ≡ Ok qs
@@ -160,18 +153,6 @@ one_line_err : (ps : List PackageLine) (l : TextLine) (after : List TextLine) (k
     → said (with_line ps) l ≡ Err k → with_lines ps (l ∷ after) ≡ Err k
 unfolding with_lines
 one_line_err ps l after k e = rw e refl
-
-not_both : {A : Type 0} (x : Result A ℕ) (a : A) (k : ℕ) → x ≡ Ok a → x ≡ Err k → ⊥
-not_both x a k e f = cc
-
-ok_or_err : {A : Type 0} (x : Result A ℕ) → ((a : A) × (x ≡ Ok a)) ⊎ ((k : ℕ) × (x ≡ Err k))
-ok_or_err (Ok a) = inl (a, refl)
-ok_or_err (Err k) = inr (k, refl)
-
-onward_err : {A B : Type 0} (x : Result B ℕ) (f : B → Result A ℕ) (k : ℕ) → (x >>= f) ≡ Err k → (x ≡ Err k)
-    ⊎ ((z : B) × (x ≡ Ok z) × (f z ≡ Err k))
-onward_err (Ok z) f k e = inr (z, refl, e)
-onward_err (Err j) f k e = inl cc
 
 -- the line at which reading stops
 record Stops (ps : List PackageLine) (ls : List TextLine) (k : ℕ) : Type 0 where

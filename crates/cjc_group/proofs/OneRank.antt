@@ -1,26 +1,19 @@
 -- Where a rule is broken tells what is told of it: breaks of one rank have one refusal.
-use Rattle.std.proofs.Common.{◌≡◌, ℕ, zero, suc, ◌+◌, refl, sym, ap, subst, ◌∙◌, arith, Bool, true, false, List, []}
+use Rattle.std.proofs.Common.{◌≡◌, ℕ, zero, suc, ◌+◌, refl, sym, ap, subst, ◌∙◌, arith, Bool, List, []}
 use Rattle.std.proofs.Common.{◌∷◌, inl, inr, Option, Some, None, add-one}
 use Rattle.std.specs.Prelude.{slice_get}
-use Rattle.cjc_bytes.specs.Breaks.{Among, Break, RulePlace, after, at, broken_at, each_from, foremost}
+use Rattle.cjc_bytes.specs.Breaks.{Among, Break, RulePlace, at, broken_at, each_from}
 use Rattle.cjc_bytes.specs.Order.{Rank}
 use Rattle.cjc_bytes.specs.Refused.{in_class}
 use Rattle.cjc_bytes.specs.declared.order.FileKey.TheVariants as keys
 use Rattle.cjc_bytes.proofs.Firsts.{among_either}
+use Rattle.cjc_bytes.proofs.BrokenRules.{none_among, in_at}
 use Rattle.cjc_world.specs.ClassFile.declared.tree.ClassTree.{ClassTree}
 use Rattle.cjc_group.specs.Implementing.{lacks_implementation}
 use Rattle.cjc_group.specs.Members.{Member}
 use Rattle.cjc_group.specs.Rules.{breaks, class_at, class_breaks, list_at, list_breaks, member_breaks}
 
 -- ---- lists
-
-none : {P : Type 0} (b : Break) → Among b [] → P
-none b among = elim among [ ]
-
-in_at : (test : Bool) (s : RulePlace) (rule : ℕ) (b : Break) → Among b (at test s rule) → b ≡ broken_at s rule
-in_at true s rule b foremost = refl
-in_at true s rule b (after more) = none b more
-in_at false s rule b among = none b among
 
 -- what is broken of some item, whose place in the list is told
 record OfItem {A : Type 0} (f : ℕ → A → List Break) (i : ℕ) (xs : List A) (b : Break) : Type 0 where
@@ -32,7 +25,7 @@ record OfItem {A : Type 0} (f : ℕ → A → List Break) (i : ℕ) (xs : List A
 in_each : {A : Type 0} (f : ℕ → A → List Break) (i : ℕ) (xs : List A) (b : Break) → Among b (each_from f i xs)
     → OfItem f i xs b
 unfolding each_from
-in_each f i [] b among = none b among
+in_each f i [] b among = none_among b among
 in_each f i (x ∷ xs) b among = elim (among_either b (f i x) (each_from f (i + 1) xs) among) [
   | inl here ↦ record { place = 0; item = x; is = refl; among = subst (λ k. Among b (f k x)) (omega arith) here }
   | inr later ↦

@@ -6,8 +6,8 @@ use Rattle.std.specs.List.{AllZip, cons_option}
 use Rattle.std.proofs.lemmas.List.{length-append, length-replicate, length-take-le}
 use Rattle.std.proofs.lemmas.List.Elements.{All-nil, All-cons, All-head, All-tail, All-append, All-take, All-replicate}
 use Rattle.std.proofs.lemmas.List.Elements.{All-map, All-contains}
-use Rattle.cjc_fixpoint.specs.Bytes.AccessFlags.{is_static}
-use Rattle.cjc_fixpoint.specs.Bytes.declared.fault.MemberId.{MemberId}
+use Rattle.cjc_bytes.specs.AccessFlags.{is_static}
+use Rattle.cjc_bytes.specs.declared.fault.MemberId.{MemberId}
 use Rattle.cjc_range.specs.Span.{Span, IsWord, Within, full}
 use Rattle.cjc_range.specs.Landmarks.{round_row}
 use Rattle.cjc_range.proofs.Order.{within_refl, word_full}
@@ -36,7 +36,7 @@ use Rattle.cjc_intervals.proofs.Steps.{range_word, own_after, after_up}
 
 -- ---- rounding
 
-rounded_length : (s : List Span) → length (map round_row s) ≡ length s
+pub rounded_length : (s : List Span) → length (map round_row s) ≡ length s
 rounded_length [] = refl
 rounded_length (x ∷ xs) = ap suc (rounded_length xs)
 
@@ -70,7 +70,7 @@ rounded_stack_up (Cells s) (Cells t) own_s own_t h = rounded_cells_up s t own_s.
 
 -- ---- by types
 
-number_length : (cells : List Cell) (s : List Span) → length (number_ranges cells s) ≡ length s
+pub number_length : (cells : List Cell) (s : List Span) → length (number_ranges cells s) ≡ length s
 number_length cells [] = refl
 number_length [] (x ∷ xs) = ap suc (number_length [] xs)
 number_length (c ∷ cs) (x ∷ xs) = ap suc (number_length cs xs)

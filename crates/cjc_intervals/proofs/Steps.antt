@@ -6,10 +6,10 @@ use Rattle.std.specs.Prelude.{Option, Some, None}
 use Rattle.std.specs.List.{AllZip, list_all}
 use Rattle.std.proofs.lemmas.List.{length-set}
 use Rattle.std.proofs.lemmas.List.Elements.{All-nil, All-append, All-drop, All-set}
-use Rattle.cjc_fixpoint.specs.Bytes.Descriptor.{Part}
-use Rattle.cjc_fixpoint.specs.Bytes.declared.fault.MemberId.{MemberId}
-use Rattle.cjc_fixpoint.specs.Bytes.declared.descriptor.Kind.{Kind}
-use Rattle.cjc_fixpoint.specs.Bytes.declared.descriptor.Kind.TheVariants as kinds
+use Rattle.cjc_bytes.specs.Descriptor.{Part}
+use Rattle.cjc_bytes.specs.declared.fault.MemberId.{MemberId}
+use Rattle.cjc_bytes.specs.declared.descriptor.Kind.{Kind}
+use Rattle.cjc_bytes.specs.declared.descriptor.Kind.TheVariants as kinds
 use Rattle.cjc_range.specs.Span.{Span, span, IsWord, Within, full, byte_range, short_range}
 use Rattle.cjc_range.proofs.Spans.{clip_cases}
 use Rattle.cjc_range.proofs.Order.{within_refl, word_full, add_monotone, sub_monotone, mul_monotone, div_monotone}

@@ -1,9 +1,9 @@
 -- Rules 601 to 609: the interval in which the numbers of an operand have to lie, by the kind of the instruction.
 use Rattle.std.specs.Prelude.{◌≡◌, ℕ, ◌-◌, ◌<◌, Bool, true, false, ◌==◌, ◌||◌, List, length, get_or, pos, negsuc}
 use Rattle.std.specs.List.{list_any}
-use Rattle.cjc_fixpoint.specs.Bytes.Descriptor.{Part}
-use Rattle.cjc_fixpoint.specs.Bytes.declared.fault.MemberId.{MemberId}
-use Rattle.cjc_fixpoint.specs.Bytes.declared.descriptor.Kind.TheVariants as kinds
+use Rattle.cjc_bytes.specs.Descriptor.{Part}
+use Rattle.cjc_bytes.specs.declared.fault.MemberId.{MemberId}
+use Rattle.cjc_bytes.specs.declared.descriptor.Kind.TheVariants as kinds
 use Rattle.cjc_range.specs.Span.{Span, span, byte_range, short_range}
 use Rattle.cjc_types.specs.Bytecode.declared.insn.JCase.{JCase}
 use Rattle.cjc_types.specs.Bytecode.declared.insn.JOp.{JOp}

@@ -1,8 +1,8 @@
 -- The intervals of a method's numbers as a dataflow problem over its type table, whose places are its instructions.
 use Rattle.std.specs.Prelude.{ℕ, Bool, ◌||◌, if◌then◌else◌, List, [], ◌∷◌, ◌++◌, map, take, replicate, slice_get}
 use Rattle.std.specs.Prelude.{get_or, filter_map, Option, Some, None, option_map, ℤ}
-use Rattle.cjc_fixpoint.specs.Bytes.AccessFlags.{is_static}
-use Rattle.cjc_fixpoint.specs.Bytes.declared.fault.MemberId.{MemberId}
+use Rattle.cjc_bytes.specs.AccessFlags.{is_static}
+use Rattle.cjc_bytes.specs.declared.fault.MemberId.{MemberId}
 use Rattle.cjc_range.specs.Span.{Span, full}
 use Rattle.cjc_range.specs.Landmarks.{round_row}
 use Rattle.cjc_types.specs.ClassFile.declared.tree.Catch.{Catch}

@@ -1,8 +1,8 @@
 -- The intervals that each instruction gives, and what it does to those of locals. Stacks have their top first.
 use Rattle.std.specs.Prelude.{ℕ, Bool, true, false, ◌==◌, if◌then◌else◌, List, [], ◌∷◌, ◌++◌, map, drop, get_or}
 use Rattle.std.specs.Prelude.{slice_set, Option, Some, None, ℤ}
-use Rattle.cjc_fixpoint.specs.Bytes.Descriptor.{Part}
-use Rattle.cjc_fixpoint.specs.Bytes.declared.fault.MemberId.{MemberId}
+use Rattle.cjc_bytes.specs.Descriptor.{Part}
+use Rattle.cjc_bytes.specs.declared.fault.MemberId.{MemberId}
 use Rattle.cjc_range.specs.Span.{Span, full}
 use Rattle.cjc_range.specs.Rows.{add_row, sub_row, mul_row, neg_row, div_row, rem_row, shl_row, shr_row, ushr_row}
 use Rattle.cjc_range.specs.Rows.{and_row, or_row, to_byte_row, to_short_row}

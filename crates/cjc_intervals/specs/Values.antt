@@ -1,9 +1,9 @@
 -- The intervals of values that no instruction computes: those of a type, of what an array holds, and of a length.
 use Rattle.std.specs.Prelude.{ℕ, Bool, ◌==◌, if◌then◌else◌, List, [], ◌∷◌, ℤ, pos}
 use Rattle.std.specs.List.{list_all}
-use Rattle.cjc_fixpoint.specs.Bytes.Descriptor.{Part}
-use Rattle.cjc_fixpoint.specs.Bytes.declared.descriptor.Kind.{Kind}
-use Rattle.cjc_fixpoint.specs.Bytes.declared.descriptor.Kind.TheVariants as kinds
+use Rattle.cjc_bytes.specs.Descriptor.{Part}
+use Rattle.cjc_bytes.specs.declared.descriptor.Kind.{Kind}
+use Rattle.cjc_bytes.specs.declared.descriptor.Kind.TheVariants as kinds
 use Rattle.cjc_range.specs.Span.{Span, span, byte_range, short_range, full}
 use Rattle.cjc_range.specs.Rows.{clip}
 use Rattle.cjc_types.specs.declared.cell.Cell.{Cell}

@@ -7,7 +7,7 @@
 pub mod range_laws;
 
 ghost use Rattle.std.specs.Prelude.{Option, List, ℤ};
-ghost use Rattle.cjc_fixpoint.specs.Bytes.declared.fault.MemberId.{MemberId};
+ghost use Rattle.cjc_bytes.specs.declared.fault.MemberId.{MemberId};
 ghost use Rattle.cjc_fixpoint.specs.Dataflow.{IsLawful};
 ghost use Rattle.cjc_types.specs.declared.state.State.{State as Typed};
 ghost use Rattle.cjc_types.specs.Flow.{Body};

@@ -1,7 +1,7 @@
 //! The intervals of a method's numbers over a type table have a least table, whichever those are. Laws alone:
 //! nothing here runs.
 ghost use Rattle.std.specs.Prelude.{List, Option, ℤ};
-ghost use Rattle.cjc_fixpoint.specs.Bytes.declared.fault.MemberId.{MemberId};
+ghost use Rattle.cjc_bytes.specs.declared.fault.MemberId.{MemberId};
 ghost use Rattle.cjc_intervals.specs.Frames.{RangeState};
 ghost use Rattle.cjc_intervals.specs.Tables.{IsLeastRanges};
 ghost use Rattle.cjc_types.specs.declared.state.State.{State as Typed};

@@ -7,15 +7,15 @@ use Rattle.std.proofs.lemmas.Bool.{cases_lt}
 use Rattle.std.proofs.lemmas.List.{take_all, length-take-le}
 use Rattle.std.proofs.lemmas.Option.{slice_get_past}
 use borrow.Author.Count.{below_more}
-use Rattle.cjc_bytes.proofs.Inverse.{all_at}
 use Rattle.cjc_bytes.specs.declared.fault.Fault.{Fault}
 use Rattle.cjc_bytes.specs.declared.fault.Fault.TheVariants as faults
 use Rattle.cjc_bytes.specs.declared.fault.Refusal.{Refusal}
-use Rattle.cjc_classfile.specs.Code.{CodeTree}
-use Rattle.cjc_classfile.specs.Fits.{MethodFits, CodeFits, ClassFits}
-use Rattle.cjc_classfile.specs.declared.tree.MethodTree.{MethodTree}
-use Rattle.cjc_classfile.specs.declared.tree.ClassTree.{ClassTree}
+use Rattle.cjc_code.specs.ClassFile.Code.{CodeTree}
+use Rattle.cjc_code.specs.ClassFile.Fits.{MethodFits, CodeFits, ClassFits}
+use Rattle.cjc_code.specs.ClassFile.declared.tree.MethodTree.{MethodTree}
+use Rattle.cjc_code.specs.ClassFile.declared.tree.ClassTree.{ClassTree}
 use Rattle.cjc_bytes.specs.declared.breaks.BrokenAt.{BrokenAt}
+use Rattle.cjc_bytes.proofs.Gets.{all_at, slice_get_at}
 use Rattle.cjc_code.specs.Cut.{cut}
 use Rattle.cjc_code.specs.Decoded.{HasCode, least, unless_unfit, unless_unsupported, decoding, of_code, of_method}
 use Rattle.cjc_code.specs.Decoded.{decoding_at, refusal_of}
@@ -26,7 +26,7 @@ use Rattle.cjc_code.specs.declared.method_code.MethodCode.{MethodCode}
 use Rattle.cjc_code.specs.PackageCodes.{code_with, where_code, of_methods}
 use Rattle.cjc_judge.specs.Codes.{unsupported_with}
 use Rattle.cjc_judge.specs.Rules.{CodeBreaks}
-use Rattle.cjc_judge.proofs.Items.{item_at, front_more}
+use Rattle.cjc_judge.proofs.Items.{front_more}
 use Rattle.cjc_judge.specs.Working.Reading.{BreaksBy, DecodesMethod, DecodesClass}
 use Rattle.cjc_judge.specs.declared.reading.UnsupportedInsn.{UnsupportedInsn}
 
@@ -152,7 +152,7 @@ stands tree items k m same lt is =
     let low : k < length tree.methods = omega (arith, ap length same) in
     let at : m ≡ get_or tree.methods k m = is ∙ ap (λ ms. get_or ms k m) same in
     record {
-      is = item_at tree.methods k m low at;
+      is = slice_get_at tree.methods k m low at;
       front = front_more tree.methods k m low at;
       size = length-take-le k tree.methods (omega arith);
     }

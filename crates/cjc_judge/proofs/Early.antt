@@ -9,6 +9,7 @@ use Rattle.cjc_bytes.specs.declared.fault.Fault.{Fault}
 use Rattle.cjc_bytes.specs.declared.fault.Refusal.{Refusal}
 use Rattle.cjc_bytes.specs.Breaks.{Break}
 use Rattle.cjc_bytes.specs.Order.{NotAfter}
+use Rattle.cjc_bytes.proofs.BrokenRules.{no_among}
 use Rattle.cjc_clinit.specs.Rules.{of_class, of_code}
 use Rattle.cjc_code.specs.declared.method_code.MethodCode.{MethodCode}
 use Rattle.cjc_list.specs.Listed.{ListTree}
@@ -23,11 +24,10 @@ use Rattle.cjc_judge.specs.Types.{AreTablesWhereNamed, asks_types, asks_ranges}
 use Rattle.cjc_judge.specs.Working.Groups.{WorldBreaks, WorldBreaksAny, EarlyBreaks, EarlyBreaksAny, NamedTypeBreaks}
 use Rattle.cjc_judge.specs.Working.Groups.{NamedRangeBreaks}
 use Rattle.cjc_judge.proofs.Families.{unsupported_insns_third, checks_language, tokens_fourth, type_fifth, range_sixth}
-use Rattle.cjc_judge.proofs.Firsts.{none_among}
 
 -- nothing is broken of nothing
 pub none_early : IsFirstIn (λ b. ⊥) None
-none_early = ([], λ b. (λ i. absurd (none_among b i), λ h. absurd h), refl)
+none_early = ([], λ b. (λ i. absurd (no_among b i), λ h. absurd h), refl)
 
 -- ---- one breach, another way to say where it is from
 

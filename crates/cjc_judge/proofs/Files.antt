@@ -1,6 +1,6 @@
 -- Reading one file after the other.
 use Rattle.std.proofs.Common.{◌≡◌, Ok, ℕ, zero, suc, ◌+◌, ◌<◌, ◌≤◌, ◌⊎◌, ⊎_elim, Bool, true, false, List, [], ◌∷◌, ◌++◌}
-use Rattle.std.proofs.Common.{Some, Result, Err, inl, inr, length, take, get_or, refl, sym, ap, subst, ◌∙◌}
+use Rattle.std.proofs.Common.{Result, Err, inl, inr, length, take, get_or, refl, sym, ap, subst, ◌∙◌}
 use Rattle.std.proofs.Common.{append_assoc, append-nil, add-zero, length-append, arith, Fits, w8}
 use Rattle.std.specs.Prelude.{slice_get}
 use Rattle.std.proofs.lemmas.Bool.{cases_lt}
@@ -13,10 +13,10 @@ use Rattle.cjc_bytes.specs.Format.{FileSpells, FileBreaks}
 use Rattle.cjc_bytes.specs.declared.settings.FileLine.{FileLine}
 use Rattle.cjc_bytes.proofs.Laws.{one_value, one_place, spelt_or_broken}
 use Rattle.cjc_bytes.proofs.Inverse.{InBytes}
-use Rattle.cjc_classfile.specs.ClassFile.{class_file, refusal_at}
-use Rattle.cjc_classfile.specs.Fits.{ClassFits}
-use Rattle.cjc_classfile.specs.declared.tree.ClassTree.{ClassTree}
-use Rattle.cjc_classfile.proofs.Fitting.{spelt_fits}
+use Rattle.cjc_code.specs.ClassFile.ClassFile.{class_file, refusal_at}
+use Rattle.cjc_code.specs.ClassFile.Fits.{ClassFits}
+use Rattle.cjc_code.specs.ClassFile.declared.tree.ClassTree.{ClassTree}
+use Rattle.cjc_code.proofs.ClassFileFitting.{spelt_fits}
 use Rattle.cjc_bytes.specs.declared.breaks.BrokenAt.{BrokenAt}
 use Rattle.cjc_code.specs.declared.method_code.MethodCode.{MethodCode}
 use Rattle.cjc_world.specs.ExportFile.ExportFile.{export_file}
@@ -28,18 +28,17 @@ use Rattle.cjc_judge.specs.Codes.{unsupported_with}
 use Rattle.cjc_judge.specs.declared.reading.UnsupportedInsn.{UnsupportedInsn}
 use Rattle.cjc_bytes.specs.Order.{NotAfter}
 use Rattle.cjc_bytes.specs.Breaks.{Break}
+use Rattle.cjc_bytes.proofs.Plain.{the_same, no_true}
+use Rattle.cjc_bytes.proofs.Gets.{slice_get_at}
 use Rattle.cjc_judge.specs.Spelt.{FileTree, of_class, of_export, classes_of, exports_of}
 use Rattle.cjc_judge.specs.Rules.{CodeBreaks, method_rank, FileBreach, no_class_file, no_instructions, no_export_file}
 use Rattle.cjc_judge.specs.Rules.{file_rank, file_break, FileAt, BreaksFile, IsFirstRefused}
 use Rattle.cjc_judge.specs.declared.reading.Trees.{Trees}
 use Rattle.cjc_judge.specs.Trees.{FileIs, AllSpelt}
 use Rattle.cjc_judge.specs.Working.Reading.{IsReadAs, FirstIn, DecodesClass, IsFirstInFile, ReadsFile, ReadsFiles}
-use Rattle.cjc_judge.proofs.Items.{item_at, front_more}
+use Rattle.cjc_judge.proofs.Items.{front_more}
 
 -- ---- one file
-
-no_true : {P : Type 0} (b : FileLine) → b.class_file ≡ true → b.class_file ≡ false → P
-no_true b e f = absurd (let g : true ≡ false = sym e ∙ f in cc)
 
 -- a file that is read breaks no rule of the first hundred
 pub fine : (line : FileLine) (bytes : List ℕ) (tree : FileTree) → FileIs line bytes tree → FileBreach line bytes → ⊥
@@ -270,9 +269,6 @@ before_fine lines files trees i all j at lt breach =
     } in
     file_fine (take i lines) (take i files) trees all j here breach
 
-some_is : {A : Type 0} (x y : A) → Some x ≡ Some y → x ≡ y
-some_is x y e = cc
-
 -- of two files the earlier one decides
 file_number : (i : ℕ) (line : FileLine) (bytes : List ℕ) (b : FileBreach line bytes)
     → ((file_rank i line bytes b).family ≡ 1) × ((file_rank i line bytes b).file ≡ i + 1)
@@ -302,9 +298,9 @@ first_of_all lines files trees i at r all here = record {
         → NotAfter (file_rank i at.line at.bytes here.breach) (file_rank j other.line other.bytes c)
     by j other c (inl before) = absurd (before_fine lines files trees i all j other before c)
     by j other c (inr (inl same)) =
-        let line : at.line ≡ other.line = some_is at.line other.line (sym at.is_line ∙ ap (λ k. slice_get lines k) same
+        let line : at.line ≡ other.line = the_same at.line other.line (sym at.is_line ∙ ap (λ k. slice_get lines k) same
         ∙ other.is_line) in
-        let bytes : at.bytes ≡ other.bytes = some_is at.bytes other.bytes (sym at.is_file
+        let bytes : at.bytes ≡ other.bytes = the_same at.bytes other.bytes (sym at.is_file
         ∙ ap (λ k. slice_get files k) same ∙ other.is_file) in
         let P : FileLine → List ℕ → Type 0 = λ l b. (x : FileBreach l b)
         → NotAfter (file_rank i at.line at.bytes here.breach) (file_rank j l b x) in
@@ -380,8 +376,8 @@ read_more lines files old new i line bytes lent a b is_line is_file same read (o
     let at : FileAt lines files i = record {
       line = line;
       bytes = bytes;
-      is_line = item_at lines i line a is_line;
-      is_file = item_at files i bytes b is_file;
+      is_line = slice_get_at lines i line a is_line;
+      is_file = slice_get_at files i bytes b is_file;
     } in
     rw puts (record {
       are_read = record {
@@ -402,8 +398,8 @@ read_more lines files old new i line bytes lent a b is_line is_file same read (o
     let at : FileAt lines files i = record {
       line = line;
       bytes = bytes;
-      is_line = item_at lines i line a is_line;
-      is_file = item_at files i bytes b is_file;
+      is_line = slice_get_at lines i line a is_line;
+      is_file = slice_get_at files i bytes b is_file;
     } in
     rw puts (record {
       are_read = record {
@@ -431,8 +427,8 @@ read_stops lines files old new i line bytes lent (faults.Refused r) a b is_line 
     first_of_all lines files read.are_read.trees i (record {
       line = line;
       bytes = bytes;
-      is_line = item_at lines i line a is_line;
-      is_file = item_at files i bytes b is_file;
+      is_line = slice_get_at lines i line a is_line;
+      is_file = slice_get_at files i bytes b is_file;
     }) r read.are_read.spelt
     here
 read_stops lines files old new i line bytes lent faults.NoMemory a b is_line is_file is read first = tt

@@ -9,8 +9,8 @@ use Rattle.cjc_bytes.specs.declared.fault.Refusal.{Refusal}
 use Rattle.cjc_bytes.specs.declared.settings.FileLine.{FileLine}
 use Rattle.std.proofs.lemmas.Option.{slice_get_within}
 use Rattle.cjc_bytes.proofs.Laws.{one_value}
-use Rattle.cjc_classfile.specs.ClassFile.{class_file}
-use Rattle.cjc_classfile.specs.declared.tree.ClassTree.{ClassTree}
+use Rattle.cjc_code.specs.ClassFile.ClassFile.{class_file}
+use Rattle.cjc_code.specs.ClassFile.declared.tree.ClassTree.{ClassTree}
 use Rattle.cjc_world.specs.ExportFile.ExportFile.{export_file}
 use Rattle.cjc_world.specs.ExportFile.declared.tree.ExportTree.{ExportTree}
 use Rattle.cjc_list.specs.Listed.{ListTree}
@@ -20,6 +20,8 @@ use Rattle.cjc_world.specs.Rules.{at_class, at_member, told, when, class_rules, 
 use Rattle.cjc_world.specs.Rules.{members_from, class_breaks, classes_breaks, class_file_breaks, export_file_breaks}
 use Rattle.cjc_world.specs.Rules.{breaks_from, breaks}
 use Rattle.cjc_bytes.specs.Breaks.{Break, Among, IsFirst, RulePlace, broken_at, list_spot}
+use Rattle.cjc_bytes.proofs.BrokenRules.{no_among}
+use Rattle.cjc_bytes.proofs.Plain.{no_true}
 use Rattle.cjc_judge.specs.Spelt.{FileTree, of_class, of_export, SpellsTree, SpellTrees, classes_of}
 use Rattle.cjc_clinit.specs.Rules.{BreaksImage, of_class, of_code}
 use Rattle.cjc_judge.specs.Rules.{FileBreach, no_class_file, no_instructions, no_export_file, file_rank, BreaksFile}
@@ -222,9 +224,6 @@ pub names_family : (list : ListTree) (files : List (List ℕ)) (b : Break) → B
 names_family list files b (trees, world, among) =
     (names_second (files_spelt list trees) (all_codes (classes_of trees))).holds b among
 
-pub none_among : (b : Break) → Among b [] → ⊥
-none_among b i = elim i [ ]
-
 unsupported_family : (list : ListTree) (files : List (List ℕ)) (b : Break) → BreaksUnsupported list files b
     → b.rank.family ≡ 3
 unsupported_family list files b (trees, spelt, among) =
@@ -267,9 +266,6 @@ behind_family list files tested b (i, g, at, h) = late_family list files g b h
 
 -- ---- what the files spell
 
-no_true : {P : Type 0} (b : FileLine) → b.class_file ≡ true → b.class_file ≡ false → P
-no_true b e f = absurd (let g : true ≡ false = sym e ∙ f in cc)
-
 one_tree : (line : FileLine) (bytes : List ℕ) (t u : FileTree) → SpellsTree line bytes t → SpellsTree line bytes u
     → t ≡ u
 one_tree line bytes (of_class t) (of_class u) p q = ap of_class (one_value class_file bytes t u p.1 q.1)
@@ -289,7 +285,7 @@ one_spelling (l ∷ ls) (b ∷ bs) (t ∷ ts) (u ∷ us) p q =
     let rest = one_spelling ls bs ts us p.1 q.1 in
     cc
 
-spells : (line : FileLine) (bytes : List ℕ) (t : FileTree) → FileIs line bytes t → SpellsTree line bytes t
+pub spells : (line : FileLine) (bytes : List ℕ) (t : FileTree) → FileIs line bytes t → SpellsTree line bytes t
 spells line bytes (of_class t) p = (p.0, p.1)
 spells line bytes (of_export t) p = (p.0, p.1)
 
@@ -349,7 +345,7 @@ module _ (list : ListTree) (files : List (List ℕ)) (tested : List Group) (tree
       -- names are asked of a world alone
       no_world : (us : List FileTree) → SpellTrees list.lines files us → breaks list.name (files_spelt list us) ≡ [] → ⊥
       no_world us spelt none =
-          none_among b (subst (Among b) (sym (ap (λ (ts : List FileTree). breaks list.name (files_spelt list ts))
+          no_among b (subst (Among b) (sym (ap (λ (ts : List FileTree). breaks list.name (files_spelt list ts))
           (spelt_once us spelt)) ∙ none) f.among)
 
       behind : (a : Break) → Either (BreaksNames list files) (Behind list files tested) a → NotAfter b.rank a.rank
@@ -360,7 +356,7 @@ module _ (list : ListTree) (files : List (List ℕ)) (tested : List Group) (tree
   module _ (unbroken : breaks list.name (files_spelt list trees) ≡ []) where
     world_fine : (a : Break) → BreaksWorld list files a → ⊥
     world_fine a (us, spelt, among) =
-        none_among a (subst (Among a) (ap (λ (ts : List FileTree). breaks list.name (files_spelt list ts))
+        no_among a (subst (Among a) (ap (λ (ts : List FileTree). breaks list.name (files_spelt list ts))
         (spelt_once us spelt) ∙ unbroken) among)
 
     abbrev names : List Break
@@ -393,7 +389,7 @@ module _ (list : ListTree) (files : List (List ℕ)) (tested : List Group) (tree
 
     module _ (named : names ≡ []) where
       names_fine : (a : Break) → BreaksNames list files a → ⊥
-      names_fine a h = none_among a (subst (Among a) named (of_names_here a h))
+      names_fine a h = no_among a (subst (Among a) named (of_names_here a h))
 
       abbrev Here : Group → Break → Type 0
       Here = WorldBreaks list (files_spelt list trees) (all_codes (classes_of trees)) (all_unsupported_insns

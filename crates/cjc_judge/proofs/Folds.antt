@@ -1,6 +1,6 @@
 -- What some items of a list break, one item after the other, and what is answered of it.
 use Rattle.std.proofs.Common.{◌≡◌, ◌⊎◌, inl, inr, ℕ, ◌+◌, ◌<◌, ◌≤◌, List, [], ◌++◌, Option, Some, None, Result, Ok, Err}
-use Rattle.std.proofs.Common.{IfOk, IfErr, OnOk, length, get_or, refl, sym, ap, subst, ◌∙◌, ⊎_elim, arith}
+use Rattle.std.proofs.Common.{IfOk, IfErr, length, get_or, refl, ap, subst, ◌∙◌, ⊎_elim, arith}
 use Rattle.std.specs.Prelude.{slice_get, option_map}
 use Rattle.std.proofs.lemmas.Bool.{cases_lt}
 use Rattle.std.proofs.lemmas.Option.{slice_get_within}
@@ -9,12 +9,10 @@ use Rattle.cjc_bytes.specs.declared.fault.Fault.TheVariants as faults
 use Rattle.cjc_bytes.specs.Breaks.{IsFirstOf}
 use Rattle.cjc_bytes.specs.Breaks.{Break, Among, IsFirst}
 use Rattle.cjc_judge.specs.Rules.{AnyBreaks, IsListOf, IsFirstIn, IsFirstFault}
-use Rattle.cjc_bytes.proofs.Firsts.{among_either, among_left, among_right}
-use Rattle.cjc_judge.proofs.Firsts.{none_among}
-use Rattle.cjc_judge.proofs.Items.{item_at}
-
-some_same : {A : Type 0} {o : Option A} (x y : A) → o ≡ Some x → o ≡ Some y → x ≡ y
-some_same x y e f = let g = sym e ∙ f in cc
+use Rattle.cjc_bytes.proofs.Firsts.{among_either}
+use Rattle.cjc_bytes.proofs.BrokenRules.{among_left, among_right, no_among}
+use Rattle.cjc_bytes.proofs.Gets.{slice_get_at}
+use Rattle.cjc_bytes.proofs.Options.{some_same}
 
 -- those that are in a list, of the first so many items
 abbrev pub BreaksBelow : {A : Type 0} → (A → Break → Type 0) → List A → ℕ → Break → Type 0
@@ -22,7 +20,7 @@ BreaksBelow {A} Breaks items bound b = (i : ℕ) × (i < bound) × ((x : A) × (
 
 module _ {A : Type 0} (Breaks : A → Break → Type 0) (items : List A) where
   pub none_below : IsFirstIn (BreaksBelow Breaks items 0) None
-  none_below = ([], λ b. (λ i. absurd (none_among b i), λ h. absurd (let lt = h.1 in omega (arith, lt))), refl)
+  none_below = ([], λ b. (λ i. absurd (no_among b i), λ h. absurd (let lt = h.1 in omega (arith, lt))), refl)
 
   -- one more
   pub more_below : (i : ℕ) (item : A) (o p q : Option Break) → i < length items → item ≡ get_or items i item
@@ -33,7 +31,7 @@ module _ {A : Type 0} (Breaks : A → Break → Type 0) (items : List A) where
       (xs ++ ys, λ b. (λ j. own b (among_either b xs ys j), λ h. into b h), joins xs ys first next)
     where
       at : slice_get items i ≡ Some item
-      at = item_at items i item lt is
+      at = slice_get_at items i item lt is
 
       own : (b : Break) → Among b xs ⊎ Among b ys → BreaksBelow Breaks items (i + 1) b
       own b (inl j) = let h = (all b).0 j in let below = h.1 in (h.0, omega (arith, below), h.2)
@@ -68,7 +66,7 @@ module _ {A : Type 0} (Breaks : A → Break → Type 0) (items : List A) where
 
 pub none_of : (G : Break → Type 0) (o : Option Break) (bs : List Break) → IsListOf G bs → bs ≡ [] → (b : Break) → G b
     → ⊥
-none_of G o bs all is b h = none_among b (subst (Among b) is ((all b).1 h))
+none_of G o bs all is b h = no_among b (subst (Among b) is ((all b).1 h))
 
 pub first_of : (G : Break → Type 0) (bs : List Break) (e : Fault) → IsListOf G bs → (e ≡ faults.NoMemory)
     ⊎ ((b : Break) × IsFirst b bs × (e ≡ faults.Refused b.refusal)) → IsFirstFault G e
@@ -86,10 +84,6 @@ first_of G bs e all (inr (b, first, is)) =
       },
       is,
     )
-
-pub on_ok : {A E : Type 0} {P Q : Type 0} (r : Result A E) → (P → Q) → OnOk r P → OnOk r Q
-on_ok (Ok a) f p = f p
-on_ok (Err e) f p = p
 
 pub if_err : {A E : Type 0} {P Q : E → Type 0} (r : Result A E) → ((e : E) → P e → Q e) → IfErr r P → IfErr r Q
 if_err (Ok a) f p = p

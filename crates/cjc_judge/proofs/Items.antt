@@ -1,12 +1,6 @@
 -- The item of a list at an index, and the items before it.
 use Rattle.std.proofs.Common.{take, get_or, add-one, ◌≡◌, ℕ, ◌+◌, ◌<◌, sym, ap, ◌∙◌, List, [], ◌∷◌, ◌++◌, length}
-use Rattle.std.specs.Prelude.{Some, slice_get}
 use Rattle.std.proofs.Math.Seq.{take-suc}
-use Rattle.std.proofs.lemmas.Option.{slice_get-get_or}
-
--- the item at an index below the length
-pub item_at : {A : Type 0} (xs : List A) (i : ℕ) (x : A) → i < length xs → x ≡ get_or xs i x → slice_get xs i ≡ Some x
-item_at xs i x lt is = slice_get-get_or xs i x lt ∙ ap Some (sym is)
 
 -- one item more from the front
 pub front_more : {A : Type 0} (xs : List A) (i : ℕ) (x : A) → i < length xs → x ≡ get_or xs i x

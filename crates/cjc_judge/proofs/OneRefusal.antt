@@ -1,15 +1,17 @@
 -- Broken rules that stand at one place have one refusal.
-use Rattle.std.proofs.Common.{◌≡◌, ◌⊎◌, inl, inr, ℕ, suc, ◌+◌, ◌≤◌, Bool, true, false, List, [], ◌∷◌, length, Some}
+use Rattle.std.proofs.Common.{◌≡◌, ◌⊎◌, inl, inr, ℕ, suc, ◌+◌, ◌≤◌, Bool, List, [], ◌∷◌, length, Some}
 use Rattle.std.proofs.Common.{Option, refl, sym, ap, subst, ◌∙◌, arith}
 use Rattle.std.specs.Prelude.{slice_get, if◌then◌else◌}
 use Rattle.cjc_bytes.specs.declared.fault.Refusal.{Refusal}
 use Rattle.cjc_bytes.specs.declared.settings.FileLine.{FileLine}
 use Rattle.cjc_bytes.specs.Breaks.{Break}
-use Rattle.cjc_bytes.specs.Order.{Rank, numbers, AreUpTo, NotAfter}
+use Rattle.cjc_bytes.specs.Order.{Rank, numbers, AreUpTo}
 use Rattle.cjc_bytes.specs.Refused.{refused_at, refusal}
 use Rattle.cjc_bytes.proofs.Laws.{one_value, one_place, spelt_or_broken}
-use Rattle.cjc_classfile.specs.ClassFile.{class_file, refusal_at}
-use Rattle.cjc_classfile.specs.declared.tree.ClassTree.{ClassTree}
+use Rattle.cjc_bytes.proofs.Plain.{no_true}
+use Rattle.cjc_bytes.proofs.Lists.{same_rank}
+use Rattle.cjc_code.specs.ClassFile.ClassFile.{class_file, refusal_at}
+use Rattle.cjc_code.specs.ClassFile.declared.tree.ClassTree.{ClassTree}
 use Rattle.cjc_code.specs.PackageCodes.{all_codes}
 use Rattle.cjc_world.specs.ExportFile.ExportFile.{export_file}
 use Rattle.cjc_list.specs.Listed.{ListTree}
@@ -29,9 +31,6 @@ use Rattle.cjc_judge.proofs.ToldRules.{image_told, names_told, unsupported_insns
 use Rattle.cjc_judge.proofs.ToldRules.{method_told}
 
 -- ---- the rules of one file
-
-no_true : {P : Type 0} (b : FileLine) → b.class_file ≡ true → b.class_file ≡ false → P
-no_true b e f = absurd (let g : true ≡ false = sym e ∙ f in cc)
 
 one_code : (line : FileLine) (t u : ClassTree) (m n o p : ℕ) → t ≡ u → method_rank t m ≡ method_rank u n → o ≡ p
     → code_refusal line t m 103 o ≡ code_refusal line u n 103 p
@@ -100,7 +99,7 @@ abbrev pub IsSpelt : ListTree → List (List ℕ) → Break → Type 0
 IsSpelt list files b = (trees : List FileTree) × SpellTrees list.lines files trees
     × IsTold list.name (files_spelt list trees) b
 
-class_lines : (lines : List FileLine) (files : List (List ℕ)) (trees : List FileTree) → SpellTrees lines files trees
+pub class_lines : (lines : List FileLine) (files : List (List ℕ)) (trees : List FileTree) → SpellTrees lines files trees
     → length (classes_of trees) ≡ class_files lines
 class_lines [] files trees s = ap (λ (ts : List FileTree). length (classes_of ts)) s.1
 class_lines (l ∷ ls) [] trees s = absurd s
@@ -244,10 +243,6 @@ up_to_both (x ∷ xs) (y ∷ ys) (inr l) (inr m) = let first = l.0 in let rest =
 rank_of : List ℕ → Rank → Rank
 rank_of (f ∷ n ∷ c ∷ m ∷ o ∷ r ∷ []) k = record { family = f; file = n; class = c; member = m; offset = o; rule = r }
 rank_of ns k = k
-
-same_rank : (a b : Rank) → NotAfter a b → NotAfter b a → a ≡ b
-unfolding rank_of
-same_rank a b p q = ap (λ (ns : List ℕ). rank_of ns a) (up_to_both (numbers a) (numbers b) p q)
 
 -- the first of some breaks has one refusal, where those of one rank have one
 pub one_first_of : {Breaks : Break → Type 0} → ((a b : Break) → Breaks a → Breaks b → a.rank ≡ b.rank

@@ -1,15 +1,16 @@
 -- The codes of what was read are of methods of the package.
-use Rattle.std.proofs.Common.{◌≡◌, ℕ, zero, suc, ◌+◌, ◌≤◌, List, [], ◌∷◌, Option, Some, None, Result, Ok, Err, IfSome}
-use Rattle.std.proofs.Common.{All, length, drop, refl, sym, ap, subst, ◌∙◌, arith}
+use Rattle.std.proofs.Common.{◌≡◌, ℕ, ◌+◌, ◌≤◌, List, [], ◌∷◌, Option, Some, None, Result, Ok, Err, IfSome}
+use Rattle.std.proofs.Common.{All, length, drop, refl, sym, ap, subst, ◌∙◌}
 use Rattle.std.specs.Prelude.{slice_get}
 use Rattle.std.specs.List.{AllByRecursion}
 use Rattle.std.proofs.lemmas.List.Elements.{All-nil, All-cons, All-append}
 use Rattle.cjc_bytes.specs.declared.settings.FileLine.{FileLine}
-use Rattle.cjc_classfile.specs.Code.{CodeTree}
-use Rattle.cjc_classfile.specs.Fits.{MethodFits, CodeFits, ClassFits}
-use Rattle.cjc_classfile.specs.declared.tree.ClassTree.{ClassTree}
-use Rattle.cjc_classfile.specs.declared.tree.MethodTree.{MethodTree}
+use Rattle.cjc_code.specs.ClassFile.Code.{CodeTree}
+use Rattle.cjc_code.specs.ClassFile.Fits.{MethodFits, CodeFits, ClassFits}
+use Rattle.cjc_code.specs.ClassFile.declared.tree.ClassTree.{ClassTree}
+use Rattle.cjc_code.specs.ClassFile.declared.tree.MethodTree.{MethodTree}
 use Rattle.cjc_bytes.specs.declared.breaks.BrokenAt.{BrokenAt}
+use Rattle.cjc_bytes.proofs.Gets.{head_at}
 use Rattle.cjc_code.specs.Decoded.{decoding, of_code, of_method, decoding_at}
 use Rattle.cjc_code.specs.declared.insn.JInsn.{JInsn}
 use Rattle.cjc_flow.specs.Types.Tables.{IsOfPackage}
@@ -31,16 +32,6 @@ all_fit lines files trees {classes} is all = subst (AllByRecursion ClassFits) (s
     by (l ∷ ls) (b ∷ bs) [] all = absurd all
     by (l ∷ ls) (b ∷ bs) (of_class t ∷ ts) all = (all.0.3, by ls bs ts all.1)
     by (l ∷ ls) (b ∷ bs) (of_export t ∷ ts) all = by ls bs ts all.1
-
--- what stands behind a place, one place further
-behind : {A : Type 0} (xs : List A) (k : ℕ) (x : A) (rest : List A) → drop k xs ≡ x ∷ rest → (slice_get xs k ≡ Some x)
-    × (drop (k + 1) xs ≡ rest)
-behind [] zero x rest e = absurd cc
-behind [] (suc k) x rest e = absurd cc
-behind (y ∷ ys) zero x rest e = (ap Some (let f : y ≡ x = cc in f), (let f : ys ≡ rest = cc in f))
-behind (y ∷ ys) (suc k) x rest e =
-    let more = behind ys k x rest e in
-    (more.0, ap (λ n. drop n (y ∷ ys)) (let e : suc k + 1 ≡ suc (k + 1) = omega arith in e) ∙ more.1)
 
 module _ (files : Files) where
   module _ (class : ℕ) (tree : ClassTree) (is_class : slice_get files.classes class ≡ Some tree) where
@@ -72,7 +63,7 @@ module _ (files : Files) where
         → All (IsOfPackage files) (of_methods code_with class k tree ms)
     methods_are k [] e fits = All-nil (IsOfPackage files)
     methods_are k (m ∷ ms) e fits =
-        let b = behind tree.methods k m ms e in
+        let b = head_at tree.methods k m ms e in
         All-append (IsOfPackage files) _ _ (method_is k m m.code b.0 refl fits.0.code) (methods_are (k + 1) ms b.1
         fits.1)
 
@@ -80,7 +71,7 @@ module _ (files : Files) where
       → All (IsOfPackage files) (of_classes code_with n cs)
   classes_are n [] e fits = All-nil (IsOfPackage files)
   classes_are n (c ∷ cs) e fits =
-      let b = behind files.classes n c cs e in
+      let b = head_at files.classes n c cs e in
       All-append (IsOfPackage files) _ _ (methods_are n c b.0 0 c.methods refl fits.0.methods) (classes_are (n + 1) cs
       b.1 fits.1)
 

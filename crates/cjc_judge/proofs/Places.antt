@@ -1,18 +1,18 @@
 -- What is told of a place, by where it stands in the order of refusals.
 use Rattle.std.proofs.Common.{◌≡◌, ℕ, zero, suc, ◌+◌, ◌<◌, Bool, true, false, List, [], ◌∷◌, ◌++◌, length, map, add-one}
 use Rattle.std.proofs.Common.{Option, Some, None, refl, sym, ap, subst, ◌∙◌, arith}
-use Rattle.std.specs.Prelude.{slice_get, option_map, if◌then◌else◌}
+use Rattle.std.specs.Prelude.{slice_get, if◌then◌else◌}
 use Rattle.std.proofs.lemmas.List.{length-map}
-use Rattle.std.proofs.lemmas.Option.{slice_get-map}
 use Rattle.cjc_bytes.specs.declared.fault.Place.{Place}
 use Rattle.cjc_bytes.specs.declared.order.FileKey.TheVariants as keys
 use Rattle.cjc_bytes.specs.declared.settings.FileLine.{FileLine}
 use Rattle.cjc_bytes.specs.Breaks.{Break, broken_at, class_spot, list_spot, member_spot}
 use Rattle.cjc_bytes.specs.Order.{FilePlace, Rank, file_from}
 use Rattle.cjc_bytes.specs.Refused.{refused_at, in_class, field_text, method_text}
-use Rattle.cjc_classfile.specs.declared.tree.ClassTree.{ClassTree}
-use Rattle.cjc_classfile.specs.declared.tree.FieldTree.{FieldTree}
-use Rattle.cjc_classfile.specs.declared.tree.MethodTree.{MethodTree}
+use Rattle.cjc_bytes.proofs.Gets.{in_front, item_there}
+use Rattle.cjc_code.specs.ClassFile.declared.tree.ClassTree.{ClassTree}
+use Rattle.cjc_code.specs.ClassFile.declared.tree.FieldTree.{FieldTree}
+use Rattle.cjc_code.specs.ClassFile.declared.tree.MethodTree.{MethodTree}
 use Rattle.cjc_vtable.specs.Subset.Exports.{export_file_from, export_file_of}
 use Rattle.cjc_vtable.specs.Subset.Places.{at_class, at_field, at_method}
 use Rattle.cjc_world.specs.Classes.{Class, Member, declared, field_of_class, field_of_export, imported, method_of_class}
@@ -110,11 +110,6 @@ module _ (list : List ℕ) (files : Files) where
 
 -- ---- the texts of members
 
-front_item : {A : Type 0} (xs ys : List A) (j : ℕ) (x : A) → slice_get xs j ≡ Some x → slice_get (xs ++ ys) j ≡ Some x
-front_item [] ys j x e = absurd cc
-front_item (y ∷ xs) ys zero x e = e
-front_item (y ∷ xs) ys (suc j) x e = front_item xs ys j x e
-
 back_item : {A : Type 0} (xs ys : List A) (j k : ℕ) (x : A) → k ≡ length xs + j → slice_get ys j ≡ Some x
     → slice_get (xs ++ ys) k ≡ Some x
 back_item [] ys j k x is e = ap (slice_get ys) (let f : k ≡ j = omega (arith, is) in f) ∙ e
@@ -124,15 +119,11 @@ back_item (y ∷ xs) ys j (suc k) x is e = back_item xs ys j k x (omega (arith, 
 item_next : {A : Type 0} (xs : List A) (n k : ℕ) → n ≡ k + 1 → item xs n ≡ slice_get xs k
 item_next xs n k is = ap (λ (m : ℕ). item xs m) (is ∙ add-one k)
 
-mapped : {A B : Type 0} (f : A → B) (xs : List A) (j : ℕ) (x : A) → slice_get xs j ≡ Some x → slice_get (map f xs) j
-    ≡ Some (f x)
-mapped f xs j x is = slice_get-map f xs j ∙ ap (option_map f) is
-
 pub field_at : (c : Class) (j n : ℕ) (m : Member) → n ≡ j + 1 → slice_get c.fields j ≡ Some m
     → text_or (item (texts_of c) n) ≡ field_text m.name m.desc
 field_at c j n m is there =
-    ap text_or (item_next (texts_of c) n j is ∙ front_item (map (λ m. field_text m.name m.desc) c.fields)
-    (map (λ m. method_text m.name m.desc) c.methods) j _ (mapped (λ (m : Member). field_text m.name m.desc) c.fields
+    ap text_or (item_next (texts_of c) n j is ∙ in_front (map (λ m. field_text m.name m.desc) c.fields)
+    (map (λ m. method_text m.name m.desc) c.methods) j _ (item_there (λ (m : Member). field_text m.name m.desc) c.fields
     j m there))
 
 pub method_at : (c : Class) (j n : ℕ) (m : Member) → n ≡ length c.fields + j + 1 → slice_get c.methods j ≡ Some m
@@ -141,7 +132,7 @@ method_at c j n m is there =
     let same = length-map c.fields (λ (m : Member). field_text m.name m.desc) in
     ap text_or (item_next (texts_of c) n (length c.fields + j) is
     ∙ back_item (map (λ m. field_text m.name m.desc) c.fields) (map (λ m. method_text m.name m.desc) c.methods) j
-    (length c.fields + j) _ (omega (arith, same)) (mapped (λ (m : Member). method_text m.name m.desc) c.methods j m
+    (length c.fields + j) _ (omega (arith, same)) (item_there (λ (m : Member). method_text m.name m.desc) c.methods j m
     there))
 
 -- ---- the file of a class file's number
@@ -266,7 +257,7 @@ module _ (list : List ℕ) (files : Files) (number : ℕ) (c : ClassTree) (f : F
         subst (λ (g : FilePlace). IsTold list files (broken_at (at_field g c i m) rule)) (sym h.is)
         (told_member list files h.index h.line h.is_line 1 (declared number c) (i + 1) (field_text m.name m.desc) 0 rule
         h.class
-        (field_at (declared number c) i (i + 1) (field_of_class m) refl (mapped field_of_class c.fields i m there)))
+        (field_at (declared number c) i (i + 1) (field_of_class m) refl (item_there field_of_class c.fields i m there)))
 
     pub told_at_method : (i : ℕ) (m : MethodTree) → slice_get c.methods i ≡ Some m → (offset rule : ℕ)
         → IsTold list files (broken_at (at_method f c i m offset) rule)
@@ -276,7 +267,7 @@ module _ (list : List ℕ) (files : Files) (number : ℕ) (c : ClassTree) (f : F
         (told_member list files h.index h.line h.is_line 1 (declared number c) (length c.fields + i + 1)
         (method_text m.name m.desc) offset rule h.class
         (method_at (declared number c) i (length c.fields + i + 1) (method_of_class m) (omega (arith, same))
-        (mapped method_of_class c.methods i m there)))
+        (item_there method_of_class c.methods i m there)))
 
 -- ---- the file of an export file's number
 
@@ -425,4 +416,4 @@ module _ (list : List ℕ) (files : Files) (t : ExportTree) (f : FilePlace) (h :
       (told_member list files h.index h.line h.is_line (k + 1) (imported (h.first + k) c) (length c.fields + i + 1)
       (method_text m.name m.desc) 0 rule class_there
       (method_at (imported (h.first + k) c) i (length c.fields + i + 1) (method_of_export m) (omega (arith, same))
-      (mapped method_of_export c.methods i m there)))
+      (item_there method_of_export c.methods i m there)))

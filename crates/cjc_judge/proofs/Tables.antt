@@ -8,12 +8,13 @@ use Rattle.cjc_bytes.specs.Breaks.{IsFirstOf}
 use Rattle.cjc_flow.specs.Types.declared.table.TypeTable.{TypeTable}
 use Rattle.cjc_world.specs.Files.{Files}
 use Rattle.cjc_bytes.specs.Breaks.{Break, Among}
+use Rattle.cjc_bytes.proofs.BrokenRules.{among_left, among_right, no_among}
+use Rattle.cjc_bytes.proofs.Gets.{slice_get_at}
+use Rattle.cjc_bytes.proofs.Options.{when_none, option_had}
 use Rattle.cjc_judge.specs.Rules.{IsFirstIn}
 use Rattle.cjc_judge.specs.Types.{IsTableOf, AreTables}
 use Rattle.cjc_judge.specs.Working.Groups.{PutsTable}
-use Rattle.cjc_bytes.proofs.Firsts.{among_left, among_right}
-use Rattle.cjc_judge.proofs.Firsts.{none_among}
-use Rattle.cjc_judge.proofs.Items.{item_at, front_more}
+use Rattle.cjc_judge.proofs.Items.{front_more}
 
 -- ---- where nothing is broken
 
@@ -28,16 +29,8 @@ both_none xs ys o p q f g joined is = by o p f g (subst (IsFirstOf (xs ++ ys)) i
   where
     by : (o p : Option Break) → IsFirstOf xs o → IsFirstOf ys p → xs ++ ys ≡ [] → (o ≡ None) × (p ≡ None)
     by None None f g e = (refl, refl)
-    by (Some b) p f g e = absurd (none_among b (subst (Among b) e (among_left b xs ys f.among)))
-    by None (Some b) f g e = absurd (none_among b (subst (Among b) e (among_right b xs ys g.among)))
-
-when_none : {A : Type 0} (o : Option A) (P : Type 0) → (o ≡ None → P) → IfNone o P
-when_none None P p = p refl
-when_none (Some x) P p = tt
-
-had : {A : Type 0} (o : Option A) (P : Type 0) → o ≡ None → IfNone o P → P
-had None P e p = p
-had (Some x) P e p = absurd (let f = e in cc)
+    by (Some b) p f g e = absurd (no_among b (subst (Among b) e (among_left b xs ys f.among)))
+    by None (Some b) f g e = absurd (no_among b (subst (Among b) e (among_right b xs ys g.among)))
 
 -- What holds of what is left where both were none holds where the first of both is.
 pub joined : {X : Type 0} (f : X → Break) (G H : Break → Type 0) (o p q : Option X) (P Q R : Type 0)
@@ -47,11 +40,7 @@ pub joined : {X : Type 0} (f : X → Break) (G H : Break → Type 0) (o p q : Op
 joined f G H o p q P Q R joins (xs, _, first) (ys, _, next) go had_o had_p = when_none q R (λ e.
     let both = both_none xs ys (option_map f o) (option_map f p) (option_map f q) first next (joins xs ys first next)
     (ap (option_map f) e) in
-    go (had o P (none_was f o both.0) had_o) (had p Q (none_was f p both.1) had_p))
-
-pub mapped : {A : Type 0} (o : Option A) (P Q : Type 0) → (P → Q) → IfNone o P → IfNone o Q
-mapped None P Q f p = f p
-mapped (Some x) P Q f p = tt
+    go (option_had o P (none_was f o both.0) had_o) (option_had p Q (none_was f p both.1) had_p))
 
 -- ---- one method after the other
 
@@ -103,16 +92,9 @@ pub table_of : (world : Files) (codes : List MethodCode) (tables : List TypeTabl
     → table ≡ get_or tables i table → IsTableOf world code table
 table_of world codes tables i code table h lt is_code is_table =
     let sized = tables_sized world codes tables h in
-    table_at world codes tables i code table h (item_at codes i code lt is_code) (item_at tables i table (omega (
+    table_at world codes tables i code table h (slice_get_at codes i code lt is_code) (slice_get_at tables i table
+    (omega (
       arith,
       sized,
       lt,
     )) is_table)
-
--- ---- what is answered
-
--- where nothing is broken the answer is Ok
-pub kept : {X : Type 0} (f : X → Break) (o : Option X) (bs : List Break) (P : Type 0) → bs ≡ []
-    → IsFirstOf bs (option_map f o) → IfNone o P → P
-kept f None bs P e first p = p
-kept f (Some x) bs P e first p = absurd (none_among (f x) (subst (Among (f x)) e first.among))

@@ -6,8 +6,8 @@ use Rattle.std.proofs.lemmas.Bool.Decides.{nat_tests}
 use Rattle.cjc_bytes.specs.Order.{NotAfter}
 use Rattle.cjc_bytes.specs.Breaks.{IsFirstOf}
 use Rattle.cjc_bytes.specs.Breaks.{Break, Among, foremost, after, IsFirst}
+use Rattle.cjc_bytes.proofs.BrokenRules.{no_among, no_breaks}
 use Rattle.cjc_judge.specs.Rules.{IsOfThirdHundred, IsListOf, IsFirstIn}
-use Rattle.cjc_judge.proofs.Firsts.{none_among}
 
 is_third : Break → Bool
 is_third b = b.rank.family == 3
@@ -43,7 +43,7 @@ from_more x bs b false e rest i = later x bs b (rest i)
 
 from_thirds : (bs : List Break) (b : Break) → Among b (thirds bs) → Third bs b
 unfolding thirds
-from_thirds [] b i = absurd (none_among b i)
+from_thirds [] b i = absurd (no_among b i)
 from_thirds (x ∷ bs) b i = from_more x bs b (is_third x) refl (λ j. from_thirds bs b j) i
 
 into_more : (x : Break) (bs : List Break) (b : Break) (t : Bool) → is_third x ≡ t → (Among b bs → Among b (thirds bs))
@@ -55,22 +55,18 @@ into_more x bs b false e rest h (after j) = rest j
 
 into_thirds : (bs : List Break) (b : Break) → Among b bs → IsOfThirdHundred b → Among b (thirds bs)
 unfolding thirds
-into_thirds [] b i h = absurd (none_among b i)
+into_thirds [] b i h = absurd (no_among b i)
 into_thirds (x ∷ bs) b i h = into_more x bs b (is_third x) refl (λ j. into_thirds bs b j h) h i
 
 lists_thirds : (bs : List Break) → IsListOf (Third bs) (thirds bs)
 lists_thirds bs b = (λ i. from_thirds bs b i, λ h. into_thirds bs b h.0 h.1)
-
-no_breaks : (bs : List Break) → ((b : Break) → Among b bs → ⊥) → bs ≡ []
-no_breaks [] none = refl
-no_breaks (b ∷ bs) none = absurd (none b foremost)
 
 -- where nothing is broken
 pub third_of_none : (bs : List Break) → IsFirstOf bs None → IsFirstIn (Third bs) None
 third_of_none bs e = (
   thirds bs,
   lists_thirds bs,
-  no_breaks (thirds bs) (λ b i. none_among b (subst (Among b) e (from_thirds bs b i).0)),
+  no_breaks (thirds bs) (λ b i. no_among b (subst (Among b) e (from_thirds bs b i).0)),
 )
 
 -- the first of all is of the third hundred

@@ -1,12 +1,11 @@
 -- What methods break, as a list.
-use Rattle.std.proofs.Common.{◌≡◌, ◌⊎◌, inl, inr, ℕ, zero, suc, ◌<◌, List, [], ◌∷◌, Option, Some, None, Ok, Err, length}
-use Rattle.std.proofs.Common.{get_or, refl, sym, ap, subst, ◌∙◌, arith}
+use Rattle.std.proofs.Common.{◌≡◌, ◌⊎◌, inl, inr, [], ◌∷◌, Some, None, Ok, Err}
+use Rattle.std.proofs.Common.{refl, sym, ap, subst, ◌∙◌}
 use Rattle.std.specs.Prelude.{slice_get}
-use Rattle.std.proofs.lemmas.Option.{slice_get_within}
 use Rattle.cjc_bytes.specs.declared.breaks.BrokenAt.{BrokenAt}
-use Rattle.cjc_classfile.specs.Code.{CodeTree}
-use Rattle.cjc_classfile.specs.declared.tree.ClassTree.{ClassTree}
-use Rattle.cjc_classfile.specs.declared.tree.MethodTree.{MethodTree}
+use Rattle.cjc_code.specs.ClassFile.Code.{CodeTree}
+use Rattle.cjc_code.specs.ClassFile.declared.tree.ClassTree.{ClassTree}
+use Rattle.cjc_code.specs.ClassFile.declared.tree.MethodTree.{MethodTree}
 use Rattle.cjc_code.specs.declared.method_code.MethodCode.{MethodCode}
 use Rattle.cjc_bytes.specs.Breaks.{IsFirstOf, Break, Among, foremost, after}
 use Rattle.cjc_flow.specs.Types.declared.inference.InferError.{InferError}
@@ -17,13 +16,11 @@ use Rattle.cjc_flow.specs.Types.Tables.{IsMethodOf, IsAnswer}
 use Rattle.cjc_world.specs.Files.{Files}
 use Rattle.cjc_judge.specs.Rules.{method_break, BreaksMethod, IsFirstIn}
 use Rattle.cjc_bytes.proofs.Firsts.{first_of_one}
-use Rattle.cjc_judge.proofs.Firsts.{none_among}
-use Rattle.cjc_judge.proofs.Items.{item_at}
+use Rattle.cjc_bytes.proofs.Gets.{slice_get_at}
+use Rattle.cjc_bytes.proofs.BrokenRules.{no_among}
+use Rattle.cjc_bytes.proofs.Options.{some_same}
 
 -- ---- one method
-
-some_same : {A : Type 0} {o : Option A} (x y : A) → o ≡ Some x → o ≡ Some y → x ≡ y
-some_same x y e f = let g = sym e ∙ f in cc
 
 module _ (Breaks : Files → Body → BrokenAt → Type 0) (files : Files) (code : MethodCode) (class : ClassTree)
     (method : MethodTree) (tree : CodeTree) (here : IsMethodOf files code class method tree) where
@@ -53,7 +50,7 @@ module _ (Breaks : Files → Body → BrokenAt → Type 0) (files : Files) (code
   unbroken_method fine = (
     [],
     λ b. (
-      λ i. absurd (none_among b i),
+      λ i. absurd (no_among b i),
       λ h. absurd (let found = broken_of b h
           in fine found.0 found.1),
     ),
@@ -74,7 +71,7 @@ module _ (Breaks : Files → Body → BrokenAt → Type 0) (files : Files) (code
 
       only : (b : Break) → Among b (one ∷ []) → b ≡ one
       only b foremost = refl
-      only b (after i) = absurd (none_among b i)
+      only b (after i) = absurd (no_among b i)
 
       own : (b : Break) → Among b (one ∷ []) → BreaksMethod Breaks files code b
       own b i = subst (BreaksMethod Breaks files code) (sym (only b i)) (record {
@@ -103,26 +100,8 @@ pub answered_alone : (x y : BrokenAt) → IsAnswer (Err (errors.Broken y)) (Err 
 answered_alone x y (inl e) = let f : x ≡ y = cc in sym f
 answered_alone x y (inr e) = absurd cc
 
--- what stands at a place of a list, by another name for the list
-pub at_is : {A : Type 0} (xs ys : List A) (i : ℕ) (x y : A) → xs ≡ ys → slice_get ys i ≡ Some y → x ≡ get_or xs i x
-    → x ≡ y
-at_is xs ys i x y same at is = let e = ap (λ zs. slice_get zs i) same ∙ at
-    in some_same x y (item_at xs i x (slice_get_within xs i y e) is) e
-
 -- the broken rule of an error, where memory did not run out
 pub broken_this : (P : BrokenAt → Type 0) (x : BrokenAt) (e : InferError) → e ≡ errors.Broken x → (e ≡ errors.NoMemory)
     ⊎ ((y : BrokenAt) × P y × (e ≡ errors.Broken y)) → P x
 broken_this P x e is (inl memory) = absurd (let f = sym is ∙ memory in cc)
 broken_this P x e is (inr (y, p, same)) = let f : y ≡ x = (let g = sym same ∙ is in cc) in subst P f p
-
--- what is read at a place of a list does not depend on what is read past its end
-pub read_twice : {A : Type 0} (xs : List A) (i : ℕ) (d : A) → i < length xs
-    → get_or xs i d ≡ get_or xs i (get_or xs i d)
-read_twice [] i d lt = absurd (omega arith)
-read_twice (x ∷ xs) zero d lt = refl
-read_twice (x ∷ xs) (suc i) d lt = by xs i d (get_or xs i d) (omega arith)
-  where
-    by : {A : Type 0} (xs : List A) (i : ℕ) (d e : A) → i < length xs → get_or xs i d ≡ get_or xs i e
-    by [] i d e lt = absurd (omega arith)
-    by (x ∷ xs) zero d e lt = refl
-    by (x ∷ xs) (suc i) d e lt = by xs i d e (omega arith)

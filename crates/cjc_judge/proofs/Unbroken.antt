@@ -4,6 +4,7 @@ use Rattle.cjc_bytes.specs.Breaks.{Among, Break, IsFirstRefusal}
 use Rattle.cjc_bytes.specs.declared.fault.Fault.{Fault}
 use Rattle.cjc_bytes.specs.declared.fault.Fault.TheVariants as faults
 use Rattle.cjc_bytes.specs.declared.fault.Refusal.{Refusal}
+use Rattle.cjc_bytes.proofs.BrokenRules.{no_among}
 use Rattle.cjc_clinit.specs.Rules.{BreaksImage, IsFirstRefused}
 use Rattle.cjc_code.specs.declared.method_code.MethodCode.{MethodCode}
 use Rattle.cjc_world.specs.Files.{Files}
@@ -14,9 +15,6 @@ pub image_refused : (files : Files) (codes : List MethodCode) (e : Fault) (r : R
 image_refused files codes e r is (inl none) unbroken = let clash : faults.Refused r ≡ faults.NoMemory = sym is ∙ none
     in cc
 image_refused files codes e r is (inr (b, breaks_it, first, same)) unbroken = unbroken b breaks_it
-
-no_among : (b : Break) → Among b [] → ⊥
-no_among b among = elim among [ ]
 
 -- of a list of breaks
 pub none_refused : (bs : List Break) (e : Fault) (r : Refusal) → e ≡ faults.Refused r → IsFirstRefusal bs e → bs ≡ []

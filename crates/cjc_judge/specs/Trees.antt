@@ -2,9 +2,9 @@
 use Rattle.std.specs.Prelude.{◌≡◌, ℕ, List, [], ◌∷◌, true, false}
 use Rattle.cjc_bytes.specs.Format.{FileSpells}
 use Rattle.cjc_bytes.specs.declared.settings.FileLine.{FileLine}
-use Rattle.cjc_classfile.specs.ClassFile.{class_file}
-use Rattle.cjc_classfile.specs.Fits.{ClassFits}
-use Rattle.cjc_classfile.specs.declared.tree.ClassTree.{ClassTree}
+use Rattle.cjc_code.specs.ClassFile.ClassFile.{class_file}
+use Rattle.cjc_code.specs.ClassFile.Fits.{ClassFits}
+use Rattle.cjc_code.specs.ClassFile.declared.tree.ClassTree.{ClassTree}
 use Rattle.cjc_code.specs.declared.method_code.MethodCode.{MethodCode}
 use Rattle.cjc_world.specs.ExportFile.ExportFile.{export_file}
 use Rattle.cjc_world.specs.ExportFile.Writable.{IsWritable}

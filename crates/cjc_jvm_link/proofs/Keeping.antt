@@ -12,12 +12,12 @@ use Rattle.cjc_world.specs.Classes.{Class, class_named}
 use Rattle.cjc_world.specs.Supertypes.{IsAcyclic, line}
 use Rattle.cjc_jvm_semantics.specs.Effects.{fresh_field}
 use Rattle.cjc_jvm_semantics.specs.OnePackage.{is_made, made_of, object_fields}
-use Rattle.cjc_world.proofs.Settled.{bytes-true, bytes-refl}
 use Rattle.cjc_world.proofs.Cycles.{class_named-name}
 use Rattle.cjc_world.proofs.ByPlace.{class-place}
 use Rattle.cjc_jvm_link.specs.declared.fresh.Fresh.{Fresh}
 use Rattle.cjc_jvm_link.specs.Fresh.{fresh_in, fresh_fields, AreFresh, Has, HasClass, HasAll, HasEach, Keeps}
 use Rattle.cjc_jvm_link.proofs.Above.{fresh_cons, fresh_unknown}
+use Rattle.cjc_world.proofs.BytesLists.{name_is, bytes_true}
 
 module _ (w : List Class) (name : List ℕ) (fields : List FieldValue) (old new : Fresh) (put : (x : List ℕ)
     → fresh_in new x ≡ cond (bytes_eq name x) (Some fields) (fresh_in old x)) where
@@ -27,7 +27,7 @@ module _ (w : List Class) (name : List ℕ) (fields : List FieldValue) (old new 
       by : (b : Bool) → bytes_eq name x ≡ b → cond b (Some fields) (fresh_in old x) ≡ Some more
           → more ≡ fresh_fields w (x ∷ [])
       by true same f = let m : fields ≡ more = cc in sym m ∙ is
-          ∙ ap (λ z. fresh_fields w (z ∷ [])) (bytes-true name x same)
+          ∙ ap (λ z. fresh_fields w (z ∷ [])) (bytes_true name x same)
       by false apart f = fresh x more f
 
   pub keep_keeps : Keeps old new
@@ -38,7 +38,7 @@ module _ (w : List Class) (name : List ℕ) (fields : List FieldValue) (old new 
       by false e = (has.0, e ∙ has.1)
 
   pub keep_has : HasClass w new name
-  keep_has c e = (fields, put name ∙ ap (λ t. cond t (Some fields) (fresh_in old name)) (bytes-refl name))
+  keep_has c e = (fields, put name ∙ ap (λ t. cond t (Some fields) (fresh_in old name)) (name_is name))
 
 pub keeps_each : (w : List Class) (old new : Fresh) (names : List (List ℕ)) → Keeps old new → HasEach w old names
     → HasEach w new names
@@ -64,7 +64,7 @@ named_at (d ∷ w) p c e = by (bytes_eq d.name c.name) refl p e (λ q f. named_a
         × ((if b then Some d else class_named w c.name) ≡ Some k)
     by true t p f later = (d, refl)
     by false t zero f later = let same : d ≡ c = cc in let yes : bytes_eq d.name c.name ≡ true =
-        ap (λ k. bytes_eq d.name k.name) (sym same) ∙ bytes-refl d.name in cc
+        ap (λ k. bytes_eq d.name k.name) (sym same) ∙ name_is d.name in cc
     by false t (suc p) f later = later p f
 
 pub has_at : (w : List Class) (fresh : Fresh) (p : ℕ) (c : Class) → slice_get w p ≡ Some c

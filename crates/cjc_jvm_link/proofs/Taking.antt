@@ -1,10 +1,7 @@
 -- What is taken from the front of the instructions of all methods.
-use Rattle.std.proofs.Common.{◌≡◌, ℕ, suc, ◌+◌, ◌<◌, ◌≤◌, refl, sym, ap, ◌∙◌, arith, Bool, true, false, List, [], ◌∷◌}
+use Rattle.std.proofs.Common.{◌≡◌, ℕ, ◌+◌, ◌<◌, ◌≤◌, refl, sym, ap, ◌∙◌, arith, true, false, List, [], ◌∷◌}
 use Rattle.std.proofs.Common.{◌++◌, length, drop, get_or, take, map}
 use Rattle.std.specs.Prelude.{Option, Some, None, if◌then◌else◌, ◌==◌, ◌&&◌, Result, Ok, Err}
-use Rattle.std.proofs.lemmas.Bool.{eqb-true}
-use Rattle.std.proofs.lemmas.Bool.Decides.{Decides-eqb}
-use Rattle.std.proofs.Math.Seq.{drop-cons}
 use Rattle.std.proofs.lemmas.List.{drop_all, map-append, take_more}
 use Rattle.cjc_world.specs.Bytes.declared.breaks.BrokenAt.{BrokenAt}
 use Rattle.cjc_world.specs.ClassFile.declared.tree.ClassTree.{ClassTree}
@@ -15,19 +12,11 @@ use Rattle.cjc_jvm_semantics.specs.Bytecode.declared.method_code.MethodCode.{Met
 use Rattle.cjc_jvm_semantics.specs.Bytecode.Decoded.{decoding, decoded, insns_of}
 use Rattle.cjc_jvm_semantics.specs.Bytecode.PackageCodes.{first_insns, code_with, where_code, of_methods, of_classes}
 use Rattle.cjc_jvm_link.specs.Methods.{is_first, insns_at, behind, insns_in}
-
-other : (a b : ℕ) → (a ≡ b → ⊥) → (a == b) ≡ false
-other a b h = by (a == b) refl
-  where
-    by : (t : Bool) → (a == b) ≡ t → t ≡ false
-    by true e = absurd (h (eqb-true a b e))
-    by false e = refl
-
-itself : (a : ℕ) → (a == a) ≡ true
-itself a = (Decides-eqb a a).1 refl
+use Rattle.cjc_world.proofs.BytesGets.{drop_next}
+use Rattle.cjc_world.proofs.BytesNumbers.{like_number, other_number}
 
 first_of_two : (k j : ℕ) → ((k == k) && (j == j)) ≡ true
-first_of_two k j = ap (λ t. t && (j == j)) (itself k) ∙ itself j
+first_of_two k j = ap (λ t. t && (j == j)) (like_number k) ∙ like_number j
 
 -- none of a class's methods from a place on is this one
 skips : (n k j i : ℕ) → ((l : ℕ) → i ≤ l → ((n == k) && (l == j)) ≡ false)
@@ -51,13 +40,13 @@ skips n k j i apart tree (m ∷ ms) tail end = by (skips n k j (i + 1) (λ l h. 
 later_classes : (n k j : ℕ) → k < n → (trees : List ClassTree) → is_first k j (of_classes code_with n trees) ≡ false
 later_classes n k j h [] = refl
 later_classes n k j h (tree ∷ trees) =
-    skips n k j 0 (λ l _. ap (λ t. t && (l == j)) (other n k (λ e. omega arith))) tree tree.methods
+    skips n k j 0 (λ l _. ap (λ t. t && (l == j)) (other_number n k (λ e. omega arith))) tree tree.methods
     (of_classes code_with (n + 1) trees) (later_classes (n + 1) k j (omega arith) trees)
 
 later_methods : (k j : ℕ) (tree : ClassTree) (ms : List MethodTree) (later : List ClassTree)
     → is_first k j (of_methods code_with k (j + 1) tree ms ++ of_classes code_with (k + 1) later) ≡ false
 later_methods k j tree ms later =
-    skips k k j (j + 1) (λ l h. ap (λ t. t && (l == j)) (itself k) ∙ other l j (λ e. omega arith)) tree ms
+    skips k k j (j + 1) (λ l h. ap (λ t. t && (l == j)) (like_number k) ∙ other_number l j (λ e. omega arith)) tree ms
     (of_classes code_with (k + 1) later) (later_classes (k + 1) k j (omega arith) later)
 
 -- what is taken at a method, and what is left
@@ -100,10 +89,6 @@ taken k j tree m ms later = by m.code
 
 -- ---- a walk over methods, and over classes
 
-after : {A : Type 0} (xs : List A) (i : ℕ) (x : A) → i < length xs → x ≡ get_or xs i x → drop i xs ≡ x ∷ drop (i + 1) xs
-after xs i x h is = let e : suc i ≡ i + 1 = omega arith in drop-cons xs i x h ∙ ap (λ y. y ∷ drop (suc i) xs) (sym is)
-    ∙ ap (λ n. x ∷ drop n xs) e
-
 pub method_step : (k j : ℕ) (tree : ClassTree) (ms : List MethodTree) (later : List ClassTree) (codes : List MethodCode)
     (m : MethodTree) → j < length ms → m ≡ get_or ms j m
     → codes ≡ of_methods code_with k j tree (drop j ms) ++ of_classes code_with (k + 1) later
@@ -112,7 +97,7 @@ pub method_step : (k j : ℕ) (tree : ClassTree) (ms : List MethodTree) (later :
     ++ of_classes code_with (k + 1) later)
 method_step k j tree ms later codes m h is e =
     let here : codes ≡ of_methods code_with k j tree (m ∷ drop (j + 1) ms) ++ of_classes code_with (k + 1) later = e
-    ∙ ap (λ ys. of_methods code_with k j tree ys ++ of_classes code_with (k + 1) later) (after ms j m h is) in
+    ∙ ap (λ ys. of_methods code_with k j tree ys ++ of_classes code_with (k + 1) later) (drop_next ms j m h is) in
     let t = taken k j tree m (drop (j + 1) ms) later in
     (ap (insns_at k j) here ∙ t.0, ap (behind k j) here ∙ t.1)
 
@@ -127,7 +112,7 @@ pub class_step : (n : ℕ) (trees : List ClassTree) (codes : List MethodCode) (t
     → tree ≡ get_or trees n tree
     → codes ≡ of_classes code_with n (drop n trees) → codes ≡ of_methods code_with n 0 tree tree.methods
     ++ of_classes code_with (n + 1) (drop (n + 1) trees)
-class_step n trees codes tree h is e = e ∙ ap (of_classes code_with n) (after trees n tree h is)
+class_step n trees codes tree h is e = e ∙ ap (of_classes code_with n) (drop_next trees n tree h is)
 
 pub map_step : {A B : Type 0} (f : A → B) (xs : List A) (i : ℕ) (x : A) (ys : List B) (y : B) → i < length xs
     → x ≡ get_or xs i x → ys ≡ map f (take i xs) → y ≡ f x → ys ++ y ∷ [] ≡ map f (take (i + 1) xs)

@@ -17,7 +17,7 @@ ghost use Rattle.cjc_jvm_link.specs.Found.{hit_of};
 
 use crate::hits::{Owner, owner_of};
 use crate::links::Links;
-use cjc_jvm_step::bytecode::jvm;
+use cjc_jvm_semantics::bytecode::jvm;
 use cjc_jvm_step::step::{Call, Callee};
 use cjc_world::bytes::{MemberId, is_interface, is_private, is_static};
 use cjc_world::{Found, Known};

@@ -13,8 +13,8 @@ ghost use Rattle.cjc_jvm_link.specs.Starts.{start_in, either, AreStarts};
 ghost use Rattle.std.specs.Cmp.{partial_equiv_from_equiv};
 
 use crate::zeros::{field_id, zero_of};
+use cjc_jvm_semantics::script::{FieldValue, Value};
 use cjc_jvm_step::heap::{ArrayKind, Element, Heap, HeapObject, TypeName};
-use cjc_jvm_step::script::{FieldValue, Value};
 use cjc_world::bytes::{Kind, MemberId, NoMemory, Row, is_static};
 use cjc_world::classfile::{ClassTree, FieldTree};
 use cjc_world::export_file::may_be_constant;

@@ -14,7 +14,7 @@ ghost use Rattle.cjc_jvm_link.specs.Fresh.{fresh_in, fresh_fields, own_fields, A
 ghost use Rattle.cjc_jvm_link.specs.Fresh.{Keeps};
 
 use crate::zeros::{field_id, fresh_field};
-use cjc_jvm_step::script::FieldValue;
+use cjc_jvm_semantics::script::FieldValue;
 use cjc_world::bytes::{Bytes, NoMemory, Row, is_static};
 use cjc_world::classfile::{ClassTree, FieldTree};
 use cjc_world::{Known, World};

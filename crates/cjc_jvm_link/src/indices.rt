@@ -5,7 +5,7 @@ ghost use Rattle.cjc_jvm_semantics.specs.Effects.{or_other};
 ghost use Rattle.cjc_jvm_step.specs.Frame.Places.{IsIndex};
 ghost use Rattle.cjc_jvm_link.specs.Methods.{AreIndices};
 
-use cjc_jvm_step::bytecode::{JInsn, MethodCode};
+use cjc_jvm_semantics::bytecode::{JInsn, MethodCode};
 use cjc_world::bytes::{NoMemory, Row};
 use std::alloc::Global;
 

@@ -7,7 +7,7 @@ ghost use Rattle.cjc_jvm_semantics.specs.OnePackage.{method_by};
 ghost use Rattle.cjc_jvm_step.specs.Frame.Places.{IsIndex};
 ghost use Rattle.cjc_jvm_link.specs.Methods.{AreIndices, methods_of, insns_in, insns_at, behind};
 
-use cjc_jvm_step::bytecode::{JInsn, MethodCode};
+use cjc_jvm_semantics::bytecode::{JInsn, MethodCode};
 use cjc_jvm_step::frame::Method;
 use cjc_world::bytes::{NoMemory, Row};
 use cjc_world::classfile::{ClassTree, MethodTree};

@@ -6,7 +6,7 @@ ghost use Rattle.cjc_jvm_semantics.specs.Script.Sorts.{field_sort, sort_by, sort
 ghost use Rattle.cjc_jvm_semantics.specs.Effects.{fresh_field};
 ghost use Rattle.cjc_jvm_semantics.specs.OnePackage.{of_class};
 
-use cjc_jvm_step::script::{FieldValue, Value};
+use cjc_jvm_semantics::script::{FieldValue, Value};
 use cjc_jvm_step::step::shape_named;
 use cjc_world::bytes::{Bytes, Desc, Kind, MemberId, NoMemory};
 use std::alloc::Global;

@@ -1,9 +1,9 @@
 -- More instructions change nothing of a run that is over, and take back no note: two laws of one turn, for every record
 -- of look-ups.
-use Rattle.std.proofs.Common.{◌≡◌, ℕ, refl, sym, ap, subst, ◌∙◌, Bool, true, false, List, [], ◌∷◌, ◌++◌, length, take}
-use Rattle.std.proofs.Common.{drop, reverse, append-nil, append_assoc}
+use Rattle.std.proofs.Common.{◌≡◌, ℕ, refl, sym, subst, Bool, true, false, List, [], ◌∷◌, ◌++◌, length, take}
+use Rattle.std.proofs.Common.{drop, reverse}
 use Rattle.std.specs.Prelude.{Option, Some, None, slice_get, nat_le, nat_lt, ◌&&◌, if◌then◌else◌, ◌≢◌, codes}
-use Rattle.cjc_bytes.specs.declared.fault.MemberId.{MemberId}
+use Rattle.cjc_code.specs.Bytes.declared.fault.MemberId.{MemberId}
 use Rattle.cjc_code.specs.declared.insn.JInsn.{JInsn}
 use Rattle.cjc_script.specs.declared.value.Value.{Value}
 use Rattle.cjc_script.specs.declared.value.Value.TheVariants.{Num, Null, Obj}
@@ -22,7 +22,7 @@ use Rattle.cjc_script.specs.declared.report.Report.{Report}
 use Rattle.cjc_script.specs.Sorts.{Sort, Signature, signature_of, result_fits}
 use Rattle.cjc_script.specs.Agree.{IsBegun}
 use Rattle.cjc_card_semantics.specs.Bytecode.Runs.{Move, On, Over, Lawful}
-use Rattle.cjc_card_semantics.proofs.BytecodeLaws.Longer.{Keeps, lawful}
+use Rattle.cjc_card_semantics.proofs.BytecodeLaws.Longer.{Keeps, lawful, same_notes, begun_trans}
 use Rattle.cjc_jvm_semantics.specs.Linked.{Method, Callee, Inside, Abroad, Call, OnClass, OnObject, Linked}
 use Rattle.cjc_jvm_semantics.specs.Effects.{Fault, NullPointer, exception_class, type_of, place, Effect, Go, Raise}
 use Rattle.cjc_jvm_semantics.specs.Effects.{Toss, Invoke, Leave, Stick, effect}
@@ -30,12 +30,6 @@ use Rattle.cjc_jvm_semantics.specs.Machine.{Frame, State, report, heap_of, with_
 use Rattle.cjc_jvm_semantics.specs.Machine.{offset, room, stuck_at, frame_for_call, behind_call, values_of}
 use Rattle.cjc_jvm_semantics.specs.Machine.{after_result, is_at_once, are_of_sorts}
 use Rattle.cjc_jvm_semantics.specs.Machine
-
-same_notes : (notes : List Note) → IsBegun notes notes
-same_notes notes = ([], sym (append-nil notes))
-
-begun_trans : (a b c : List Note) → IsBegun a b → IsBegun b c → IsBegun a c
-begun_trans a b c h k = (h.0 ++ k.0, k.1 ∙ ap (λ l. l ++ k.0) h.1 ∙ append_assoc a h.0 k.0)
 
 -- the notes of a move begin with these
 abbrev Adds : List Note → Move State → Type 0

@@ -4,8 +4,8 @@ use Rattle.std.specs.Prelude.{option_and_then, is_some, Bool, true, false, not, 
 use Rattle.std.specs.Prelude.{slice_get, ℤ, codes}
 use Rattle.std.specs.List.{flat_map}
 use Rattle.std.specs.Str.{bytes_eq}
-use Rattle.cjc_bytes.specs.declared.fault.MemberId.{MemberId}
-use Rattle.cjc_bytes.specs.AccessFlags.{is_private, is_static, is_interface, is_abstract}
+use Rattle.cjc_code.specs.Bytes.declared.fault.MemberId.{MemberId}
+use Rattle.cjc_code.specs.Bytes.AccessFlags.{is_private, is_static, is_interface, is_abstract}
 use Rattle.cjc_code.specs.ClassFile.declared.tree.ClassTree.{ClassTree}
 use Rattle.cjc_code.specs.ClassFile.declared.tree.FieldTree.{FieldTree}
 use Rattle.cjc_code.specs.ClassFile.declared.tree.MethodTree.{MethodTree}

@@ -6,7 +6,7 @@
 // Lower crates, for those above.
 ghost use Rattle.std.specs.Prelude.{◌≡◌, ◌≢◌, ◌≤◌, ℕ, ℤ, codes, pos, negsuc, replicate, slice_get, length, take};
 ghost use Rattle.std.specs.Prelude.{reverse, nat_le, nat_lt, ◌++◌, false, true, List, Option, Some, None, [], ◌∷◌};
-ghost use Rattle.cjc_bytes.specs.declared.fault.MemberId.{MemberId};
+ghost use Rattle.cjc_code.specs.Bytes.declared.fault.MemberId.{MemberId};
 ghost use Rattle.cjc_code.specs.Jvm as jvm;
 ghost use Rattle.cjc_code.specs.declared.insn.JOp.TheVariants as jop;
 ghost use Rattle.cjc_script.specs.declared.value.Value.{Value};
@@ -36,12 +36,9 @@ ghost use Rattle.cjc_jvm_semantics.specs.Worked.{both, app_package, a_b, an_a, r
 ghost use Rattle.cjc_jvm_semantics.specs.Worked.{arrays_with};
 ghost use Rattle.cjc_jvm_semantics.specs.Wallet.{wallet_package, wallet_script, wallet_report};
 
-pub use cjc_bytes as bytes;
-pub use cjc_code as lower_bytecode;
 pub use cjc_code as bytecode;
-pub use cjc_code::{classfile, classfile as lower_classfile};
+pub use cjc_code::classfile;
 pub use cjc_script as script;
-pub use cjc_world as lower_world;
 pub use cjc_world as world;
 
 /// For every record of look-ups and every script: a run that is over stays as it is, however many instructions

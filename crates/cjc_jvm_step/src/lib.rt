@@ -2,8 +2,7 @@
 #![tactic(auto)]
 
 // Lower crates, for those above.
-pub use cjc_jvm_semantics::{lower_bytecode as bytecode, lower_classfile as classfile};
-pub use cjc_script as script;
+pub use cjc_jvm_semantics::classfile;
 
 pub mod frame;
 pub mod heap;

@@ -4,6 +4,7 @@ use Rattle.std.proofs.Common.{Bool, true, false, List, [], ◌∷◌, length, ma
 use Rattle.std.proofs.lemmas.Int.{ints}
 use Rattle.std.proofs.lemmas.Bool.{cases_lt}
 use Rattle.std.specs.Prelude.{Option, Some, None, slice_get, if◌then◌else◌, ◌&&◌, ◌==◌, not, ◌+ℤ◌, ◌-ℤ◌}
+use Rattle.std.proofs.lemmas.Option.{slice_get_past}
 use Rattle.cjc_ncode.specs.Bytes.declared.fault.MemberId.{MemberId}
 use Rattle.cjc_ncode.specs.CapRead.declared.tree.Handler.{Handler as Written}
 use Rattle.cjc_ncode.specs.CapRead.Opcodes.{Operand, Signed2, Form, Fields, Table, Lookup, form, forms, width, widths}
@@ -26,7 +27,9 @@ use Rattle.cjc_layout.specs.Forms.{HasForm, IsTest, a_class, numbers, references
 use Rattle.cjc_layout.specs.Forms.{jump, range, lookup, named, by_interface, new_array, casts, asks}
 use Rattle.cjc_layout.specs.Handlers.{handlers_of}
 use Rattle.cjc_layout.specs.OnCard.{handler_on_card}
-use Rattle.cjc_layout.proofs.Opcodes.{same, table_opcode, lookup_opcode}
+use Rattle.cjc_layout.proofs.Opcodes.{table_opcode, lookup_opcode}
+use Rattle.cjc_ncode.proofs.BytesBools.{and_true}
+use Rattle.cjc_ncode.proofs.BytesNumbers.{number_same}
 
 -- ---- by form
 
@@ -131,26 +134,16 @@ jumps_fine : all_fine 185 ≡ true
 unfolding meaning form forms
 jumps_fine = refl
 
-both : (a b : Bool) → (a && b) ≡ true → (a ≡ true) × (b ≡ true)
-both true true e = (refl, refl)
-both true false e = cc
-both false b e = cc
-
 fine_below : (n op : ℕ) → all_fine n ≡ true → op < n → jump_fine op ≡ true
 fine_below zero op e h = absurd (omega arith)
 fine_below (suc n) op e h =
-    let p = both (jump_fine n) (all_fine n) e in
+    let p = and_true (jump_fine n) (all_fine n) e in
     ⊎_elim (λ lt. fine_below n op p.1 lt) (λ le. let s : n ≡ op = omega arith in subst (λ k. jump_fine k ≡ true) s p.0)
     (cases_lt op n)
 
-get_past : {A : Type 0} (xs : List A) (k : ℕ) → length xs ≤ k → slice_get xs k ≡ None
-get_past [] k h = refl
-get_past (x ∷ xs) zero h = absurd (omega arith)
-get_past (x ∷ xs) (suc k) h = get_past xs k (omega arith)
-
 nothing_past : (op : ℕ) → 185 ≤ op → is_branch (meaning op) ≡ false
 unfolding meaning
-nothing_past op h = ap (λ o. is_branch (known_meaning o)) (get_past meanings op h)
+nothing_past op h = ap (λ o. is_branch (known_meaning o)) (slice_get_past meanings op h)
 
 branch_sizes : (op : ℕ) → is_branch (meaning op) ≡ true → is_branch (meaning (wide_jump op)) ≡ true
     → (size_by (form op) 0 ≡ 2) × (size_by (form (wide_jump op)) 0 ≡ 3)
@@ -164,8 +157,8 @@ branch_sizes op e f = ⊎_elim (λ lt. found (fine_below 185 op jumps_fine lt)) 
         ∙ ap (λ b. if b then (if is_branch (meaning (wide_jump op)) then (size_by (form op) 0 == 2)
         && (size_by (form (wide_jump op)) 0 == 3) else true) else true) (sym e)
         ∙ g in
-        let p = both (size_by (form op) 0 == 2) (size_by (form (wide_jump op)) 0 == 3) h in
-        (same _ 2 p.0, same _ 3 p.1)
+        let p = and_true (size_by (form op) 0 == 2) (size_by (form (wide_jump op)) 0 == 3) h in
+        (number_same _ 2 p.0, number_same _ 3 p.1)
 
 -- ---- formed instructions
 

@@ -8,9 +8,8 @@ use Rattle.cjc_ncode.specs.CapRead.Opcodes.{Table}
 use Rattle.cjc_ncode.specs.CapRead.Opcodes.{Lookup, form, forms, info, op_info, widths}
 use Rattle.cjc_layout.specs.Sizes.{size_by}
 use Rattle.cjc_layout.specs.Working.{switch_size, length_by}
-
-pub same : (a b : ℕ) → (a == b) ≡ true → a ≡ b
-same a b e = grind (arith, nat_tests)
+use Rattle.cjc_ncode.proofs.BytesBools.{and_true}
+use Rattle.cjc_ncode.proofs.BytesNumbers.{number_same}
 
 -- a switch has the opcode of its form
 abbrev is_switch_of : (op : ℕ) → Form → Bool
@@ -34,21 +33,16 @@ forms_fine : all_fine 0 forms ≡ true
 unfolding forms
 forms_fine = refl
 
-both : (a b : Bool) → (a && b) ≡ true → (a ≡ true) × (b ≡ true)
-both true true e = (refl, refl)
-both true false e = cc
-both false b e = cc
-
 fine_at : (op k : ℕ) (fs : List (Option Form)) → all_fine op fs ≡ true → (f : Option Form) → slice_get fs k ≡ Some f
     → is_fine (op + k) f ≡ true
 fine_at op k [] e f g = cc
 fine_at op zero (x ∷ fs) e f g =
-    let h = both (is_fine op x) (all_fine (suc op) fs) e in
+    let h = and_true (is_fine op x) (all_fine (suc op) fs) e in
     let s : x ≡ f = cc in
     let z : op ≡ op + 0 = omega arith in
     subst (λ n. is_fine n f ≡ true) z (subst (λ y. is_fine op y ≡ true) s h.0)
 fine_at op (suc k) (x ∷ fs) e f g =
-    let h = both (is_fine op x) (all_fine (suc op) fs) e in
+    let h = and_true (is_fine op x) (all_fine (suc op) fs) e in
     let z : suc op + k ≡ op + suc k = omega arith in
     subst (λ n. is_fine n f ≡ true) z (fine_at (suc op) k fs h.1 f g)
 
@@ -71,17 +65,17 @@ switch_fine op f e = found op (slice_get forms op) refl f e
 by_switch : (op cases : ℕ) (f : Form) → is_switch_of op f ≡ true → (let i = info f in i.length ≡ 0)
     → size_by (Some f) cases ≡ switch_size op cases
 by_switch op cases (Fields xs) e z = absurd (omega arith)
-by_switch op cases (Table Signed2) e z = let s : op ≡ 0x73 = same op 0x73 e in let r : 7 + 2 * cases
+by_switch op cases (Table Signed2) e z = let s : op ≡ 0x73 = number_same op 0x73 e in let r : 7 + 2 * cases
     ≡ switch_size op cases = subst (λ n. 7 + 2 * cases ≡ switch_size n cases) (sym s) refl in omega arith
-by_switch op cases (Table Signed4) e z = let s : op ≡ 0x74 = same op 0x74 e in let r : 11 + 2 * cases
+by_switch op cases (Table Signed4) e z = let s : op ≡ 0x74 = number_same op 0x74 e in let r : 11 + 2 * cases
     ≡ switch_size op cases = subst (λ n. 11 + 2 * cases ≡ switch_size n cases) (sym s) refl in omega arith
 by_switch op cases (Table Byte) e z = cc
 by_switch op cases (Table Signed1) e z = cc
 by_switch op cases (Table Index1) e z = cc
 by_switch op cases (Table Index2) e z = cc
-by_switch op cases (Lookup Signed2) e z = let s : op ≡ 0x75 = same op 0x75 e in let r : 5 + 4 * cases
+by_switch op cases (Lookup Signed2) e z = let s : op ≡ 0x75 = number_same op 0x75 e in let r : 5 + 4 * cases
     ≡ switch_size op cases = subst (λ n. 5 + 4 * cases ≡ switch_size n cases) (sym s) refl in omega arith
-by_switch op cases (Lookup Signed4) e z = let s : op ≡ 0x76 = same op 0x76 e in let r : 5 + 6 * cases
+by_switch op cases (Lookup Signed4) e z = let s : op ≡ 0x76 = number_same op 0x76 e in let r : 5 + 6 * cases
     ≡ switch_size op cases = subst (λ n. 5 + 6 * cases ≡ switch_size n cases) (sym s) refl in omega arith
 by_switch op cases (Lookup Byte) e z = cc
 by_switch op cases (Lookup Signed1) e z = cc
@@ -119,8 +113,8 @@ pub table_opcode : (op : ℕ) (m : Operand) → form op ≡ Some (Table m) → (
 table_opcode op m e = by m (switch_fine op (Table m) e)
   where
     by : (m : Operand) → is_switch_of op (Table m) ≡ true → (op ≡ 0x73) ⊎ (op ≡ 0x74)
-    by Signed2 f = inl (same op 0x73 f)
-    by Signed4 f = inr (same op 0x74 f)
+    by Signed2 f = inl (number_same op 0x73 f)
+    by Signed4 f = inr (number_same op 0x74 f)
     by Byte f = cc
     by Signed1 f = cc
     by Index1 f = cc
@@ -130,8 +124,8 @@ pub lookup_opcode : (op : ℕ) (m : Operand) → form op ≡ Some (Lookup m) →
 lookup_opcode op m e = by m (switch_fine op (Lookup m) e)
   where
     by : (m : Operand) → is_switch_of op (Lookup m) ≡ true → (op ≡ 0x75) ⊎ (op ≡ 0x76)
-    by Signed2 f = inl (same op 0x75 f)
-    by Signed4 f = inr (same op 0x76 f)
+    by Signed2 f = inl (number_same op 0x75 f)
+    by Signed4 f = inr (number_same op 0x76 f)
     by Byte f = cc
     by Signed1 f = cc
     by Index1 f = cc

@@ -1,8 +1,7 @@
 -- Handlers in the order of the table.
-use Rattle.std.proofs.Common.{◌≡◌, ℕ, zero, suc, ◌+◌, ◌<◌, ◌≤◌, refl, sym, ap, ◌∙◌, ⊎_elim, arith, Bool, true, false}
-use Rattle.std.proofs.Common.{List, [], ◌∷◌, length, map, drop, get_or, add-one}
+use Rattle.std.proofs.Common.{◌≡◌, ℕ, zero, suc, ◌+◌, ◌≤◌, refl, sym, ap, ◌∙◌, ⊎_elim, arith, Bool, true, false}
+use Rattle.std.proofs.Common.{List, [], ◌∷◌, length, map, drop}
 use Rattle.std.specs.Prelude.{Some, nat_le, nat_lt, if◌then◌else◌, filter, insert, slice_index, slice_get}
-use Rattle.std.proofs.lemmas.Option.{slice_get_read}
 use Rattle.std.proofs.lemmas.Bool.{cases_lt}
 use Rattle.std.proofs.lemmas.Bool.Decides.{nat_tests}
 use Rattle.cjc_ncode.specs.declared.narrow.NInsn.{NInsn}
@@ -11,6 +10,7 @@ use Rattle.cjc_layout.specs.Handlers.{has_range, inserted, by_target, table_orde
 use Rattle.cjc_layout.specs.Handlers.{AllLie}
 use Rattle.cjc_layout.specs.Layouts.{HasPlaces}
 use Rattle.cjc_layout.specs.Working.{place_for, offset_at}
+use Rattle.cjc_ncode.proofs.BytesGets.{drop_at}
 
 pub insert_place : (c : NCatch) (ds : List NCatch) → insert ds (place_for c.target ds) c ≡ inserted c ds
 insert_place c [] = refl
@@ -65,27 +65,10 @@ module _ (count : ℕ) (to other : ℕ → ℕ) (same : (k : ℕ) → k ≤ coun
 
 -- ---- lists from a place on
 
-drop_suc : {A : Type 0} (xs : List A) (k : ℕ) (x : A) → slice_get xs k ≡ Some x → drop k xs ≡ x ∷ drop (suc k) xs
-drop_suc [] k x e = cc
-drop_suc (y ∷ xs) zero x e = let s : y ≡ x = cc in ap (λ z. z ∷ xs) s
-drop_suc (y ∷ xs) (suc k) x e = drop_suc xs k x e
-
-pub drop_step : {A : Type 0} (xs : List A) (k : ℕ) (x : A) → slice_get xs k ≡ Some x → drop k xs ≡ x ∷ drop (k + 1) xs
-drop_step xs k x e = rw add-one (drop_suc xs k x e)
-
-pub drop_past : {A : Type 0} (xs : List A) (k : ℕ) → length xs ≤ k → drop k xs ≡ []
-drop_past [] zero h = refl
-drop_past [] (suc k) h = refl
-drop_past (x ∷ xs) zero h = absurd (omega arith)
-drop_past (x ∷ xs) (suc k) h = drop_past xs k (omega arith)
-
-pub there : {A : Type 0} (xs : List A) (k : ℕ) (x : A) → k < length xs → x ≡ get_or xs k x → slice_get xs k ≡ Some x
-there xs k x h e = slice_get_read xs (length xs) k x refl h e
-
 -- the order from a place on
 module _ (cs : List NCatch) (k : ℕ) (c : NCatch) (e : slice_get cs k ≡ Some c) where
   pub order_more : has_range c ≡ true → inserted c (table_order (drop (k + 1) cs)) ≡ table_order (drop k cs)
-  order_more t = sym (ap table_order (drop_step cs k c e)
+  order_more t = sym (ap table_order (drop_at cs k c e)
       ∙ ap (λ b. by_target (if b then c ∷ filter has_range (drop (k + 1) cs) else filter has_range (drop (k + 1) cs)))
       t)
 

@@ -2,19 +2,18 @@
 use Rattle.std.proofs.Common.{◌≡◌, ℕ, zero, suc, ◌+◌, ◌<◌, ◌≤◌, refl, sym, ap, subst, ◌∙◌, ⊎_elim, arith, Bool, true}
 use Rattle.std.proofs.Common.{false, List, [], ◌∷◌, ◌++◌, length, map, get_or, add-one, take}
 use Rattle.std.proofs.lemmas.List.{length-map}
-use Rattle.std.specs.Prelude.{Some, slice_get, slice_set, slice_index, not, option_map}
+use Rattle.std.specs.Prelude.{Some, slice_get, slice_set, slice_index, option_map}
 use Rattle.std.proofs.lemmas.Bool.{cases_lt}
-use Rattle.std.proofs.lemmas.Option.{slice_get-get_or, slice_get_read, slice_get-map}
+use Rattle.std.proofs.lemmas.Option.{slice_get-get_or, slice_get-map}
 use Rattle.cjc_ncode.specs.declared.narrow.NInsn.{NInsn}
 use Rattle.cjc_ncode.specs.declared.narrow.NInsn.TheVariants as narrow
 use Rattle.cjc_layout.specs.Sizes.{insn_size, bytes_before, code_size, widest_size, Leads, AllLead}
 use Rattle.cjc_layout.specs.Legal.{is_near, IsLegal, IsWithin}
 use Rattle.cjc_layout.specs.Layouts.{HasPlaces}
 use Rattle.cjc_layout.specs.Working.{bit, sum_before, narrow_count, is_far, Widening}
-use Rattle.cjc_layout.proofs.Places.{get_below, far_wide, within_set, size_grows, all_wide}
-
-pub there : {A : Type 0} (xs : List A) (k : ℕ) (x : A) → k < length xs → x ≡ get_or xs k x → slice_get xs k ≡ Some x
-there xs k x h e = slice_get_read xs (length xs) k x refl h e
+use Rattle.cjc_layout.proofs.Places.{far_wide, within_set, size_grows, all_wide}
+use Rattle.cjc_ncode.proofs.BytesBools.{not_true, not_false}
+use Rattle.cjc_ncode.proofs.BytesGets.{slice_get_at, get_below}
 
 -- ---- offsets as sums
 
@@ -86,14 +85,6 @@ set_count (false ∷ wide) zero e = refl
 set_count (true ∷ wide) (suc k) e = set_count wide k e
 set_count (false ∷ wide) (suc k) e = let r = set_count wide k e in omega arith
 
-not_true : (b : Bool) → not b ≡ true → b ≡ false
-not_true true e = cc
-not_true false e = refl
-
-not_false : (b : Bool) → not b ≡ false → b ≡ true
-not_false true e = refl
-not_false false e = cc
-
 pub lead_at : (count : ℕ) (insns : List NInsn) (k : ℕ) (i : NInsn) → AllLead count insns → slice_get insns k ≡ Some i
     → Leads count i
 lead_at count [] k i lead e = cc
@@ -108,8 +99,8 @@ module _ (insns : List NInsn) (wide : List Bool) (places : List ℕ) (count : le
   near_same k op to e =
       let inside = get_below insns k (narrow.Jump op to) e in
       let at = has.each k inside in
-      let there = has.each to (lead_at (length insns) insns k (narrow.Jump op to) leads e) in
-      ap (λ a. is_near a (slice_index places to)) at ∙ ap (is_near (bytes_before insns wide k)) there
+      let slice_get_at = has.each to (lead_at (length insns) insns k (narrow.Jump op to) leads e) in
+      ap (λ a. is_near a (slice_index places to)) at ∙ ap (is_near (bytes_before insns wide k)) slice_get_at
 
   -- a jump that is too far is wide in every legal choice above
   far_is_wide : (other : List Bool) → IsLegal insns other → IsWithin wide other → (k : ℕ) (i : NInsn)
@@ -170,7 +161,7 @@ module _ (insns : List NInsn) (old wide : List Bool) (places : List ℕ) (change
   pub leave_near : (i : NInsn) → i ≡ get_or insns k i → is_far (slice_index places) k i ≡ false
       → Widening insns old wide places changed (k + 1)
   leave_near i is near = more_near (λ c j e f.
-      let g : Some i ≡ Some j = sym (there insns k i h is) ∙ e in
+      let g : Some i ≡ Some j = sym (slice_get_at insns k i h is) ∙ e in
       let same : i ≡ j = cc in
       subst (λ x. is_far (slice_index places) k x ≡ false) same near)
 
@@ -184,7 +175,7 @@ module _ (insns : List NInsn) (old wide : List Bool) (places : List ℕ) (change
       record {
         count = length_set wide k true ∙ inv.count;
         below = λ other legal within. within_set wide other k (inv.below other legal within) (far_is_wide insns old
-            places count has leads other legal within k i (there insns k i h is) far);
+            places count has leads other legal within k i (slice_get_at insns k i h is) far);
         fewer = (let f = inv.fewer in omega arith);
         less = λ e. let f = inv.fewer in omega arith;
         same = λ e. cc;
@@ -222,12 +213,6 @@ take_suc f (y ∷ xs) (suc k) x e = ap (λ zs. f y ∷ zs) (take_suc f xs k x e)
 pub take_next : {A B : Type 0} (f : A → B) (xs : List A) (k : ℕ) (x : A) → slice_get xs k ≡ Some x
     → map f (take (k + 1) xs) ≡ map f (take k xs) ++ f x ∷ []
 take_next f xs k x e = rw add-one (take_suc f xs k x e)
-
-pub take_past : {A : Type 0} (xs : List A) (k : ℕ) → length xs ≤ k → take k xs ≡ xs
-take_past [] zero h = refl
-take_past [] (suc k) h = refl
-take_past (x ∷ xs) zero h = absurd (omega arith)
-take_past (x ∷ xs) (suc k) h = ap (λ zs. x ∷ zs) (take_past xs k (omega arith))
 
 -- ---- what the passes need of one another
 

@@ -8,16 +8,7 @@ use Rattle.cjc_ncode.specs.declared.narrow.NInsn.{NInsn}
 use Rattle.cjc_ncode.specs.declared.narrow.NInsn.TheVariants as narrow
 use Rattle.cjc_layout.specs.Sizes.{insn_size, bytes_before, widest_size}
 use Rattle.cjc_layout.specs.Legal.{is_near, IsLegal, IsWithin}
-
-pub get_inside : {A : Type 0} (xs : List A) (k : ℕ) → k < length xs → (x : A) × (slice_get xs k ≡ Some x)
-get_inside [] k h = absurd (omega arith)
-get_inside (x ∷ xs) zero h = (x, refl)
-get_inside (x ∷ xs) (suc k) h = get_inside xs k (omega arith)
-
-pub get_below : {A : Type 0} (xs : List A) (k : ℕ) (x : A) → slice_get xs k ≡ Some x → k < length xs
-get_below [] k x e = cc
-get_below (y ∷ xs) zero x e = omega arith
-get_below (y ∷ xs) (suc k) x e = let r = get_below xs k x e in omega arith
+use Rattle.cjc_ncode.proofs.BytesGets.{get_below, get_inside}
 
 pub before_grows : (insns : List NInsn) (wide : List Bool) (a b : ℕ) → a ≤ b
     → bytes_before insns wide a ≤ bytes_before insns wide b

@@ -1,7 +1,8 @@
 -- The search for a handler finds the same in the order of the table as in that of the class file.
 use Rattle.std.proofs.Common.{◌≡◌, ℕ, refl, sym, ap, ◌∙◌, arith, Bool, true, false, List, [], ◌∷◌, ◌++◌}
-use Rattle.std.specs.Prelude.{Option, Some, nat_le, nat_lt, if◌then◌else◌, ◌&&◌, ◌||◌, filter}
+use Rattle.std.specs.Prelude.{Option, Some, nat_le, nat_lt, if◌then◌else◌, ◌&&◌, filter}
 use Rattle.std.proofs.lemmas.Bool.Decides.{nat_tests}
+use Rattle.std.proofs.lemmas.Bool.{or_parts}
 use Rattle.cjc_ncode.specs.Script.Sorts.{Shape}
 use Rattle.cjc_ncode.specs.declared.narrow.NCatch.{NCatch}
 use Rattle.cjc_ncode.specs.ByLabel.{Named, takes, handler}
@@ -25,11 +26,6 @@ IsUnbroken (c ∷ cs) = NoneBefore c cs × IsUnbroken cs
 
 -- ---- from the list of those that are out of order
 
-or_false : (a b : Bool) → (a || b) ≡ false → (a ≡ false) × (b ≡ false)
-or_false false false e = (refl, refl)
-or_false true b e = cc
-or_false false true e = cc
-
 split_last : (es : List NCatch) (c : NCatch) (ds : List NCatch) → AllBefore (es ++ c ∷ []) ds → AllBefore es ds
     × NoneBefore c ds
 split_last [] c ds a = (tt, a.0)
@@ -38,7 +34,7 @@ split_last (e ∷ es) c ds a = let r = split_last es c ds a.1 in ((a.0, r.0), r.
 joined : (es : List NCatch) (c : NCatch) (ds : List NCatch) → overtakes_any c es ≡ false → AllBefore es ds
     → AllBefore es (c ∷ ds)
 joined [] c ds e a = tt
-joined (d ∷ es) c ds e a = let o = or_false (overtakes c d) (overtakes_any c es) e
+joined (d ∷ es) c ds e a = let o = or_parts (overtakes c d) (overtakes_any c es) e
     in ((o.0, a.0), joined es c ds o.1 a.1)
 
 all_empty : (es : List NCatch) → AllBefore es []

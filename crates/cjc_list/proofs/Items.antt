@@ -6,14 +6,16 @@ use Rattle.std.proofs.Math.Seq.{take-append_seam, drop-append-add}
 use Rattle.std.specs.Prelude.{position}
 use Rattle.std.specs.List.{position_or_len}
 use Rattle.std.specs.Str.{bytes_eq}
-use Rattle.std.proofs.lemmas.Slice.Eq.{bytes_eq-Decides}
 use Rattle.std.proofs.lemmas.Bool.{leb-true, le-leb, ltb-true, lt-ltb, eqb-true, ne_eqb, and_parts}
 use Rattle.std.proofs.lemmas.List.Sums.{passes_at_first, split_at_first}
 use Rattle.std.proofs.lemmas.List.Elements.{All-cons, All-nil, All-head, All-tail}
 use Rattle.std.specs.List.{All}
+use Rattle.std.proofs.lemmas.Option.{cond_some}
 use Rattle.hex.specs.Hex.{decode_of}
 use Rattle.hex.specs.declared.error.FromHexError.{FromHexError}
 use Rattle.cjc_bytes.specs.Text.{decimal, decimal_from, is_digit}
+use Rattle.cjc_bytes.proofs.Numbers.{passed_at}
+use Rattle.cjc_bytes.proofs.Lists.{bytes_true}
 use Rattle.cjc_list.specs.declared.listing.List.{List as Listing}
 use Rattle.cjc_list.specs.declared.line.Item.{Item}
 use Rattle.cjc_list.specs.declared.line.Item.TheVariants.{Applet, File, Int}
@@ -27,15 +29,6 @@ pub onward : {A B : Type 0} (o : Option B) (f : B → Option A) (a : A) → (o >
 onward (Some b) f a e = (b, refl, e)
 onward None f a e = absurd cc
 
--- a test that let a value through
-pub passed : {A : Type 0} (b : Bool) (x y : A) → cond b (Some x) None ≡ Some y → (b ≡ true) × (x ≡ y)
-passed true x y e = (refl, cc)
-passed false x y e = absurd cc
-
-passed_at : (b : Bool) (m n : ℕ) → cond b (Some m) None ≡ Some n → (b ≡ true) × (m ≡ n)
-passed_at true m n e = (refl, cc)
-passed_at false m n e = absurd cc
-
 passed_on : (b : Bool) (o : Option ℕ) (v : ℕ) → cond b o None ≡ Some v → (b ≡ true) × (o ≡ Some v)
 passed_on true o v e = (refl, e)
 passed_on false o v e = absurd cc
@@ -44,7 +37,7 @@ passed_on false o v e = absurd cc
 fits_aid : (found : Result (List ℕ) FromHexError) (bytes : List ℕ) → fit_for_aid found ≡ Some bytes → (found ≡ Ok bytes)
     × (5 ≤ length bytes) × (length bytes ≤ 16)
 fits_aid (Ok found) bytes e =
-    let p = passed (leb 5 (length found) && leb (length found) 16) found bytes e in
+    let p = cond_some (leb 5 (length found) && leb (length found) 16) found bytes e in
     let q = and_parts _ _ p.0 in
     let okay : List ℕ → Result (List ℕ) FromHexError = λ b. Ok b in
     let P : List ℕ → Type 0 = λ b. (okay found ≡ okay b) × (5 ≤ length b) × (length b ≤ 16) in
@@ -59,13 +52,6 @@ pub aid_of-is : (digits bytes : List ℕ) → IsAid bytes digits → aid_of digi
 unfolding aid_of
 aid_of-is digits bytes h = rw (h.0, le-leb 5 (length bytes) h.1, le-leb (length bytes) 16 h.2) refl
 
--- which word it is
-pub is_word : (w k : List ℕ) → bytes_eq w k ≡ true → w ≡ k
-is_word w k e = (bytes_eq-Decides w k).0 e
-
-pub word_is : (k : List ℕ) → bytes_eq k k ≡ true
-word_is k = (bytes_eq-Decides k k).1 refl
-
 -- an applet line
 pub applet_says : (class digits : List ℕ) (i : Item) → applet_of class digits ≡ Some i
     → Says i (codes "applet" ∷ class ∷ digits ∷ [])
@@ -73,7 +59,7 @@ unfolding applet_of
 applet_says class digits i e =
     let aid = onward (aid_of digits) (λ aid. cond (is_name class) (Some (Applet (record { class = class; aid = aid })))
     None) i e in
-    let named = passed (is_name class) (Applet (record { class = class; aid = aid.0 })) i aid.2 in
+    let named = cond_some (is_name class) (Applet (record { class = class; aid = aid.0 })) i aid.2 in
     let P : Item → Type 0 = λ i. Says i (codes "applet" ∷ class ∷ digits ∷ []) in
     subst P named.1 (digits, refl, named.0, aid_is digits aid.0 aid.1)
 
@@ -110,10 +96,10 @@ one_word false w i is e = absurd cc
 pub item_says : (ws : List (List ℕ)) (i : Item) → item_of ws ≡ Some i → Says i ws
 unfolding item_of
 item_says [] i e = absurd cc
-item_says (a ∷ []) i e = one_word (bytes_eq a (codes "int")) a i (is_word a (codes "int")) e
+item_says (a ∷ []) i e = one_word (bytes_eq a (codes "int")) a i (bytes_true a (codes "int")) e
 item_says (a ∷ b ∷ []) i e = two_words (bytes_eq a (codes "class")) (bytes_eq a (codes "export")) a b i
-    (is_word a (codes "class")) (is_word a (codes "export")) e
-item_says (a ∷ b ∷ c ∷ []) i e = three_words (bytes_eq a (codes "applet")) a b c i (is_word a (codes "applet")) e
+    (bytes_true a (codes "class")) (bytes_true a (codes "export")) e
+item_says (a ∷ b ∷ c ∷ []) i e = three_words (bytes_eq a (codes "applet")) a b c i (bytes_true a (codes "applet")) e
 item_says (a ∷ b ∷ c ∷ d ∷ ws) i e = absurd cc
 
 file_of : (b : Bool) (name : List ℕ) → item_of (keyword b ∷ name ∷ [])
@@ -224,7 +210,7 @@ begun_says name owner digits numbers t e =
     let aid = onward (aid_of digits) (λ aid. version_of numbers >>= λ v. cond (is_name owner) (Some (made aid v)) None)
     t e in
     let version = onward (version_of numbers) (λ v. cond (is_name owner) (Some (made aid.0 v)) None) t aid.2 in
-    let named = passed (is_name owner) (made aid.0 version.0) t version.2 in
+    let named = cond_some (is_name owner) (made aid.0 version.0) t version.2 in
     let P : Listing → Type 0 = λ t. SaysPackage t (codes "package" ∷ owner ∷ digits ∷ numbers ∷ []) × (t ≡ fresh name t)
     in
     subst P named.1 (
@@ -256,7 +242,7 @@ package_says name (a ∷ []) t e = absurd cc
 package_says name (a ∷ b ∷ []) t e = absurd cc
 package_says name (a ∷ b ∷ c ∷ []) t e = absurd cc
 package_says name (a ∷ b ∷ c ∷ d ∷ []) t e = four_words (bytes_eq a (codes "package")) name a b c d t
-    (is_word a (codes "package")) e
+    (bytes_true a (codes "package")) e
 package_says name (a ∷ b ∷ c ∷ d ∷ f ∷ ws) t e = absurd cc
 
 pub package_of-says : (name : List ℕ) (list : Listing) (ws : List (List ℕ)) → SaysPackage list ws

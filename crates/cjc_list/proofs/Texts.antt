@@ -5,13 +5,14 @@ use Rattle.cjc_bytes.specs.Found.{◌>>=◌}
 use Rattle.cjc_bytes.specs.Text.{TextLine}
 use Rattle.cjc_bytes.specs.declared.settings.FileLine.{FileLine}
 use Rattle.cjc_bytes.specs.declared.settings.AppletLine.{AppletLine}
+use Rattle.cjc_bytes.proofs.Options.{onward_ok, onward_err, not_both, ok_or_err}
 use Rattle.cjc_list.specs.declared.listing.List.{List as Listing}
 use Rattle.cjc_list.specs.Grammar.{package_of, with_line}
 use Rattle.cjc_list.specs.Listed.{said, with_lines, of_lines}
 use Rattle.cjc_list.specs.Spelling.{SaysPackage, Within, applets_of, files_of, int_count, Spelt, IsBeginning}
 use Rattle.cjc_list.specs.Spelling.{IsMalformedAt}
 use Rattle.cjc_list.proofs.Items.{fresh, package_says, package_of-says}
-use Rattle.cjc_list.proofs.Wholes.{gathered, said_ok, said_is, said_err, onward_ok, with_lines_add, with_lines_are}
+use Rattle.cjc_list.proofs.Wholes.{gathered, said_ok, said_is, said_err, with_lines_add, with_lines_are}
 use Rattle.cjc_list.proofs.Wholes.{IsOnce}
 
 -- lines `int` of which there is one at most, and whether there is one
@@ -138,18 +139,6 @@ first_line_on : (name : List ℕ) (end : ℕ) (l : TextLine) (after : List TextL
     → said (package_of name) l ≡ Ok t → of_lines name end (l ∷ after) ≡ with_lines t after
 unfolding of_lines
 first_line_on name end l after t e = rw e refl
-
-not_both : {A : Type 0} (x : Result A ℕ) (a : A) (k : ℕ) → x ≡ Ok a → x ≡ Err k → ⊥
-not_both x a k e f = cc
-
-ok_or_err : {A : Type 0} (x : Result A ℕ) → ((a : A) × (x ≡ Ok a)) ⊎ ((k : ℕ) × (x ≡ Err k))
-ok_or_err (Ok a) = inl (a, refl)
-ok_or_err (Err k) = inr (k, refl)
-
-onward_err : {A B : Type 0} (x : Result B ℕ) (f : B → Result A ℕ) (k : ℕ) → (x >>= f) ≡ Err k → (x ≡ Err k)
-    ⊎ ((z : B) × (x ≡ Ok z) × (f z ≡ Err k))
-onward_err (Ok z) f k e = inr (z, refl, e)
-onward_err (Err j) f k e = inl cc
 
 -- the line at which reading stops
 record Stops (list : Listing) (ls : List TextLine) (k : ℕ) : Type 0 where

@@ -1,21 +1,24 @@
 -- The lines behind the package line, as items and as a function.
 use Rattle.std.proofs.Common.{◌≡◌, ℕ, ◌+◌, Bool, true, false, not, cond, List, [], ◌∷◌, ◌++◌, Option, Some, None}
-use Rattle.std.proofs.Common.{Result, Ok, Err, refl, sym, ap, ◌∙◌, subst, arith, append_assoc, ◌≤◌, ◌||◌, ltb}
+use Rattle.std.proofs.Common.{Ok, Err, refl, sym, ap, ◌∙◌, subst, arith, append_assoc, ◌≤◌, ◌||◌, ltb}
 use Rattle.std.specs.Prelude.{option_and_then}
 use Rattle.std.proofs.lemmas.List.{append-nil}
 use Rattle.std.proofs.lemmas.List.Sums.{sum_by-append, sum_by-cons}
 use Rattle.std.proofs.lemmas.Bool.{ltb-true, lt-ltb}
+use Rattle.std.proofs.lemmas.Option.{cond_some}
 use Rattle.cjc_bytes.specs.declared.settings.AppletLine.{AppletLine}
 use Rattle.cjc_bytes.specs.declared.settings.FileLine.{FileLine}
-use Rattle.cjc_bytes.specs.Found.{◌>>=◌, kept}
+use Rattle.cjc_bytes.specs.Found.{kept}
 use Rattle.cjc_bytes.specs.Text.{TextLine, words}
+use Rattle.cjc_bytes.proofs.Options.{onward_ok, kept_ok, kept_err}
+use Rattle.cjc_bytes.proofs.Bools.{or_true}
 use Rattle.cjc_list.specs.declared.listing.List.{List as Listing}
 use Rattle.cjc_list.specs.declared.line.Item.{Item}
 use Rattle.cjc_list.specs.declared.line.Item.TheVariants.{Applet, File, Int}
 use Rattle.cjc_list.specs.Grammar.{item_of, class_count, export_count, has_room, with_item, with_line}
 use Rattle.cjc_list.specs.Listed.{said, with_lines}
 use Rattle.cjc_list.specs.Spelling.{HasWords, AllSay, applets_of, files_of, int_count, Within}
-use Rattle.cjc_list.proofs.Items.{item_says, item_of-says, onward, passed}
+use Rattle.cjc_list.proofs.Items.{item_says, item_of-says, onward}
 
 -- the list with what these items say
 abbrev pub gathered : Listing → List Item → Listing
@@ -29,13 +32,9 @@ gathered list items = record list {
 unfoldable pub IsOnce : Listing → List Item → Type 0
 IsOnce list items = cond list.ints 1 0 + int_count items ≤ 1
 
-or_none : (b : Bool) → (b || false) ≡ b
+pub or_none : (b : Bool) → (b || false) ≡ b
 or_none true = refl
 or_none false = refl
-
-or_one : (b : Bool) → (b || true) ≡ true
-or_one true = refl
-or_one false = refl
 
 none_more : (b c : Bool) → ((b || false) || c) ≡ (b || c)
 none_more true c = refl
@@ -77,7 +76,7 @@ file_one : (list : Listing) (f : FileLine) → record list { lines = list.lines 
 file_one list f = same_list list _ _ _ _ _ _ (sym (or_none list.ints)) (sym (append-nil list.applets)) refl
 
 int_one : (list : Listing) → record list { ints = true } ≡ gathered list (Int ∷ [])
-int_one list = same_list list _ _ _ _ _ _ (sym (or_one list.ints)) (sym (append-nil list.applets))
+int_one list = same_list list _ _ _ _ _ _ (sym (or_true list.ints)) (sym (append-nil list.applets))
     (sym (append-nil list.lines))
 
 pub gathered-more : (list : Listing) (i : Item) (items : List Item) → gathered (gathered list (i ∷ [])) items
@@ -141,7 +140,7 @@ with_item_is list (Applet a) t e w =
     let is : record list { applets = list.applets ++ a ∷ [] } ≡ t = cc in
     subst P is (applet_one list a, w)
 with_item_is list (File f) t e w =
-    let p = passed (has_room f.class_file list.lines) (record list { lines = list.lines ++ f ∷ [] }) t e in
+    let p = cond_some (has_room f.class_file list.lines) (record list { lines = list.lines ++ f ∷ [] }) t e in
     let P : Listing → Type 0 = λ t. (t ≡ gathered list (File f ∷ [])) × Within t.lines in
     subst P p.1 (file_one list f, one_more f.class_file f.name list.lines p.0 w)
 with_item_is list Int t e w =
@@ -157,7 +156,7 @@ once_before list (Applet a) items t e once =
     let is : record list { applets = list.applets ++ a ∷ [] } ≡ t = cc in
     subst (λ (b : Bool). cond b 1 0 + int_count items ≤ 1) (sym (ap Listing.ints is)) once
 once_before list (File f) items t e once =
-    let p = passed (has_room f.class_file list.lines) (record list { lines = list.lines ++ f ∷ [] }) t e in
+    let p = cond_some (has_room f.class_file list.lines) (record list { lines = list.lines ++ f ∷ [] }) t e in
     subst (λ (b : Bool). cond b 1 0 + int_count items ≤ 1) (sym (ap Listing.ints p.1)) once
 once_before list Int items t e once =
     let is = int_is list.ints (record list { ints = true }) t e in
@@ -203,19 +202,6 @@ with_item-fits list (File f) items w once = where_on (has_room f.class_file list
 }) (room_for f.class_file f.name list.lines (files_of items) w) ∙ ap Some (file_one list f)
 with_item-fits list Int items w once = where_off list.ints (record list { ints = true }) (none_before list items once)
     ∙ ap Some (int_one list)
-
-pub onward_ok : {A B : Type 0} (x : Result B ℕ) (f : B → Result A ℕ) (y : A) → (x >>= f) ≡ Ok y → (z : B) × (x ≡ Ok z)
-    × (f z ≡ Ok y)
-onward_ok (Ok z) f y e = (z, refl, e)
-onward_ok (Err k) f y e = absurd cc
-
-kept_ok : {A : Type 0} (o : Option A) (place : ℕ) (a : A) → kept place o ≡ Ok a → o ≡ Some a
-kept_ok (Some x) place a e = cc
-kept_ok None place a e = absurd cc
-
-kept_err : {A : Type 0} (o : Option A) (place k : ℕ) → kept place o ≡ Err k → k ≡ place
-kept_err (Some x) place k e = absurd cc
-kept_err None place k e = cc
 
 -- a line that says something, or nothing
 said_ok_at : (o : Option (List (List ℕ))) (reading : List (List ℕ) → Option Listing) (at : ℕ) (t : Listing)

@@ -1,11 +1,11 @@
 -- The methods of a class one behind the other.
 use Rattle.std.proofs.Common.{◌≡◌, ℕ, zero, suc, ◌+◌, ◌-◌, ◌<◌, refl, sym, ap, ◌∙◌, arith, Bool, true, false, List, []}
-use Rattle.std.proofs.Common.{◌∷◌, ◌++◌, length, get_or, append_assoc}
-use Rattle.std.specs.Prelude.{map, slice_get, Option, Some, None, if◌then◌else◌, codes, Result, Ok, Err, OnOk}
+use Rattle.std.proofs.Common.{◌∷◌, ◌++◌, length, append_assoc}
+use Rattle.std.specs.Prelude.{map, slice_get, Option, Some, None, if◌then◌else◌, codes, Result, OnOk}
 use Rattle.std.specs.Str.{bytes_eq}
 use Rattle.std.proofs.lemmas.List.{length-map}
-use Rattle.std.proofs.lemmas.Option.{get_or_from_slice_get}
 use Rattle.cjc_bytes.specs.declared.fault.MemberId.{MemberId}
+use Rattle.cjc_bytes.proofs.Options.{on_ok}
 use Rattle.cjc_world.specs.ClassFile.declared.tree.ClassTree.{ClassTree}
 use Rattle.cjc_world.specs.ClassFile.declared.tree.MethodTree.{MethodTree}
 use Rattle.cjc_world.specs.declared.found.Found.{Found}
@@ -85,17 +85,6 @@ methods_at files n c t e f =
     ∙ class_methods n t (all_classes files)
     ∙ ap (λ k. written n (length t.fields) t.methods ++ places n (length t.fields + length t.methods) k)
     (sym (added_long files n t f))
-
--- an item that is read is the one at its place
-pub at_is : {A : Type 0} (xs ys : List A) (i : ℕ) (x y : A) → xs ≡ ys → slice_get ys i ≡ Some y → x ≡ get_or xs i x
-    → x ≡ y
-at_is xs ys i x y same at is =
-    let there : slice_get xs i ≡ Some y = ap (λ zs. slice_get zs i) same ∙ at in
-    is ∙ get_or_from_slice_get xs i y x there
-
-pub on_ok : {A E : Type 0} {P Q : Type 0} (r : Result A E) → (P → Q) → OnOk r P → OnOk r Q
-on_ok (Ok x) f p = f p
-on_ok (Err e) f p = tt
 
 pub put_all : {E : Type 0} (files : Files) (n : ℕ) (c : Class) (t class : ClassTree) (out new : List Found)
     (ids : List MemberId) (result : Result (Unit {0}) E) → class_at (all_classes files) false n ≡ Some c

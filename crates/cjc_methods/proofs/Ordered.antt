@@ -4,10 +4,10 @@ use Rattle.std.proofs.Common.{length, drop, append_assoc, append-nil}
 use Rattle.std.specs.Prelude.{map, slice_get, Some}
 use Rattle.std.proofs.lemmas.List.{drop_all, length-map}
 use Rattle.std.proofs.lemmas.Option.{slice_get_within, get_or_from_slice_get}
-use Rattle.cjc_components.proofs.NarrowLists.{from_index}
 use Rattle.cjc_world.specs.declared.found.Found.{Found}
 use Rattle.cjc_world.specs.Classes.{Class, class_at}
 use Rattle.cjc_world.specs.Order.{methods_in_turn, methods_of_class}
+use Rattle.cjc_bytes.proofs.Gets.{from_index}
 
 -- what two lists that are alike have at a place
 pub at_place : (w : List Class) (cs : List Class) (order : List ℕ) (k n : ℕ)

@@ -1,6 +1,6 @@
 -- What is read of a member of a class of the package.
 use Rattle.std.proofs.Common.{◌≡◌, ℕ, ◌-◌, ◌<◌, ◌≤◌, sym, ap, subst, ◌∙◌, arith, false, nat_lt, List, length, get_or}
-use Rattle.std.specs.Prelude.{slice_get, Option, Some, None, Result, Ok, Err, IfOk}
+use Rattle.std.specs.Prelude.{slice_get, Option, Some, None}
 use Rattle.std.proofs.lemmas.Bool.{ltb-false}
 use Rattle.std.proofs.lemmas.Option.{slice_get-get_or, slice_get_past}
 use Rattle.cjc_world.specs.ClassFile.declared.tree.ClassTree.{ClassTree}
@@ -20,10 +20,6 @@ use Rattle.cjc_methods.specs.Working.Methods.{IsLike, added_in}
 use Rattle.cjc_methods.specs.Working.Places.{class_places, place_in, HasNone, HasPlace, IsPlaced}
 use Rattle.cjc_methods.proofs.Owned.{AreLike}
 use Rattle.cjc_methods.proofs.Placing.{placed}
-
-pub if_more : {A E : Type 0} {P Q : A → Type 0} → ((x : A) → P x → Q x) → (r : Result A E) → IfOk r P → IfOk r Q
-if_more f (Ok x) p = f x p
-if_more f (Err e) p = tt
 
 -- the class file of a member's class
 pub tree_at : (files : Files) (f : Found) → IsOwn files f → (t : ClassTree) × (slice_get files.classes f.class ≡ Some t)

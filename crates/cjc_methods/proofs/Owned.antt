@@ -10,11 +10,7 @@ use Rattle.cjc_world.specs.Classes.{Member, Class, declared, field_of_class, met
 use Rattle.cjc_world.specs.Files.{Files}
 use Rattle.cjc_components.specs.Descriptor.{as_added, method_in, no_member}
 use Rattle.cjc_methods.specs.Working.Methods.{added_in, member_for}
-
-in_front : {A : Type 0} (xs ys : List A) (i : ℕ) (x : A) → slice_get xs i ≡ Some x → slice_get (xs ++ ys) i ≡ Some x
-in_front [] ys i x e = cc
-in_front (y ∷ xs) ys zero x e = e
-in_front (y ∷ xs) ys (suc i) x e = in_front xs ys i x e
+use Rattle.cjc_bytes.proofs.Gets.{in_front}
 
 in_back : {A : Type 0} (xs ys : List A) (i : ℕ) → slice_get xs i ≡ None → slice_get (xs ++ ys) i
     ≡ slice_get ys (i - length xs)

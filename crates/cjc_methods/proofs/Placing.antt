@@ -1,11 +1,10 @@
 -- Each method with code has its place among the codes of a package.
-use Rattle.std.proofs.Common.{◌≡◌, ℕ, zero, suc, ◌+◌, ◌≤◌, refl, sym, ap, subst, ◌∙◌, arith, Bool, true, false, nat_lt}
+use Rattle.std.proofs.Common.{◌≡◌, ℕ, zero, suc, ◌+◌, ◌≤◌, refl, sym, ap, subst, ◌∙◌, arith}
 use Rattle.std.proofs.Common.{List, [], ◌∷◌, ◌++◌, length, drop, append_assoc}
 use Rattle.std.specs.Prelude.{slice_get, Option, Some, None, option_and_then, Result, Ok}
-use Rattle.std.proofs.lemmas.Bool.{ltb-true, ltb-false}
-use Rattle.std.proofs.lemmas.List.{drop_all, drop_more}
-use Rattle.std.proofs.lemmas.Option.{slice_get-get_or, slice_get_past}
+use Rattle.std.proofs.lemmas.Option.{slice_get_past}
 use Rattle.cjc_bytes.specs.declared.breaks.BrokenAt.{BrokenAt}
+use Rattle.cjc_bytes.proofs.Gets.{head_at}
 use Rattle.cjc_world.specs.ClassFile.Code.{CodeTree}
 use Rattle.cjc_world.specs.ClassFile.declared.tree.ClassTree.{ClassTree}
 use Rattle.cjc_world.specs.ClassFile.declared.tree.MethodTree.{MethodTree}
@@ -19,18 +18,6 @@ use Rattle.cjc_world.specs.Files.{Files}
 use Rattle.cjc_methods.specs.Ready.{AreReady, IsDecoded}
 use Rattle.cjc_methods.specs.Working.Places.{behind, behind_all, class_places, code_places, place_if, place_in}
 use Rattle.cjc_methods.specs.Working.Places.{IsPlaced}
-
--- what stands first from a place on
-head_at : {A : Type 0} (xs : List A) (k : ℕ) (y : A) (ys : List A) → drop k xs ≡ y ∷ ys → (slice_get xs k ≡ Some y)
-    × (drop (k + 1) xs ≡ ys)
-head_at {A} xs k y ys e = by (nat_lt k (length xs)) refl
-  where
-    by : (b : Bool) → nat_lt k (length xs) ≡ b → (slice_get xs k ≡ Some y) × (drop (k + 1) xs ≡ ys)
-    by true h =
-        let lt = ltb-true k (length xs) h in
-        let next = sym (drop_more xs k y lt) ∙ e in
-        (slice_get-get_or xs k y lt ∙ ap Some (let f = next in cc), (let f = next in cc))
-    by false h = absurd (let f = sym (drop_all k xs (ltb-false k (length xs) h)) ∙ e in cc)
 
 -- the code of a method of a class, by what is kept of its place
 AtPlace : List MethodCode → ClassTree → (n i : ℕ) → MethodTree → Option (Option ℕ) → Type 0

@@ -9,7 +9,7 @@ use Rattle.cjc_types.specs.declared.state.State.{State}
 use Rattle.cjc_types.specs.declared.table.Frame.{Frame}
 use Rattle.cjc_types.specs.Tables.{state_of}
 use Rattle.cjc_components.specs.Narrow.Written.Rows.{has_rows}
-use Rattle.cjc_components.proofs.NarrowLists.{from_index}
+use Rattle.cjc_bytes.proofs.Gets.{from_index}
 
 same_there : (f : Option Frame) → is_some (option_map state_of f) ≡ is_some f
 same_there None = refl

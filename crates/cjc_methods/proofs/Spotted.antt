@@ -1,15 +1,15 @@
 -- Places of methods, and rule 417 over the members of a package.
 use Rattle.std.proofs.Common.{◌≡◌, ℕ, ◌+◌, ◌<◌, ◌≤◌, refl, sym, ap, ◌∙◌, arith, Bool, true, false, nat_lt, List, []}
-use Rattle.std.proofs.Common.{◌∷◌, ◌++◌, length, get_or}
+use Rattle.std.proofs.Common.{◌∷◌, ◌++◌, length}
 use Rattle.std.specs.Prelude.{map, All, Option, Some, None, if◌then◌else◌}
 use Rattle.std.specs.List.{flat_map}
 use Rattle.std.proofs.lemmas.Bool.{ltb-false, ltb-true}
 use Rattle.std.proofs.lemmas.List.{length-map}
-use Rattle.std.proofs.lemmas.Option.{get_or_from_slice_get, slice_get-get_or}
 use Rattle.std.proofs.lemmas.List.Concat.{flat_map-cons}
-use Rattle.cjc_bytes.specs.Breaks.{Break, RulePlace, at, class_spot, each_from, member_spot}
+use Rattle.cjc_bytes.specs.Breaks.{RulePlace, class_spot, each_from, member_spot}
 use Rattle.cjc_bytes.specs.Order.{FilePlace, file_of}
 use Rattle.cjc_bytes.specs.Refused.{in_class as in_class_place, method_text}
+use Rattle.cjc_bytes.proofs.BrokenRules.{not_broken, empty_both}
 use Rattle.cjc_world.specs.ClassFile.declared.tree.ClassTree.{ClassTree}
 use Rattle.cjc_world.specs.declared.found.Found.{Found}
 use Rattle.cjc_world.specs.Classes.{Class, Member, all_classes, class_at, declared, field_of_class, method_of_class}
@@ -74,14 +74,6 @@ all_of_package p files members e f =
 
 -- ---- where none is broken
 
-empty_both : (xs ys : List Break) → xs ++ ys ≡ [] → (xs ≡ []) × (ys ≡ [])
-empty_both [] ys e = (refl, e)
-empty_both (x ∷ xs) ys e = cc
-
-not_broken : (b : Bool) (s : RulePlace) (rule : ℕ) → at b s rule ≡ [] → b ≡ false
-not_broken true s rule e = cc
-not_broken false s rule e = refl
-
 pub all_have_room : (files : Files) (n : ℕ) (fs : List Found) → each_from (λ _ f. word_breaks_in files f) n fs ≡ []
     → All (HasRoom files) fs
 unfolding each_from
@@ -127,8 +119,3 @@ spot_outside files t f m offset le =
 
 pub same_text : (n d : List ℕ) (m : Member) → n ≡ m.name → d ≡ m.desc → method_text n d ≡ method_text m.name m.desc
 same_text n d m e f = ap (λ x. method_text x d) e ∙ ap (method_text m.name) f
-
--- an item that is read is read by any default
-pub read_twice : {A : Type 0} (xs : List A) (i : ℕ) (d : A) → i < length xs
-    → get_or xs i d ≡ get_or xs i (get_or xs i d)
-read_twice xs i d lt = sym (get_or_from_slice_get xs i (get_or xs i d) (get_or xs i d) (slice_get-get_or xs i d lt))

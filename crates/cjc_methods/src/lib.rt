@@ -6,6 +6,7 @@
 // Lower crates, for those above.
 pub use cjc_components::class_order;
 pub use cjc_ncode as ncode;
+pub use cjc_pool as pool;
 
 mod codes;
 pub mod component;
@@ -20,5 +21,5 @@ mod words;
 
 pub use codes::narrow_codes;
 pub use laws::{codes_are_by_their_own_pool, methods_can_be_laid_out};
-pub use order::{method_order, methods_are_own};
+pub use order::{method_order, methods_are_own, put_methods};
 pub use words::{method_spot, test_words};

@@ -53,7 +53,7 @@ fn put_places(out: &mut Row<Found>, class: u32, first: u32, count: u32) -> Resul
 }
 
 /// Puts the methods of a class at the end, those that it gets behind its own.
-fn put_methods(
+pub fn put_methods(
     out: &mut Row<Found>,
     number: u32,
     class: &ClassTree<'_>,

@@ -3,6 +3,7 @@
 
 // Lower crates, for those above.
 pub use cjc_bytes as bytes;
+pub use cjc_jvm_semantics::world;
 pub use cjc_ncode as ncode;
 
 pub mod keys;

@@ -5,11 +5,12 @@ pub mod SelectedLaws
 pub mod LawsLaws
 pub mod NamesLaws
 -- Lemmas of lower crates, for those above.
-pub use Rattle.cjc_subset.proofs.Any as SubsetAny
+pub use Rattle.cjc_range.proofs.Spans as RangeSpans
 pub use Rattle.cjc_subset.proofs.Callees as SubsetCallees
 pub use Rattle.cjc_vtable.proofs.Asked as VTableAsked
 pub use Rattle.cjc_vtable.proofs.Filed as VTableFiled
 pub use Rattle.cjc_vtable.proofs.Numbers as VTableNumbers
+pub use Rattle.cjc_vtable.proofs.Read as VTableRead
 pub use Rattle.cjc_vtable.proofs.Stood as VTableStood
 pub use Rattle.cjc_types.proofs.TypeLaws.Lowered as TypesLowered
 pub use Rattle.cjc_types.proofs.TypeLaws.Standing as TypesStanding

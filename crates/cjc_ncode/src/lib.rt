@@ -5,7 +5,6 @@
 
 // Lower crates, for those above.
 pub use cjc_card_semantics::{capread, export_file};
-pub use cjc_code as lower_bytecode;
 pub use cjc_code as bytecode;
 pub use cjc_code::{bytes, classfile};
 

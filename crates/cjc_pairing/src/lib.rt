@@ -5,7 +5,6 @@
 
 // Lower crates, for those above.
 pub use cjc_card_link as card_link;
-pub use cjc_card_link::{card_frame, script};
 
 mod breaks;
 pub mod card_names;

@@ -24,15 +24,13 @@ use Rattle.cjc_narrow.proofs.KeysLaws.Indices.{any_once}
 use Rattle.cjc_narrow.proofs.KeysLaws.Walks.{all_once}
 use Rattle.cjc_pool.specs.Pool.{calls, interface_token, is_called, most_entries, token_in, token_of}
 use Rattle.cjc_pool.specs.Working.Calls.{insn_calls, key_token, method_calls}
+use Rattle.cjc_components.proofs.ListWholes.{or_none}
+use Rattle.cjc_narrow.proofs.BytesBrokenRules.{not_broken}
 
 -- ---- which methods are called
 
-or_false : (b : Bool) → (b || false) ≡ b
-or_false true = refl
-or_false false = refl
-
 of_insn : (id : MemberId) (insn : NInsn) → list_any (same_key (keys.Virtual id)) (insn_calls insn) ≡ calls id insn
-of_insn id (insns.Interface nargs method) = or_false (same_member id method)
+of_insn id (insns.Interface nargs method) = or_none (same_member id method)
 of_insn id _ = refl
 
 of_insns : (id : MemberId) (list : List NInsn) → list_any (same_key (keys.Virtual id)) (flat_map insn_calls list)
@@ -94,13 +92,8 @@ token_found files tokens methods all ks row is_ks is_row id =
     (ap (list_any (same_key (keys.Virtual id))) is_ks ∙ each_once (keys.Virtual id) (flat_map method_calls methods)
     ∙ of_methods id methods)
 
--- what breaks nothing is not broken
-pub unbroken : (b : Bool) (s : RulePlace) (rule : ℕ) → at b s rule ≡ [] → b ≡ false
-unbroken true s rule e = cc
-unbroken false s rule e = refl
-
 -- few entries, where more would break the rule
 pub few_where : (count : ℕ) (result : Result (Unit {0}) Fault) (s : RulePlace)
     → OnOk result (at (nat_lt most_entries count) s 414 ≡ []) → OnOk result (count ≤ most_entries)
-few_where count (Ok u) s h = let e = unbroken (nat_lt most_entries count) s 414 h in grind arith
+few_where count (Ok u) s h = let e = not_broken (nat_lt most_entries count) s 414 h in grind arith
 few_where count (Err fault) s h = tt

@@ -8,10 +8,10 @@ ghost use Rattle.cjc_narrow.specs.NCode.PoolOrder.{same_key};
 ghost use Rattle.cjc_pool.specs.Working.Calls.{insn_calls, key_token, method_calls};
 
 use cjc_components::tokens::Tokens;
-use cjc_components::world::World;
 use cjc_narrow::bytes::{NoMemory, Row};
 use cjc_narrow::keys::{Key, Numbers};
 use cjc_narrow::ncode::{NInsn, NMethod, PoolKey};
+use cjc_narrow::world::World;
 use std::alloc::Global;
 
 fn add_call(calls: &mut Numbers, alloc: Global, insn: &NInsn) -> Result<(), NoMemory>

@@ -6,10 +6,10 @@ ghost use Rattle.cjc_pool.specs.Pool.{IsPool, most_entries, pool_breaks};
 
 use crate::calls::{called, tokens_of};
 use cjc_components::tokens::Tokens;
-use cjc_components::world::World;
 use cjc_narrow::bytes::{Fault, Row, RulePlace, answer, broken};
 use cjc_narrow::keys::{Numbers, number};
 use cjc_narrow::ncode::{NMethod, PoolKey};
+use cjc_narrow::world::World;
 use std::alloc::Global;
 use std::marker::Model;
 

@@ -13,7 +13,9 @@ use Rattle.std.proofs.lemmas.Bool.Decides.{nat_tests}
 use Rattle.cjc_range.specs.Span.{Span, span, Holds, IsWord, full}
 use Rattle.cjc_range.specs.Rows.{HasBits, EndsHaveBits, below_power, of_bits, IsOrRow, IsAndRow, greatest_mag}
 use Rattle.cjc_range.specs.Rows.{bits_from, least_bits, or_row, and_row}
-use Rattle.cjc_range.proofs.Spans.{span_same, fits_word}
+use Rattle.cjc_range.proofs.Spans.{fits_word}
+use Rattle.cjc_range.proofs.Order.{low_held, high_held}
+use Rattle.cjc_range.proofs.Rounding.{spans_same}
 
 -- ---- one number
 
@@ -185,12 +187,6 @@ ends_give s t k h =
     let a = bits_had k s.low h.low_left in let b = bits_had k s.high h.high_left in let c = bits_had k t.low h.low_right
     in let d = bits_had k t.high h.high_right in
     omega (arith, a, b, c, d)
-
-low_held : (s : Span) → IsWord s → Holds s s.low
-low_held s w = let a = w.ordered in record { above = omega (arith, ints); below = omega (arith, ints, a) }
-
-high_held : (s : Span) → IsWord s → Holds s s.high
-high_held s w = let a = w.ordered in record { above = omega (arith, ints, a); below = omega (arith, ints) }
 
 pub greatest_small : (s t : Span) → IsWord s → IsWord t → greatest_mag s t < 2147483648
 greatest_small s t w x =
@@ -368,7 +364,7 @@ or_row_is s t r m p is power low high e =
 
 pub below_power_down : (s t r : Span) (l h : ℤ) (p : ℕ) → r ≡ span l h → (s.low <ℤ pos 0) ⊎ (t.low <ℤ pos 0)
     → l ≡ neg_ℤ (pos p) → h ≡ pos p -ℤ pos 1 → r ≡ below_power s t p
-below_power_down s t r l h p is down e f = is ∙ span_same l _ h _ (e ∙ go (int_le (pos 0) s.low) (int_le (pos 0) t.low)
+below_power_down s t r l h p is down e f = is ∙ spans_same l _ h _ (e ∙ go (int_le (pos 0) s.low) (int_le (pos 0) t.low)
     refl refl down) f
   where
     go : (b c : Bool) → int_le (pos 0) s.low ≡ b → int_le (pos 0) t.low ≡ c → (s.low <ℤ pos 0) ⊎ (t.low <ℤ pos 0)

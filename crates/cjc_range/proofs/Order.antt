@@ -9,8 +9,9 @@ use Rattle.cjc_range.specs.Words.{shift_distance}
 use Rattle.cjc_range.specs.Rows.{clip, over_ends, greatest_size, add_row, sub_row, mul_row, neg_row, div_row, rem_bound}
 use Rattle.cjc_range.specs.Rows.{rem_within, rem_row, join_row, to_byte_row, to_short_row, shl_row, shr_row}
 use Rattle.cjc_range.specs.Laws.{IsMonotone, IsMonotoneAlone, GivesWords, GivesWordsAlone}
-use Rattle.cjc_range.proofs.Spans.{span_same, clip_cases, mul_up, mul_ends, div_ends, div_size, size_between}
+use Rattle.cjc_range.proofs.Spans.{clip_cases, mul_up, mul_ends, div_ends, div_size, size_between}
 use Rattle.cjc_range.proofs.Spans.{size_of_held, shr_up, shr_spread}
+use Rattle.cjc_range.proofs.Rounding.{spans_same}
 
 -- ---- spans
 
@@ -24,7 +25,7 @@ within_trans s t u h k = let a = h.low in let b = h.high in let c = k.low in let
 -- two spans inside one another are equal
 pub within_both : (s t : Span) → Within s t → Within t s → s ≡ t
 within_both s t h k = let a = h.low in let b = h.high in let c = k.low in let d = k.high
-    in span_same s.low t.low s.high t.high (omega (arith, ints, a, c)) (omega (arith, ints, b, d))
+    in spans_same s.low t.low s.high t.high (omega (arith, ints, a, c)) (omega (arith, ints, b, d))
 
 pub held_wider : (s t : Span) (x : ℤ) → Within s t → Holds s x → Holds t x
 held_wider s t x h k = let a = h.low in let b = h.high in let c = k.above in let d = k.below
@@ -366,7 +367,7 @@ to_short_word s w = clip_type short_range s (record { low = omega (arith, ints);
 
 -- what lies inside one distance is that distance
 pub one_distance : (t v : Span) → IsWord t → Within t v → v.high ≤ℤ v.low → t ≡ v
-one_distance t v w k one = let a = w.ordered in let b = k.low in let c = k.high in span_same t.low v.low t.high v.high
+one_distance t v w k one = let a = w.ordered in let b = k.low in let c = k.high in spans_same t.low v.low t.high v.high
     (omega (arith, ints, a, b, c, one)) (omega (arith, ints, a, b, c, one))
 
 abbrev shifted_up : Span → ℕ → Span

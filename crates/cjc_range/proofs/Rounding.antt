@@ -287,7 +287,7 @@ round_word s w =
       ordered = round_ordered s w;
     }
 
-spans_same : (a b c d : ℤ) → a ≡ b → c ≡ d → span a c ≡ span b d
+pub spans_same : (a b c d : ℤ) → a ≡ b → c ≡ d → span a c ≡ span b d
 spans_same a b c d e f = cc
 
 -- what is rounded stays as it is

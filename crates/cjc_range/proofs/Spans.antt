@@ -7,7 +7,6 @@ use Rattle.std.specs.Int.{w8, w16, w32, w64, int_min, int_max, int_wrap, int_shr
 use Rattle.std.proofs.Math.Pow.{shr_mono, pow_mono}
 use Rattle.std.proofs.lemmas.Int.{ints, clamps, rem_below, wrapping_mul_is, fits_signed_mul, int_wrap_fits}
 use Rattle.std.proofs.lemmas.Int.{SFits-int_wrap, to_z-of_z, to_z_pos}
-use Rattle.std.specs.Int.Signed.{mag_shr}
 use Rattle.std.proofs.Math.IntN.{*ℤ_comm, *ℤ-zero, *ℤ-negsuc, suc_ℤ-*ℤ}
 use Rattle.std.proofs.Math.Nat.{le_trans, mul-le-mul_left, div-mul-le_self, div-le_self, mod-le}
 use Rattle.std.proofs.lemmas.Nat.{le-div}
@@ -17,9 +16,8 @@ use Rattle.cjc_range.specs.Words.{shift_distance, unsigned_shift}
 use Rattle.cjc_range.specs.Rows.{clip, IsClipped, IsHull, over_ends, int_min_of, int_max_of, greatest_size, add_row}
 use Rattle.cjc_range.specs.Rows.{sub_row, mul_row, neg_row, div_row, rem_bound, rem_within, rem_row, to_byte_row}
 use Rattle.cjc_range.specs.Rows.{to_short_row, shl_row, shr_row, ushr_by, ushr_row}
-
-pub span_same : (a b c d : ℤ) → a ≡ b → c ≡ d → span a c ≡ span b d
-span_same a b c d e f = cc
+use Rattle.cjc_range.proofs.Rounding.{spans_same}
+use Rattle.cjc_range.proofs.WordsLaws.Words.{int_shr_fits}
 
 pub clip_cases : (range s : Span) → ((clip range s ≡ s) × Within s range) ⊎ (clip range s ≡ range)
 clip_cases range s = go (int_le range.low s.low) (int_le s.high range.high) refl refl
@@ -62,7 +60,7 @@ clip_holds s z h = elim (clip_cases full s) [
 
 pub add_ends : (s t : Span) → s.low ≤ℤ s.high → t.low ≤ℤ t.high → over_ends (λ x y. x +ℤ y) s t
     ≡ span (s.low +ℤ t.low) (s.high +ℤ t.high)
-add_ends s t h k = span_same _ _ _ _ (omega (arith, ints, clamps)) (omega (arith, ints, clamps))
+add_ends s t h k = spans_same _ _ _ _ (omega (arith, ints, clamps)) (omega (arith, ints, clamps))
 
 pub add_holds : (s t : Span) (x y : ℤ) → Holds s x → Holds t y → Holds (add_row s t) (int_wrap w32 (x +ℤ y))
 add_holds s t x y h k = clip_holds (over_ends (λ x y. x +ℤ y) s t) (x +ℤ y) (let a = h.above in let b = h.below
@@ -73,7 +71,7 @@ add_holds s t x y h k = clip_holds (over_ends (λ x y. x +ℤ y) s t) (x +ℤ y)
 
 pub sub_ends : (s t : Span) → s.low ≤ℤ s.high → t.low ≤ℤ t.high → over_ends (λ x y. x -ℤ y) s t ≡ span (s.low -ℤ t.high)
     (s.high -ℤ t.low)
-sub_ends s t h k = span_same _ _ _ _ (omega (arith, ints, clamps)) (omega (arith, ints, clamps))
+sub_ends s t h k = spans_same _ _ _ _ (omega (arith, ints, clamps)) (omega (arith, ints, clamps))
 
 pub sub_holds : (s t : Span) (x y : ℤ) → Holds s x → Holds t y → Holds (sub_row s t) (int_wrap w32 (x -ℤ y))
 sub_holds s t x y h k = clip_holds (over_ends (λ x y. x -ℤ y) s t) (x -ℤ y) (let a = h.above in let b = h.below
@@ -84,7 +82,7 @@ sub_holds s t x y h k = clip_holds (over_ends (λ x y. x -ℤ y) s t) (x -ℤ y)
 
 pub neg_ends : (s : Span) → s.low ≤ℤ s.high → span (int_min (neg_ℤ s.low) (neg_ℤ s.high)) (int_max (neg_ℤ s.low)
     (neg_ℤ s.high)) ≡ span (neg_ℤ s.high) (neg_ℤ s.low)
-neg_ends s h = span_same _ _ _ _ (omega (arith, ints, clamps)) (omega (arith, ints, clamps))
+neg_ends s h = spans_same _ _ _ _ (omega (arith, ints, clamps)) (omega (arith, ints, clamps))
 
 pub neg_holds : (s : Span) (x : ℤ) → Holds s x → Holds (neg_row s) (int_wrap w32 (neg_ℤ x))
 neg_holds s x h = clip_holds (span (int_min (neg_ℤ s.low) (neg_ℤ s.high)) (int_max (neg_ℤ s.low) (neg_ℤ s.high)))
@@ -96,7 +94,7 @@ neg_holds s x h = clip_holds (span (int_min (neg_ℤ s.low) (neg_ℤ s.high)) (i
 -- the cut span of ends that are equal to those over the ends
 pub over_from : (f : ℤ → ℤ → ℤ) (s t r : Span) (l h : ℤ) → IsClipped l h r → l ≡ (over_ends f s t).low
     → h ≡ (over_ends f s t).high → r ≡ clip full (over_ends f s t)
-over_from f s t r l h is e g = is.is ∙ ap (clip full) (span_same l _ h _ e g)
+over_from f s t r l h is e g = is.is ∙ ap (clip full) (spans_same l _ h _ e g)
 
 -- the cut span of four values that are equal to those over the ends
 pub hull_from : (f : ℤ → ℤ → ℤ) (s t r : Span) (a b c d : ℤ) → IsHull a b c d r → a ≡ f s.low t.low → b ≡ f s.low t.high
@@ -104,15 +102,15 @@ pub hull_from : (f : ℤ → ℤ → ℤ) (s t r : Span) (a b c d : ℤ) → IsH
 hull_from f s t r a b c d is e g h k =
     let lows : int_min_of a b c d ≡ (over_ends f s t).low = rw (e, g, h, k) refl in
     let highs : int_max_of a b c d ≡ (over_ends f s t).high = rw (e, g, h, k) refl in
-    is.is ∙ ap (clip full) (span_same _ _ _ _ lows highs)
+    is.is ∙ ap (clip full) (spans_same _ _ _ _ lows highs)
 
 pub neg_from : (s r : Span) (l h : ℤ) → IsClipped l h r → s.low ≤ℤ s.high → l ≡ neg_ℤ s.high → h ≡ neg_ℤ s.low
     → r ≡ neg_row s
-neg_from s r l h is o e f = is.is ∙ ap (clip full) (span_same l _ h _ e f ∙ sym (neg_ends s o))
+neg_from s r l h is o e f = is.is ∙ ap (clip full) (spans_same l _ h _ e f ∙ sym (neg_ends s o))
 
 pub hull_is : (r : Span) (a b c d l h : ℤ) → IsClipped l h r → l ≡ int_min_of a b c d → h ≡ int_max_of a b c d
     → IsHull a b c d r
-hull_is r a b c d l h is e f = record { is = is.is ∙ ap (clip full) (span_same l _ h _ e f) }
+hull_is r a b c d l h is e f = record { is = is.is ∙ ap (clip full) (spans_same l _ h _ e f) }
 
 -- ---- products
 
@@ -254,7 +252,7 @@ div_row_small s t h = go (int_le (pos 1) t.low) refl
 
 pub div_row_other : (s t r : Span) (l h : ℤ) → IsClipped l h r → t.low <ℤ pos 1 → l ≡ neg_ℤ (pos (greatest_size s))
     → h ≡ pos (greatest_size s) → r ≡ div_row s t
-div_row_other s t r l h is p e f = is.is ∙ ap (clip full) (span_same l _ h _ e f) ∙ go (int_le (pos 1) t.low) refl
+div_row_other s t r l h is p e f = is.is ∙ ap (clip full) (spans_same l _ h _ e f) ∙ go (int_le (pos 1) t.low) refl
   where
     go : (b : Bool) → int_le (pos 1) t.low ≡ b
         → clip full (span (neg_ℤ (pos (greatest_size s))) (pos (greatest_size s)))
@@ -315,7 +313,7 @@ rem_holds s t x y h k n =
 pub rem_within_is : (s r : Span) (l h : ℤ) (n : ℕ) → r ≡ span l h → ((pos 0 ≤ℤ s.low) × (l ≡ pos 0))
     ⊎ ((s.low <ℤ pos 0) × (l ≡ neg_ℤ (pos n))) → ((s.high ≤ℤ pos 0) × (h ≡ pos 0)) ⊎ ((pos 0 <ℤ s.high) × (h ≡ pos n))
     → r ≡ rem_within s n
-rem_within_is s r l h n is lower upper = is ∙ span_same l _ h _ (lows (int_le (pos 0) s.low) refl lower)
+rem_within_is s r l h n is lower upper = is ∙ spans_same l _ h _ (lows (int_le (pos 0) s.low) refl lower)
     (highs (int_le s.high (pos 0)) refl upper)
   where
     lows : (b : Bool) → int_le (pos 0) s.low ≡ b → ((pos 0 ≤ℤ s.low) × (l ≡ pos 0))
@@ -411,17 +409,14 @@ shr_holds s t x y h k = go (int_le t.high t.low) refl
         })
     go false e = shr_spread s.low s.high x (shift_distance y) h.above h.below
 
-pub shr_fits : (z : ℤ) (k : ℕ) → FitsSigned w32 z → FitsSigned w32 (int_shr z k)
-shr_fits z k f = let a = f.sfits in let b = mag_shr z (2 ^ k) in record { sfits = omega (arith, a, b) }
-
 -- the same of what the code computes
 pub shr_up_word : (a x : ℤ) (k : ℕ) → FitsSigned w32 a → FitsSigned w32 x → a ≤ℤ x
     → to_z w32 (of_z w32 (int_shr (to_z w32 (of_z w32 a)) k)) ≤ℤ to_z w32 (of_z w32 (int_shr (to_z w32 (of_z w32 x)) k))
 shr_up_word a x k f g h = rw (
   to_z-of_z w32 a f,
   to_z-of_z w32 x g,
-  to_z-of_z w32 (int_shr a k) (shr_fits a k f),
-  to_z-of_z w32 (int_shr x k) (shr_fits x k g),
+  to_z-of_z w32 (int_shr a k) (int_shr_fits a k f),
+  to_z-of_z w32 (int_shr x k) (int_shr_fits x k g),
 ) (shr_up a x k h)
 
 -- a shift up multiplies
@@ -578,7 +573,7 @@ held_fits s (negsuc n) f g h = let a = h.above in bottom s.low n f a
     bottom (negsuc m) n f h = let a = f.sfits in record { sfits = omega (arith, ints, a, h) }
 
 pub between_is : (r : Span) (l h m n : ℤ) → r ≡ span l h → l ≡ m → h ≡ n → r ≡ span m n
-between_is r l h m n e f g = e ∙ span_same l m h n f g
+between_is r l h m n e f g = e ∙ spans_same l m h n f g
 
 -- what the bits of a negative number give, shifted
 pub shr_of_neg : (z : ℤ) (k : ℕ) → FitsSigned w32 z → z <ℤ pos 0 → int_shr (z +ℤ pos (2 ^ 32)) k

@@ -1,27 +1,24 @@
 -- Files of a conversion stand in its folder.
-use Rattle.std.proofs.Common.{◌≡◌, ℕ, Bool, true, false, List, [], ◌∷◌, ◌++◌, map, Option, Some, None, codes, nat_eq}
-use Rattle.std.proofs.Common.{reverse, rules, refl, sym, ap, ◌∙◌, arith}
+use Rattle.std.proofs.Common.{◌≡◌, ℕ, false, List, [], ◌∷◌, ◌++◌, map, Option, Some, None, codes}
+use Rattle.std.proofs.Common.{reverse, refl, sym, ap, ◌∙◌, arith}
 use Rattle.std.specs.Prelude.{bytes_eq}
 use Rattle.std.proofs.lemmas.List.{reverse-append}
+use Rattle.std.proofs.lemmas.Bool.{false_from_ne_true}
 use Rattle.cjc_shelf.specs.Shelf.{Files}
 use Rattle.cjc_shelf.specs.declared.command.status.File.{File}
 use Rattle.cjc_shelf.specs.Command.Publish.{written_files, IsNew, AreDistinct, Stand}
 use Rattle.cjc_shelf.proofs.CommandLaws.Published.{written_stand}
 use Rattle.cjc_capwrite.specs.declared.files.CapFiles.{CapFiles}
 use Rattle.cjc_cmd_convert.specs.Publication.{below, last_part, files_made}
+use Rattle.cjc_bytes.proofs.Numbers.{same_number}
+use Rattle.cjc_bytes.proofs.Lists.{bytes_true}
 
 -- ---- names
-
-same_number : (c : ℕ) → nat_eq c c ≡ true
-same_number c = search rules
 
 -- a common beginning makes no difference
 behind_same : (front a b : List ℕ) → bytes_eq (front ++ a) (front ++ b) ≡ bytes_eq a b
 behind_same [] a b = refl
 behind_same (c ∷ front) a b = rw (same_number c) (behind_same front a b)
-
-equal_names : (a b : List ℕ) → bytes_eq a b ≡ true → a ≡ b
-equal_names a b e = search rules
 
 new_below : (dir name : List ℕ) (files : List File) → IsNew name files
     → IsNew (dir ++ codes "/" ++ name) (map (below dir) files)
@@ -51,12 +48,8 @@ not_export front last e =
     let letters : ◌≡◌ {A = ℕ} 97 120 = ap second back in
     absurd (omega arith)
 
-is_false : (b : Bool) → (b ≡ true → ⊥) → b ≡ false
-is_false true f = absurd (f refl)
-is_false false f = refl
-
 apart : (front last : List ℕ) → bytes_eq (front ++ codes ".cap") (last ++ codes ".exp") ≡ false
-apart front last = is_false _ (λ e. not_export front last (equal_names _ _ e))
+apart front last = false_from_ne_true _ (λ e. not_export front last (bytes_true _ _ e))
 
 abbrev caps_of : (h d i p c m s l x : List ℕ) (applet exported : Option (List ℕ)) → CapFiles
 caps_of h d i p c m s l x applet exported = record {

@@ -2,6 +2,7 @@
 //! knows neither of the two machines.
 #![tactic(auto)]
 
+// Lower crates, for those above.
 ghost use Rattle.std.specs.Prelude.{◌≡◌, codes, pos, negsuc, true, false, Some, None, [], ◌∷◌};
 ghost use Rattle.cjc_script.specs.declared.value.Value.TheVariants.{Num, Null, Obj};
 ghost use Rattle.cjc_script.specs.Sorts.{Bytes as OfBytes, Shorts, OfClass, OfNumbers, OfReferences, Boolean, Byte};

@@ -3,7 +3,7 @@ use Rattle.std.proofs.Common.{◌≡◌, ℕ, ◌==◌, take, drop, Bool, true, 
 use Rattle.std.proofs.Common.{None, refl, sym, ap, ◌∙◌, subst}
 use Rattle.std.specs.Prelude.{option_and_then, option_map, is_some, position}
 use Rattle.std.specs.Str.{bytes_eq}
-use Rattle.std.proofs.lemmas.Slice.Eq.{bytes_eq-Decides}
+use Rattle.std.proofs.lemmas.Option.{cond_some}
 use Rattle.cjc_list.specs.Bytes.declared.fault.MemberId.{MemberId}
 use Rattle.cjc_list.specs.Grammar.{is_name}
 use Rattle.cjc_script.specs.declared.script.Act.{Act}
@@ -18,6 +18,8 @@ use Rattle.cjc_script_text.specs.Words.{number_of, reference_of, value_of, value
 use Rattle.cjc_script_text.specs.Grammar.{call_of, send_of, give_of, throw_of, array_act, object_act, put_act}
 use Rattle.cjc_script_text.specs.Grammar.{act_or_reply_of, item_of}
 use Rattle.cjc_script_text.specs.Spelling.{NamesMethod, SaysCall, SaysReply, SaysAct, Says}
+use Rattle.cjc_list.proofs.BytesLists.{bytes_true}
+use Rattle.cjc_list.proofs.BytesOptions.{some_shape}
 
 -- ---- steps that gave a value
 
@@ -30,26 +32,15 @@ made : {A B : Type 0} (o : Option B) (f : B → A) (a : A) → option_map f o �
 made (Some b) f a e = (b, refl, cc)
 made None f a e = absurd cc
 
-passed : {A : Type 0} (b : Bool) (x y : A) → cond b (Some x) None ≡ Some y → (b ≡ true) × (x ≡ y)
-passed true x y e = (refl, cc)
-passed false x y e = absurd cc
-
 passed_on : {A : Type 0} (b : Bool) (o : Option A) (y : A) → cond b o None ≡ Some y → (b ≡ true) × (o ≡ Some y)
 passed_on true o y e = (refl, e)
 passed_on false o y e = absurd cc
-
-some_of : {A : Type 0} (o : Option A) → is_some o ≡ true → (a : A) × (o ≡ Some a)
-some_of (Some a) e = (a, refl)
-some_of None e = absurd cc
-
-is_word : (w k : List ℕ) → bytes_eq w k ≡ true → w ≡ k
-is_word w k e = (bytes_eq-Decides w k).0 e
 
 -- ---- from the function to the relation
 
 -- a method's class is the one that was asked for
 class_by : (class name desc : List ℕ) (m : MemberId) → method_by class name desc ≡ Some m → class ≡ m.class
-class_by class name desc m e = ap (λ (id : MemberId). id.class) (passed _ (record {
+class_by class name desc m e = ap (λ (id : MemberId). id.class) (cond_some _ (record {
   class = class;
   name = name;
   desc = desc;
@@ -81,7 +72,7 @@ object_value word k e = by_test (bytes_eq word (codes "null")) refl
     by_test : (b : Bool) → bytes_eq word (codes "null") ≡ b → value_of word ≡ Some (Obj k)
     by_test true is =
         let no : reference_of (codes "null") ≡ Some k = subst (λ (w : List ℕ). reference_of w ≡ Some k)
-        (is_word word (codes "null") is) e in
+        (bytes_true word (codes "null") is) e in
         absurd cc
     by_test false is = rw (is, e) refl
 
@@ -94,7 +85,7 @@ send_says keyword (c ∷ word ∷ []) i is e = absurd cc
 send_says keyword (c ∷ word ∷ r ∷ ws) i is e =
     let test = passed_on (is_some (reference_of r)) (option_and_then (λ m. option_map (λ args. items.Call true m args)
     (values_of (r ∷ ws))) (method_of c word)) i e in
-    let object = some_of (reference_of r) test.0 in
+    let object = some_shape (reference_of r) test.0 in
     let method = onward (method_of c word) (λ m. option_map (λ args. items.Call true m args) (values_of (r ∷ ws))) i
     test.1 in
     let args = made (values_of (r ∷ ws)) (λ args. items.Call true method.0 args) i method.2 in
@@ -135,7 +126,7 @@ throw_says : (keyword : List ℕ) (ws : List (List ℕ)) (i : Item) → keyword 
 unfolding throw_of
 throw_says keyword [] i is e = absurd cc
 throw_says keyword (c ∷ []) i is e =
-    let named = passed (is_name c) (items.Reply (Throw c)) i e in
+    let named = cond_some (is_name c) (items.Reply (Throw c)) i e in
     let same : keyword ∷ c ∷ [] ≡ codes "throw" ∷ c ∷ [] = cc in
     subst (λ (j : Item). Says j (keyword ∷ c ∷ [])) named.1 (same, named.0)
 throw_says keyword (c ∷ x ∷ ws) i is e = absurd cc
@@ -157,7 +148,7 @@ object_says : (keyword : List ℕ) (ws : List (List ℕ)) (i : Item) → keyword
 unfolding object_act
 object_says keyword [] i is e = absurd cc
 object_says keyword (c ∷ []) i is e =
-    let named = passed (is_name c) (items.Act (Object c)) i e in
+    let named = cond_some (is_name c) (items.Act (Object c)) i e in
     let same : keyword ∷ c ∷ [] ≡ codes "object" ∷ c ∷ [] = cc in
     subst (λ (j : Item). Says j (keyword ∷ c ∷ [])) named.1 (same, named.0)
 object_says keyword (c ∷ x ∷ ws) i is e = absurd cc
@@ -183,18 +174,18 @@ act_or_reply_says : (isg ist isa iso isp : Bool) (k : List ℕ) (ws : List (List
     → bytes_eq k (codes "object") ≡ iso → bytes_eq k (codes "put") ≡ isp
     → cond isg (give_of ws) (cond ist (throw_of ws) (cond isa (array_act ws) (cond iso (object_act ws)
     (cond isp (put_act ws) None)))) ≡ Some i → Says i (k ∷ ws)
-act_or_reply_says true ist isa iso isp k ws i g t a o p e = give_says k ws i (is_word k (codes "give") g) e
-act_or_reply_says false true isa iso isp k ws i g t a o p e = throw_says k ws i (is_word k (codes "throw") t) e
-act_or_reply_says false false true iso isp k ws i g t a o p e = array_says k ws i (is_word k (codes "array") a) e
-act_or_reply_says false false false true isp k ws i g t a o p e = object_says k ws i (is_word k (codes "object") o) e
-act_or_reply_says false false false false true k ws i g t a o p e = put_says k ws i (is_word k (codes "put") p) e
+act_or_reply_says true ist isa iso isp k ws i g t a o p e = give_says k ws i (bytes_true k (codes "give") g) e
+act_or_reply_says false true isa iso isp k ws i g t a o p e = throw_says k ws i (bytes_true k (codes "throw") t) e
+act_or_reply_says false false true iso isp k ws i g t a o p e = array_says k ws i (bytes_true k (codes "array") a) e
+act_or_reply_says false false false true isp k ws i g t a o p e = object_says k ws i (bytes_true k (codes "object") o) e
+act_or_reply_says false false false false true k ws i g t a o p e = put_says k ws i (bytes_true k (codes "put") p) e
 act_or_reply_says false false false false false k ws i g t a o p e = absurd cc
 
 says_by : (isc iss : Bool) (k : List ℕ) (ws : List (List ℕ)) (i : Item) → bytes_eq k (codes "call") ≡ isc
     → bytes_eq k (codes "send") ≡ iss
     → cond isc (call_of ws) (cond iss (send_of ws) (act_or_reply_of k ws)) ≡ Some i → Says i (k ∷ ws)
-says_by true iss k ws i c s e = call_says k ws i (is_word k (codes "call") c) e
-says_by false true k ws i c s e = send_says k ws i (is_word k (codes "send") s) e
+says_by true iss k ws i c s e = call_says k ws i (bytes_true k (codes "call") c) e
+says_by false true k ws i c s e = send_says k ws i (bytes_true k (codes "send") s) e
 says_by false false k ws i c s e = act_or_reply_says _ _ _ _ _ k ws i refl refl refl refl refl e
 
 pub item_says : (ws : List (List ℕ)) (i : Item) → item_of ws ≡ Some i → Says i ws

@@ -18,12 +18,9 @@ use Rattle.cjc_script_text.specs.Spelling.{Says, LineSays, AllSay, Turn, Calls, 
 use Rattle.cjc_script_text.specs.Spelling.{step_items, entries_from, answers_from, script_of, SaysNothingAt}
 use Rattle.cjc_script_text.specs.Spelling.{HasIdleActsAt}
 use Rattle.cjc_script_text.proofs.Lines.{item_says, says_item}
+use Rattle.cjc_list.proofs.BytesOptions.{kept_ok}
 
 -- ---- a line
-
-kept_ok : {A : Type 0} (o : Option A) (place : ℕ) (a : A) → kept place o ≡ Ok a → o ≡ Some a
-kept_ok (Some x) place a e = cc
-kept_ok None place a e = absurd cc
 
 said_at : (o : Option (List (List ℕ))) (at : ℕ) (i : Item) → kept at (option_and_then item_of o) ≡ Ok i
     → (ws : List (List ℕ)) × (o ≡ Some ws) × Says i ws

@@ -2,7 +2,7 @@
 //! converts a package. It has definitions and laws alone; nothing here runs.
 ghost use Rattle.std.specs.Prelude.{◌≡◌, ◌≤◌, ℕ, Bool, false, List, slice_get, Some};
 ghost use Rattle.cjc_narrow_proof.specs.Subset.Ints.{code_works_on_int};
-ghost use Rattle.cjc_world.specs.Bytes.declared.fault.MemberId.{MemberId as Member};
+ghost use Rattle.cjc_bytes.specs.declared.fault.MemberId.{MemberId as Member};
 ghost use Rattle.cjc_world.specs.ClassFile.Code.{CodeTree};
 ghost use Rattle.cjc_world.specs.ClassFile.declared.tree.ClassTree.{ClassTree};
 ghost use Rattle.cjc_world.specs.ClassFile.declared.tree.MethodTree.{MethodTree};

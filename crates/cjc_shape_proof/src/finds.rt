@@ -4,12 +4,12 @@
 ghost use Rattle.std.specs.Prelude.{◌≡◌, ℕ, Bool, List};
 ghost use Rattle.cjc_bytes.specs.declared.fault.MemberId.{MemberId};
 ghost use Rattle.cjc_bytes.specs.declared.settings.Settings.{Settings};
-ghost use Rattle.cjc_world_proof.specs.JvmSemantics.Linked.{Method};
-ghost use Rattle.cjc_world_proof.specs.JvmSemantics.Effects.{Fault, exception_class};
+ghost use Rattle.cjc_token_proof.specs.JvmSemantics.Linked.{Method};
+ghost use Rattle.cjc_token_proof.specs.JvmSemantics.Effects.{Fault, exception_class};
 ghost use Rattle.cjc_classfile.specs.declared.tree.ClassTree.{ClassTree};
-ghost use Rattle.cjc_subset.specs.Bytecode.Jvm as jvm;
-ghost use Rattle.cjc_subset.specs.Bytecode.declared.insn.JOp.TheVariants as jop;
-ghost use Rattle.cjc_subset.specs.Bytecode.declared.method_code.MethodCode.{MethodCode};
+ghost use Rattle.cjc_ncode.specs.Bytecode.Jvm as jvm;
+ghost use Rattle.cjc_ncode.specs.Bytecode.declared.insn.JOp.TheVariants as jop;
+ghost use Rattle.cjc_ncode.specs.Bytecode.declared.method_code.MethodCode.{MethodCode};
 ghost use Rattle.cjc_shape_proof.specs.Whole.{Accepts, HoldsFor, IsWhole};
 ghost use Rattle.cjc_narrow_proof.specs.Laws.Unbroken.{IsInsnOf};
 ghost use Rattle.cjc_narrow_proof.specs.Runs.Calls.{IsReceiverOn, IsStaticOn};

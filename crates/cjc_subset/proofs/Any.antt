@@ -1,6 +1,6 @@
 -- Whether one of a list passes a test, one item further.
 use Rattle.std.proofs.Common.{◌≡◌, ℕ, ◌<◌, ◌≤◌, ◌+◌, refl, sym, ap, ◌∙◌, arith, Bool, true, false, List, [], ◌∷◌}
-use Rattle.std.proofs.Common.{length, get_or, drop, add-one, slice_get, Some, zero, suc}
+use Rattle.std.proofs.Common.{length, get_or, drop, add-one, slice_get, Some, suc}
 use Rattle.std.specs.Prelude.{◌||◌, map}
 use Rattle.std.specs.List.{list_any}
 use Rattle.std.proofs.Math.Seq.{drop-cons}
@@ -27,17 +27,6 @@ pub any_of_map : {A B : Type 0} (p : B → Bool) (f : A → B) (xs : List A) →
     ≡ list_any (λ x. p (f x)) xs
 any_of_map p f [] = refl
 any_of_map p f (x ∷ xs) = ap (λ b. p (f x) || b) (any_of_map p f xs)
-
-either_off : (a b : Bool) → (a || b) ≡ false → (a ≡ false) × (b ≡ false)
-either_off true b e = absurd cc
-either_off false b e = (refl, e)
-
--- where none passes, one does not
-pub any_off : {A : Type 0} (p : A → Bool) (xs : List A) (k : ℕ) (x : A) → list_any p xs ≡ false → slice_get xs k
-    ≡ Some x → p x ≡ false
-any_off p [] k x e f = cc
-any_off p (y ∷ ys) zero x e f = let same : y ≡ x = cc in ap p (sym same) ∙ (either_off (p y) (list_any p ys) e).0
-any_off p (y ∷ ys) (suc k) x e f = any_off p ys k x (either_off (p y) (list_any p ys) e).1 f
 
 -- and where one after the other does not, none does
 pub none_passes : {A : Type 0} (p : A → Bool) (xs : List A) → ((k : ℕ) (x : A) → slice_get xs k ≡ Some x → p x ≡ false)

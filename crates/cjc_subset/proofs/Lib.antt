@@ -8,4 +8,3 @@ pub mod Callees
 pub mod Fits
 -- Lemmas of lower crates, for those above.
 pub use Rattle.cjc_code.proofs.RangeWords as RangeWords
-pub use Rattle.cjc_code.proofs.ReadLaws.Members as BytecodeMembers

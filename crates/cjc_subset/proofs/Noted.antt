@@ -1,14 +1,14 @@
 -- Names that are noted once, one list after the other.
-use Rattle.std.proofs.Common.{◌≡◌, ℕ, suc, ◌<◌, ◌≤◌, ◌+◌, refl, sym, ap, ◌∙◌, arith, Bool, true, false, List, [], ◌∷◌}
-use Rattle.std.proofs.Common.{◌++◌, length, get_or, drop, add-one}
+use Rattle.std.proofs.Common.{◌≡◌, ℕ, ◌<◌, ◌≤◌, ◌+◌, refl, sym, ap, ◌∙◌, arith, Bool, true, false, List, [], ◌∷◌}
+use Rattle.std.proofs.Common.{◌++◌, length, get_or, drop}
 use Rattle.std.specs.Prelude.{if◌then◌else◌}
 use Rattle.std.specs.List.{flat_map, list_any}
 use Rattle.std.specs.Str.{bytes_eq}
-use Rattle.std.proofs.Math.Seq.{drop-cons}
 use Rattle.std.proofs.lemmas.Grind.{common_steps}
 use Rattle.cjc_code.specs.ClassFile.declared.tree.ClassTree.{ClassTree}
 use Rattle.cjc_world.specs.Classes.{Class}
 use Rattle.cjc_subset.specs.Limits.{is_above, listed_above, noted}
+use Rattle.cjc_bytes.proofs.Gets.{drop_next}
 
 pub noted_append : (known xs ys : List (List ℕ)) → noted known (xs ++ ys) ≡ noted (noted known xs) ys
 unfolding noted
@@ -16,17 +16,13 @@ noted_append known [] ys = refl
 noted_append known (x ∷ xs) ys = noted_append (if list_any (λ y. bytes_eq y x) known then known else known
     ++ x ∷ []) xs ys
 
-split : {A : Type 0} (xs : List A) (i : ℕ) (x : A) → i < length xs → x ≡ get_or xs i x → drop i xs ≡ x ∷ drop (i + 1) xs
-split xs i x l is = drop-cons xs i x l ∙ ap (λ y. y ∷ drop (suc i) xs) (sym is)
-    ∙ ap (λ m. x ∷ drop m xs) (sym (add-one i))
-
 -- ---- name by name
 
 pub name_on : (xs : List (List ℕ)) (i : ℕ) (x : List ℕ) → i < length xs → x ≡ get_or xs i x → (known : List (List ℕ))
     → noted known (drop i xs) ≡ noted (if list_any (λ y. bytes_eq y x) known then known else known
     ++ x ∷ []) (drop (i + 1) xs)
 unfolding noted
-name_on xs i x l is known = ap (noted known) (split xs i x l is)
+name_on xs i x l is known = ap (noted known) (drop_next xs i x l is)
 
 pub names_done : (xs known : List (List ℕ)) (i : ℕ) → length xs ≤ i → noted known (drop i xs) ≡ known
 unfolding noted
@@ -37,7 +33,7 @@ names_done xs known i l = let e : drop i xs ≡ [] = grind (arith, common_steps)
 module _ {A : Type 0} (f : A → List (List ℕ)) (xs : List A) (i : ℕ) (known : List (List ℕ)) where
   pub list_on : (x : A) → i < length xs → x ≡ get_or xs i x → noted known (flat_map f (drop i xs))
       ≡ noted (noted known (f x)) (flat_map f (drop (i + 1) xs))
-  list_on x l is = ap (λ ys. noted known (flat_map f ys)) (split xs i x l is)
+  list_on x l is = ap (λ ys. noted known (flat_map f ys)) (drop_next xs i x l is)
       ∙ noted_append known (f x) (flat_map f (drop (i + 1) xs))
 
   pub lists_done : length xs ≤ i → noted known (flat_map f (drop i xs)) ≡ known

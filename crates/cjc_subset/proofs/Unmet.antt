@@ -4,9 +4,11 @@ use Rattle.std.specs.Prelude.{◌&&◌, ◌||◌, not, map, if◌then◌else◌}
 use Rattle.std.specs.List.{list_any}
 use Rattle.std.specs.Str.{bytes_eq}
 use Rattle.std.proofs.lemmas.Slice.Eq.{bytes_eq-Decides}
+use Rattle.std.proofs.lemmas.Bool.{and_right, or_from}
 use Rattle.cjc_bytes.specs.AccessFlags.{is_abstract, is_interface, is_private, is_static}
 use Rattle.cjc_bytes.specs.Breaks.{Break, at, each_from}
 use Rattle.cjc_bytes.specs.Order.{FilePlace}
+use Rattle.cjc_bytes.proofs.Bools.{or_left, or_right}
 use Rattle.cjc_code.specs.ClassFile.declared.tree.ClassTree.{ClassTree}
 use Rattle.cjc_code.specs.ClassFile.declared.tree.MethodTree.{MethodTree}
 use Rattle.cjc_world.specs.Classes.{Class, Member, declared, method_of_class}
@@ -19,17 +21,6 @@ use Rattle.cjc_subset.specs.Places.{at_class, at_method}
 use Rattle.cjc_subset.specs.Working.Kinds.{asks, has_kind, is_closed, is_instance, is_shared, kinds_of, may_break}
 
 -- ---- tests
-
-or_left : (a b : Bool) → (a || b) ≡ false → a ≡ false
-or_left false b e = refl
-or_left true b e = absurd (cc)
-
-or_right : (a b : Bool) → (a || b) ≡ false → b ≡ false
-or_right false b e = e
-or_right true b e = absurd (cc)
-
-or_both : (a b : Bool) → a ≡ false → b ≡ false → (a || b) ≡ false
-or_both a b e f = ap (λ (x : Bool). x || b) e ∙ f
 
 -- the first of two that are met, and the second
 met_front : (x a b : Bool) → (x && (a || b)) ≡ false → (x && a) ≡ false
@@ -66,7 +57,7 @@ unmet true true t h = h refl
 
 out_of_sight : (fp fo kp ko : Bool) → (fp && ko) ≡ false → (fo && kp) ≡ false
     → ((fp && ko) || (fo && kp) || (fp && kp && false)) ≡ false
-out_of_sight fp fo kp ko e f = or_both ((fp && ko) || (fo && kp)) (fp && kp && false) (or_both (fp && ko) (fo
+out_of_sight fp fo kp ko e f = or_from ((fp && ko) || (fo && kp)) (fp && kp && false) (or_from (fp && ko) (fo
     && kp) e f) (none fp kp)
   where
     none : (x y : Bool) → (x && y && false) ≡ false
@@ -104,7 +95,7 @@ module _ (name desc : List ℕ) (flags : ℕ) (ordinary : is_special name ≡ fa
       (ap (λ (b : Bool). is_open flags && b) (sym (plain (is_special k.name) (is_package_visible k.flags) ordinary_too))
       ∙ met_front (is_open flags) (not (is_special k.name) && is_package_visible k.flags)
       (has_kind is_package_visible ds) f)) in
-      or_both (is_called name desc (method_of_class k) && is_out_of_sight false flags k.flags)
+      or_from (is_called name desc (method_of_class k) && is_out_of_sight false flags k.flags)
       (list_any (λ k. is_called name desc k && is_out_of_sight false flags k.flags) (map method_of_class ds)) here
       (none_hidden ds (met_back (is_package_visible flags) (not (is_special k.name) && is_open k.flags)
       (has_kind is_open ds) e) (met_back (is_open flags) (not (is_special k.name) && is_package_visible k.flags)
@@ -122,7 +113,7 @@ module _ (name desc : List ℕ) (flags : ℕ) (ordinary : is_special name ≡ fa
       ∙ met_front (is_closed flags) (not (is_special k.name) && is_instance k.flags) (has_kind is_instance ds) e)
       (ap (λ (b : Bool). is_instance flags && b) (sym (plain (is_special k.name) (is_shared k.flags) ordinary_too))
       ∙ met_front (is_instance flags) (not (is_special k.name) && is_shared k.flags) (has_kind is_shared ds) f)) in
-      or_both (is_called name desc (method_of_class k) && is_of_other_kind flags k.flags)
+      or_from (is_called name desc (method_of_class k) && is_of_other_kind flags k.flags)
       (list_any (λ k. is_called name desc k && is_of_other_kind flags k.flags) (map method_of_class ds)) here
       (none_changed ds (met_back (is_closed flags) (not (is_special k.name) && is_instance k.flags)
       (has_kind is_instance ds) e) (met_back (is_instance flags) (not (is_special k.name) && is_shared k.flags)
@@ -187,16 +178,12 @@ none_asks w c d [] e = refl
 none_asks w c d (m ∷ ms) e =
     let here = or_left (is_abstract m.flags || is_interface d.flags) (list_any (λ m. is_abstract m.flags
     || is_interface d.flags) ms) e in
-    or_both (has_no_code w c (declared 0 d) (method_of_class m)) (list_any (λ k. has_no_code w c (declared 0 d) k)
+    or_from (has_no_code w c (declared 0 d) (method_of_class m)) (list_any (λ k. has_no_code w c (declared 0 d) k)
     (map method_of_class ms))
     (neither (is_abstract m.flags || is_interface d.flags) (not (not false && is_initialiser m.name))
     (is_unfit_selection (is_interface d.flags) (hit w false (selected w c.name m.name m.desc))) here)
     (none_asks w c d ms (or_right (is_abstract m.flags || is_interface d.flags) (list_any (λ m. is_abstract m.flags
     || is_interface d.flags) ms) e))
-
-and_none : (a b : Bool) → b ≡ false → (a && b) ≡ false
-and_none false b e = refl
-and_none true b e = e
 
 -- ---- all of it
 
@@ -213,7 +200,7 @@ nothing_broken w f c d e =
     let but_o = or_left (asks d || p) o but_s in
     let methods = all_against f c d c.methods 0 (or_right (asks d) p but_o) (or_right (asks d || p) o but_s)
     (or_right (asks d || p || o) s but_t) (or_right (asks d || p || o || s) t e) in
-    let lacking = and_none (not (is_abstract c.flags)) (list_any (λ k. has_no_code w c (declared 0 d) k)
+    let lacking = and_right (not (is_abstract c.flags)) (list_any (λ k. has_no_code w c (declared 0 d) k)
     (declared 0 d).methods) (none_asks w c d d.methods (or_left (asks d) p but_o)) in
     let against : class_against w f c (declared 0 d) ≡ [] = ap (λ (b : Bool). at b (at_class f c) 307
     ++ each_from (λ i m. method_against f c (declared 0 d) i m) 0 c.methods) lacking ∙ methods in

@@ -6,9 +6,8 @@
 pub use cjc_bytes as bytes;
 pub use cjc_code as bytecode;
 pub use cjc_code::classfile;
-pub use cjc_world as lower_world;
 pub use cjc_world as world;
-pub use cjc_world::{export_file, export_file as lower_export_file};
+pub use cjc_world::export_file;
 
 mod applets;
 mod checking;

@@ -1,4 +1,5 @@
--- Export files of platforms, with those that packages write which were converted over them, one behind the other and side
+-- Export files of platforms, with those that packages write which were converted over them, one behind the other and
+-- side
 -- by side (Java Card Virtual Machine Specification 2.2.2, chapter 5).
 use Rattle.std.specs.Prelude.{◌≡◌, ℕ, List, [], ◌∷◌, Some, slice_get}
 use Rattle.cjc_classfile.specs.declared.tree.ClassTree.{ClassTree}
@@ -6,8 +7,8 @@ use Rattle.cjc_components.specs.ExportFile.{export_of}
 use Rattle.cjc_components.specs.Limits.{limit_breaks}
 use Rattle.cjc_components.specs.List.Listed.{ListTree}
 use Rattle.cjc_components.specs.Package.{Package}
-use Rattle.cjc_export.specs.declared.tree.ExportClass.{ExportClass}
-use Rattle.cjc_export.specs.declared.tree.ExportTree.{ExportTree}
+use Rattle.cjc_world.specs.ExportFile.declared.tree.ExportClass.{ExportClass}
+use Rattle.cjc_world.specs.ExportFile.declared.tree.ExportTree.{ExportTree}
 use Rattle.cjc_judge.specs.Spelt.{IsRead}
 use Rattle.cjc_judge.specs.declared.judged.Judged.{Judged}
 use Rattle.cjc_shape_proof.specs.Shape.Prepared.{IsSound}
@@ -39,7 +40,8 @@ pub record StandsOver (p : Package) (all : List ExportTree) : Type 0 where
   pub apart : (n : ℕ) (c : ClassTree) → (let files = p.files in slice_get files.classes n ≡ Some c) → (d : ExportClass)
       → Has d (imports all) → (d.name ≡ c.name → ⊥) × (Lists c.name d.supers → ⊥)
 
--- Some export files that do not contradict one another, as those of a platform, and then those that packages write, each
+-- Some export files that do not contradict one another, as those of a platform, and then those that packages write,
+-- each
 -- converted over some of the files before it.
 pub data AreBuilt : List ExportTree → Type 0 where
   of_platform : {exports : List ExportTree} → ExportsAreFair exports → AreBuilt exports

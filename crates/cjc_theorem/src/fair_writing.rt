@@ -4,7 +4,7 @@
 ghost use Rattle.std.specs.Prelude.{◌≡◌, ℕ, List, ◌∷◌, ◌++◌};
 ghost use Rattle.cjc_components.specs.ExportFile.{export_of};
 ghost use Rattle.cjc_components.specs.Package.{Package};
-ghost use Rattle.cjc_export.specs.declared.tree.ExportTree.{ExportTree};
+ghost use Rattle.cjc_world.specs.ExportFile.declared.tree.ExportTree.{ExportTree};
 ghost use Rattle.cjc_theorem.specs.Built.{AreBuilt, AreDistinct, IsWritten};
 ghost use Rattle.cjc_theorem.specs.FairExports.Fair.{ExportsAreFair};
 ghost use Rattle.cjc_judge.specs.declared.judged.Judged.{Judged};

@@ -2,7 +2,7 @@
 //! code that runs as its class files. Laws alone, for whoever promises that what was converted behaves as its
 //! class files. Nothing here runs.
 ghost use Rattle.std.specs.Prelude.{◌≡◌, ℕ, false, List, Option, Some, slice_get};
-ghost use Rattle.cjc_card_semantics.specs.Bytecode.Runs.{Agree};
+ghost use Rattle.cjc_ncode.specs.CardSemantics.Bytecode.Runs.{Agree};
 ghost use Rattle.cjc_jvm_semantics.specs.ByName.{run as run_by_name};
 ghost use Rattle.cjc_classfile.specs.Code.{CodeTree};
 ghost use Rattle.cjc_classfile.specs.declared.tree.ClassTree.{ClassTree};
@@ -24,7 +24,7 @@ ghost use Rattle.cjc_narrow_proof.specs.Intervals.Frames.{RangeState};
 ghost use Rattle.cjc_narrow_proof.specs.Intervals.Tables.{IsLeastRanges, Passes};
 ghost use Rattle.cjc_script.specs.declared.script.Script.{Script};
 ghost use Rattle.cjc_subset.specs.Ints.{any_works_on_int};
-ghost use Rattle.cjc_world_proof.specs.Files.{ExportsAreSound};
+ghost use Rattle.cjc_token_proof.specs.WorldProof.Files.{ExportsAreSound};
 ghost use Rattle.cjc_narrow_proof.specs.Types.Flow.{body_of};
 ghost use Rattle.cjc_narrow_proof.specs.Types.Tables.{IsMethodOf, IsTypeTable, rows_of};
 ghost use Rattle.cjc_narrow_proof.specs.Types.declared.table.TypeTable.{TypeTable};

@@ -2,7 +2,7 @@
 //! instructions of its methods name fits their types, and what its static image says is of sound types. Laws
 //! alone: nothing here runs.
 ghost use Rattle.std.specs.Prelude.{ℕ, List};
-ghost use Rattle.cjc_card_semantics.specs.Bytecode.Runs.{Agree};
+ghost use Rattle.cjc_ncode.specs.CardSemantics.Bytecode.Runs.{Agree};
 ghost use Rattle.cjc_bytes.specs.Breaks.{Break};
 ghost use Rattle.cjc_bytes.specs.declared.fault.MemberId.{MemberId};
 ghost use Rattle.cjc_bytes.specs.declared.settings.Settings.{Settings};

@@ -4,3 +4,17 @@ pub mod CallsLaws
 pub mod TablesLaws
 pub mod WrittenCalls
 pub mod WrittenSends
+-- Lemmas of lower crates, for those above.
+pub use Rattle.cjc_world_proof.proofs.CallsLaws.Fields as WorldProofFields
+pub use Rattle.cjc_world_proof.proofs.CallsLaws.Own as WorldProofOwn
+pub use Rattle.cjc_world_proof.proofs.CallsLaws.Scripts as WorldProofScripts
+pub use Rattle.cjc_world_proof.proofs.CallsLaws.Selects as WorldProofSelects
+pub use Rattle.cjc_world_proof.proofs.CallsLaws.Specials as WorldProofSpecials
+pub use Rattle.cjc_world_proof.proofs.CallsLaws.Types as WorldProofTypes
+pub use Rattle.cjc_world_proof.proofs.InitialisersLaws.Initialisers as WorldProofInitialisers
+pub use Rattle.cjc_world_proof.proofs.InitialisersLaws.Packages as WorldProofPackages
+pub use Rattle.cjc_world_proof.proofs.InitialisersLaws.Places as WorldProofPlaces
+pub use Rattle.cjc_world_proof.proofs.InitialisersLaws.Values as WorldProofValues
+pub use Rattle.cjc_world_proof.proofs.SelectionLaws.Exceptions as WorldProofExceptions
+pub use Rattle.cjc_world_proof.proofs.SelectionLaws.Rules as WorldProofRules
+pub use Rattle.cjc_world_proof.proofs.SelectionLaws.Solid as WorldProofSolid

@@ -6,3 +6,4 @@ pub mod WrittenCalls
 pub mod WrittenSends
 -- Definitions of lower crates, for those above.
 pub use Rattle.cjc_jvm_semantics.specs as JvmSemantics
+pub use Rattle.cjc_world_proof.specs as WorldProof

@@ -15,13 +15,15 @@ use Rattle.cjc_world.specs.declared.class.Known.{Known as AnyClass}
 use Rattle.cjc_world.specs.declared.class.Known.TheVariants as kinds
 use Rattle.cjc_world.specs.Working.Known.{class_of}
 use Rattle.cjc_world.proofs.Rising.{known-append}
+use Rattle.cjc_world.proofs.Asking.{without-append}
 use Rattle.cjc_tokens.specs.Methods.{interface_methods}
 use Rattle.cjc_tokens.specs.Members.{Signature, signature_of, is_initialiser}
 use Rattle.cjc_tokens.specs.Slots.{Slots, new_in, with_new}
 use Rattle.cjc_tokens.specs.Working.{above_where, asked, listed_method}
 use Rattle.cjc_tokens.proofs.Facts.{position-cons}
-use Rattle.cjc_tokens.proofs.Offers.{map_append, offer-next, offer-end, with_new-append}
-use Rattle.cjc_tokens.proofs.Walks.{drop-next, drop-past}
+use Rattle.cjc_tokens.proofs.Offers.{offer-next, offer-end, with_new-append}
+use Rattle.cjc_bytes.proofs.Gets.{drop_next, drop_past}
+use Rattle.cjc_bytes.proofs.Lists.{map_append}
 
 -- ---- one method more
 
@@ -33,16 +35,6 @@ without-cons m ms = by (is_initialiser m.name)
         ≡ (if b then [] else signature_of m ∷ []) ++ map signature_of (without_initialiser ms)
     by true = refl
     by false = refl
-
-without-append : (a b : List Member) → without_initialiser (a ++ b) ≡ without_initialiser a ++ without_initialiser b
-without-append [] b = refl
-without-append (m ∷ a) b = by (is_initialiser m.name) (without-append a b)
-  where
-    by : (q : Bool) → without_initialiser (a ++ b) ≡ without_initialiser a ++ without_initialiser b
-        → (if q then without_initialiser (a ++ b) else m ∷ without_initialiser (a ++ b))
-        ≡ (if q then without_initialiser a else m ∷ without_initialiser a) ++ without_initialiser b
-    by true e = e
-    by false e = ap (λ q. m ∷ q) e
 
 pub declared-next : (all more whole : Slots) (ms : List MethodTree) (i : ℕ) (m : MethodTree) (name desc : List ℕ)
     → i < length ms → m ≡ get_or ms i m → name ≡ m.name → desc ≡ m.desc
@@ -58,13 +50,13 @@ declared-next all more whole ms i m name desc lt is n d e inv =
     ++ map signature_of (without_initialiser (map method_of_class (drop (i + 1) ms))))) d
     ∙ ap (with_new all) (sym (without-cons (method_of_class m) (map method_of_class (drop (i + 1) ms))))
     ∙ ap (λ q. with_new all (map signature_of (without_initialiser (map method_of_class q))))
-    (sym (drop-next ms i m lt is))
+    (sym (drop_next ms i m lt is))
     ∙ inv)
 
 pub declared-end : (all whole : Slots) (ms : List MethodTree) (i : ℕ) → length ms ≤ i
     → with_new all (map signature_of (without_initialiser (map method_of_class (drop i ms)))) ≡ whole → all ≡ whole
 declared-end all whole ms i le inv = sym (offer-end all)
-    ∙ ap (λ q. with_new all (map signature_of (without_initialiser (map method_of_class q)))) (sym (drop-past ms i le))
+    ∙ ap (λ q. with_new all (map signature_of (without_initialiser (map method_of_class q)))) (sym (drop_past ms i le))
     ∙ inv
 
 -- ---- by token
@@ -123,7 +115,7 @@ by_token-end all whole ms n t le inv =
 
 -- ---- interfaces in turn
 
-methods_of-append : (a b : List Class) → methods_of (a ++ b) ≡ methods_of a ++ methods_of b
+pub methods_of-append : (a b : List Class) → methods_of (a ++ b) ≡ methods_of a ++ methods_of b
 unfolding methods_of
 methods_of-append [] b = refl
 methods_of-append (c ∷ a) b = ap (λ q. own_methods c ++ q) (methods_of-append a b)

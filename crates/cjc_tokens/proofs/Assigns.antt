@@ -12,13 +12,13 @@ use Rattle.cjc_world.specs.ExportFile.declared.tree.ExportTree.{ExportTree}
 use Rattle.cjc_world.specs.Classes.{Class, declared}
 use Rattle.cjc_world.specs.Files.{Files}
 use Rattle.cjc_bytes.specs.Breaks.{Break, Among, foremost, after, IsFirst}
+use Rattle.cjc_bytes.proofs.Gets.{drop_next, drop_past}
 use Rattle.cjc_tokens.specs.declared.slot.Rows.{Rows}
 use Rattle.cjc_world.specs.Exported.{is_exported}
 use Rattle.cjc_tokens.specs.Tokens.{OfClass, of_class, one_more, classes_from, of_import, imports_of}
 use Rattle.cjc_tokens.specs.Rules.{count_exported, has_high_token, at_class, breaks_where, breaks_from, is_few}
 use Rattle.cjc_tokens.specs.Rules.{tested_breaks, token_breaks}
 use Rattle.cjc_tokens.specs.Working.{IsKept}
-use Rattle.cjc_tokens.proofs.Walks.{drop-next, drop-past}
 
 -- ---- the file of a class
 
@@ -92,11 +92,11 @@ pub imports-next : (ts : List ExportTree) (i : ℕ) (t : ExportTree) (old new ro
 imports-next ts i t old new rows lt is e inv =
     ap (λ q. q ++ imports_of (drop (i + 1) ts)) e
     ∙ append_assoc old (map of_import t.classes) (imports_of (drop (i + 1) ts))
-    ∙ ap (λ q. old ++ imports_of q) (sym (drop-next ts i t lt is)) ∙ inv
+    ∙ ap (λ q. old ++ imports_of q) (sym (drop_next ts i t lt is)) ∙ inv
 
 pub imports-end : (ts : List ExportTree) (i : ℕ) (old rows : List (List (Option ℕ))) → length ts ≤ i
     → old ++ imports_of (drop i ts) ≡ rows → old ≡ rows
-imports-end ts i old rows le inv = sym (append-nil old) ∙ ap (λ q. old ++ imports_of q) (sym (drop-past ts i le)) ∙ inv
+imports-end ts i old rows le inv = sym (append-nil old) ∙ ap (λ q. old ++ imports_of q) (sym (drop_past ts i le)) ∙ inv
 
 -- ---- tokens of the package
 
@@ -113,13 +113,13 @@ module _ (w : List Class) (applets : Bool) (cs : List ClassTree) (k : ℕ) where
       ∙ ap (λ b. old ++ t ∷ classes_from w applets (one_more b before) (k + 1) (drop (k + 1) cs)) (sym x)
       ∙ ap (λ q. old ++ q ∷ classes_from w applets (one_more (is_exported w applets (declared k c)) before) (k + 1)
       (drop (k + 1) cs)) e
-      ∙ ap (λ q. old ++ classes_from w applets before k q) (sym (drop-next cs k c lt is)) ∙ inv
+      ∙ ap (λ q. old ++ classes_from w applets before k q) (sym (drop_next cs k c lt is)) ∙ inv
 
   pub classes-end : (before : ℕ) (old all : List OfClass) → length cs ≤ k
       → old ++ classes_from w applets before k (drop k cs) ≡ all → old ≡ all
   unfolding classes_from
   classes-end before old all le inv = sym (append-nil old) ∙ ap (λ q. old ++ classes_from w applets before k q)
-      (sym (drop-past cs k le)) ∙ inv
+      (sym (drop_past cs k le)) ∙ inv
 
   pub exported-next : (c : ClassTree) (before all : ℕ) (exported : Bool) → k < length cs → c ≡ get_or cs k c
       → is_exported w applets (declared k c) ≡ exported
@@ -128,7 +128,7 @@ module _ (w : List Class) (applets : Bool) (cs : List ClassTree) (k : ℕ) where
   exported-next c before all exported lt is x inv =
       more exported before (count_exported w applets (k + 1) (drop (k + 1) cs))
       ∙ ap (λ b. before + one_more b (count_exported w applets (k + 1) (drop (k + 1) cs))) (sym x)
-      ∙ ap (λ q. before + count_exported w applets k q) (sym (drop-next cs k c lt is)) ∙ inv
+      ∙ ap (λ q. before + count_exported w applets k q) (sym (drop_next cs k c lt is)) ∙ inv
     where
       more : (b : Bool) (n m : ℕ) → one_more b n + m ≡ n + one_more b m
       more true n m = omega arith
@@ -150,11 +150,11 @@ module _ (w : List Class) (applets : Bool) (cs : List ClassTree) (k : ℕ) where
     breaks-next c all lt is none inv =
         ap (λ b. breaks_where b (at_class (file_of lines k) c.name) ++ breaks_from w applets lines (k + 1)
         (drop (k + 1) cs)) (sym none)
-        ∙ ap (breaks_from w applets lines k) (sym (drop-next cs k c lt is)) ∙ inv
+        ∙ ap (breaks_from w applets lines k) (sym (drop_next cs k c lt is)) ∙ inv
 
     pub breaks-end : (all : List Break) → length cs ≤ k → breaks_from w applets lines k (drop k cs) ≡ all → all ≡ []
     unfolding breaks_from
-    breaks-end all le inv = sym inv ∙ ap (breaks_from w applets lines k) (drop-past cs k le)
+    breaks-end all le inv = sym inv ∙ ap (breaks_from w applets lines k) (drop_past cs k le)
 
     order : (x y : ℕ) → x ≤ y → NotAfter (record {
       family = 4;
@@ -203,7 +203,7 @@ module _ (w : List Class) (applets : Bool) (cs : List ClassTree) (k : ℕ) where
 
         whole : b ∷ rest ≡ all
         whole = ap (λ q. breaks_where q b ++ rest) (sym high)
-            ∙ ap (breaks_from w applets lines k) (sym (drop-next cs k c lt is)) ∙ inv
+            ∙ ap (breaks_from w applets lines k) (sym (drop_next cs k c lt is)) ∙ inv
 
         first : IsFirst b (b ∷ rest)
         first = record {

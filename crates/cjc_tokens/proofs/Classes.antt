@@ -1,5 +1,5 @@
 -- The tokens of one class, from what the code holds of it.
-use Rattle.std.proofs.Common.{◌≡◌, ℕ, refl, sym, ap, ◌∙◌, Bool, true, false, List, [], ◌∷◌, ◌++◌, length, append_assoc}
+use Rattle.std.proofs.Common.{◌≡◌, ℕ, refl, sym, ap, ◌∙◌, Bool, true, false, List, [], ◌++◌, length, append_assoc}
 use Rattle.std.specs.Prelude.{◌&&◌, ◌||◌, map, nat_lt, count_by, if◌then◌else◌, Option, Some, None}
 use Rattle.std.specs.List.{list_any}
 use Rattle.cjc_bytes.specs.declared.fault.MemberId.{MemberId}
@@ -7,6 +7,8 @@ use Rattle.cjc_world.specs.ClassFile.declared.tree.ClassTree.{ClassTree}
 use Rattle.cjc_world.specs.declared.found.Found.{Found}
 use Rattle.cjc_world.specs.Classes.{Class, declared, method_of_class}
 use Rattle.cjc_bytes.specs.AccessFlags.{is_interface}
+use Rattle.cjc_bytes.proofs.Quantified.{any_of_map}
+use Rattle.cjc_bytes.proofs.Lists.{map_map}
 use Rattle.cjc_world.specs.Added.{added, named_by}
 use Rattle.cjc_tokens.specs.declared.slot.Rows.{Rows}
 use Rattle.cjc_tokens.specs.Members.{Signature, signature_of}
@@ -19,14 +21,6 @@ use Rattle.cjc_world.specs.Exported.{is_exported}
 use Rattle.cjc_tokens.specs.Tokens.{OfClass, of_class}
 use Rattle.cjc_tokens.specs.Rules.{has_high_token, is_above, has_high_method}
 use Rattle.cjc_tokens.specs.Working.{AreRowsOf, is_high_class, is_high_interface, member_of, methods_in, signs}
-
-any-map : {A B : Type 0} (p : B → Bool) (f : A → B) (xs : List A) → list_any p (map f xs) ≡ list_any (λ x. p (f x)) xs
-any-map p f [] = refl
-any-map p f (x ∷ xs) = ap (λ q. p (f x) || q) (any-map p f xs)
-
-map-map : {A B C : Type 0} (g : B → C) (f : A → B) (xs : List A) → map g (map f xs) ≡ map (λ x. g (f x)) xs
-map-map g f [] = refl
-map-map g f (x ∷ xs) = ap (λ q. g (f x) ∷ q) (map-map g f xs)
 
 abbrev made : Option ℕ → List (Option ℕ) → List (Option ℕ) → List (Option Found) → List (Option Found) → OfClass
 made a m i p h = record { class = a; members = m; instances = i; public_methods = p; package_methods = h }
@@ -71,13 +65,13 @@ module _ (w : List Class) (n : ℕ) (c : ClassTree) where
         (map (named_by c.name) (added w (declared n c))))
         || (exported && nat_lt 255 (count_by is_open_bound (map method_of_class c.methods))))
         || (exported && nat_lt 255 (count_by is_open_static c.fields)))
-        (sym (any-map (λ m. is_above 127 (virtual_token (shown_token (line_at w (declared n c)))
+        (sym (any_of_map (λ m. is_above 127 (virtual_token (shown_token (line_at w (declared n c)))
         (hidden_slots (line_at w (declared n c))) m)) method_of_class c.methods))
         ∙ ap (λ q. ((list_any (λ m. is_above 127 (virtual_token (shown_token (line_at w (declared n c)))
         (hidden_slots (line_at w (declared n c))) m)) (map method_of_class c.methods) || q)
         || (exported && nat_lt 255 (count_by is_open_bound (map method_of_class c.methods))))
         || (exported && nat_lt 255 (count_by is_open_static c.fields)))
-        (any-map (λ m. is_above 127 (shown_token (line_at w (declared n c)) (signature_of (member_of m))))
+        (any_of_map (λ m. is_above 127 (shown_token (line_at w (declared n c)) (signature_of (member_of m))))
         (named_by c.name) (added w (declared n c)))
         ∙ ap (λ b. (if b then nat_lt 128 (length (interface_methods w (declared n c)))
         else has_high_method w (declared n c)
@@ -135,7 +129,7 @@ module _ (w : List Class) (n : ℕ) (c : ClassTree) where
             ++ map (λ m. T (signature_of (member_of m))) q) ids_are
             ∙ ap (λ q. F ++ class_method_tokens (is_exported w applets (declared n c)) T H
             (map method_of_class c.methods) 0 (map method_of_class c.methods) ++ q)
-            (map-map (λ m. T (signature_of (member_of m))) (named_by c.name) (added w (declared n c)))
+            (map_map (λ m. T (signature_of (member_of m))) (named_by c.name) (added w (declared n c)))
             ∙ append_assoc F (class_method_tokens (is_exported w applets (declared n c)) T H
             (map method_of_class c.methods) 0 (map method_of_class c.methods))
             (map (λ m. T (signature_of m)) (added w (declared n c)))

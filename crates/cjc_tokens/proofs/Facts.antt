@@ -9,6 +9,7 @@ use Rattle.cjc_world.specs.Classes.{Member, Class}
 use Rattle.cjc_world.specs.Lookup.{is_called, member_at}
 use Rattle.cjc_tokens.specs.Members.{Signature, signature_of, same, has, signatures, In, chosen, first_of, later}
 use Rattle.cjc_tokens.specs.Slots.{own, got}
+use Rattle.cjc_bytes.proofs.Numbers.{number_more}
 
 signature : List ℕ → List ℕ → Signature
 signature n d = record { name = n; desc = d }
@@ -24,9 +25,6 @@ pub same-refl : (s : Signature) → same s s ≡ true
 same-refl s = grind (arith, bytes_eq-Decides)
 
 -- ---- the first place that passes
-
-more : (n l : ℕ) → nat_lt (1 + n) (suc l) ≡ nat_lt n l
-more n l = grind arith
 
 pub position-cons : {A : Type 0} (p : A → Bool) (x : A) (xs : List A) → position p (x ∷ xs) ≡ (if p x then Some 0
     else option_map suc (position p xs))
@@ -44,7 +42,7 @@ position-cons p x xs = by (p x)
         else option_map suc (position p xs))
     by true = let lt : nat_lt 0 (suc (length xs)) ≡ true = grind arith in ap (λ b. cond b (Some 0) None) lt
     by false =
-        ap (λ b. cond b (Some (1 + prefix_len (λ y. not (p y)) xs)) None) (more (prefix_len (λ y. not (p y)) xs)
+        ap (λ b. cond b (Some (1 + prefix_len (λ y. not (p y)) xs)) None) (number_more (prefix_len (λ y. not (p y)) xs)
         (length xs))
         ∙ at (prefix_len (λ y. not (p y)) xs) (length xs) (nat_lt (prefix_len (λ y. not (p y)) xs) (length xs))
 

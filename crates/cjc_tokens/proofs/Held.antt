@@ -8,15 +8,7 @@ use Rattle.cjc_tokens.specs.Members.{Signature, signature_of, same, has, is_expo
 use Rattle.cjc_tokens.specs.Members.{later}
 use Rattle.cjc_tokens.specs.Slots.{Slots, holds, has_slot, new_in, put, reserve, listed_slots, token}
 use Rattle.cjc_tokens.proofs.Facts.{same-true, same-refl, position-cons}
-
-pub at_front : {A : Type 0} (xs ys : List A) (k : ℕ) (x : A) → slice_get xs k ≡ Some x → slice_get (xs ++ ys) k ≡ Some x
-at_front [] ys k x e = cc
-at_front (y ∷ xs) ys zero x e = e
-at_front (y ∷ xs) ys (suc k) x e = at_front xs ys k x e
-
-or_true : (b : Bool) → (b || true) ≡ true
-or_true true = refl
-or_true false = refl
+use Rattle.cjc_bytes.proofs.Bools.{or_true}
 
 -- what stands in the first part or is one of those behind it
 pub at_either : (front : Slots) (ss : List Signature) (t : ℕ) (s : Signature) → slice_get (front ++ map Some ss) t

@@ -24,7 +24,7 @@ use Rattle.cjc_tokens.specs.Working.{IsToldOf, signs, told_among, token_meant, t
 use Rattle.cjc_tokens.proofs.Held.{token-slot}
 use Rattle.cjc_tokens.proofs.Once.{nearest-once, slots-once, told-once}
 use Rattle.cjc_tokens.proofs.Supers.{class_at-number}
-use Rattle.cjc_tokens.proofs.Walks.{drop-next, drop-past}
+use Rattle.cjc_bytes.proofs.Gets.{drop_next, drop_past}
 
 -- ---- the first that answers, found one by one
 
@@ -50,7 +50,7 @@ unfolding first_answer
 answer-next f xs i x old new total lt is e so_far =
     ap (λ o. or_next o (first_answer f (drop (i + 1) xs))) e
     ∙ next-assoc old (f x) (first_answer f (drop (i + 1) xs))
-    ∙ ap (λ ys. or_next old (first_answer f ys)) (sym (drop-next xs i x lt is))
+    ∙ ap (λ ys. or_next old (first_answer f ys)) (sym (drop_next xs i x lt is))
     ∙ so_far
 
 -- all were noted
@@ -58,7 +58,7 @@ pub answer-end : {A B : Type 0} (f : A → Option B) (xs : List A) (i : ℕ) (do
     → or_next done (first_answer f (drop i xs)) ≡ total → done ≡ total
 unfolding first_answer
 answer-end f xs i done total le so_far =
-    sym (next-none done) ∙ ap (λ ys. or_next done (first_answer f ys)) (sym (drop-past xs i le)) ∙ so_far
+    sym (next-none done) ∙ ap (λ ys. or_next done (first_answer f ys)) (sym (drop_past xs i le)) ∙ so_far
 
 -- ---- the token of one method, noted where there is none
 

@@ -1,9 +1,9 @@
 -- Slots that are put at the end of a row.
 use Rattle.std.proofs.Common.{◌≡◌, ℕ, ◌+◌, ◌<◌, refl, sym, ap, ◌∙◌, Bool, true, false, List, [], ◌∷◌, ◌++◌}
-use Rattle.std.proofs.Common.{append_assoc, append-nil, length, take, get_or, ◌≤◌, arith}
+use Rattle.std.proofs.Common.{append_assoc, append-nil, length, take, get_or}
 use Rattle.std.proofs.lemmas.List.{take_more}
-use Rattle.std.proofs.lemmas.Grind.{common_steps}
 use Rattle.cjc_bytes.specs.declared.fault.MemberId.{MemberId}
+use Rattle.cjc_bytes.proofs.Lists.{map_append}
 use Rattle.cjc_world.specs.ClassFile.declared.tree.MethodTree.{MethodTree}
 use Rattle.std.specs.Prelude.{map, Option, Some, if◌then◌else◌, option_map}
 use Rattle.cjc_world.specs.declared.found.Found.{Found}
@@ -40,10 +40,6 @@ new_in-more all (u ∷ ss) s = by (has_slot all u) (new_in-more all ss s) (new_i
         ap (λ q. u ∷ q) fresh
         ∙ ap (λ q. u ∷ new_in (all ++ Some u ∷ []) ss ++ (if has_slot q s then [] else s ∷ []))
         (append_assoc all (Some u ∷ []) (map Some (new_in (all ++ Some u ∷ []) ss)))
-
-pub map_append : {A B : Type 0} (f : A → B) (xs ys : List A) → map f (xs ++ ys) ≡ map f xs ++ map f ys
-map_append f [] ys = refl
-map_append f (x ∷ xs) ys = ap (λ q. f x ∷ q) (map_append f xs ys)
 
 -- one that has a slot changes nothing
 pub offered-kept : (ss : List Signature) (s : Signature) (method : Signature
@@ -102,9 +98,6 @@ signatures-more test (n ∷ ms) m = by (test n) (signatures-more test ms m)
         else [])
     by true e = ap (λ q. signature_of n ∷ q) e
     by false e = e
-
-pub take-past : {A : Type 0} (xs : List A) (i : ℕ) → length xs ≤ i → take i xs ≡ xs
-take-past xs i le = grind (arith, common_steps)
 
 -- of the added methods, one more
 pub ids-more : (ids : List MemberId) (i : ℕ) (m : MemberId) (name desc : List ℕ) → i < length ids → m ≡ get_or ids i m

@@ -1,10 +1,9 @@
 -- A class that stands in a list once more adds nothing.
-use Rattle.std.proofs.Common.{◌≡◌, ℕ, ◌+◌, ◌<◌, ◌≤◌, refl, sym, ap, subst, ◌∙◌, arith, Bool, true, false, List, [], ◌∷◌}
+use Rattle.std.proofs.Common.{◌≡◌, ℕ, ◌+◌, ◌<◌, ◌≤◌, refl, sym, ap, subst, ◌∙◌, Bool, true, false, List, [], ◌∷◌}
 use Rattle.std.proofs.Common.{◌++◌, append_assoc, append-nil, length, drop, get_or, add-one}
 use Rattle.std.specs.Prelude.{◌||◌, map, Option, Some, None, if◌then◌else◌, option_to_list, slice_get}
 use Rattle.std.specs.Str.{bytes_eq}
 use Rattle.std.proofs.Math.Seq.{drop-cons}
-use Rattle.std.proofs.lemmas.Slice.Eq.{bytes_eq-Decides}
 use Rattle.cjc_world.specs.declared.found.Found.{Found}
 use Rattle.cjc_world.specs.Classes.{Class, class_named}
 use Rattle.cjc_world.specs.Supertypes.{Supertypes, AreSupertypes, ends, unknown_here, known_here, supertypes, upwards}
@@ -22,11 +21,14 @@ use Rattle.cjc_tokens.specs.Slots.{told_in}
 use Rattle.cjc_tokens.specs.Working.{AreRowsOf, asked, overlay}
 use Rattle.cjc_tokens.proofs.Facts.{same-refl}
 use Rattle.cjc_tokens.proofs.Held.{has_slot-append, offered-has_slot}
-use Rattle.cjc_tokens.proofs.Offers.{map_append, offer-end, with_new-append}
+use Rattle.cjc_tokens.proofs.Offers.{offer-end, with_new-append}
 use Rattle.cjc_tokens.proofs.Overlays.{listed_slots-append, overlay-assoc, overlay-nil}
 use Rattle.cjc_world.proofs.Rising.{known-append}
+use Rattle.cjc_world.proofs.Cycles.{class_named-name}
 use Rattle.cjc_tokens.proofs.Asked.{of, of-append}
-use Rattle.cjc_tokens.proofs.Walks.{drop-past}
+use Rattle.cjc_bytes.proofs.Lists.{bytes_true, map_append}
+use Rattle.cjc_bytes.proofs.Bools.{or_true}
+use Rattle.cjc_bytes.proofs.Gets.{drop_past}
 
 -- ---- classes at places, one further
 
@@ -40,7 +42,7 @@ at-next w ps i d o lt e =
 
 pub at-end : (w : List Class) (ps : List ℕ) (i : ℕ) → length ps ≤ i → at_places w (drop i ps) ≡ []
 unfolding at_places
-at-end w ps i le = ap (at_places w) (drop-past ps i le)
+at-end w ps i le = ap (at_places w) (drop_past ps i le)
 
 -- ---- what some classes do, one after the other
 
@@ -51,19 +53,6 @@ data Within (c : Class) : List Class → Type 0 where
 within-behind : (c : Class) (o : Option Class) (cs : List Class) → Within c cs → Within c (option_to_list o ++ cs)
 within-behind c None cs i = i
 within-behind c (Some d) cs i = there i
-
-bytes-true : (x y : List ℕ) → bytes_eq x y ≡ true → x ≡ y
-bytes-true x y e = grind (arith, bytes_eq-Decides)
-
-named-name : (w : List Class) (x : List ℕ) (c : Class) → class_named w x ≡ Some c → c.name ≡ x
-unfolding class_named
-named-name [] x c e = cc
-named-name (d ∷ w) x c e = by (bytes_eq d.name x) refl e (named-name w x c)
-  where
-    by : (b : Bool) → bytes_eq d.name x ≡ b → (if b then Some d else class_named w x) ≡ Some c
-        → (class_named w x ≡ Some c → c.name ≡ x) → c.name ≡ x
-    by true f e rest = let is : d ≡ c = cc in ap (λ (v : Class). v.name) (sym is) ∙ bytes-true d.name x f
-    by false f e rest = rest e
 
 -- the classes are those of their names
 abbrev AreNamed : List Class → List Class → Type 0
@@ -85,7 +74,7 @@ told-append w (i ∷ is) js a b = (a.0, told-append w is js a.1 b)
 
 module _ (w : List Class) where
   itself : (x : List ℕ) (c : Class) → class_named w x ≡ Some c → class_named w c.name ≡ Some c
-  itself x c e = ap (class_named w) (named-name w x c e) ∙ e
+  itself x c e = ap (class_named w) (class_named-name w x c e) ∙ e
 
   named-upwards : (xs : List (List ℕ)) (k : Supertypes) → AreSupertypes w xs k → AreNamed w (upwards k)
   named-upwards xs k ends = tt
@@ -129,7 +118,7 @@ module _ (w : List Class) where
       by : (b : Bool) → bytes_eq d.name c.name ≡ b → (b || is_one_named seen c.name) ≡ true
           → (is_one_named seen c.name ≡ true → Within c seen) → Within c (d ∷ seen)
       by true f t rest =
-          let one : Some d ≡ Some c = sym a.0 ∙ ap (class_named w) (bytes-true d.name c.name f) ∙ e in
+          let one : Some d ≡ Some c = sym a.0 ∙ ap (class_named w) (bytes_true d.name c.name f) ∙ e in
           let is : d ≡ c = cc in
           subst (λ (q : Class). Within c (q ∷ seen)) (sym is) here
       by false f t rest = there (rest t)
@@ -143,7 +132,7 @@ module _ (w : List Class) where
       by : (b : Bool) → bytes_eq i.name x ≡ b → (b || is_among seen x) ≡ true → (is_among seen x ≡ true
           → Within c (known seen)) → Within c (option_to_list i.class ++ known seen)
       by true f t rest = subst (λ (o : Option Class). Within c (option_to_list o ++ known seen)) (sym (a.0
-          ∙ ap (class_named w) (bytes-true i.name x f) ∙ e)) here
+          ∙ ap (class_named w) (bytes_true i.name x f) ∙ e)) here
       by false f t rest = within-behind c i.class (known seen) (rest t)
 
 module _ {S : Type 0} (act : S → Class → S) where
@@ -358,10 +347,6 @@ rows-once w c xs k r is a = record {
     slots_same = slots-once w c xs k is
 
 -- ---- the methods of interfaces
-
-or_true : (b : Bool) → (b || true) ≡ true
-or_true true = refl
-or_true false = refl
 
 -- what has a slot is not put at the end
 with_new-old : (all : Slots) (ss : List Signature) → ((s : Signature) → has ss s ≡ true → has_slot all s ≡ true)

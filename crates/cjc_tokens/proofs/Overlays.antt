@@ -14,8 +14,8 @@ use Rattle.cjc_tokens.specs.Slots.{Slots, put, reserve, listed, listed_slots}
 use Rattle.cjc_tokens.specs.Working.{alone, one, overlay, signature_in, signs}
 use Rattle.cjc_world.specs.declared.class.Known.{Known as AnyClass}
 use Rattle.cjc_world.specs.Working.Known.{class_of}
-use Rattle.cjc_tokens.proofs.Offers.{map_append}
-use Rattle.cjc_tokens.proofs.Walks.{drop-next, drop-past}
+use Rattle.cjc_bytes.proofs.Gets.{drop_next, drop_past}
+use Rattle.cjc_bytes.proofs.Lists.{map_append}
 
 signature : List ℕ → List ℕ → Signature
 signature n d = record { name = n; desc = d }
@@ -116,13 +116,13 @@ listed-next all done more ms i m lt is e inv =
     ap (λ q. overlay q (listed_slots (drop (i + 1) ms))) e
     ∙ overlay-assoc done (one m) (listed_slots (drop (i + 1) ms))
     ∙ ap (overlay done) (sym (listed-one m (listed_slots (drop (i + 1) ms))))
-    ∙ ap (λ q. overlay done (listed_slots q)) (sym (drop-next ms i m lt is))
+    ∙ ap (λ q. overlay done (listed_slots q)) (sym (drop_next ms i m lt is))
     ∙ inv
 
 pub listed-end : (all done : Slots) (ms : List Member) (i : ℕ) → length ms ≤ i → overlay done (listed_slots (drop i ms))
     ≡ all → done ≡ all
 listed-end all done ms i le inv = sym (overlay-nil done) ∙ ap (λ q. overlay done (listed_slots q))
-    (sym (drop-past ms i le)) ∙ inv
+    (sym (drop_past ms i le)) ∙ inv
 
 pub classes-next : (all done more : Slots) (cs : List AnyClass) (i : ℕ) (k : AnyClass) → i < length cs
     → k ≡ get_or cs i k → more ≡ overlay done (listed_slots (class_of k).methods)
@@ -133,13 +133,13 @@ classes-next all done more cs i k lt is e inv =
     ∙ overlay-assoc done (listed_slots (class_of k).methods)
     (listed_slots (all_methods (map class_of (drop (i + 1) cs))))
     ∙ ap (overlay done) (sym (listed_slots-append (class_of k).methods (all_methods (map class_of (drop (i + 1) cs)))))
-    ∙ ap (λ q. overlay done (listed_slots (all_methods (map class_of q)))) (sym (drop-next cs i k lt is))
+    ∙ ap (λ q. overlay done (listed_slots (all_methods (map class_of q)))) (sym (drop_next cs i k lt is))
     ∙ inv
 
 pub classes-end : (all done : Slots) (cs : List AnyClass) (i : ℕ) → length cs ≤ i
     → overlay done (listed_slots (all_methods (map class_of (drop i cs)))) ≡ all → done ≡ all
 classes-end all done cs i le inv = sym (overlay-nil done)
-    ∙ ap (λ q. overlay done (listed_slots (all_methods (map class_of q)))) (sym (drop-past cs i le)) ∙ inv
+    ∙ ap (λ q. overlay done (listed_slots (all_methods (map class_of q)))) (sym (drop_past cs i le)) ∙ inv
 
 -- ---- what a method lists, by its parts
 

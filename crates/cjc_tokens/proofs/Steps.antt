@@ -2,6 +2,7 @@
 use Rattle.std.proofs.Common.{◌≡◌, ℕ, ◌+◌, refl, sym, ap, ◌∙◌, Bool, true, false, List, [], ◌∷◌, ◌++◌, length}
 use Rattle.std.specs.Prelude.{◌||◌, map, Option, Some, None, option_map}
 use Rattle.cjc_bytes.specs.declared.fault.MemberId.{MemberId}
+use Rattle.cjc_bytes.proofs.Lists.{map_append}
 use Rattle.cjc_world.specs.declared.found.Found.{Found}
 use Rattle.cjc_world.specs.Classes.{Member, Class}
 use Rattle.cjc_world.specs.Lookup.{or_else, is_called, member_at}
@@ -14,7 +15,6 @@ use Rattle.cjc_tokens.specs.Slots.{implementing_hidden, listed_token, meant_by, 
 use Rattle.cjc_tokens.specs.Working.{Offered, Renewed, Taken, member_of, methods_in, nearest_slot, signature_in, signs}
 use Rattle.cjc_tokens.proofs.Facts.{same-refl, chosen-none, chosen-some, own-none, own-some, has-got_none}
 use Rattle.cjc_tokens.proofs.Held.{new-offered, new-fresh, offered-has_slot}
-use Rattle.cjc_tokens.proofs.Offers.{map_append}
 use Rattle.cjc_world.proofs.Places.{position_of_map}
 
 -- ---- the superclass's slots, each with the nearest method

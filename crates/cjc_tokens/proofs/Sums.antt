@@ -10,7 +10,8 @@ use Rattle.cjc_world.specs.ClassFile.declared.tree.FieldTree.{FieldTree}
 use Rattle.cjc_tokens.specs.Fields.{cells, cells_of, group, instance_cells, is_instance, instance_tokens}
 use Rattle.cjc_tokens.specs.Fields.{instance_field_token, field_token, field_tokens}
 
-cells-cons : (p : FieldTree → Bool) (f : FieldTree) (fs : List FieldTree) → cells_of p (f ∷ fs) ≡ (if p f then cells f
+pub cells-cons : (p : FieldTree → Bool) (f : FieldTree) (fs : List FieldTree) → cells_of p (f ∷ fs) ≡
+    (if p f then cells f
     else 0) + cells_of p fs
 cells-cons p f fs = sum_by-cons (λ g. if p g then cells g else 0) f fs
 

@@ -1,8 +1,6 @@
 -- Walks over classes, one further.
 use Rattle.std.proofs.Common.{◌≡◌, ℕ, zero, suc, ◌+◌, ◌<◌, ◌≤◌, refl, sym, ap, ◌∙◌, inl, inr, ⊎_elim, set, List, []}
-use Rattle.std.proofs.Common.{◌∷◌, length, drop, get_or, add-one, arith}
-use Rattle.std.proofs.Math.Seq.{drop-cons}
-use Rattle.std.proofs.lemmas.Grind.{common_steps}
+use Rattle.std.proofs.Common.{◌∷◌, length, drop, get_or}
 use Rattle.std.specs.Prelude.{map, slice_get, ◌⊎◌, Option, Some, None}
 use Rattle.cjc_world.specs.declared.found.Found.{Found}
 use Rattle.cjc_world.specs.declared.class.Known.{Known as AnyClass}
@@ -11,21 +9,14 @@ use Rattle.cjc_world.specs.Supertypes.{Supertypes, End, Unknown, Known, supertyp
 use Rattle.cjc_world.specs.Supertypes.{known_here}
 use Rattle.cjc_world.specs.Working.Known.{class_of}
 use Rattle.cjc_world.specs.Lookup.{first, or_else}
-
-pub drop-next : {A : Type 0} (xs : List A) (i : ℕ) (x : A) → i < length xs → x ≡ get_or xs i x
-    → drop i xs ≡ x ∷ drop (i + 1) xs
-drop-next xs i x lt is = drop-cons xs i x lt ∙ ap (λ q. q ∷ drop (suc i) xs) (sym is)
-    ∙ ap (λ n. x ∷ drop n xs) (sym (add-one i))
-
-pub drop-past : {A : Type 0} (xs : List A) (i : ℕ) → length xs ≤ i → drop i xs ≡ []
-drop-past xs i le = grind (arith, common_steps)
+use Rattle.cjc_bytes.proofs.Gets.{drop_next, drop_past}
 
 -- ---- the first that answers
 
 first-next : (f : Class → Option Found) (cs : List AnyClass) (i : ℕ) (k : AnyClass) → i < length cs → k ≡ get_or cs i k
     → first f (map class_of (drop i cs)) ≡ or_else (f (class_of k)) (first f (map class_of (drop (i + 1) cs)))
 unfolding first
-first-next f cs i k lt is = ap (λ q. first f (map class_of q)) (drop-next cs i k lt is)
+first-next f cs i k lt is = ap (λ q. first f (map class_of q)) (drop_next cs i k lt is)
 
 pub first-found : (f : Class → Option Found) (cs : List AnyClass) (i : ℕ) (k : AnyClass) (g : Found) → i < length cs
     → k ≡ get_or cs i k → Some g ≡ f (class_of k) → first f (map class_of (drop i cs)) ≡ first f (map class_of cs)
@@ -42,7 +33,7 @@ first-passed f cs i k lt is e inv = sym (ap (λ o. or_else o (first f (map class
 pub first-ended : (f : Class → Option Found) (cs : List AnyClass) (i : ℕ) → length cs ≤ i
     → first f (map class_of (drop i cs)) ≡ first f (map class_of cs) → None ≡ first f (map class_of cs)
 unfolding first
-first-ended f cs i le inv = sym (ap (λ q. first f (map class_of q)) (drop-past cs i le)) ∙ inv
+first-ended f cs i le inv = sym (ap (λ q. first f (map class_of q)) (drop_past cs i le)) ∙ inv
 
 -- ---- the tree of a name
 
@@ -60,12 +51,6 @@ module _ (w : List Class) (are_supertypes : (xs : List (List ℕ)) → AreSupert
       (unknown_here e ends)
 
 -- ---- the item at a place
-
-pub slice_get-at : {A : Type 0} (xs : List A) (i : ℕ) (x : A) → i < length xs → x ≡ get_or xs i x
-    → slice_get xs i ≡ Some x
-slice_get-at [] i x lt e = absurd (omega arith)
-slice_get-at (y ∷ xs) zero x lt e = ap (λ q. Some q) (sym e)
-slice_get-at (y ∷ xs) (suc i) x lt e = slice_get-at xs i x (omega arith) e
 
 pub got-same : {A : Type 0} (xs : List A) (i : ℕ) (x t : A) → slice_get xs i ≡ Some t → x ≡ get_or xs i x → x ≡ t
 got-same [] i x t e f = cc

@@ -34,6 +34,7 @@ use Rattle.cjc_types.specs.Flow.{handler_edge, place_edges, type_flow}
 use Rattle.cjc_types.specs.Working.FlowLaws.{type_laws}
 use Rattle.cjc_types.specs.Tables.{IsLeastTable}
 use Rattle.cjc_types.specs.Among.{IsAmong, AreAmong, IsStackAmong, IsStateAmong, HasNames}
+use Rattle.cjc_bytes.proofs.Bools.{or_true}
 
 -- ---- what an instruction gives
 
@@ -146,10 +147,6 @@ module _ (names : List (List ℕ)) where
 has : List (List ℕ) → List ℕ → Bool
 has [] n = false
 has (x ∷ xs) n = bytes_eq x n || has xs n
-
-or_true : (b : Bool) → (b || true) ≡ true
-or_true true = refl
-or_true false = refl
 
 has_in : (names : List (List ℕ)) (n : List ℕ) → has names n ≡ true → In n names
 unfolding has

@@ -2,8 +2,7 @@
 use Rattle.std.proofs.Common.{◌≡◌, ◌⊎◌, ◌≤◌, ◌<◌, ◌+◌, ℕ, zero, suc, Bool, true, false, cond, List, [], ◌∷◌, length}
 use Rattle.std.proofs.Common.{drop, slice_get, get_or, Option, Some, None, refl, sym, ◌∙◌, ap, subst, add-zero}
 use Rattle.std.proofs.Common.{zero-add, arith}
-use Rattle.std.proofs.lemmas.List.{drop_more}
-use Rattle.std.proofs.lemmas.Option.{slice_get_within, slice_get-get_or, slice_get_read, get_or_from_slice_get}
+use Rattle.std.proofs.lemmas.Option.{slice_get_within, slice_get-get_or, slice_get_read}
 use Rattle.cjc_code.specs.declared.insn.JInsn.{JInsn}
 use Rattle.cjc_code.specs.declared.insn.JOp.{JOp}
 use Rattle.cjc_code.specs.declared.insn.JOp.TheVariants as jop
@@ -18,7 +17,8 @@ use Rattle.cjc_types.specs.Flow.{Body}
 use Rattle.cjc_types.specs.Rules.{is_wrong, is_off, Breaks, clash, wrong, off, rule_of_stack, first_rule}
 use Rattle.cjc_types.specs.Search.{row_rule, or_later, first_from, cells_of, frame_of, frames_of}
 use Rattle.cjc_types.specs.Tables.{state_of, states_of, Breach, FirstBreach}
-use Rattle.cjc_types.proofs.Firsts.{is_first}
+use Rattle.cjc_bytes.proofs.Gets.{drop_at}
+use Rattle.cjc_bytes.proofs.Numbers.{is_first}
 
 -- ---- the first rule of a state
 
@@ -280,10 +280,6 @@ states-frames (Some x ∷ rows) h =
     cc
 
 -- ---- one place further
-
-drop_at : {X : Type 0} (xs : List X) (k : ℕ) (x : X) → slice_get xs k ≡ Some x → drop k xs ≡ x ∷ drop (k + 1) xs
-drop_at xs k x is = drop_more xs k x (slice_get_within xs k x is)
-    ∙ ap (λ y. y ∷ drop (k + 1) xs) (get_or_from_slice_get xs k x x is)
 
 -- what the rest of a search finds, where this row is next
 first_on : (w : List Class) (b : Body) (rows : List (Option State)) (k : ℕ) (insn : JInsn) (row : Option State)

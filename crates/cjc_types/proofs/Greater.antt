@@ -6,6 +6,7 @@ use Rattle.std.proofs.lemmas.List.Elements.{length_all_zip}
 use Rattle.cjc_bytes.specs.Descriptor.{Part}
 use Rattle.cjc_bytes.specs.declared.fault.MemberId.{MemberId}
 use Rattle.cjc_bytes.specs.declared.descriptor.Kind.{Kind}
+use Rattle.cjc_bytes.proofs.Bools.{and_true}
 use Rattle.cjc_bytes.specs.declared.descriptor.Kind.TheVariants as kinds
 use Rattle.cjc_code.specs.declared.insn.JOp.{JOp}
 use Rattle.cjc_code.specs.declared.insn.JOp.TheVariants as jop
@@ -46,15 +47,11 @@ reference_down (Refs xs) (Refs ys) h e = refl
 reference_down Unusable (Refs ys) h e = absurd h
 reference_down x Unusable h e = absurd cc
 
-and_parts : (a b : Bool) → (a && b) ≡ true → (a ≡ true) × (b ≡ true)
-and_parts true b e = (refl, e)
-and_parts false b e = absurd cc
-
-member_passes : (p : List ℕ → Bool) (names : List (List ℕ)) (n : List ℕ) → list_all p names ≡ true → In n names
+pub member_passes : (p : List ℕ → Bool) (names : List (List ℕ)) (n : List ℕ) → list_all p names ≡ true → In n names
     → p n ≡ true
 member_passes p [] n e is = absurd is
-member_passes p (x ∷ xs) n e (inl same) = subst (λ (m : List ℕ). p m ≡ true) same (and_parts (p x) (list_all p xs) e).0
-member_passes p (x ∷ xs) n e (inr later) = member_passes p xs n (and_parts (p x) (list_all p xs) e).1 later
+member_passes p (x ∷ xs) n e (inl same) = subst (λ (m : List ℕ). p m ≡ true) same (and_true (p x) (list_all p xs) e).0
+member_passes p (x ∷ xs) n e (inr later) = member_passes p xs n (and_true (p x) (list_all p xs) e).1 later
 
 all_pass : (p : List ℕ → Bool) (names : List (List ℕ)) → ((n : List ℕ) → In n names → p n ≡ true)
     → list_all p names ≡ true

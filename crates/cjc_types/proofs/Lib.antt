@@ -4,7 +4,6 @@ pub mod Answering
 pub mod Ascending
 pub mod Few
 pub mod Filtered
-pub mod Firsts
 pub mod Greater
 pub mod Heights
 pub mod Indexing

@@ -2,7 +2,7 @@
 use Rattle.std.proofs.Common.{◌≡◌, ◌||◌, ◌&&◌, not, ◌≤◌, ◌<◌, ◌+◌, ℕ, zero, suc, Bool, true, false, cond, nat_lt, List}
 use Rattle.std.proofs.Common.{[], ◌∷◌, map, filter_map, length, Option, Some, None, option_map, Contains, refl, sym}
 use Rattle.std.proofs.Common.{◌∙◌, ap, subst, inl, inr, add-zero, arith}
-use Rattle.std.proofs.lemmas.Bool.{ltb-false}
+use Rattle.std.proofs.lemmas.Bool.{ltb-false, or_parts, false_from_ne_true}
 use Rattle.std.proofs.lemmas.List.Elements.{Contains-append_left, Contains-append_right}
 use Rattle.std.specs.List.{cons_option}
 use Rattle.cjc_classfile.specs.declared.tree.Catch.{Catch}
@@ -25,16 +25,12 @@ use Rattle.cjc_types.proofs.Answering.{framed_rows}
 
 -- ---- tests
 
-or_false : (a b : Bool) → (a || b) ≡ false → (a ≡ false) × (b ≡ false)
-or_false true b e = absurd cc
-or_false false b e = (refl, e)
-
 -- the operands from the k-th on that are counted are accepted
 accepted_from : (w : List Class) (b : Body) (op : JOp) (count k : ℕ) (s : List Cell) → has_wrong w b op count k s
     ≡ false → (i : ℕ) → k + i < count → i < length s → accepts w b op (k + i) (operand s i) ≡ true
 accepted_from w b op count k [] e i lt inside = absurd (omega arith)
 accepted_from w b op count k (x ∷ xs) e zero lt inside = go (nat_lt k count) (accepts w b op k x) refl refl
-    (or_false _ _ e).0
+    (or_parts _ _ e).0
   where
     go : (counted fits : Bool) → nat_lt k count ≡ counted → accepts w b op k x ≡ fits → (counted && not fits) ≡ false
         → accepts w b op (k + 0) x ≡ true
@@ -43,17 +39,12 @@ accepted_from w b op count k (x ∷ xs) e zero lt inside = go (nat_lt k count) (
     go true true c f h = subst (λ (n : ℕ). accepts w b op n x ≡ true) (sym (add-zero k)) f
 accepted_from w b op count k (x ∷ xs) e (suc i) lt inside =
     subst (λ (n : ℕ). accepts w b op n (operand xs i) ≡ true) (omega arith) (accepted_from w b op count (k + 1) xs
-    (or_false _ _ e).1 i (omega arith) (omega arith))
+    (or_parts _ _ e).1 i (omega arith) (omega arith))
 
 accepted : (w : List Class) (b : Body) (op : JOp) (count : ℕ) (s : List Cell) → has_wrong w b op count 0 s ≡ false
     → count ≤ length s → (k : ℕ) → k < count → accepts w b op k (operand s k) ≡ true
 accepted w b op count s e le k lt = subst (λ (n : ℕ). accepts w b op n (operand s k) ≡ true) (omega arith)
     (accepted_from w b op count 0 s e k (omega arith) (omega arith))
-
--- a test that would be a breach is false
-unless : (b : Bool) → (b ≡ true → ⊥) → b ≡ false
-unless true h = absurd (h refl)
-unless false h = refl
 
 -- ---- lists
 
@@ -99,7 +90,7 @@ are_typed w b table h place insn frame is_insn row = record {
     own = h.stands.least.closed.own place (state_of frame) row
 
     not_wrong : is_wrong w b insn.op frame.locals frame.stack ≡ false
-    not_wrong = unless (is_wrong w b insn.op frame.locals frame.stack) (λ e. h.unbroken place 502 (record {
+    not_wrong = false_from_ne_true (is_wrong w b insn.op frame.locals frame.stack) (λ e. h.unbroken place 502 (record {
       insn = insn;
       is_insn = is_insn;
       state = state_of frame;
@@ -108,7 +99,7 @@ are_typed w b table h place insn frame is_insn row = record {
     }))
 
     not_off : is_off b insn.op frame.locals frame.stack ≡ false
-    not_off = unless (is_off b insn.op frame.locals frame.stack) (λ e. h.unbroken place 503 (record {
+    not_off = false_from_ne_true (is_off b insn.op frame.locals frame.stack) (λ e. h.unbroken place 503 (record {
       insn = insn;
       is_insn = is_insn;
       state = state_of frame;

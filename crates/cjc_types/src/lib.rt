@@ -9,7 +9,6 @@ pub use cjc_classfile as classfile;
 pub use cjc_code as bytecode;
 pub use cjc_fixpoint as fixpoint;
 pub use cjc_world as world;
-pub use cjc_world::export_file;
 
 mod cell;
 mod index;

@@ -1,19 +1,18 @@
 -- Acts by their operands.
-use Rattle.std.proofs.Common.{◌≡◌, ℕ, ◌/◌, ◌≤◌, List, [], ◌∷◌, Option, Some, None, refl, ap, sym, ◌∙◌, arith, ℤ, pos, negsuc}
+use Rattle.std.proofs.Common.{◌≡◌, ℕ, ◌/◌, ◌≤◌, List, [], ◌∷◌, Option, Some, None, refl, ap, sym, ◌∙◌, arith, ℤ, pos}
+use Rattle.std.proofs.Common.{negsuc}
 use Rattle.std.proofs.lemmas.Grind.{common_steps}
 use Rattle.cjc_card_acts.specs.Rows.{copying_below, idle, swapping_by, unknown, with_local, with_number}
-use Rattle.cjc_frames.specs.declared.acts.Act.{Act}
+use Rattle.cjc_card_acts.specs.Frames.declared.acts.Act.{Act}
 use Rattle.cjc_verify.specs.Working.Operands.{local_by, natural_of}
-
-same : (n k : ℕ) → Some n ≡ Some k → n ≡ k
-same n k is = cc
+use Rattle.cjc_capread.proofs.BytesNumbers.{some_same}
 
 -- there is a local
 pub by_local : (act : ℕ → Act) (local : Option ℕ) (values : List ℤ) (k : ℕ) → Some k ≡ local_by local values
     → act k ≡ with_local act local values
-by_local act (Some n) values k is = ap act (same k n is)
+by_local act (Some n) values k is = ap act (some_same k n is)
 by_local act None [] k is = absurd cc
-by_local act None (pos n ∷ values) k is = ap act (same k n is)
+by_local act None (pos n ∷ values) k is = ap act (some_same k n is)
 by_local act None (negsuc n ∷ values) k is = absurd cc
 
 -- there is none
@@ -28,7 +27,7 @@ no_local act None (negsuc n ∷ values) is = refl
 pub by_number : (act : ℕ → Act) (values : List ℤ) (n : ℕ) → Some n ≡ natural_of values
     → act n ≡ with_number act values
 by_number act [] n is = absurd cc
-by_number act (pos k ∷ values) n is = ap act (same n k is)
+by_number act (pos k ∷ values) n is = ap act (some_same n k is)
 by_number act (negsuc k ∷ values) n is = absurd cc
 
 -- there is none

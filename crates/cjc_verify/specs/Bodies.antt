@@ -2,23 +2,23 @@
 -- Virtual Machine Specification 2.2.2, section 6.9).
 use Rattle.std.specs.Prelude.{ℕ, ◌+◌, ◌-◌, ◌==◌, List, [], ◌∷◌, ◌++◌, map, filter, flat_map, drop, option_map, Option}
 use Rattle.std.specs.Prelude.{Some, None, if◌then◌else◌}
-use Rattle.cjc_frames.specs.declared.acts.Given.{Given}
-use Rattle.cjc_frames.specs.declared.acts.Given.TheVariants.{AnObject}
-use Rattle.cjc_frames.specs.declared.acts.Step.{Step}
-use Rattle.cjc_frames.specs.declared.acts.Catch.{Catch}
-use Rattle.cjc_frames.specs.Flow as frames
-use Rattle.cjc_bytes.specs.AccessFlags.{is_static}
-use Rattle.cjc_components.specs.CapRead.declared.tree.ClassRef.{ClassRef}
-use Rattle.cjc_components.specs.CapRead.declared.tree.ClassDescriptor.{ClassDescriptor}
-use Rattle.cjc_components.specs.CapRead.declared.tree.MethodDescriptor.{MethodDescriptor}
-use Rattle.cjc_components.specs.CapRead.declared.tree.Handler.{Handler}
-use Rattle.cjc_components.specs.CapRead.Decode.{Instruction}
-use Rattle.cjc_components.specs.CapRead.MethodHeader.{MethodHeader, method_header}
-use Rattle.cjc_components.specs.CheckRules.Spots.{Placed}
-use Rattle.cjc_components.specs.CheckRules.Complete.{Complete}
-use Rattle.cjc_components.specs.CheckRules.Classes.{is_own_class}
-use Rattle.cjc_components.specs.CheckRules.Codes.{methods_begin, codes}
-use Rattle.cjc_components.specs.CheckRules.Codes as check
+use Rattle.cjc_card_acts.specs.Frames.declared.acts.Given.{Given}
+use Rattle.cjc_card_acts.specs.Frames.declared.acts.Given.TheVariants.{AnObject}
+use Rattle.cjc_card_acts.specs.Frames.declared.acts.Step.{Step}
+use Rattle.cjc_card_acts.specs.Frames.declared.acts.Catch.{Catch}
+use Rattle.cjc_card_acts.specs.Frames.Flow as frames
+use Rattle.cjc_capread.specs.Bytes.AccessFlags.{is_static}
+use Rattle.cjc_capread.specs.declared.tree.ClassRef.{ClassRef}
+use Rattle.cjc_capread.specs.declared.tree.ClassDescriptor.{ClassDescriptor}
+use Rattle.cjc_capread.specs.declared.tree.MethodDescriptor.{MethodDescriptor}
+use Rattle.cjc_capread.specs.declared.tree.Handler.{Handler}
+use Rattle.cjc_capread.specs.Decode.{Instruction}
+use Rattle.cjc_capread.specs.MethodHeader.{MethodHeader, method_header}
+use Rattle.cjc_check_rules.specs.Spots.{Placed}
+use Rattle.cjc_check_rules.specs.Complete.{Complete}
+use Rattle.cjc_check_rules.specs.Classes.{is_own_class}
+use Rattle.cjc_check_rules.specs.Codes.{methods_begin, codes}
+use Rattle.cjc_check_rules.specs.Codes as check
 use Rattle.cjc_card_acts.specs.CardTypes.{ValueType, MemberType, type_at, words}
 use Rattle.cjc_verify.specs.ClassTypes.{class_type}
 use Rattle.cjc_verify.specs.Pairs.{Pair}

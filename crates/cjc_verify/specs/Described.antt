@@ -3,35 +3,35 @@
 use Rattle.std.specs.Prelude.{ℕ, ◌+◌, ◌==◌, ◌&&◌, not, Bool, true, false, List, [], ◌∷◌, ◌++◌, length, unwrap_or}
 use Rattle.std.specs.Prelude.{option_map, Option, Some, None, if◌then◌else◌, codes}
 use Rattle.std.specs.Str.{bytes_eq}
-use Rattle.cjc_bytes.specs.declared.fault.MemberId.{MemberId}
-use Rattle.cjc_bytes.specs.AccessFlags.{is_static}
-use Rattle.cjc_components.specs.CapRead.declared.tree.ArrayInit.{ArrayInit}
-use Rattle.cjc_components.specs.CapRead.declared.tree.ClassDescriptor.{ClassDescriptor}
-use Rattle.cjc_components.specs.CapRead.declared.tree.Descriptor.{Descriptor}
-use Rattle.cjc_components.specs.CapRead.declared.tree.FieldDescriptor.{FieldDescriptor}
-use Rattle.cjc_components.specs.CapRead.declared.tree.FieldPlace.{FieldPlace}
-use Rattle.cjc_components.specs.CapRead.declared.tree.FieldPlace.TheVariants as places
-use Rattle.cjc_components.specs.CapRead.declared.tree.FieldType.{FieldType}
-use Rattle.cjc_components.specs.CapRead.declared.tree.FieldType.TheVariants as types
-use Rattle.cjc_components.specs.CapRead.declared.tree.MethodDescriptor.{MethodDescriptor}
-use Rattle.cjc_components.specs.CapRead.declared.tree.PoolEntry.{PoolEntry}
-use Rattle.cjc_components.specs.CapRead.declared.tree.PoolEntry.TheVariants.{Classref}
-use Rattle.cjc_components.specs.CapRead.declared.tree.TypeDescriptor.{TypeDescriptor}
-use Rattle.cjc_components.specs.CapRead.ClassRefs.{same_class}
-use Rattle.cjc_components.specs.CheckRules.declared.spot.ComponentPlace.{ComponentPlace}
-use Rattle.cjc_components.specs.CheckRules.Spots.{in_info, unless, beside, item_at}
-use Rattle.cjc_components.specs.CheckRules.Complete.{described_size, array_size}
-use Rattle.cjc_components.specs.CheckRules.ClassRefs.{fields_begin, pool_count_at}
-use Rattle.cjc_components.specs.CheckRules.Described.{methods_begin, types_at}
-use Rattle.cjc_components.specs.Script.Sorts.{Sort, Boolean, Byte, Short, Int, Reference, field_sort}
-use Rattle.cjc_world.specs.ClassFile.declared.tree.FieldTree.{FieldTree}
-use Rattle.cjc_world.specs.declared.found.Found.{Found}
-use Rattle.cjc_world.specs.Classes.{Class}
-use Rattle.cjc_world.specs.Lookup.{member_at}
-use Rattle.cjc_world.specs.Order.{class_order, methods_of_class}
-use Rattle.cjc_tokens.specs.Fields.{is_constant}
-use Rattle.cjc_tokens.specs.Tokens.{token_of_class, token_of_member}
-use Rattle.cjc_clinit.specs.Image.{field_id}
+use Rattle.cjc_capread.specs.Bytes.declared.fault.MemberId.{MemberId}
+use Rattle.cjc_capread.specs.Bytes.AccessFlags.{is_static}
+use Rattle.cjc_capread.specs.declared.tree.ArrayInit.{ArrayInit}
+use Rattle.cjc_capread.specs.declared.tree.ClassDescriptor.{ClassDescriptor}
+use Rattle.cjc_capread.specs.declared.tree.Descriptor.{Descriptor}
+use Rattle.cjc_capread.specs.declared.tree.FieldDescriptor.{FieldDescriptor}
+use Rattle.cjc_capread.specs.declared.tree.FieldPlace.{FieldPlace}
+use Rattle.cjc_capread.specs.declared.tree.FieldPlace.TheVariants as places
+use Rattle.cjc_capread.specs.declared.tree.FieldType.{FieldType}
+use Rattle.cjc_capread.specs.declared.tree.FieldType.TheVariants as types
+use Rattle.cjc_capread.specs.declared.tree.MethodDescriptor.{MethodDescriptor}
+use Rattle.cjc_capread.specs.declared.tree.PoolEntry.{PoolEntry}
+use Rattle.cjc_capread.specs.declared.tree.PoolEntry.TheVariants.{Classref}
+use Rattle.cjc_capread.specs.declared.tree.TypeDescriptor.{TypeDescriptor}
+use Rattle.cjc_capread.specs.ClassRefs.{same_class}
+use Rattle.cjc_check_rules.specs.declared.spot.ComponentPlace.{ComponentPlace}
+use Rattle.cjc_check_rules.specs.Spots.{in_info, unless, beside, item_at}
+use Rattle.cjc_check_rules.specs.Complete.{described_size, array_size}
+use Rattle.cjc_check_rules.specs.ClassRefs.{fields_begin, pool_count_at}
+use Rattle.cjc_check_rules.specs.Described.{methods_begin, types_at}
+use Rattle.cjc_card_calls.specs.Script.Sorts.{Sort, Boolean, Byte, Short, Int, Reference, field_sort}
+use Rattle.cjc_card_calls.specs.ClassFile.declared.tree.FieldTree.{FieldTree}
+use Rattle.cjc_card_calls.specs.World.declared.found.Found.{Found}
+use Rattle.cjc_card_calls.specs.World.Classes.{Class}
+use Rattle.cjc_card_calls.specs.World.Lookup.{member_at}
+use Rattle.cjc_card_calls.specs.World.Order.{class_order, methods_of_class}
+use Rattle.cjc_components.specs.Tokens.Fields.{is_constant}
+use Rattle.cjc_components.specs.Tokens.Tokens.{token_of_class, token_of_member}
+use Rattle.cjc_components.specs.Clinit.Image.{field_id}
 use Rattle.cjc_components.specs.Class.{fields_of}
 use Rattle.cjc_components.specs.Descriptor.{class_flags, field_flags, method_flags, method_in}
 use Rattle.cjc_components.specs.Statics.{cell_order, cell_offset}
@@ -82,7 +82,8 @@ pub record Numbered : Type 0 where
 -- the fields from a place on that are no constants
 abbrev pub fields_from : (number : ℕ) → List FieldTree → List Numbered
 fields_from i [] = []
-fields_from i (f ∷ fields) = (if is_constant f then [] else record { number = i; field = f } ∷ []) ++ fields_from (i + 1)
+fields_from i (f ∷ fields) = (if is_constant f then [] else record { number = i; field = f } ∷ []) ++ fields_from
+    (i + 1)
     fields
 
 -- the fields of a class that Descriptor lists

@@ -1,8 +1,8 @@
 -- Rules over the headers of methods (Java Card Virtual Machine Specification 2.2.2, section 6.9).
 use Rattle.std.specs.Prelude.{ℕ, ◌+◌, ◌==◌, ◌&&◌, not, Bool, List, if◌then◌else◌}
-use Rattle.cjc_bytes.specs.AccessFlags.{is_static, has, acc_abstract}
-use Rattle.cjc_components.specs.CheckRules.declared.spot.ComponentPlace.{ComponentPlace}
-use Rattle.cjc_components.specs.CheckRules.Spots.{in_info, unless}
+use Rattle.cjc_capread.specs.Bytes.AccessFlags.{is_static, has, acc_abstract}
+use Rattle.cjc_check_rules.specs.declared.spot.ComponentPlace.{ComponentPlace}
+use Rattle.cjc_check_rules.specs.Spots.{in_info, unless}
 use Rattle.cjc_card_acts.specs.CardTypes.{widths}
 use Rattle.cjc_verify.specs.Pairs.{Pair, Described, method_at, member_of}
 use Rattle.cjc_verify.specs.Named.{holds}

@@ -3,27 +3,27 @@
 use Rattle.std.specs.Prelude.{ℕ, ◌+◌, ◌*◌, ◌==◌, ◌&&◌, ◌||◌, not, Bool, List, [], ◌∷◌, ◌++◌, map, length}
 use Rattle.std.specs.Prelude.{Option, Some, None, if◌then◌else◌}
 use Rattle.std.specs.List.{list_any, range_with_len}
-use Rattle.cjc_bytes.specs.AccessFlags.{is_interface}
-use Rattle.cjc_components.specs.CapRead.declared.tree.ClassRef.{ClassRef}
-use Rattle.cjc_components.specs.CapRead.declared.tree.ClassInfo.{ClassInfo}
-use Rattle.cjc_components.specs.CapRead.declared.tree.ClassEntry.{ClassEntry}
-use Rattle.cjc_components.specs.CapRead.declared.tree.InterfaceEntry.{InterfaceEntry}
-use Rattle.cjc_components.specs.CapRead.declared.tree.ImplementedInterface.{ImplementedInterface}
-use Rattle.cjc_components.specs.CapRead.ClassRefs.{same_class}
-use Rattle.cjc_components.specs.CheckRules.declared.spot.ComponentPlace.{ComponentPlace}
-use Rattle.cjc_components.specs.CheckRules.Spots.{in_info, unless, beside, bytes_differ}
-use Rattle.cjc_components.specs.CheckRules.Complete.{map_size}
-use Rattle.cjc_components.specs.CheckRules.Classes.{first_interface}
-use Rattle.cjc_components.specs.CheckRules.ClassRefs.{maps_begin}
-use Rattle.cjc_components.specs.CardSemantics.Machine.Classes.{Info, IsInterface, IsClass, Own, info_size}
-use Rattle.cjc_components.specs.CardSemantics.Machine.Dispatch.{Token, Open, Hidden, tower, dispatched}
-use Rattle.cjc_world.specs.declared.found.Found.{Found}
-use Rattle.cjc_world.specs.Classes.{Class}
-use Rattle.cjc_world.specs.Order.{class_order}
-use Rattle.cjc_tokens.specs.Fields.{instance_cells}
-use Rattle.cjc_vtable.specs.declared.table.ClassTable.{ClassTable}
-use Rattle.cjc_vtable.specs.declared.table.InterfaceMap.{InterfaceMap}
-use Rattle.cjc_vtable.specs.Tables.{table_of}
+use Rattle.cjc_capread.specs.Bytes.AccessFlags.{is_interface}
+use Rattle.cjc_capread.specs.declared.tree.ClassRef.{ClassRef}
+use Rattle.cjc_capread.specs.declared.tree.ClassInfo.{ClassInfo}
+use Rattle.cjc_capread.specs.declared.tree.ClassEntry.{ClassEntry}
+use Rattle.cjc_capread.specs.declared.tree.InterfaceEntry.{InterfaceEntry}
+use Rattle.cjc_capread.specs.declared.tree.ImplementedInterface.{ImplementedInterface}
+use Rattle.cjc_capread.specs.ClassRefs.{same_class}
+use Rattle.cjc_check_rules.specs.declared.spot.ComponentPlace.{ComponentPlace}
+use Rattle.cjc_check_rules.specs.Spots.{in_info, unless, beside, bytes_differ}
+use Rattle.cjc_check_rules.specs.Complete.{map_size}
+use Rattle.cjc_check_rules.specs.Classes.{first_interface}
+use Rattle.cjc_check_rules.specs.ClassRefs.{maps_begin}
+use Rattle.cjc_card_calls.specs.CardSemantics.Machine.Classes.{Info, IsInterface, IsClass, Own, info_size}
+use Rattle.cjc_card_calls.specs.CardSemantics.Machine.Dispatch.{Token, Open, Hidden, tower, dispatched}
+use Rattle.cjc_card_calls.specs.World.declared.found.Found.{Found}
+use Rattle.cjc_card_calls.specs.World.Classes.{Class}
+use Rattle.cjc_card_calls.specs.World.Order.{class_order}
+use Rattle.cjc_components.specs.Tokens.Fields.{instance_cells}
+use Rattle.cjc_components.specs.VTable.declared.table.ClassTable.{ClassTable}
+use Rattle.cjc_components.specs.VTable.declared.table.InterfaceMap.{InterfaceMap}
+use Rattle.cjc_components.specs.VTable.Tables.{table_of}
 use Rattle.cjc_components.specs.Class.{interfaces_of, info_flags, fields_of, superclass, reference_count}
 use Rattle.cjc_components.specs.Class.{first_reference_token}
 use Rattle.cjc_verify.specs.Pairs.{Pair, world, class_ref, method_offset}
@@ -120,7 +120,8 @@ head_of (s ∷ spots) = s ∷ []
 -- a class info beside the package's class
 abbrev pub table_spots : Pair → (at : ℕ) → Info → Class → List ComponentPlace
 table_spots p at (IsInterface i) c = []
-table_spots p at (IsClass x) c = if is_interface c.flags then [] else head_of (table_items p at x (table_of (world p) c))
+table_spots p at (IsClass x) c = if is_interface c.flags then [] else head_of (table_items p at x (table_of
+    (world p) c))
 
 -- 725. The bases, counts, tables and maps of each class info are those of the package's class, where an entry is the
 -- start of the method that stands there. Broken is the first item that differs.

@@ -2,34 +2,37 @@
 -- Virtual Machine Specification 2.2.2, chapter 7).
 use Rattle.std.specs.Prelude.{ℕ, ◌+◌, ◌==◌, ◌||◌, not, Bool, true, false, List, [], ◌∷◌, ◌++◌, map, Option, Some}
 use Rattle.std.specs.Prelude.{None, option_map, if◌then◌else◌, ℤ, pos, codes}
-use Rattle.cjc_components.specs.CapRead.declared.tree.ClassRef.{ClassRef}
-use Rattle.cjc_components.specs.CapRead.declared.tree.StaticRef.{StaticRef}
-use Rattle.cjc_components.specs.CapRead.declared.tree.PoolEntry.{PoolEntry}
-use Rattle.cjc_components.specs.CapRead.declared.tree.PoolEntry.TheVariants.{Classref, InstanceFieldref}
-use Rattle.cjc_components.specs.CapRead.declared.tree.PoolEntry.TheVariants.{VirtualMethodref, SuperMethodref}
-use Rattle.cjc_components.specs.CapRead.declared.tree.PoolEntry.TheVariants.{StaticFieldref, StaticMethodref}
-use Rattle.cjc_components.specs.CapRead.Decode.{Instruction}
-use Rattle.cjc_components.specs.CheckRules.Spots.{Placed}
-use Rattle.cjc_components.specs.CheckRules.Instructions.{jumps}
-use Rattle.cjc_components.specs.CardSemantics.Bytecode.Effects.{Letter}
-use Rattle.cjc_components.specs.CardSemantics.Bytecode.Meanings.{Use, Gets, Puts, GetsStatic, PutsStatic, Calls, Makes}
-use Rattle.cjc_components.specs.CardSemantics.Bytecode.Meanings.{MakesReferences, Virtual, Special, Static}
-use Rattle.cjc_components.specs.CardSemantics.Machine.Classes.{external_named}
-use Rattle.cjc_components.specs.CardSemantics.Machine.Operations.{moved}
+use Rattle.cjc_capread.specs.declared.tree.ClassRef.{ClassRef}
+use Rattle.cjc_capread.specs.declared.tree.StaticRef.{StaticRef}
+use Rattle.cjc_capread.specs.declared.tree.PoolEntry.{PoolEntry}
+use Rattle.cjc_capread.specs.declared.tree.PoolEntry.TheVariants.{Classref, InstanceFieldref}
+use Rattle.cjc_capread.specs.declared.tree.PoolEntry.TheVariants.{VirtualMethodref, SuperMethodref}
+use Rattle.cjc_capread.specs.declared.tree.PoolEntry.TheVariants.{StaticFieldref, StaticMethodref}
+use Rattle.cjc_capread.specs.Decode.{Instruction}
+use Rattle.cjc_check_rules.specs.Spots.{Placed}
+use Rattle.cjc_check_rules.specs.Instructions.{jumps}
+use Rattle.cjc_card_calls.specs.CardSemantics.Bytecode.Effects.{Letter}
+use Rattle.cjc_card_calls.specs.CardSemantics.Bytecode.Meanings.{Use, Gets, Puts, GetsStatic, PutsStatic, Calls, Makes}
+use Rattle.cjc_card_calls.specs.CardSemantics.Bytecode.Meanings.{MakesReferences, Virtual, Special, Static}
+use Rattle.cjc_card_calls.specs.CardSemantics.Machine.Classes.{external_named}
+use Rattle.cjc_card_calls.specs.CardSemantics.Machine.Operations.{moved}
 use Rattle.cjc_components.specs.Names.{ref_to}
-use Rattle.cjc_frames.specs.declared.acts.Need.{Need}
-use Rattle.cjc_frames.specs.declared.acts.Need.TheVariants.{NumberWord, ReferenceWord, OfType, OfArrays}
-use Rattle.cjc_frames.specs.declared.acts.Given.TheVariants.{ANumber, AnObject, Lost}
-use Rattle.cjc_frames.specs.declared.acts.Read.{Read}
-use Rattle.cjc_frames.specs.declared.acts.Act.{Act}
+use Rattle.cjc_card_acts.specs.Frames.declared.acts.Need.{Need}
+use Rattle.cjc_card_acts.specs.Frames.declared.acts.Need.TheVariants.{NumberWord, ReferenceWord, OfType, OfArrays}
+use Rattle.cjc_card_acts.specs.Frames.declared.acts.Given.TheVariants.{ANumber, AnObject, Lost}
+use Rattle.cjc_card_acts.specs.Frames.declared.acts.Read.{Read}
+use Rattle.cjc_card_acts.specs.Frames.declared.acts.Act.{Act}
 use Rattle.cjc_card_acts.specs.CardTypes.{ValueType, MemberType, words, widths, needs_of, needs_of_all, is_moved_by}
 use Rattle.cjc_card_acts.specs.CardTypes.{is_returned_by, numbers_type, all_arrays}
 use Rattle.cjc_verify.specs.ClassTypes.{class_type, array_type}
-use Rattle.cjc_card_acts.specs.Rows.{Row, Pushes, Loads, Stores, Increases, Pops, Copies, CopiesBelow, Swaps, Calculates}
+use Rattle.cjc_card_acts.specs.Rows.{Row, Pushes, Loads, Stores, Increases, Pops, Copies, CopiesBelow, Swaps}
+use Rattle.cjc_card_acts.specs.Rows.{Calculates}
 use Rattle.cjc_card_acts.specs.Rows.{LoadsItem, StoresItem, CountsItems, Throws, Jumps, Switches, Returns, Uses}
 use Rattle.cjc_card_acts.specs.Rows.{CallsInterface, MakesNumbers, Casts, Asks, Forbidden, row, any_words, number_words}
-use Rattle.cjc_card_acts.specs.Rows.{idle, pushing, reading, loading, storing, increasing, with_local, copying, copying_below}
-use Rattle.cjc_card_acts.specs.Rows.{swapping_by, with_number, unknown, calculating, loading_item, storing_item, letter_needs}
+use Rattle.cjc_card_acts.specs.Rows.{idle, pushing, reading, loading, storing, increasing, with_local, copying}
+use Rattle.cjc_card_acts.specs.Rows.{copying_below}
+use Rattle.cjc_card_acts.specs.Rows.{swapping_by, with_number, unknown, calculating, loading_item, storing_item}
+use Rattle.cjc_card_acts.specs.Rows.{letter_needs}
 use Rattle.cjc_verify.specs.Pairs.{Pair}
 use Rattle.cjc_verify.specs.Named.{entry_of, entry_type, names_static, names_abstract, names_abstract_above, holder_of}
 use Rattle.cjc_verify.specs.Named.{names_unmade, is_outside, is_static_outside, interface_type}

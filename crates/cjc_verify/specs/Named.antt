@@ -4,36 +4,36 @@ use Rattle.std.specs.Prelude.{ℕ, ◌==◌, ◌&&◌, ◌||◌, not, Bool, true
 use Rattle.std.specs.Prelude.{is_none, Option, Some, None, option_and_then, option_map, if◌then◌else◌}
 use Rattle.std.specs.List.{find}
 use Rattle.std.specs.Str.{bytes_eq}
-use Rattle.cjc_bytes.specs.declared.fault.MemberId.{MemberId}
-use Rattle.cjc_bytes.specs.AccessFlags.{is_static, is_interface, has, acc_abstract}
-use Rattle.cjc_components.specs.CapRead.declared.tree.ClassRef.{ClassRef}
-use Rattle.cjc_components.specs.CapRead.declared.tree.ClassRef.TheVariants as refs
-use Rattle.cjc_components.specs.CapRead.declared.tree.StaticRef.{StaticRef}
-use Rattle.cjc_components.specs.CapRead.declared.tree.StaticRef.TheVariants as statics
-use Rattle.cjc_components.specs.CapRead.declared.tree.PoolEntry.{PoolEntry}
-use Rattle.cjc_components.specs.CapRead.declared.tree.PoolEntry.TheVariants.{Classref, InstanceFieldref}
-use Rattle.cjc_components.specs.CapRead.declared.tree.PoolEntry.TheVariants.{VirtualMethodref, SuperMethodref}
-use Rattle.cjc_components.specs.CapRead.declared.tree.PoolEntry.TheVariants.{StaticFieldref, StaticMethodref}
-use Rattle.cjc_components.specs.CheckRules.Classes.{imported}
-use Rattle.cjc_components.specs.CheckRules.ExportFile.declared.tree.ExportClass.{ExportClass}
-use Rattle.cjc_components.specs.CheckRules.ExportFile.declared.tree.ExportField.{ExportField}
-use Rattle.cjc_components.specs.CheckRules.ExportFile.declared.tree.ExportMethod.{ExportMethod}
-use Rattle.cjc_components.specs.CheckRules.ExportFile.declared.tree.ExportTree.{ExportTree}
-use Rattle.cjc_components.specs.CheckRules.ExportFile.Supers.{classes_of, upwards, virtual_method, is_virtual}
-use Rattle.cjc_components.specs.CheckRules.ExportFile.Supers as supers
-use Rattle.cjc_components.specs.CheckRules.ExportFile.Members.{is_unbound}
-use Rattle.cjc_components.specs.CardSemantics.Bytecode.Machine.{Start}
-use Rattle.cjc_components.specs.CardSemantics.Machine.Loaded.{Loaded}
-use Rattle.cjc_components.specs.CardSemantics.Machine.Classes.{Class as CardClass, class_of}
-use Rattle.cjc_components.specs.CardSemantics.Machine.Classes as card
-use Rattle.cjc_components.specs.CardSemantics.Machine.Dispatch.{Token, Selection, NotFound, At, Outward, tower, above}
-use Rattle.cjc_components.specs.CardSemantics.Machine.Dispatch.{dispatched, interface_method}
-use Rattle.cjc_components.specs.CardSemantics.Machine.Operations.{token_of}
-use Rattle.cjc_components.specs.CardSemantics.Machine.Methods.{start_of, Code}
-use Rattle.cjc_world.specs.declared.found.Found.{Found}
-use Rattle.cjc_world.specs.Classes.{Member, Class, class_at as file_class}
-use Rattle.cjc_world.specs.Classes as world_of
-use Rattle.cjc_tokens.specs.Tokens.{field_of_token, method_of_token}
+use Rattle.cjc_capread.specs.Bytes.declared.fault.MemberId.{MemberId}
+use Rattle.cjc_capread.specs.Bytes.AccessFlags.{is_static, is_interface, has, acc_abstract}
+use Rattle.cjc_capread.specs.declared.tree.ClassRef.{ClassRef}
+use Rattle.cjc_capread.specs.declared.tree.ClassRef.TheVariants as refs
+use Rattle.cjc_capread.specs.declared.tree.StaticRef.{StaticRef}
+use Rattle.cjc_capread.specs.declared.tree.StaticRef.TheVariants as statics
+use Rattle.cjc_capread.specs.declared.tree.PoolEntry.{PoolEntry}
+use Rattle.cjc_capread.specs.declared.tree.PoolEntry.TheVariants.{Classref, InstanceFieldref}
+use Rattle.cjc_capread.specs.declared.tree.PoolEntry.TheVariants.{VirtualMethodref, SuperMethodref}
+use Rattle.cjc_capread.specs.declared.tree.PoolEntry.TheVariants.{StaticFieldref, StaticMethodref}
+use Rattle.cjc_check_rules.specs.Classes.{imported}
+use Rattle.cjc_check_rules.specs.ExportFile.declared.tree.ExportClass.{ExportClass}
+use Rattle.cjc_check_rules.specs.ExportFile.declared.tree.ExportField.{ExportField}
+use Rattle.cjc_check_rules.specs.ExportFile.declared.tree.ExportMethod.{ExportMethod}
+use Rattle.cjc_check_rules.specs.ExportFile.declared.tree.ExportTree.{ExportTree}
+use Rattle.cjc_check_rules.specs.ExportFile.Supers.{classes_of, upwards, virtual_method, is_virtual}
+use Rattle.cjc_check_rules.specs.ExportFile.Supers as supers
+use Rattle.cjc_check_rules.specs.ExportFile.Members.{is_unbound}
+use Rattle.cjc_card_calls.specs.CardSemantics.Bytecode.Machine.{Start}
+use Rattle.cjc_card_calls.specs.CardSemantics.Machine.Loaded.{Loaded}
+use Rattle.cjc_card_calls.specs.CardSemantics.Machine.Classes.{Class as CardClass, class_of}
+use Rattle.cjc_card_calls.specs.CardSemantics.Machine.Classes as card
+use Rattle.cjc_card_calls.specs.CardSemantics.Machine.Dispatch.{Token, Selection, NotFound, At, Outward, tower, above}
+use Rattle.cjc_card_calls.specs.CardSemantics.Machine.Dispatch.{dispatched, interface_method}
+use Rattle.cjc_card_calls.specs.CardSemantics.Machine.Operations.{token_of}
+use Rattle.cjc_card_calls.specs.CardSemantics.Machine.Methods.{start_of, Code}
+use Rattle.cjc_card_calls.specs.World.declared.found.Found.{Found}
+use Rattle.cjc_card_calls.specs.World.Classes.{Member, Class, class_at as file_class}
+use Rattle.cjc_card_calls.specs.World.Classes as world_of
+use Rattle.cjc_components.specs.Tokens.Tokens.{field_of_token, method_of_token}
 use Rattle.cjc_components.specs.Class.{superclass}
 use Rattle.cjc_components.specs.Descriptor.{method_in}
 use Rattle.cjc_components.specs.Statics.{cell_order, cell_offset}
@@ -79,7 +79,8 @@ instance_field token c = find (λ (f : ExportField). (f.token == token) && not (
 
 -- the static field of a token; constants have none
 abbrev pub static_field : (token : ℕ) → ExportClass → Option ExportField
-static_field token c = find (λ (f : ExportField). (f.token == token) && is_static f.flags && is_none f.constant) c.fields
+static_field token c = find (λ (f : ExportField). (f.token == token) && is_static f.flags && is_none f.constant)
+    c.fields
 
 -- the static method or constructor of a token
 abbrev pub static_method : (token : ℕ) → ExportClass → Option ExportMethod
@@ -129,7 +130,8 @@ exported p import class = let files = p.files in imported files.exports import c
 -- The descriptor that the file of the member of an entry gives it; none where there is no such member, and for a class.
 abbrev pub named_desc : Pair → PoolEntry → Option (List ℕ)
 named_desc p (Classref class) = None
-named_desc p (InstanceFieldref (refs.Inside offset) token) = option_and_then (own_field_desc p token) (class_at p offset)
+named_desc p (InstanceFieldref (refs.Inside offset) token) = option_and_then (own_field_desc p token)
+    (class_at p offset)
 named_desc p (InstanceFieldref (refs.Outside import class) token) = let files = p.files in field_desc
     (first_of (instance_field token) (line_of files.exports (exported p import class)))
 named_desc p (VirtualMethodref (refs.Inside offset) token) = option_and_then (own_virtual_desc p token)

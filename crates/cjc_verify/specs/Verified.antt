@@ -1,14 +1,14 @@
 -- What `verify` tells of components beside their package: which of rules 721 to 729 are broken, and which of these is
 -- the first.
 use Rattle.std.specs.Prelude.{◌≡◌, ◌⊎◌, ℕ, List, ◌++◌, map, flat_map, slice_get, Option, Some}
-use Rattle.cjc_bytes.specs.declared.fault.Fault.{Fault}
-use Rattle.cjc_bytes.specs.declared.fault.Fault.TheVariants as faults
-use Rattle.cjc_bytes.specs.Breaks.{Break, Among}
-use Rattle.cjc_bytes.specs.Order.{NotAfter}
-use Rattle.cjc_components.specs.CheckRules.Spots.{in_info}
-use Rattle.cjc_components.specs.CheckRules.Consistent.{break_at}
-use Rattle.cjc_types.specs.declared.state.State.{State}
-use Rattle.cjc_frames.specs.Tables.{IsLeastTable, Breach}
+use Rattle.cjc_capread.specs.Bytes.declared.fault.Fault.{Fault}
+use Rattle.cjc_capread.specs.Bytes.declared.fault.Fault.TheVariants as faults
+use Rattle.cjc_capread.specs.Bytes.Breaks.{Break, Among}
+use Rattle.cjc_capread.specs.Bytes.Order.{NotAfter}
+use Rattle.cjc_check_rules.specs.Spots.{in_info}
+use Rattle.cjc_check_rules.specs.Consistent.{break_at}
+use Rattle.cjc_card_acts.specs.Types.declared.state.State.{State}
+use Rattle.cjc_card_acts.specs.Frames.Tables.{IsLeastTable, Breach}
 use Rattle.cjc_card_acts.specs.CardTypes.{is_type_of}
 use Rattle.cjc_verify.specs.Pairs.{Pair}
 use Rattle.cjc_verify.specs.Bodies.{Body, bodies, frames_of}
@@ -50,4 +50,5 @@ pub record IsFirstBroken (p : Pair) (broken : Break) : Type 0 where
 
 -- The error is the refusal of the first broken rule, or that memory ran out.
 abbrev pub IsRefused : Pair → Fault → Type 0
-IsRefused p e = (e ≡ faults.NoMemory) ⊎ ((broken : Break) × IsFirstBroken p broken × (e ≡ faults.Refused broken.refusal))
+IsRefused p e = (e ≡ faults.NoMemory) ⊎ ((broken : Break) × IsFirstBroken p broken × (e
+    ≡ faults.Refused broken.refusal))

@@ -6,15 +6,15 @@ ghost use Rattle.cjc_capread.specs.Parts.{class_of as class_in_bytes};
 ghost use Rattle.cjc_capread.specs.declared.tree.ClassRef.TheVariants as refs;
 ghost use Rattle.cjc_card_acts.specs.CardTypes.{class_by, is_type_of, shape_by};
 ghost use Rattle.cjc_card_calls.specs.Lines.Lines.{AreLines};
-ghost use Rattle.cjc_card_frame.specs.Objects.{class_of, shape_of};
-ghost use Rattle.cjc_card_link.specs.CardSemantics.Machine.Classes.{class_of as class_by_ref};
-ghost use Rattle.cjc_card_link.specs.Tables.{AreKept, loaded_of};
+ghost use Rattle.cjc_card_calls.specs.CardFrame.Objects.{class_of, shape_of};
+ghost use Rattle.cjc_card_calls.specs.CardSemantics.Machine.Classes.{class_of as class_by_ref};
+ghost use Rattle.cjc_card_calls.specs.CardLink.Tables.{AreKept, loaded_of};
 
 use cjc_capread::ClassRef;
+use cjc_card_acts::frames::Subtypes;
+use cjc_card_calls::card_frame::heap::{Class, Element, Shape};
+use cjc_card_calls::card_link::Tables;
 use cjc_card_calls::lines::{Lines, is_of};
-use cjc_card_frame::heap::{Class, Element, Shape};
-use cjc_card_link::Tables;
-use cjc_frames::Subtypes;
 use std::marker::Model;
 
 /// A class of the package by the offset of its info.
@@ -106,8 +106,8 @@ pub(crate) struct Kinds<'a> {
 
 impl<'a> Model for Kinds<'a> {
     ghost use Rattle.cjc_card_calls.specs.Lines.Lines.{AreLines};
-    ghost use Rattle.cjc_card_link.specs.CardSemantics.Machine.Loaded.{Loaded};
-    ghost use Rattle.cjc_card_link.specs.Tables.{AreKept, loaded_of};
+    ghost use Rattle.cjc_card_calls.specs.CardSemantics.Machine.Loaded.{Loaded};
+    ghost use Rattle.cjc_card_calls.specs.CardLink.Tables.{AreKept, loaded_of};
 
     ghost Value = { Loaded };
 

@@ -3,20 +3,20 @@
 
 ghost use Rattle.std.specs.Prelude.{◌≡◌, ◌++◌, option_to_list, IfOk, OnOk};
 ghost use Rattle.cjc_card_acts.specs.Told.{type_told};
-ghost use Rattle.cjc_card_frame.specs.Meanings.{letter_of};
+ghost use Rattle.cjc_card_calls.specs.CardFrame.Meanings.{letter_of};
 ghost use Rattle.cjc_verify.specs.Instructions.{calling, calling_on, getting, getting_static, object_needs};
 ghost use Rattle.cjc_verify.specs.Instructions.{object_reads, putting, putting_static};
 ghost use Rattle.cjc_verify.specs.Named.{is_outside, is_static_outside};
 
 use crate::class_types::class_type;
-use cjc_bytes::{Bytes, NoMemory, Row};
+use cjc_capread::bytes::{Bytes, NoMemory, Row};
 use cjc_capread::{ClassRef, StaticRef};
+use cjc_card_acts::frames::{Act, Need, Read};
 use cjc_card_acts::rows::idle;
 use cjc_card_acts::types::{
     MemberType, ValueType, is_moved_by, put_all_needs, put_needs, put_words,
 };
-use cjc_card_frame::opcodes::Letter;
-use cjc_frames::{Act, Need, Read};
+use cjc_card_calls::card_frame::opcodes::Letter;
 use std::alloc::Global;
 
 /// Whether a class is of an imported package.

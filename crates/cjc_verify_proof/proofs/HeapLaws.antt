@@ -1,18 +1,19 @@
 -- What instructions on arrays of numbers read.
-use Rattle.std.proofs.Common.{◌≡◌, ◌||◌, ◌&&◌, ◌⊎◌, inl, inr, ℕ, zero, suc, Bool, true, false, nat_lt, nat_le}
-use Rattle.std.proofs.Common.{◌==◌, List, [], ◌∷◌, ◌++◌, length, slice_get, Option, Some, None, All, refl, sym}
+use Rattle.std.proofs.Common.{◌≡◌, ◌||◌, ◌&&◌, inl, inr, ℕ, suc, Bool, true, false, nat_lt, nat_le}
+use Rattle.std.proofs.Common.{◌==◌, List, [], ◌∷◌, ◌++◌, length, slice_get, Option, Some, None, refl, sym}
 use Rattle.std.proofs.Common.{subst, arith, ℤ, pos, negsuc, leb-false, ltb-false, eqb-true}
-use Rattle.std.proofs.lemmas.List.Elements.{All-head, All-tail}
 use Rattle.std.specs.Prelude.{if◌then◌else◌, option_map}
 use Rattle.std.specs.List.{list_all}
-use Rattle.cjc_range.specs.Words.{low_word}
-use Rattle.cjc_script.specs.declared.value.Value.{Value}
-use Rattle.cjc_script.specs.declared.value.Value.TheVariants.{Num, Null, Obj}
-use Rattle.cjc_script.specs.Sorts.{Element, Booleans, Bytes, Shorts, Ints, Shape, OfNumbers, OfReferences}
-use Rattle.cjc_types.specs.declared.cell.Cell.{Cell}
-use Rattle.cjc_types.specs.declared.cell.Cell.TheVariants.{Number, Refs, Unusable}
-use Rattle.cjc_types.specs.Names.{In}
-use Rattle.cjc_types.specs.Rules.{all_types}
+use Rattle.std.proofs.lemmas.Bool.{or_parts}
+use Rattle.cjc_card_semantics.specs.Range.Words.{low_word}
+use Rattle.cjc_card_semantics.specs.Script.declared.value.Value.{Value}
+use Rattle.cjc_card_semantics.specs.Script.declared.value.Value.TheVariants.{Num, Null, Obj}
+use Rattle.cjc_card_semantics.specs.Script.Sorts.{Element, Booleans, Bytes, Shorts, Ints, Shape, OfNumbers}
+use Rattle.cjc_card_semantics.specs.Script.Sorts.{OfReferences}
+use Rattle.cjc_card_acts.specs.Types.declared.cell.Cell.{Cell}
+use Rattle.cjc_card_acts.specs.Types.declared.cell.Cell.TheVariants.{Number, Refs, Unusable}
+use Rattle.cjc_card_acts.specs.Types.Names.{In}
+use Rattle.cjc_card_acts.specs.Types.Rules.{all_types}
 use Rattle.cjc_card_semantics.specs.Bytecode.Numbers.{is_word}
 use Rattle.cjc_card_semantics.specs.Bytecode.Calculations.{IndexOutside}
 use Rattle.cjc_card_semantics.specs.Bytecode.Effects.{Letter, Reference, Byte, Short, Int, HeapObject, Numbers}
@@ -24,18 +25,16 @@ use Rattle.cjc_card_semantics.specs.Machine.Statics.{StaticCell}
 use Rattle.cjc_card_semantics.specs.Bytecode.Calculations as machine
 use Rattle.cjc_card_semantics.specs.Machine.Loaded.{Loaded}
 use Rattle.cjc_card_semantics.specs.Machine.Classes.{Class, Field, same_element}
-use Rattle.cjc_frames.specs.Types.{begins_with}
+use Rattle.cjc_card_acts.specs.Frames.Types.{begins_with}
 use Rattle.cjc_card_acts.specs.CardTypes.{shape_by, class_by, arrays_of, all_arrays}
 use Rattle.cjc_verify_proof.specs.Words.{IsWord, AreWords, AreLocals}
 use Rattle.cjc_verify_proof.specs.Heaps.{thing_is, object_is, AreItems, IsFit, AreFit, Onward, item_cells}
-use Rattle.cjc_verify_proof.proofs.WordLaws.{neither, true_of}
+use Rattle.cjc_verify_proof.proofs.WordLaws.{true_of}
+use Rattle.cjc_card_semantics.proofs.BytesBools.{or_cases}
+use Rattle.cjc_card_semantics.proofs.BytesGets.{item_has}
 use Rattle.cjc_verify_proof.proofs.WordLaws as words
 
 -- ---- truths
-
-either : (a b : Bool) → (a || b) ≡ true → (a ≡ true) ⊎ (b ≡ true)
-either true b h = inl refl
-either false b h = inr h
 
 -- each of the types of a cell passes
 pub passes_in : (p : List ℕ → Bool) (names : List (List ℕ)) (n : List ℕ) → list_all p names ≡ true → In n names
@@ -51,11 +50,6 @@ passes_in p (x ∷ xs) n h (inr i) = passes_in p xs n (second (p x) (list_all p 
     second : (a b : Bool) → (a && b) ≡ true → b ≡ true
     second true b e = e
     second false b e = cc
-
-item_is : {A : Type 0} (P : A → Type 0) (xs : List A) (i : ℕ) (x : A) → All P xs → slice_get xs i ≡ Some x → P x
-item_is P [] i x h e = absurd cc
-item_is P (y ∷ ys) zero x h e = let same : y ≡ x = cc in subst P same (All-head P y ys h)
-item_is P (y ∷ ys) (suc i) x h e = item_is P ys i x (All-tail P y ys h) e
 
 -- ---- arrays of numbers
 
@@ -112,18 +106,18 @@ numbers_of l Reference t o other b h = absurd (other refl)
 numbers_of l Byte [] o other b h = cc
 numbers_of l Short [] o other b h = cc
 numbers_of l Int [] o other b h = cc
-numbers_of l Byte (n ∷ class) o other b h = elim (either (0xA == n) ((0xB == n) || false) b) [
+numbers_of l Byte (n ∷ class) o other b h = elim (or_cases (0xA == n) ((0xB == n) || false) b) [
   | inl e ↦ by_nibble l Booleans Byte refl 0xA n class e refl o h
-  | inr later ↦ elim (either (0xB == n) false later) [
+  | inr later ↦ elim (or_cases (0xB == n) false later) [
     | inl e ↦ by_nibble l Bytes Byte refl 0xB n class e refl o h
     | inr never ↦ cc
   ]
 ]
-numbers_of l Short (n ∷ class) o other b h = elim (either (0xC == n) false b) [
+numbers_of l Short (n ∷ class) o other b h = elim (or_cases (0xC == n) false b) [
   | inl e ↦ by_nibble l Shorts Short refl 0xC n class e refl o h
   | inr never ↦ cc
 ]
-numbers_of l Int (n ∷ class) o other b h = elim (either (0xD == n) false b) [
+numbers_of l Int (n ∷ class) o other b h = elim (or_cases (0xD == n) false b) [
   | inl e ↦ by_nibble l Ints Int refl 0xD n class e refl o h
   | inr never ↦ cc
 ]
@@ -158,16 +152,16 @@ array_at l k n class same is o h = array_by l o (shape_by l (n ∷ class)) (subs
 pub array_of : (l : Loaded) (t : List ℕ) (o : Option (HeapObject Class Field)) → begins_with all_arrays t ≡ true
     → thing_is l o (shape_by l t) ≡ true → IsArray o
 array_of l [] o b h = cc
-array_of l (n ∷ class) o b h = elim (either (0xA == n) ((0xB == n) || ((0xC == n) || ((0xD == n) || ((0xE == n)
+array_of l (n ∷ class) o b h = elim (or_cases (0xA == n) ((0xB == n) || ((0xC == n) || ((0xD == n) || ((0xE == n)
     || false)))) b) [
       | inl e ↦ array_at l 0xA n class e (of_numbers Booleans) o h
-      | inr b ↦ elim (either (0xB == n) ((0xC == n) || ((0xD == n) || ((0xE == n) || false))) b) [
+      | inr b ↦ elim (or_cases (0xB == n) ((0xC == n) || ((0xD == n) || ((0xE == n) || false))) b) [
         | inl e ↦ array_at l 0xB n class e (of_numbers Bytes) o h
-        | inr b ↦ elim (either (0xC == n) ((0xD == n) || ((0xE == n) || false)) b) [
+        | inr b ↦ elim (or_cases (0xC == n) ((0xD == n) || ((0xE == n) || false)) b) [
           | inl e ↦ array_at l 0xC n class e (of_numbers Shorts) o h
-          | inr b ↦ elim (either (0xD == n) ((0xE == n) || false) b) [
+          | inr b ↦ elim (or_cases (0xD == n) ((0xE == n) || false) b) [
             | inl e ↦ array_at l 0xD n class e (of_numbers Ints) o h
-            | inr b ↦ elim (either (0xE == n) false b) [
+            | inr b ↦ elim (or_cases (0xE == n) false b) [
               | inl e ↦ array_at l 0xE n class e (of_references (class_by l class)) o h
               | inr never ↦ cc
             ]
@@ -214,11 +208,12 @@ module _ {X : Type 0} (l : Loaded) (room next : ℕ) (lc : List Cell) (lv : List
       → nat_lt room (length (item_cells letter ++ cs)) ≡ false → (i : ℕ) (z : ℤ) → slice_get items i ≡ Some z
       → Onward l next (item_cells letter ++ cs) lc m (words_of letter (Num z) Stick (λ ws. onward ws room next lv
       m vs))
-  element_goes Byte Booleans items is fit cs vs w h i z e = word_goes cs vs w h z (item_is (λ z. is_word z ≡ true) items
+  element_goes Byte Booleans items is fit cs vs w h i z e = word_goes cs vs w h z (item_has (λ z. is_word z
+      ≡ true) items
       i z fit e)
-  element_goes Byte Bytes items is fit cs vs w h i z e = word_goes cs vs w h z (item_is (λ z. is_word z ≡ true) items i
+  element_goes Byte Bytes items is fit cs vs w h i z e = word_goes cs vs w h z (item_has (λ z. is_word z ≡ true) items i
       z fit e)
-  element_goes Short Shorts items is fit cs vs w h i z e = word_goes cs vs w h z (item_is (λ z. is_word z ≡ true) items
+  element_goes Short Shorts items is fit cs vs w h i z e = word_goes cs vs w h z (item_has (λ z. is_word z ≡ true) items
       i z fit e)
   element_goes Int Ints items is fit cs vs w h i z e = goes_on cs vs w (Number ∷ Number ∷ []) (machine.int_words z)
       (tt, (tt, tt)) h

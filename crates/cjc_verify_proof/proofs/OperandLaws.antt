@@ -1,10 +1,12 @@
 -- Operands of a decoded instruction are read as the form of its opcode says.
 use Rattle.std.specs.Prelude.{◌≡◌, ℕ, ◌+◌, ◌*◌, List, [], ◌∷◌, Option, Some, None, pos}
 use Rattle.std.proofs.Common.{refl, subst}
-use Rattle.cjc_capread.specs.Opcodes.{Operand, Byte, Signed1, Signed2, Signed4, Index1, Index2, Form, Fields, form}
-use Rattle.cjc_capread.specs.Decode.{Instruction, First, Front, operand, operands_of, put_first, first_and}
-use Rattle.cjc_capread.specs.Decode.{with_operands}
-use Rattle.cjc_capread.specs.Decode.{decode, decode_as}
+use Rattle.cjc_card_semantics.specs.CapRead.Opcodes.{Operand, Byte, Signed1, Signed2, Signed4, Index1, Index2, Form}
+use Rattle.cjc_card_semantics.specs.CapRead.Opcodes.{Fields, form}
+use Rattle.cjc_card_semantics.specs.CapRead.Decode.{Instruction, First, Front, operand, operands_of, put_first}
+use Rattle.cjc_card_semantics.specs.CapRead.Decode.{first_and}
+use Rattle.cjc_card_semantics.specs.CapRead.Decode.{with_operands}
+use Rattle.cjc_card_semantics.specs.CapRead.Decode.{decode, decode_as}
 use Rattle.cjc_verify_proof.specs.Beside.{IsRead, AreRead}
 
 read_one : (k : Operand) (bytes : List ℕ) (first : First) → operand k bytes ≡ Some first → IsRead k first.value

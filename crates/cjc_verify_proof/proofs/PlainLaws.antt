@@ -5,25 +5,27 @@ use Rattle.std.proofs.Common.{Some, None, refl, sym, ap, subst, ◌∙◌, arith
 use Rattle.std.proofs.Common.{ltb-false}
 use Rattle.std.proofs.Common.{length-append, length-drop, append_assoc}
 use Rattle.std.specs.Prelude.{if◌then◌else◌}
-use Rattle.cjc_range.specs.Words.{wide, low_word}
-use Rattle.cjc_script.specs.declared.value.Value.{Value}
-use Rattle.cjc_script.specs.declared.value.Value.TheVariants.{Num, Null, Obj}
-use Rattle.cjc_capread.specs.Opcodes.{Operand as Kind}
-use Rattle.cjc_capread.specs.Opcodes as opcodes
-use Rattle.cjc_types.specs.declared.cell.Cell.{Cell}
-use Rattle.cjc_types.specs.declared.cell.Cell.TheVariants.{Number, Refs, Unusable}
-use Rattle.cjc_types.specs.declared.state.Stack.TheVariants.{Cells}
+use Rattle.std.proofs.lemmas.Bool.{or_parts}
+use Rattle.cjc_card_semantics.specs.Range.Words.{wide, low_word}
+use Rattle.cjc_card_semantics.specs.Script.declared.value.Value.{Value}
+use Rattle.cjc_card_semantics.specs.Script.declared.value.Value.TheVariants.{Num, Null, Obj}
+use Rattle.cjc_card_semantics.specs.CapRead.Opcodes.{Operand as Kind}
+use Rattle.cjc_card_semantics.specs.CapRead.Opcodes as opcodes
+use Rattle.cjc_card_acts.specs.Types.declared.cell.Cell.{Cell}
+use Rattle.cjc_card_acts.specs.Types.declared.cell.Cell.TheVariants.{Number, Refs, Unusable}
+use Rattle.cjc_card_acts.specs.Types.declared.state.Stack.TheVariants.{Cells}
 use Rattle.cjc_card_semantics.specs.Bytecode.Numbers.{is_zero}
 use Rattle.cjc_card_semantics.specs.Bytecode.Calculations.{Calculation, Arithmetic, Fine, Fails, int_words, pushed}
 use Rattle.cjc_card_semantics.specs.Bytecode.Calculations as machine
 use Rattle.cjc_card_semantics.specs.Bytecode.Numbers as numbers
-use Rattle.cjc_frames.specs.declared.acts.Act.{Act}
-use Rattle.cjc_frames.specs.Acts.{Subtype, given, stack_behind, with_writes, has_wrong, has_wrong_local, lacks_local}
-use Rattle.cjc_types.specs.Steps.{operand}
-use Rattle.cjc_types.specs.Types.{as_reference}
-use Rattle.cjc_types.specs.Rules as rules
-use Rattle.cjc_frames.specs.declared.acts.Need.TheVariants.{NumberWord, ReferenceWord}
-use Rattle.cjc_frames.specs.Acts.{is_wrong_local}
+use Rattle.cjc_card_acts.specs.Frames.declared.acts.Act.{Act}
+use Rattle.cjc_card_acts.specs.Frames.Acts.{Subtype, given, stack_behind, with_writes, has_wrong, has_wrong_local}
+use Rattle.cjc_card_acts.specs.Frames.Acts.{lacks_local}
+use Rattle.cjc_card_acts.specs.Types.Steps.{operand}
+use Rattle.cjc_card_acts.specs.Types.Types.{as_reference}
+use Rattle.cjc_card_acts.specs.Types.Rules as rules
+use Rattle.cjc_card_acts.specs.Frames.declared.acts.Need.TheVariants.{NumberWord, ReferenceWord}
+use Rattle.cjc_card_acts.specs.Frames.Acts.{is_wrong_local}
 use Rattle.cjc_card_semantics.specs.Bytecode.Effects.{Reference, Short, Int}
 use Rattle.cjc_card_acts.specs.Rows.{Row, number_words, any_words, operands_from, copying, swapping, calculating, idle}
 use Rattle.cjc_card_acts.specs.Rows as rows
@@ -34,11 +36,14 @@ use Rattle.cjc_verify_proof.specs.Beside.{unary, binary, divided, int_unary, int
 use Rattle.cjc_verify_proof.specs.Beside.{from_ints}
 use Rattle.cjc_verify_proof.specs.Beside as row
 use Rattle.cjc_verify_proof.specs.Acts.{plain_act, Passes}
-use Rattle.cjc_verify_proof.proofs.WordLaws.{neither, true_of, Tops, behind, number, tops}
+use Rattle.cjc_verify_proof.proofs.WordLaws.{true_of, Tops, behind, number, tops}
 use Rattle.cjc_verify_proof.proofs.WordLaws as words
-use Rattle.cjc_verify_proof.proofs.StackLaws.{any_length, from_operands, taken_length, met, pushes, loads_reference}
+use Rattle.cjc_verify_proof.proofs.StackLaws.{any_length, from_operands, met, pushes, loads_reference}
 use Rattle.cjc_verify_proof.proofs.StackLaws.{loads_number, held}
 use Rattle.cjc_verify_proof.proofs.StackLaws.{pops, copies, swaps}
+use Rattle.cjc_card_semantics.proofs.BytesLists.{map_append}
+use Rattle.cjc_card_semantics.proofs.BytesBools.{bool_four}
+use Rattle.cjc_card_semantics.proofs.BytesGets.{taken_length}
 
 -- ---- tests that all hold
 
@@ -47,13 +52,6 @@ three false false false h = (refl, refl, refl)
 three true b c h = cc
 three false true c h = cc
 three false false true h = cc
-
-pub four : (a b c d : Bool) → (a || b || c || d) ≡ false → (a ≡ false) × (b ≡ false) × (c ≡ false) × (d ≡ false)
-four false false false false h = (refl, refl, refl, refl)
-four true b c d h = cc
-four false true c d h = cc
-four false false true d h = cc
-four false false false true h = cc
 
 -- what a state that passes says, test by test
 pub record Parts (is_of : Subtype) (room : ℕ) (a : Act) (lc cs : List Cell) : Type 0 where
@@ -69,7 +67,8 @@ pub parts : (is_of : Subtype) (room : ℕ) (a : Act) (lc cs : List Cell) → Pas
     → Parts is_of room a lc cs
 parts is_of room a lc cs h =
     let w = three (has_wrong is_of a.takes cs) (has_wrong_local is_of a.reads lc) a.misfits h.right in
-    let o = four (nat_lt (length cs) (length a.takes)) (nat_lt room (length cs)) (nat_lt room (length (stack_behind a lc
+    let o = bool_four (nat_lt (length cs) (length a.takes)) (nat_lt room (length cs)) (nat_lt room (length
+    (stack_behind a lc
     cs))) (lacks_local a lc) h.there in
     record {
       operands = w.0;
@@ -103,10 +102,6 @@ two_numbers j (negsuc n ∷ by ∷ zs) d = absurd d.0
 two_numbers j (pos n ∷ by ∷ z ∷ zs) d = absurd d.1.1
 
 -- ---- the stack behind copies
-
-map_append : {A B : Type 0} (f : A → B) (xs ys : List A) → map f (xs ++ ys) ≡ map f xs ++ map f ys
-map_append f [] ys = refl
-map_append f (x ∷ xs) ys = ap (λ zs. f x ∷ zs) (map_append f xs ys)
 
 copied_behind : (lc cs : List Cell) (m n : ℕ) → m ≤ n → n ≤ length cs
     → stack_behind (copying m n) lc cs ≡ take n cs ++ (take m cs ++ drop n cs)
@@ -211,18 +206,18 @@ module _ (is : (type : List ℕ) → (object : ℕ) → Bool) (is_of : Subtype) 
 
   -- what the acts that read or write one local or two say of them
   not_lacking : (a b : Bool) → ((a || false) || b) ≡ false → a ≡ false
-  not_lacking a b h = (neither a false (neither (a || false) b h).0).0
+  not_lacking a b h = (or_parts a false (or_parts (a || false) b h).0).0
 
   both_there : (a b c : Bool) → ((a || (b || false)) || c) ≡ false → (a ≡ false) × (b ≡ false)
   both_there a b c h =
-      let p = neither a (b || false) (neither (a || (b || false)) c h).0 in (p.0, (neither b false p.1).0)
+      let p = or_parts a (b || false) (or_parts (a || (b || false)) c h).0 in (p.0, (or_parts b false p.1).0)
 
   aload_at : (l : ℕ) (cs : List Cell) (vs : List Value) → AreWords is cs vs
       → Parts is_of room (loading Reference l) lc cs
       → Leaves is (as_reference (operand lc l) ∷ cs) lc (machine.load_reference l room lv vs)
   aload_at l cs vs w p =
       let t = words.there is lc lv l k (leb-false (length lc) l (not_lacking (nat_le (length lc) l) false p.locals)) in
-      let e = met is_of ReferenceWord (slice_get lc l) t.cell t.typed (neither (is_wrong_local is_of ReferenceWord
+      let e = met is_of ReferenceWord (slice_get lc l) t.cell t.typed (or_parts (is_wrong_local is_of ReferenceWord
       (slice_get lc l)) false p.reads).0 in
       subst (λ q. Leaves is (as_reference (operand lc l) ∷ cs) lc (machine.set_local q (λ v. machine.if_so
       (machine.is_reference v) (pushed (v ∷ []) room lv vs)))) (sym t.found)
@@ -234,7 +229,7 @@ module _ (is : (type : List ℕ) → (object : ℕ) → Bool) (is_of : Subtype) 
       → Parts is_of room (loading Short l) lc cs → Leaves is (Number ∷ cs) lc (machine.load_word l room lv vs)
   sload_at l cs vs w p =
       let t = words.there is lc lv l k (leb-false (length lc) l (not_lacking (nat_le (length lc) l) false p.locals)) in
-      let e = met is_of NumberWord (slice_get lc l) t.cell t.typed (neither (is_wrong_local is_of NumberWord
+      let e = met is_of NumberWord (slice_get lc l) t.cell t.typed (or_parts (is_wrong_local is_of NumberWord
       (slice_get lc l)) false p.reads).0 in
       subst (λ q. Leaves is (Number ∷ cs) lc (machine.set_local q (λ v. machine.if_so (machine.is_number v)
       (pushed (v ∷ []) room lv vs)))) (sym t.found)
@@ -248,10 +243,10 @@ module _ (is : (type : List ℕ) → (object : ℕ) → Bool) (is_of : Subtype) 
       → Parts is_of room (loading Int l) lc cs → Leaves is (Number ∷ Number ∷ cs) lc (machine.load_int l room lv vs)
   iload_at l cs vs w p =
       let b = both_there (nat_le (length lc) l) (nat_le (length lc) (l + 1)) false p.locals in
-      let r = neither (is_wrong_local is_of NumberWord (slice_get lc l)) (is_wrong_local is_of NumberWord
+      let r = or_parts (is_wrong_local is_of NumberWord (slice_get lc l)) (is_wrong_local is_of NumberWord
       (slice_get lc (l + 1)) || false) p.reads in
       let x = held is room lc lv k is_of l b.0 r.0 in
-      let y = held is room lc lv k is_of (l + 1) b.1 (neither (is_wrong_local is_of NumberWord (slice_get lc (l + 1)))
+      let y = held is room lc lv k is_of (l + 1) b.1 (or_parts (is_wrong_local is_of NumberWord (slice_get lc (l + 1)))
       false r.1).0 in
       subst (λ q. Ints cs vs q (slice_get lv (l + 1))) (sym x.holds) (subst (λ q. Ints cs vs (Some (Some (Num x.value)))
       q) (sym y.holds) (pushes is room lc lv k cs vs w (Number ∷ Number ∷ []) (Num y.value ∷ Num x.value ∷ [])
@@ -281,8 +276,8 @@ module _ (is : (type : List ℕ) → (object : ℕ) → Bool) (is_of : Subtype) 
   astore_at l [] vs w p = let few = p.enough in absurd (omega (arith, few))
   astore_at l (c ∷ cs) [] w p = absurd w
   astore_at l (c ∷ cs) (v ∷ vs) w p = astore_by l c v cs vs w.1 w.0 (true_of (rules.is_reference c)
-      (neither (not (rules.is_reference c)) false p.operands).0)
-      (neither (nat_le (length lc) l) false (neither false (nat_le (length lc) l || false) p.locals).1).0
+      (or_parts (not (rules.is_reference c)) false p.operands).0)
+      (or_parts (nat_le (length lc) l) false (or_parts false (nat_le (length lc) l || false) p.locals).1).0
 
   sstore_by : (l : ℕ) {cs : List Cell} {vs : List Value} → Tops is 1 cs vs → nat_le (length lc) l ≡ false
       → Leaves is (drop 1 cs) (slice_set lc l Number) (machine.store_if machine.is_number l room lv vs)
@@ -292,7 +287,7 @@ module _ (is : (type : List ℕ) → (object : ℕ) → Bool) (is_of : Subtype) 
       → Parts is_of room (storing Short l) lc cs → Leaves is (drop 1 cs) (slice_set lc l Number)
       (machine.store_if machine.is_number l room lv vs)
   sstore_at l cs vs w p = sstore_by l (tops is is_of 1 cs vs w p.operands p.enough)
-      (neither (nat_le (length lc) l) false (neither false (nat_le (length lc) l || false) p.locals).1).0
+      (or_parts (nat_le (length lc) l) false (or_parts false (nat_le (length lc) l || false) p.locals).1).0
 
   istore_by : (l : ℕ) {cs : List Cell} {vs : List Value} → Tops is 2 cs vs → nat_le (length lc) (l + 1) ≡ false
       → Leaves is (drop 2 cs) (slice_set (slice_set lc l Number) (l + 1) Number) (machine.store_int l room lv vs)
@@ -309,15 +304,16 @@ module _ (is : (type : List ℕ) → (object : ℕ) → Bool) (is_of : Subtype) 
       → Parts is_of room (storing Int l) lc cs → Leaves is (drop 2 cs) (slice_set (slice_set lc l Number) (l + 1)
       Number) (machine.store_int l room lv vs)
   istore_at l cs vs w p = istore_by l (tops is is_of 2 cs vs w p.operands p.enough)
-      (neither (nat_le (length lc) (l + 1)) false (neither (nat_le (length lc) l) (nat_le (length lc) (l + 1) || false)
-      (neither false (nat_le (length lc) l || (nat_le (length lc) (l + 1) || false)) p.locals).1).1).0
+      (or_parts (nat_le (length lc) (l + 1)) false (or_parts (nat_le (length lc) l) (nat_le (length lc)
+      (l + 1) || false)
+      (or_parts false (nat_le (length lc) l || (nat_le (length lc) (l + 1) || false)) p.locals).1).1).0
 
   sinc_at : (l : ℕ) (by : ℤ) (cs : List Cell) (vs : List Value) → AreWords is cs vs
       → Parts is_of room (increasing Short l) lc cs → Leaves is cs (slice_set lc l Number)
       (machine.increased (pos l ∷ by ∷ []) room lv vs)
   sinc_at l by cs vs w p =
       let x = held is room lc lv k is_of l (not_lacking (nat_le (length lc) l) (nat_le (length lc) l || false) p.locals)
-      (neither (is_wrong_local is_of NumberWord (slice_get lc l)) false p.reads).0 in
+      (or_parts (is_wrong_local is_of NumberWord (slice_get lc l)) false p.reads).0 in
       subst (λ q. Leaves is cs (slice_set lc l Number) (machine.number_in q (λ x. Fine vs (slice_set lv l (Some
       (Num (low_word (x +ℤ by)))))))) (sym x.holds)
       (w, words.locals_set is lc lv l Number (Some (Num (low_word (x.value +ℤ by)))) k tt)
@@ -333,10 +329,10 @@ module _ (is : (type : List ℕ) → (object : ℕ) → Bool) (is_of : Subtype) 
   iinc_at l by cs vs w p =
       let b = both_there (nat_le (length lc) l) (nat_le (length lc) (l + 1)) (nat_le (length lc) l
       || (nat_le (length lc) (l + 1) || false)) p.locals in
-      let r = neither (is_wrong_local is_of NumberWord (slice_get lc l)) (is_wrong_local is_of NumberWord
+      let r = or_parts (is_wrong_local is_of NumberWord (slice_get lc l)) (is_wrong_local is_of NumberWord
       (slice_get lc (l + 1)) || false) p.reads in
       let x = held is room lc lv k is_of l b.0 r.0 in
-      let y = held is room lc lv k is_of (l + 1) b.1 (neither (is_wrong_local is_of NumberWord (slice_get lc (l + 1)))
+      let y = held is room lc lv k is_of (l + 1) b.1 (or_parts (is_wrong_local is_of NumberWord (slice_get lc (l + 1)))
       false r.1).0 in
       let z = numbers.spelt_by x.value y.value +ℤ by in
       subst (λ q. Increased l by cs vs q (slice_get lv (l + 1))) (sym x.holds) (subst (λ q. Increased l by cs vs

@@ -4,19 +4,20 @@ use Rattle.std.proofs.Common.{◌++◌, length, take, drop, map, slice_get, Opti
 use Rattle.std.proofs.Common.{subst, ◌∙◌, arith, ℤ, leb-false, ltb-false, length-append}
 use Rattle.std.proofs.lemmas.List.{drop_more}
 use Rattle.std.specs.Prelude.{if◌then◌else◌}
-use Rattle.cjc_script.specs.declared.value.Value.{Value}
-use Rattle.cjc_script.specs.declared.value.Value.TheVariants.{Num, Null, Obj}
-use Rattle.cjc_types.specs.declared.cell.Cell.{Cell}
-use Rattle.cjc_types.specs.declared.cell.Cell.TheVariants.{Number, Refs, Unusable}
-use Rattle.cjc_types.specs.Steps.{operand}
-use Rattle.cjc_types.specs.Types.{as_reference}
+use Rattle.cjc_card_semantics.specs.Script.declared.value.Value.{Value}
+use Rattle.cjc_card_semantics.specs.Script.declared.value.Value.TheVariants.{Num, Null, Obj}
+use Rattle.cjc_card_acts.specs.Types.declared.cell.Cell.{Cell}
+use Rattle.cjc_card_acts.specs.Types.declared.cell.Cell.TheVariants.{Number, Refs, Unusable}
+use Rattle.cjc_card_acts.specs.Types.Steps.{operand}
+use Rattle.cjc_card_acts.specs.Types.Types.{as_reference}
 use Rattle.cjc_card_semantics.specs.Bytecode.Calculations.{Fine, Wrong, pushed, popped, copied, set_local, if_so}
 use Rattle.cjc_card_semantics.specs.Bytecode.Calculations.{is_reference, is_number}
-use Rattle.cjc_frames.specs.declared.acts.Need.{Need}
-use Rattle.cjc_frames.specs.declared.acts.Need.TheVariants.{NumberWord, ReferenceWord}
-use Rattle.cjc_frames.specs.Acts.{Subtype, given, meets, is_wrong_local}
+use Rattle.cjc_card_acts.specs.Frames.declared.acts.Need.{Need}
+use Rattle.cjc_card_acts.specs.Frames.declared.acts.Need.TheVariants.{NumberWord, ReferenceWord}
+use Rattle.cjc_card_acts.specs.Frames.Acts.{Subtype, given, meets, is_wrong_local}
 use Rattle.cjc_card_acts.specs.Rows.{any_words, operands_from}
 use Rattle.cjc_verify_proof.specs.Words.{IsLocal, AreWords, AreLocals, Leaves}
+use Rattle.cjc_card_semantics.proofs.BytesGets.{taken_length}
 use Rattle.cjc_verify_proof.proofs.WordLaws as words
 
 pub any_length : (n : ℕ) → length (any_words n) ≡ n
@@ -30,11 +31,6 @@ from_operands lc cs k zero h = refl
 from_operands lc cs k (suc n) h =
     ap (λ xs. operand cs k ∷ xs) (from_operands lc cs (k + 1) n (omega (arith, h)))
     ∙ sym (ap (take (suc n)) (drop_more cs k Unusable (omega (arith, h))))
-
-pub taken_length : {A : Type 0} (n : ℕ) (xs : List A) → n ≤ length xs → length (take n xs) ≡ n
-taken_length zero xs h = refl
-taken_length (suc n) [] h = absurd (omega (arith, h))
-taken_length (suc n) (x ∷ xs) h = ap suc (taken_length n xs (omega (arith, h)))
 
 -- a local that is not wrong meets its need
 pub met : (is_of : Subtype) (n : Need) (o : Option Cell) (c : Cell) → o ≡ Some c → is_wrong_local is_of n o ≡ false

@@ -1,5 +1,5 @@
 -- What stores into arrays of numbers leave.
-use Rattle.std.proofs.Common.{◌≡◌, ◌&&◌, ◌⊎◌, inl, inr, ℕ, zero, suc, Bool, true, false}
+use Rattle.std.proofs.Common.{◌≡◌, inl, inr, ℕ, zero, suc, Bool, true, false}
 use Rattle.std.proofs.Common.{List, [], ◌∷◌, slice_get, slice_set, Option, Some, None}
 use Rattle.std.proofs.Common.{refl, sym, ap, subst, ◌∙◌, arith, ℤ, pos, negsuc}
 use Rattle.std.proofs.Common.{◌≤ℤ◌, w8, w16}
@@ -7,13 +7,14 @@ use Rattle.std.proofs.lemmas.Int.{ints, SFits-int_wrap}
 use Rattle.std.specs.Int.RustNames.{int_le}
 use Rattle.std.proofs.lemmas.List.Elements.{All-set}
 use Rattle.std.specs.Prelude.{if◌then◌else◌}
-use Rattle.cjc_range.specs.Words.{low_word, low_byte}
-use Rattle.cjc_script.specs.declared.value.Value.{Value}
-use Rattle.cjc_script.specs.declared.value.Value.TheVariants.{Num, Null, Obj}
-use Rattle.cjc_script.specs.Sorts.{Element, Booleans, Bytes, Shorts, Ints}
-use Rattle.cjc_types.specs.declared.cell.Cell.{Cell}
-use Rattle.cjc_types.specs.declared.cell.Cell.TheVariants.{Number, Refs, Unusable}
-use Rattle.cjc_types.specs.Rules.{all_types}
+use Rattle.std.proofs.lemmas.Bool.{and_from}
+use Rattle.cjc_card_semantics.specs.Range.Words.{low_word, low_byte}
+use Rattle.cjc_card_semantics.specs.Script.declared.value.Value.{Value}
+use Rattle.cjc_card_semantics.specs.Script.declared.value.Value.TheVariants.{Num, Null, Obj}
+use Rattle.cjc_card_semantics.specs.Script.Sorts.{Element, Booleans, Bytes, Shorts, Ints}
+use Rattle.cjc_card_acts.specs.Types.declared.cell.Cell.{Cell}
+use Rattle.cjc_card_acts.specs.Types.declared.cell.Cell.TheVariants.{Number, Refs, Unusable}
+use Rattle.cjc_card_acts.specs.Types.Rules.{all_types}
 use Rattle.cjc_card_semantics.specs.Bytecode.Numbers.{is_word, spelt_by}
 use Rattle.cjc_card_semantics.specs.Bytecode.Calculations.{IndexOutside}
 use Rattle.cjc_card_semantics.specs.Bytecode.Effects.{Letter, Reference, Byte, Short, Int, HeapObject, Numbers}
@@ -25,11 +26,14 @@ use Rattle.cjc_card_semantics.specs.Bytecode.Effects as effects
 use Rattle.cjc_card_semantics.specs.Machine.Loaded.{Loaded}
 use Rattle.cjc_card_semantics.specs.Machine.Classes.{Class, Field}
 use Rattle.cjc_card_semantics.specs.Machine.Statics.{StaticCell}
-use Rattle.cjc_frames.specs.Types.{begins_with}
+use Rattle.cjc_card_acts.specs.Frames.Types.{begins_with}
 use Rattle.cjc_card_acts.specs.CardTypes.{arrays_of}
 use Rattle.cjc_verify_proof.specs.Words.{IsWord, AreWords, AreLocals}
 use Rattle.cjc_verify_proof.specs.Heaps.{object_is, AreItems, IsFit, AreFit, Stored, Keeps, shape_in}
 use Rattle.cjc_verify_proof.proofs.HeapLaws.{IsNumbers, numbers_of, passes_in}
+use Rattle.cjc_card_semantics.proofs.BytesGets.{get_set_other}
+use Rattle.cjc_card_semantics.proofs.BytesNumbers.{same_place}
+use Rattle.cjc_card_semantics.proofs.BytesIntegers.{le_true}
 
 -- ---- lists with another item
 
@@ -39,23 +43,6 @@ set_same [] k x y e = absurd cc
 set_same (z ∷ xs) zero x y e = refl
 set_same (z ∷ xs) (suc k) x y e = set_same xs k x y e
 
-set_other : {A : Type 0} (xs : List A) (k j : ℕ) (y : A) → (j ≡ k → ⊥)
-    → slice_get (slice_set xs k y) j ≡ slice_get xs j
-set_other [] k j y h = refl
-set_other (z ∷ xs) zero zero y h = absurd (h refl)
-set_other (z ∷ xs) zero (suc j) y h = refl
-set_other (z ∷ xs) (suc k) zero y h = refl
-set_other (z ∷ xs) (suc k) (suc j) y h = set_other xs k j y (λ e. h (ap suc e))
-
-same_place : (j k : ℕ) → (j ≡ k) ⊎ (j ≡ k → ⊥)
-same_place zero zero = inl refl
-same_place zero (suc k) = inr (λ e. omega (arith, e))
-same_place (suc j) zero = inr (λ e. omega (arith, e))
-same_place (suc j) (suc k) = elim (same_place j k) [
-  | inl e ↦ inl (ap suc e)
-  | inr h ↦ inr (λ e. h (omega (arith, e)))
-]
-
 -- another thing of the same shape at a place
 module _ (heap : List (HeapObject Class Field)) (k : ℕ) (old new : HeapObject Class Field) (at : slice_get heap k
     ≡ Some old) where
@@ -63,7 +50,7 @@ module _ (heap : List (HeapObject Class Field)) (k : ℕ) (old new : HeapObject 
   keeps_shapes same j = elim (same_place j k) [
     | inl e ↦ subst (λ i. shape_in (slice_get heap i) ≡ shape_in (slice_get (slice_set heap k new) i)) (sym e)
         (ap shape_in at ∙ ap (λ s. Some s) same ∙ sym (ap shape_in (set_same heap k old new at)))
-    | inr h ↦ ap shape_in (sym (set_other heap k j new h))
+    | inr h ↦ ap shape_in (sym (get_set_other heap k j new h))
   ]
 
   keeps_fit : AreFit heap → IsFit new → AreFit (slice_set heap k new)
@@ -73,7 +60,7 @@ module _ (heap : List (HeapObject Class Field)) (k : ℕ) (old new : HeapObject 
         x ≡ Some thing) i e in
         let there = set_same heap k old new at in
         let same : new ≡ thing = cc in subst IsFit same is)
-    | inr h ↦ fit j thing (sym (set_other heap k j new h) ∙ e)
+    | inr h ↦ fit j thing (sym (get_set_other heap k j new h) ∙ e)
   ]
 
 -- what an array of numbers of the letter may be given
@@ -99,16 +86,9 @@ items_set Reference Booleans items n z is g fit = cc
 items_set Reference Bytes items n z is g fit = cc
 items_set Reference Shorts items n z is g fit = cc
 
-le_true : (a b : ℤ) → a ≤ℤ b → int_le a b ≡ true
-le_true a b h = grind (arith, ints)
-
-both_true : (a b : Bool) → a ≡ true → b ≡ true → (a && b) ≡ true
-both_true true b e f = f
-both_true false b e f = cc
-
 -- a word is cut to a word
 within : (z : ℤ) → negsuc 32767 ≤ℤ z → z ≤ℤ pos 32767 → is_word z ≡ true
-within z low high = both_true (int_le (negsuc 32767) z) (int_le z (pos 32767)) (le_true (negsuc 32767) z low)
+within z low high = and_from (int_le (negsuc 32767) z) (int_le z (pos 32767)) (le_true (negsuc 32767) z low)
     (le_true z (pos 32767) high)
 
 word_is_word : (z : ℤ) → is_word (low_word z) ≡ true

@@ -1,20 +1,21 @@
 -- What conditions of jumps leave on the stack.
 use Rattle.std.proofs.Common.{◌≡◌, ◌≤◌, ℕ, zero, suc, Bool, true, false, not, List, [], ◌∷◌, length, drop}
 use Rattle.std.proofs.Common.{replicate, ℤ, arith}
-use Rattle.cjc_script.specs.declared.value.Value.{Value}
-use Rattle.cjc_script.specs.declared.value.Value.TheVariants.{Num, Null, Obj}
-use Rattle.cjc_types.specs.declared.cell.Cell.{Cell}
-use Rattle.cjc_types.specs.declared.cell.Cell.TheVariants.{Number, Refs, Unusable}
-use Rattle.cjc_types.specs.Rules.{is_reference}
+use Rattle.std.proofs.lemmas.Bool.{or_parts}
+use Rattle.cjc_card_semantics.specs.Script.declared.value.Value.{Value}
+use Rattle.cjc_card_semantics.specs.Script.declared.value.Value.TheVariants.{Num, Null, Obj}
+use Rattle.cjc_card_acts.specs.Types.declared.cell.Cell.{Cell}
+use Rattle.cjc_card_acts.specs.Types.declared.cell.Cell.TheVariants.{Number, Refs, Unusable}
+use Rattle.cjc_card_acts.specs.Types.Rules.{is_reference}
 use Rattle.cjc_card_semantics.specs.Bytecode.Calculations.{Test}
 use Rattle.cjc_card_semantics.specs.Bytecode.Calculations as machine
-use Rattle.cjc_frames.specs.declared.acts.Need.{Need}
-use Rattle.cjc_frames.specs.declared.acts.Need.TheVariants.{ReferenceWord}
-use Rattle.cjc_frames.specs.Acts.{Subtype, has_wrong}
+use Rattle.cjc_card_acts.specs.Frames.declared.acts.Need.{Need}
+use Rattle.cjc_card_acts.specs.Frames.declared.acts.Need.TheVariants.{ReferenceWord}
+use Rattle.cjc_card_acts.specs.Frames.Acts.{Subtype, has_wrong}
 use Rattle.cjc_verify_proof.specs.Words.{IsOneOf, IsWord, AreWords, Chooses}
 use Rattle.cjc_verify_proof.specs.Beside.{BesideTest, a_null, same, goto}
 use Rattle.cjc_verify_proof.specs.Beside as row
-use Rattle.cjc_verify_proof.proofs.WordLaws.{neither, true_of, Tops, number, tops}
+use Rattle.cjc_verify_proof.proofs.WordLaws.{true_of, Tops, number, tops}
 use Rattle.cjc_verify_proof.proofs.WordLaws as words
 
 module _ (is : (type : List ℕ) → (object : ℕ) → Bool) where
@@ -40,7 +41,7 @@ module _ (is : (type : List ℕ) → (object : ℕ) → Bool) where
   points is_of (suc n) [] vs w h o = absurd (omega (arith, o))
   points is_of (suc n) (c ∷ cs) [] w h o = absurd w
   points is_of (suc n) (c ∷ cs) (v ∷ vs) w h o =
-      let k = neither (not (is_reference c)) (has_wrong is_of (replicate n ReferenceWord) cs) h in
+      let k = or_parts (not (is_reference c)) (has_wrong is_of (replicate n ReferenceWord) cs) h in
       reference_on n c cs v vs (true_of (is_reference c) k.0) w.0 (points is_of n cs vs w.1 k.1 (omega (arith, o)))
 
   number_chooses : (f : ℤ → Bool) {cs : List Cell} {vs : List Value} → Tops is 1 cs vs

@@ -1,24 +1,21 @@
 -- What operands and locals are that meet what an instruction needs.
-use Rattle.std.proofs.Common.{◌≡◌, ◌≤◌, ◌<◌, ◌||◌, ℕ, zero, suc, Bool, true, false, not, nat_lt, nat_le, List, [], ◌∷◌}
+use Rattle.std.proofs.Common.{◌≡◌, ◌≤◌, ◌<◌, ℕ, zero, suc, Bool, true, false, not, nat_lt, nat_le, List, [], ◌∷◌}
 use Rattle.std.proofs.Common.{◌++◌, length, take, drop, slice_get, slice_set, Option, Some, None, refl, ap, arith, ℤ}
 use Rattle.std.proofs.Common.{le-leb, ltb-false}
 use Rattle.std.specs.List.{AllZip}
-use Rattle.cjc_script.specs.declared.value.Value.{Value}
-use Rattle.cjc_script.specs.declared.value.Value.TheVariants.{Num, Null, Obj}
-use Rattle.cjc_types.specs.declared.cell.Cell.{Cell}
-use Rattle.cjc_types.specs.declared.cell.Cell.TheVariants.{Number, Refs, Unusable}
-use Rattle.cjc_types.specs.Cells.{IsCellBelow}
-use Rattle.cjc_types.specs.Steps.{operand}
-use Rattle.cjc_types.specs.Rules.{is_number, is_reference}
-use Rattle.cjc_frames.specs.Acts.{Subtype, has_wrong}
+use Rattle.std.proofs.lemmas.Bool.{or_parts}
+use Rattle.cjc_card_semantics.specs.Script.declared.value.Value.{Value}
+use Rattle.cjc_card_semantics.specs.Script.declared.value.Value.TheVariants.{Num, Null, Obj}
+use Rattle.cjc_card_acts.specs.Types.declared.cell.Cell.{Cell}
+use Rattle.cjc_card_acts.specs.Types.declared.cell.Cell.TheVariants.{Number, Refs, Unusable}
+use Rattle.cjc_card_acts.specs.Types.Cells.{IsCellBelow}
+use Rattle.cjc_card_acts.specs.Types.Steps.{operand}
+use Rattle.cjc_card_acts.specs.Types.Rules.{is_number, is_reference}
+use Rattle.cjc_card_acts.specs.Frames.Acts.{Subtype, has_wrong}
 use Rattle.cjc_card_acts.specs.Rows.{number_words}
 use Rattle.cjc_verify_proof.specs.Words.{IsWord, IsLocal, AreWords, AreLocals}
 
 -- ---- truths
-
-pub neither : (a b : Bool) → (a || b) ≡ false → (a ≡ false) × (b ≡ false)
-neither true b h = cc
-neither false b h = (refl, h)
 
 pub true_of : (b : Bool) → not b ≡ false → b ≡ true
 true_of true e = refl
@@ -96,7 +93,7 @@ module _ (is : (type : List ℕ) → (object : ℕ) → Bool) where
   tops is_of (suc n) [] vs w h o = absurd (omega (arith, o))
   tops is_of (suc n) (c ∷ cs) [] w h o = absurd w
   tops is_of (suc n) (c ∷ cs) (v ∷ vs) w h o =
-      let k = neither (not (is_number c)) (has_wrong is_of (number_words n) cs) h in
+      let k = or_parts (not (is_number c)) (has_wrong is_of (number_words n) cs) h in
       number_on n c cs v vs (number_is c (true_of (is_number c) k.0)) w.0 (tops is_of n cs vs w.1 k.1 (omega (
         arith,
         o,

@@ -1,16 +1,17 @@
 -- What a row of the table of opcodes may stand beside: the meaning of its opcode and the form of its operands.
 use Rattle.std.specs.Prelude.{ℕ, Bool, true, false, List, [], ◌∷◌, Option, Some, None, ℤ, pos, negsuc}
-use Rattle.cjc_capread.specs.Opcodes.{Operand, Signed1, Signed2, Signed4, Index1, Index2, Form, Fields, Table, Lookup}
-use Rattle.cjc_capread.specs.Opcodes as opcodes
+use Rattle.cjc_card_semantics.specs.CapRead.Opcodes.{Operand, Signed1, Signed2, Signed4, Index1, Index2, Form, Fields}
+use Rattle.cjc_card_semantics.specs.CapRead.Opcodes.{Table, Lookup}
+use Rattle.cjc_card_semantics.specs.CapRead.Opcodes as opcodes
 use Rattle.cjc_card_semantics.specs.Bytecode.Calculations.{Calculation, Test}
 use Rattle.cjc_card_semantics.specs.Bytecode.Calculations as machine
 use Rattle.cjc_card_semantics.specs.Bytecode.Effects.{Letter, Reference, Short, Int, Load, Store, Length, Throw}
 use Rattle.cjc_card_semantics.specs.Bytecode.Effects.{Return}
 use Rattle.cjc_card_semantics.specs.Bytecode.Meanings.{Meaning, Plain, Branches, Ranged, Paired, Touches, Use, Nothing}
 use Rattle.cjc_card_semantics.specs.Bytecode.Meanings as meanings
-use Rattle.cjc_frames.specs.declared.acts.Need.{Need}
-use Rattle.cjc_frames.specs.declared.acts.Need.TheVariants.{NumberWord, ReferenceWord}
-use Rattle.cjc_frames.specs.declared.acts.Given.TheVariants.{ANumber, ANull}
+use Rattle.cjc_card_acts.specs.Frames.declared.acts.Need.{Need}
+use Rattle.cjc_card_acts.specs.Frames.declared.acts.Need.TheVariants.{NumberWord, ReferenceWord}
+use Rattle.cjc_card_acts.specs.Frames.declared.acts.Given.TheVariants.{ANumber, ANull}
 use Rattle.cjc_card_acts.specs.Rows.{Row, Pushes, Loads, Stores, Increases, Pops, Copies, CopiesBelow, Swaps}
 use Rattle.cjc_card_acts.specs.Rows.{Calculates}
 use Rattle.cjc_card_acts.specs.Rows.{LoadsItem, StoresItem, CountsItems, Throws, Jumps, Switches, Returns, Forbidden}

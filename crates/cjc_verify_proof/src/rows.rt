@@ -2,16 +2,16 @@
 //! row needs, the machine is not stuck, and what it leaves is what the row gives. It has laws alone, for whoever proves
 //! that components which break no rule are never stuck. It knows no class and no constant pool.
 ghost use Rattle.std.specs.Prelude.{◌≡◌, ◌≤◌, ℕ, Bool, false, List, ◌∷◌, length, drop, Option, Some, ℤ};
-ghost use Rattle.cjc_capread.specs.Opcodes.{Operand, Fields, form};
-ghost use Rattle.cjc_capread.specs.Decode.{Instruction, decode};
-ghost use Rattle.cjc_script.specs.declared.value.Value.{Value};
-ghost use Rattle.cjc_types.specs.Cells.{IsCellBelow};
-ghost use Rattle.cjc_types.specs.declared.cell.Cell.{Cell};
-ghost use Rattle.cjc_types.specs.declared.state.Stack.TheVariants.{Cells};
+ghost use Rattle.cjc_card_semantics.specs.CapRead.Opcodes.{Operand, Fields, form};
+ghost use Rattle.cjc_card_semantics.specs.CapRead.Decode.{Instruction, decode};
+ghost use Rattle.cjc_card_semantics.specs.Script.declared.value.Value.{Value};
+ghost use Rattle.cjc_card_acts.specs.Types.Cells.{IsCellBelow};
+ghost use Rattle.cjc_card_acts.specs.Types.declared.cell.Cell.{Cell};
+ghost use Rattle.cjc_card_acts.specs.Types.declared.state.Stack.TheVariants.{Cells};
 ghost use Rattle.cjc_card_semantics.specs.Bytecode.Calculations.{Calculation, Test};
 ghost use Rattle.cjc_card_semantics.specs.Bytecode.Meanings.{meaning};
-ghost use Rattle.cjc_frames.specs.declared.acts.Need.{Need};
-ghost use Rattle.cjc_frames.specs.Acts.{Subtype, stack_behind, with_writes, has_wrong};
+ghost use Rattle.cjc_card_acts.specs.Frames.declared.acts.Need.{Need};
+ghost use Rattle.cjc_card_acts.specs.Frames.Acts.{Subtype, stack_behind, with_writes, has_wrong};
 ghost use Rattle.cjc_card_acts.specs.Rows.{Row, row};
 ghost use Rattle.cjc_verify_proof.specs.Words.{IsWord, AreWords, AreLocals, Leaves, Chooses};
 ghost use Rattle.cjc_verify_proof.specs.Beside.{BesidePlain, BesideTest, Beside, AreRead};

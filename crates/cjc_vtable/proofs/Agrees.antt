@@ -13,10 +13,11 @@ use Rattle.cjc_vtable.specs.Calls.{is_special, selects, passes, selected_in, sel
 use Rattle.cjc_vtable.specs.Calls.{IsTold, IsProper, Climbs, here, up, over}
 use Rattle.cjc_tokens.proofs.Facts.{same-true, position-cons, position-same, place, chosen-passes, chosen-In}
 use Rattle.cjc_tokens.proofs.Facts.{chosen-some, has-chosen, own-none, own-some, got-none}
-use Rattle.cjc_tokens.proofs.Held.{at_front, shown-virtual, has_slot-append, offered-has_slot, here-has_slot, In-slot}
+use Rattle.cjc_tokens.proofs.Held.{shown-virtual, has_slot-append, offered-has_slot, here-has_slot, In-slot}
 use Rattle.cjc_tokens.proofs.Held.{token-slot, listed_slot}
 use Rattle.cjc_vtable.proofs.Told.{told-slots}
 use Rattle.cjc_vtable.proofs.Towers.{tower, dispatched-slot, dispatched-hidden_slot}
+use Rattle.cjc_bytes.proofs.Gets.{in_front}
 
 -- ---- virtual methods are selectable
 
@@ -221,9 +222,9 @@ slot_stays (Imported cs) (Imported ds) t s told (over sub) e = listed_stays (all
     s e
 slot_stays (Declared c given line) above t s told (up climbs) e =
     subst (λ q. slice_get q t ≡ Some (Some s)) (sym (told-slots c given line told))
-    (at_front (with_new (slots line) (signatures is_shown c.methods))
+    (in_front (with_new (slots line) (signatures is_shown c.methods))
     (map Some (new_in (with_new (slots line) (signatures is_shown c.methods)) (map signature_of given))) t (Some s)
-    (at_front (slots line) (map Some (new_in (slots line) (signatures is_shown c.methods))) t (Some s)
+    (in_front (slots line) (map Some (new_in (slots line) (signatures is_shown c.methods))) t (Some s)
     (slot_stays line above t s told climbs e)))
 
 pub hidden_slot_stays : (line above : Line) (t : ℕ) (slot : Option Signature) → Climbs line above
@@ -231,7 +232,7 @@ pub hidden_slot_stays : (line above : Line) (t : ℕ) (slot : Option Signature) 
 hidden_slot_stays line above t slot here e = e
 hidden_slot_stays (Imported cs) (Imported ds) t slot (over sub) e = cc
 hidden_slot_stays (Declared c given line) above t slot (up climbs) e =
-    at_front (hidden_slots line) (map Some (new_in (hidden_slots line) (signatures is_hidden c.methods))) t slot
+    in_front (hidden_slots line) (map Some (new_in (hidden_slots line) (signatures is_hidden c.methods))) t slot
     (hidden_slot_stays line above t slot climbs e)
 
 -- Dispatch by the token that a class gives a method does, in each class below it, what selection by name does.

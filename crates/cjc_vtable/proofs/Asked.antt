@@ -183,7 +183,7 @@ module _ (w : List Class) (are_supertypes : (xs : List (List ℕ)) → AreSupert
           itself true d = same_trees (among-one i c d)
           itself false d = elim d [ ]
 
-has-In : (ms : List Member) (s : Signature) → has (map signature_of ms) s ≡ true → (m : Member) × In m ms
+pub has-In : (ms : List Member) (s : Signature) → has (map signature_of ms) s ≡ true → (m : Member) × In m ms
     × (signature_of m ≡ s)
 has-In [] s e = cc
 has-In (n ∷ ms) s e = by (same (signature_of n) s) refl e (has-In ms s)

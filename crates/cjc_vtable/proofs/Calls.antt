@@ -44,7 +44,7 @@ module _ (test : Member → Bool) (finer : (m : Member) → test m ≡ true → 
       by false true f e rest = rest e passing
       by false false f e rest = rest e passing
 
-chosen-any_none : (s : Signature) (ms : List Member) → chosen any_method s ms ≡ None → chosen selects s ms ≡ None
+pub chosen-any_none : (s : Signature) (ms : List Member) → chosen any_method s ms ≡ None → chosen selects s ms ≡ None
 chosen-any_none s [] e = refl
 chosen-any_none s (n ∷ ms) e = by (is_called s.name s.desc n) (selects n) e (chosen-any_none s ms)
   where
@@ -153,7 +153,7 @@ clash_hidden true p true q g h k = cc
 clash_hidden true p b true g h k = cc
 clash_hidden false p b q g h k = refl
 
-keeps_shown : (m n : Member) → selects m ≡ true → is_shown n ≡ true → is_special (signature_of m) ≡ false
+pub keeps_shown : (m n : Member) → selects m ≡ true → is_shown n ≡ true → is_special (signature_of m) ≡ false
     → is_clash m.flags n.flags ≡ false → is_shown m ≡ true
 keeps_shown m n sel shown plain clash =
     by (is_exposed m.flags) (is_private m.flags) (is_selectable m.flags) (is_special (signature_of m)) sel plain
@@ -176,7 +176,7 @@ keeps_shown m n sel shown plain clash =
     by false true v sp f g h k = cc
     by false false v sp f g h k = cc
 
-keeps_hidden : (m n : Member) → selects m ≡ true → is_hidden n ≡ true → is_special (signature_of m) ≡ false
+pub keeps_hidden : (m n : Member) → selects m ≡ true → is_hidden n ≡ true → is_special (signature_of m) ≡ false
     → is_clash m.flags n.flags ≡ false → is_hidden m ≡ true
 keeps_hidden m n sel hid plain clash =
     by (is_exposed m.flags) (is_selectable m.flags) (is_special (signature_of m)) sel plain

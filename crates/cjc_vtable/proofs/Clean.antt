@@ -11,9 +11,10 @@ use Rattle.cjc_world.specs.Files.{Files}
 use Rattle.cjc_world.specs.Classes.{Class, declared, imported, all_classes}
 use Rattle.cjc_bytes.specs.AccessFlags.{is_interface}
 use Rattle.cjc_world.specs.Rules.{breaks}
-use Rattle.cjc_bytes.specs.Breaks.{Break, Among, foremost, after, RulePlace, broken_at, at, each_from, each}
+use Rattle.cjc_bytes.specs.Breaks.{Break, foremost, RulePlace, broken_at, at, each_from, each}
 use Rattle.cjc_subset.specs.Places.{at_class, at_method}
 use Rattle.cjc_bytes.specs.Order.{FilePlace, file_of}
+use Rattle.cjc_bytes.proofs.BrokenRules.{among_left, among_right}
 use Rattle.cjc_subset.specs.Flags.{is_unfit_method}
 use Rattle.cjc_subset.specs.Types.{is_unsupported_desc, is_int_desc}
 use Rattle.cjc_subset.specs.Limits.{has_deep_stack, has_many_locals}
@@ -23,15 +24,6 @@ use Rattle.cjc_subset.specs.Checks.{field_breaks, method_breaks, own_breaks, cla
 use Rattle.cjc_subset.specs.Checks.{check_breaks}
 use Rattle.cjc_vtable.specs.Kept.{IsUnbroken, BreaksNone}
 use Rattle.cjc_vtable.proofs.Filed.{Has, at_front, behind}
-
-among-left : (b : Break) (xs ys : List Break) → Among b xs → Among b (xs ++ ys)
-among-left b [] ys i = elim i [ ]
-among-left b (x ∷ xs) ys foremost = foremost
-among-left b (x ∷ xs) ys (after i) = after (among-left b xs ys i)
-
-among-right : (b : Break) (xs ys : List Break) → Among b ys → Among b (xs ++ ys)
-among-right b [] ys i = i
-among-right b (x ∷ xs) ys i = after (among-right b xs ys i)
 
 -- where nothing is broken no rule is
 pub breaks_none : (list : List ℕ) (files : Files) (codes : List MethodCode) (settings : Settings)
@@ -43,10 +35,10 @@ breaks_none list files codes settings e f = record { world = e; flags = off 304;
 
 module _ (rule : ℕ) where
   unbroken-left : (xs ys : List Break) → IsUnbroken rule (xs ++ ys) → IsUnbroken rule xs
-  unbroken-left xs ys h = λ b i e. h b (among-left b xs ys i) e
+  unbroken-left xs ys h = λ b i e. h b (among_left b xs ys i) e
 
   unbroken-right : (xs ys : List Break) → IsUnbroken rule (xs ++ ys) → IsUnbroken rule ys
-  unbroken-right xs ys h = λ b i e. h b (among-right b xs ys i) e
+  unbroken-right xs ys h = λ b i e. h b (among_right b xs ys i) e
 
   -- at each of some items
   unbroken-each : {A : Type 0} (breaks : ℕ → A → List Break) (i : ℕ) (x : A) (xs : List A) → Has x xs

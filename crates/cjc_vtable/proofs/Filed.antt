@@ -27,7 +27,7 @@ get-has x [] i e = cc
 get-has x (y ∷ xs) zero e = let is : y ≡ x = cc in subst (λ z. Has x (z ∷ xs)) (sym is) at_front
 get-has x (y ∷ xs) (suc i) e = behind (get-has x xs i e)
 
-has-either : {A : Type 0} (x : A) (a b : List A) → Has x (a ++ b) → Has x a ⊎ Has x b
+pub has-either : {A : Type 0} (x : A) (a b : List A) → Has x (a ++ b) → Has x a ⊎ Has x b
 has-either x [] b h = inr h
 has-either x (y ∷ a) b at_front = inl at_front
 has-either x (y ∷ a) b (behind h) = ⊎_elim (λ g. inl (behind g)) (λ g. inr g) (has-either x a b h)

@@ -3,8 +3,10 @@ use Rattle.std.proofs.Common.{◌≡◌, ℕ, refl, sym, ap, subst, ◌∙◌, B
 use Rattle.std.proofs.Common.{⊎_elim}
 use Rattle.std.specs.Prelude.{◌&&◌, ◌||◌, ◌⊎◌, Some, if◌then◌else◌, slice_get, map, not}
 use Rattle.std.specs.List.{list_any}
+use Rattle.std.proofs.lemmas.Bool.{or_left, or_right}
 use Rattle.cjc_world.specs.Classes.{Member, Class}
 use Rattle.cjc_bytes.specs.AccessFlags.{is_private, is_static}
+use Rattle.cjc_bytes.proofs.Bools.{left4, second4}
 use Rattle.cjc_world.specs.Supertypes.{Supertypes, End, Unknown, Known, supertypes, AreSupertypes, ends, unknown_here}
 use Rattle.cjc_world.specs.Supertypes.{known_here, upwards}
 use Rattle.cjc_world.specs.Lookup.{is_called}
@@ -18,27 +20,6 @@ use Rattle.cjc_tokens.proofs.Facts.{same-true, same-refl, chosen-some, chosen-pa
 use Rattle.cjc_tokens.proofs.Held.{at_either, new-offered, here-has_slot, token-slot, listed_slot}
 use Rattle.cjc_vtable.proofs.Calls.{token-some, In-front, In-behind}
 use Rattle.cjc_vtable.proofs.Told.{taken_slots-either}
-
-or_left : (a b : Bool) → a ≡ true → (a || b) ≡ true
-or_left true b e = refl
-or_left false b e = cc
-
-or_right : (a b : Bool) → b ≡ true → (a || b) ≡ true
-or_right true b e = refl
-or_right false b e = e
-
-or_split : (a b : Bool) → (a || b) ≡ true → (a ≡ true) ⊎ (b ≡ true)
-or_split true b e = inl refl
-or_split false b e = inr e
-
-left4 : (a b c d : Bool) → a ≡ true → (a || b || c || d) ≡ true
-left4 true b c d e = refl
-left4 false b c d e = cc
-
-second4 : (a b c d : Bool) → b ≡ true → (a || b || c || d) ≡ true
-second4 true b c d e = refl
-second4 false true c d e = refl
-second4 false false c d e = cc
 
 third4 : (a b c k d : Bool) → c ≡ true → k ≡ true → (a || b || (c && k) || d) ≡ true
 third4 true b c k d e f = refl
@@ -60,14 +41,14 @@ all_methods-append (c ∷ a) b m i = ⊎_elim
     (λ j. ⊎_elim (λ k. inl (In-behind m c.methods (all_methods a) k)) (λ k. inr k) (all_methods-append a b m j))
     (In-split m c.methods (all_methods (a ++ b)) i)
 
-any-In : (p : Member → Bool) (ms : List Member) (m : Member) → In m ms → p m ≡ true → list_any p ms ≡ true
+pub any-In : (p : Member → Bool) (ms : List Member) (m : Member) → In m ms → p m ≡ true → list_any p ms ≡ true
 any-In p [] m i e = elim i [ ]
 any-In p (n ∷ ms) m first_of e = or_left (p n) (list_any p ms) e
 any-In p (n ∷ ms) m (later i) e = or_right (p n) (list_any p ms) (any-In p ms m i e)
 
 -- ---- a public or protected virtual method is open
 
-shown-open : (m : Member) → is_shown m ≡ true → is_open m.flags ≡ true
+pub shown-open : (m : Member) → is_shown m ≡ true → is_open m.flags ≡ true
 shown-open m e = by (is_exposed m.flags) (not (is_private m.flags)) (not (is_static m.flags))
     (not (is_special (signature_of m))) e
   where
@@ -113,7 +94,7 @@ with_new-slot all ss s e =
     s t.1)
 
 -- what has a slot after methods have taken theirs had one, or is declared
-taken-has : (c : Class) (above : Line) (all : Slots) (s : Signature) → has_slot (taken_slots c above all) s ≡ true
+pub taken-has : (c : Class) (above : Line) (all : Slots) (s : Signature) → has_slot (taken_slots c above all) s ≡ true
     → (has_slot all s ≡ true) ⊎ (has (signatures is_shown c.methods) s ≡ true)
 taken-has c above all s e =
     let t = slot-of (taken_slots c above all) s e in

@@ -12,6 +12,8 @@ use Rattle.cjc_world.specs.Files.{Files}
 use Rattle.cjc_world.specs.Classes.{Member, Class, declared, imported, method_of_class, method_of_export, all_classes}
 use Rattle.cjc_world.specs.Classes.{class_named}
 use Rattle.cjc_bytes.specs.AccessFlags.{has, is_abstract, is_interface, is_private, is_protected, is_public, is_static}
+use Rattle.cjc_bytes.proofs.Lists.{bytes_true}
+use Rattle.cjc_bytes.proofs.Bools.{or_left, or_right}
 use Rattle.cjc_world.specs.Supertypes.{Supertypes, End, Known, Lists, supertypes, AreSupertypes, IsAcyclic, Above}
 use Rattle.cjc_world.specs.Supertypes.{directly, onwards, stands, stands_by_supers, upwards, is_one_named, is_below}
 use Rattle.cjc_world.specs.Supertypes.{line}
@@ -20,7 +22,7 @@ use Rattle.cjc_world.specs.Lookup.{first, own_method, is_called, receiver, selec
 use Rattle.cjc_world.specs.Added.{without_initialiser, with_token, by_token, own_methods, asked_by}
 use Rattle.cjc_world.specs.Rules.{is_of_package, is_part, is_slash_part}
 use Rattle.cjc_world.specs.Subtype.{starts}
-use Rattle.cjc_world.proofs.Settled.{bytes-true, lists-front, lists-behind}
+use Rattle.cjc_world.proofs.Settled.{lists-front, lists-behind}
 use Rattle.cjc_world.proofs.Cycles.{class_named-name, tree-above, From}
 use Rattle.cjc_subset.specs.Flags.{has_two_accesses, is_unfit_method_kind}
 use Rattle.cjc_subset.specs.Members.{ResolvedMember, hit, imports}
@@ -41,10 +43,11 @@ use Rattle.cjc_vtable.proofs.Stood.{in-class, in-interface, upwards-stands, upwa
 use Rattle.cjc_vtable.proofs.Stood.{upwards-named, gathered-named, gathered-interface, line-imported}
 use Rattle.cjc_vtable.proofs.Read.{has-code, plain-interface}
 use Rattle.cjc_vtable.proofs.Selected.{hit-selected}
+use Rattle.cjc_vtable.proofs.Worlds.{In-either}
 
 -- ---- lists of members
 
-any-false : (p : Member → Bool) (ms : List Member) (m : Member) → list_any p ms ≡ false → In m ms → p m ≡ false
+pub any-false : (p : Member → Bool) (ms : List Member) (m : Member) → list_any p ms ≡ false → In m ms → p m ≡ false
 any-false p [] m e i = elim i [ ]
 any-false p (n ∷ ms) m e first_of = by (p m) e
   where
@@ -83,7 +86,7 @@ plain-in (n ∷ ms) m i = by (is_initialiser n.name) refl i (plain-in ms m)
         (λ j. let r = rest j in (later r.0, r.1))
         (in-cons m n (without_initialiser ms) i)
 
-with_token-in : (t : ℕ) (ms : List Member) (m : Member) → In m (with_token t ms) → In m ms
+pub with_token-in : (t : ℕ) (ms : List Member) (m : Member) → In m (with_token t ms) → In m ms
 with_token-in t [] m i = elim i [ ]
 with_token-in t (n ∷ ms) m i = by (n.token == t) i (with_token-in t ms m)
   where
@@ -91,14 +94,9 @@ with_token-in t (n ∷ ms) m i = by (n.token == t) i (with_token-in t ms m)
     by true i rest = subst (λ (v : Member). In v (n ∷ ms)) (sym (in-one m n i)) first_of
     by false i rest = later (rest i)
 
-either-in : (m : Member) (a b to : List Member) → (In m a → In m to) → (In m b → In m to) → In m (a ++ b) → In m to
-either-in m [] b to f g i = g i
-either-in m (n ∷ a) b to f g first_of = f first_of
-either-in m (n ∷ a) b to f g (later i) = either-in m a b to (λ j. f (later j)) g i
-
-by_token-in : (count t : ℕ) (ms : List Member) (m : Member) → In m (by_token count t ms) → In m ms
+pub by_token-in : (count t : ℕ) (ms : List Member) (m : Member) → In m (by_token count t ms) → In m ms
 by_token-in zero t ms m i = elim i [ ]
-by_token-in (suc count) t ms m i = either-in m (with_token t ms) (by_token count (t + 1) ms) ms (λ j. with_token-in t ms
+by_token-in (suc count) t ms m i = In-either m (with_token t ms) (by_token count (t + 1) ms) ms (λ j. with_token-in t ms
     m j) (λ j. by_token-in count (t + 1) ms m j) i
 
 -- an interface's own methods are methods of it
@@ -133,7 +131,7 @@ no_array [] (b ∷ bs) e f = by (b == 47) (b == 91) (λ g h. grind arith) (slash
         split false g = g
 no_array (q ∷ qs) [] e f = refl
 no_array (q ∷ qs) (b ∷ bs) e f =
-    let front = bytes-true (b ∷ take (length qs) bs) (q ∷ qs) (left (bytes_eq (b ∷ take (length qs) bs) (q ∷ qs))
+    let front = bytes_true (b ∷ take (length qs) bs) (q ∷ qs) (left (bytes_eq (b ∷ take (length qs) bs) (q ∷ qs))
     (is_slash_part (drop (length qs) bs)) f) in
     let is : b ≡ q = cc in
     ap (λ v. v == 91) is ∙ e
@@ -152,14 +150,6 @@ pub visible : (p q r : Bool) → (not p && not q && not r) ≡ (not (p || q) && 
 visible true q r = refl
 visible false true r = refl
 visible false false r = refl
-
-left_false : (a b : Bool) → (a || b) ≡ false → a ≡ false
-left_false true b e = cc
-left_false false b e = refl
-
-right_false : (a b : Bool) → (a || b) ≡ false → b ≡ false
-right_false true b e = cc
-right_false false b e = e
 
 module _ (mine inherited : ℕ) where
   M : Bool
@@ -181,7 +171,7 @@ module _ (mine inherited : ℕ) where
   no-clash far e =
       ap (λ (v : Bool). (v && is_exposed inherited) || (is_exposed mine && is_package_visible inherited)) (sym mine-is)
       ∙ ap (λ (v : Bool). (M && is_exposed inherited) || (is_exposed mine && v)) (sym inherited-is)
-      ∙ left_false ((M && is_exposed inherited) || (is_exposed mine && N)) (M && N && far) e
+      ∙ or_left ((M && is_exposed inherited) || (is_exposed mine && N)) (M && N && far) e
 
   not-both : is_out_of_sight true mine inherited ≡ false → (is_package_visible mine && is_package_visible inherited)
       ≡ false
@@ -189,7 +179,7 @@ module _ (mine inherited : ℕ) where
   not-both e =
       ap (λ (v : Bool). v && is_package_visible inherited) (sym mine-is)
       ∙ ap (λ (v : Bool). M && v) (sym inherited-is)
-      ∙ both M N (right_false ((M && is_exposed inherited) || (is_exposed mine && N)) (M && N && true) e)
+      ∙ both M N (or_right ((M && is_exposed inherited) || (is_exposed mine && N)) (M && N && true) e)
     where
       both : (a b : Bool) → (a && b && true) ≡ false → (a && b) ≡ false
       both true true e = cc
@@ -277,7 +267,7 @@ module _ (list : List ℕ) (files : Files) (codes : List MethodCode) (settings :
 
       by : (b : Bool) → bytes_eq c.name d.name ≡ b → bytes_eq c.name d.name ≡ false
       by true f = absurd (acyclic c.name (subst (λ q. Above (all_classes files) c.name q)
-          (sym (bytes-true c.name d.name f)) above))
+          (sym (bytes_true c.name d.name f)) above))
       by false f = f
 
   apart : (x : List ℕ) (c d : Class) (b : Bool) → class_named (all_classes files) x ≡ Some c

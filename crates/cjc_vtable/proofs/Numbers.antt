@@ -4,8 +4,8 @@ use Rattle.std.proofs.Common.{◌++◌, length}
 use Rattle.std.specs.Prelude.{Option, Some, None, if◌then◌else◌, cond, option_map, slice_get, ◌==◌, ◌&&◌, not}
 use Rattle.std.specs.Str.{bytes_eq}
 use Rattle.std.proofs.lemmas.Bool.{eqb-true, eqb-false}
-use Rattle.std.proofs.lemmas.List.Sums.{sum_by-cons}
 use Rattle.cjc_bytes.specs.declared.settings.FileLine.{FileLine}
+use Rattle.cjc_bytes.proofs.Numbers.{like_number}
 use Rattle.cjc_world.specs.ClassFile.declared.tree.ClassTree.{ClassTree}
 use Rattle.cjc_world.specs.ExportFile.declared.tree.ExportClass.{ExportClass}
 use Rattle.cjc_world.specs.ExportFile.declared.tree.ExportTree.{ExportTree}
@@ -13,9 +13,7 @@ use Rattle.cjc_world.specs.Files.{Files}
 use Rattle.cjc_world.specs.Classes.{Class, declared, imported, numbered, size, of_class_file, of_export_file}
 use Rattle.cjc_world.specs.Classes.{classes_from, all_classes, class_named, class_at, is_at}
 use Rattle.cjc_order.specs.Classes.Numbers.{class_count}
-
-same_number : (n : ℕ) → (n == n) ≡ true
-same_number n = grind arith
+use Rattle.cjc_order.proofs.ClassesLaws.Standing.{class_count-cons}
 
 below_next : (n : ℕ) → n < n + 1
 below_next n = omega arith
@@ -133,7 +131,7 @@ in_front b d rest none e = by (is_at d.is_imported d.number b) refl
 
 in_head : (b : Class) (rest : List Class) → Numbered (b ∷ rest) b
 unfolding class_at
-in_head b rest = by b.is_imported (b.number == b.number) (same_number b.number)
+in_head b rest = by b.is_imported (b.number == b.number) (like_number b.number)
   where
     by : (x y : Bool) → y ≡ true → (if (if x then x else not x) && y then Some b
         else class_at rest b.is_imported b.number) ≡ Some b
@@ -258,10 +256,6 @@ at-tree files n d e = from-tree files.classes files.exports 0 0 0 files.lines n 
 -- ---- a number below that of the class files which the list names is of the tree at its place, and no other is of a
 -- class of the package
 
-pub class_count-cons : (line : FileLine) (lines : List FileLine) → class_count (line ∷ lines) ≡ cond line.class_file 1 0
-    + class_count lines
-class_count-cons line lines = sum_by-cons (λ (l : FileLine). cond l.class_file 1 0) line lines
-
 file-other : (c n : ℕ) (o : Option ClassTree) (rest : List Class) → c < n → class_at (of_class_file c o ++ rest) false n
     ≡ class_at rest false n
 unfolding class_at
@@ -276,7 +270,7 @@ file-here : (c : ℕ) (o : Option ClassTree) (rest : List Class) → class_at re
     → class_at (of_class_file c o ++ rest) false c ≡ option_map (declared c) o
 unfolding class_at
 file-here c None rest none = none
-file-here c (Some t) rest none = by (c == c) (same_number c)
+file-here c (Some t) rest none = by (c == c) (like_number c)
   where
     by : (b : Bool) → b ≡ true → (if b then Some (declared c t) else class_at rest false c) ≡ Some (declared c t)
     by true f = refl

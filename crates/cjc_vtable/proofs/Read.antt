@@ -11,6 +11,7 @@ use Rattle.cjc_world.specs.ClassFile.Code.{CodeTree}
 use Rattle.cjc_world.specs.ClassFile.Entry.{Entry}
 use Rattle.cjc_world.specs.ClassFile.Items.{text_at}
 use Rattle.cjc_bytes.specs.AccessFlags.{has, is_interface}
+use Rattle.cjc_bytes.proofs.Lists.{bytes_true}
 use Rattle.cjc_world.specs.ClassFile.Methods.{is_code, code_name_at, method_content, method_attribute, attribute_count}
 use Rattle.cjc_world.specs.ClassFile.Methods.{needs_code, method_tree}
 use Rattle.cjc_world.specs.ClassFile.ClassFile.{back_part, class_file}
@@ -19,7 +20,6 @@ use Rattle.cjc_world.specs.ExportFile.declared.tree.ExportMethod.{ExportMethod}
 use Rattle.cjc_world.specs.ExportFile.declared.tree.ExportTree.{ExportTree}
 use Rattle.cjc_world.specs.ExportFile.Members.{not_special}
 use Rattle.cjc_world.specs.ExportFile.Writable.{EachAfter, MethodStands, ClassFits, IsWritable}
-use Rattle.cjc_world.proofs.Settled.{bytes-true}
 use Rattle.cjc_tokens.specs.Members.{is_constructor}
 use Rattle.cjc_vtable.proofs.Filed.{Has, at_front, behind}
 
@@ -135,7 +135,7 @@ has-code t bytes m h i e f =
 
 -- ---- the methods of an interface
 
-each-after : {A : Type 0} (P : List A → A → Type 0) (before xs : List A) (x : A) → EachAfter P before xs → Has x xs
+pub each-after : {A : Type 0} (P : List A → A → Type 0) (before xs : List A) (x : A) → EachAfter P before xs → Has x xs
     → (b : List A) × P b x
 each-after P before [] x h i = elim i [ ]
 each-after P before (y ∷ xs) x h at_front = (before, h.0)
@@ -146,7 +146,7 @@ plain-name name e = by (is_constructor name) refl
   where
     by : (b : Bool) → is_constructor name ≡ b → is_constructor name ≡ false
     by true f =
-        let none : not_special name ≡ None = ap not_special (bytes-true name (codes "<init>") f) in
+        let none : not_special name ≡ None = ap not_special (bytes_true name (codes "<init>") f) in
         cc
     by false f = f
 

@@ -13,13 +13,14 @@ use Rattle.cjc_world.specs.Files.{Files}
 use Rattle.cjc_world.specs.Classes.{Class, declared, numbered, size, of_class_file, of_export_file, classes_from}
 use Rattle.cjc_world.specs.Classes.{all_classes, class_named}
 use Rattle.cjc_bytes.specs.AccessFlags.{is_interface}
+use Rattle.cjc_bytes.proofs.Lists.{none_left, none_right}
 use Rattle.cjc_world.specs.Supertypes.{Lists, foremost, after}
 use Rattle.cjc_world.specs.Lookup.{object}
 use Rattle.cjc_world.specs.Rules.{when, at_class, class_rules, members_from, class_breaks, classes_breaks}
 use Rattle.cjc_world.specs.Rules.{class_file_breaks, export_file_breaks, breaks_from, breaks, is_of_package, is_second}
 use Rattle.cjc_world.specs.Rules.{lists_missing, gets_missing, is_own_super, lists_wrong, is_second_package}
 use Rattle.cjc_world.specs.Rules.{has_language, is_interface_of, is_class_of, is_of_class_file}
-use Rattle.cjc_world.proofs.Unbroken.{nil_front, nil_back, nil_of_map, not_when}
+use Rattle.cjc_world.proofs.Unbroken.{nil_of_map, not_when}
 use Rattle.cjc_vtable.proofs.Filed.{Every, every-append, every-named}
 
 -- the class breaks no rule itself
@@ -35,7 +36,7 @@ module _ (p : List ℕ) (w : List Class) where
       let R = map at (class_rules p w c) in
       let F = members_from file fn k w c true 0 c.fields in
       let M = members_from file fn k w c false 0 c.methods in
-      nil_of_map at (class_rules p w c) (nil_front R F (nil_front (R ++ F) M e))
+      nil_of_map at (class_rules p w c) (none_left R F (none_left (R ++ F) M e))
 
   ruled-classes : (file : FileKey) (file_name : List ℕ) (k : ℕ) (cs : List Class)
       → classes_breaks p file file_name k w cs ≡ [] → Every (IsRuled p w) cs
@@ -44,7 +45,7 @@ module _ (p : List ℕ) (w : List Class) where
   ruled-classes file fn k (c ∷ cs) e =
       let here = class_breaks p file fn k w c in
       let rest = classes_breaks p file fn (k + 1) w cs in
-      (ruled-class file fn k c (nil_front here rest e), ruled-classes file fn (k + 1) cs (nil_back here rest e))
+      (ruled-class file fn k c (none_left here rest e), ruled-classes file fn (k + 1) cs (none_right here rest e))
 
 module _ (files : Files) (w : List Class) where
   Ruled : Class → Type 0
@@ -62,7 +63,7 @@ module _ (files : Files) (w : List Class) where
   ruled-export_file file fn n number None e = tt
   ruled-export_file file fn n number (Some t) e =
       ruled-classes files.package_name w file fn 1 (numbered number t.classes)
-      (nil_back (map (λ rule. at_class file fn 0 [] rule) (when (is_second_package files n t) 202))
+      (none_right (map (λ rule. at_class file fn 0 [] rule) (when (is_second_package files n t) 202))
       (classes_breaks files.package_name file fn 1 w (numbered number t.classes)) e)
 
   ruled-lines : (k c e i : ℕ) (lines : List FileLine) → breaks_from files w k c e i lines ≡ []
@@ -94,19 +95,19 @@ module _ (files : Files) (w : List Class) where
           let rest = breaks_from files w (k + 1) (c + 1) e i lines in
           every-append Ruled (of_class_file c (slice_get files.classes c)) (classes_from files.classes files.exports
           (c + 1) e i lines)
-          (ruled-class_file (keys.Line k) line.name c (slice_get files.classes c) (nil_front here rest q))
-          (r (nil_back here rest q))
+          (ruled-class_file (keys.Line k) line.name c (slice_get files.classes c) (none_left here rest q))
+          (r (none_right here rest q))
       by false q r s =
           let here = export_file_breaks files (keys.Line k) line.name w e i (slice_get files.exports e) in
           let rest = breaks_from files w (k + 1) c (e + 1) (i + size (slice_get files.exports e)) lines in
           every-append Ruled (of_export_file i (slice_get files.exports e)) (classes_from files.classes files.exports c
           (e + 1) (i + size (slice_get files.exports e)) lines)
-          (ruled-export_file (keys.Line k) line.name e i (slice_get files.exports e) (nil_front here rest q))
-          (s (nil_back here rest q))
+          (ruled-export_file (keys.Line k) line.name e i (slice_get files.exports e) (none_left here rest q))
+          (s (none_right here rest q))
 
 -- ---- what each class keeps
 
-any-false : (p : List ℕ → Bool) (xs : List (List ℕ)) (y : List ℕ) → list_any p xs ≡ false → Lists y xs → p y ≡ false
+pub any-false : (p : List ℕ → Bool) (xs : List (List ℕ)) (y : List ℕ) → list_any p xs ≡ false → Lists y xs → p y ≡ false
 any-false p [] y e l = elim l [ ]
 any-false p (x ∷ xs) y e foremost = by (p y) e
   where
@@ -132,9 +133,9 @@ rules-kept p w c e =
     let E = when (is_own_super w c) 204 in
     let G = when (lists_wrong w c) 208 in
     record {
-      own_package = not_when (not c.is_imported && not (is_of_package p c.name)) 201 (nil_front A B (nil_front (A
-          ++ B) D (nil_front (A ++ B ++ D) E (nil_front (A ++ B ++ D ++ E) G e))));
-      kinds = not_when (lists_wrong w c) 208 (nil_back (A ++ B ++ D ++ E) G e);
+      own_package = not_when (not c.is_imported && not (is_of_package p c.name)) 201 (none_left A B (none_left (A
+          ++ B) D (none_left (A ++ B ++ D) E (none_left (A ++ B ++ D ++ E) G e))));
+      kinds = not_when (lists_wrong w c) 208 (none_right (A ++ B ++ D ++ E) G e);
     }
 
 module _ (list : List ℕ) (files : Files) (unbroken : breaks list files ≡ []) where
@@ -142,7 +143,7 @@ module _ (list : List ℕ) (files : Files) (unbroken : breaks list files ≡ [])
   unfolding breaks all_classes
   all-ruled =
       let w = all_classes files in
-      ruled-lines files w 0 0 0 0 files.lines (nil_back (map (λ rule. broken_at (list_spot list) rule)
+      ruled-lines files w 0 0 0 0 files.lines (none_right (map (λ rule. broken_at (list_spot list) rule)
       (when (not (has_language w files.exports)) 207)) (breaks_from files w 0 0 0 0 files.lines) unbroken)
 
   rules-of : (x : List ℕ) (c : Class) → class_named (all_classes files) x ≡ Some c

@@ -8,6 +8,7 @@ use Rattle.std.proofs.lemmas.Bool.Decides.{nat_tests}
 use Rattle.std.proofs.lemmas.Option.{slice_get-map}
 use Rattle.cjc_world.specs.Classes.{Member, Class}
 use Rattle.cjc_bytes.specs.AccessFlags.{is_private, is_static}
+use Rattle.cjc_bytes.proofs.Gets.{in_front}
 use Rattle.cjc_world.specs.Lookup.{or_else, first, is_selectable}
 use Rattle.cjc_tokens.specs.Members.{Signature, signature_of, signatures, is_exposed, is_virtual, is_shown, is_hidden}
 use Rattle.cjc_tokens.specs.Members.{all_methods, In, chosen, first_of, later}
@@ -19,7 +20,7 @@ use Rattle.cjc_vtable.specs.Dispatch.{held, dispatched, own_by_token}
 use Rattle.cjc_vtable.specs.Calls.{is_special, selects, selected_in, IsOneToOne, IsTold, IsProper, methods_of_line}
 use Rattle.cjc_vtable.specs.Calls.{imported_methods, KeepsAccess, KeepsImported, Climbs, here, up, over}
 use Rattle.cjc_tokens.proofs.Facts.{chosen-passes, chosen-In, own-none, got-none}
-use Rattle.cjc_tokens.proofs.Held.{at_front, has_slot-append, here-has_slot, shown-virtual, listed_slot, put-same_at}
+use Rattle.cjc_tokens.proofs.Held.{has_slot-append, here-has_slot, shown-virtual, listed_slot, put-same_at}
 use Rattle.cjc_tokens.proofs.Held.{put-still, reserve-still}
 use Rattle.cjc_vtable.proofs.Told.{told-slots}
 use Rattle.cjc_vtable.proofs.Towers.{tower, entry_at, by_token, dispatched-slot}
@@ -58,9 +59,9 @@ slot-passes : (s : Signature) (line : Line) (cs : List Class) (t : ℕ) (slot : 
 slot-passes s line cs t slot told arrived h = h
 slot-passes s (Declared c given l) cs t slot told (past none p) h =
     subst (λ q. slice_get q t ≡ Some slot) (sym (told-slots c given l told))
-    (at_front (with_new (slots l) (signatures is_shown c.methods))
+    (in_front (with_new (slots l) (signatures is_shown c.methods))
     (map Some (new_in (with_new (slots l) (signatures is_shown c.methods)) (map signature_of given))) t slot
-    (at_front (slots l) (map Some (new_in (slots l) (signatures is_shown c.methods))) t slot (slot-passes s l cs t slot
+    (in_front (slots l) (map Some (new_in (slots l) (signatures is_shown c.methods))) t slot (slot-passes s l cs t slot
     told p h)))
 
 -- a token that is nobody's goes on to the imported class
@@ -86,7 +87,7 @@ none-passes w s (Declared c given l) cs t told (past none p) h =
         (omega arith) here_none)
 
 -- the token of a virtual method is used
-In-used : (ms : List Member) (m : Member) → In m ms → is_virtual m ≡ true → (o : Option Signature)
+pub In-used : (ms : List Member) (m : Member) → In m ms → is_virtual m ≡ true → (o : Option Signature)
     × (slice_get (listed_slots ms) m.token ≡ Some o)
 In-used [] m i e = elim i [ ]
 In-used (n ∷ ms) m first_of e = by (is_shown n) (is_virtual n) e

@@ -8,6 +8,7 @@ use Rattle.cjc_world.specs.declared.found.Found.{Found}
 use Rattle.cjc_world.specs.Files.{Files}
 use Rattle.cjc_world.specs.Classes.{Member, Class, declared, all_classes, class_named, class_at}
 use Rattle.cjc_bytes.specs.AccessFlags.{is_interface}
+use Rattle.cjc_bytes.proofs.Gets.{in_front, get_behind}
 use Rattle.cjc_world.specs.Supertypes.{Supertypes, supertypes, AreSupertypes, ends, unknown_here, known_here, upwards}
 use Rattle.cjc_world.specs.Lookup.{first, is_called, member_at, or_else}
 use Rattle.cjc_world.specs.Added.{added, added_at, added_to, named_by}
@@ -19,7 +20,7 @@ use Rattle.cjc_tokens.specs.Tokens.{assigned, public_methods_of}
 use Rattle.cjc_vtable.specs.Naming.{method_named, member_named, named, named_where}
 use Rattle.cjc_vtable.specs.Working.Naming.{signature_by, ids_at}
 use Rattle.cjc_tokens.proofs.Facts.{same-true, same-refl, position-cons, has-own_none, has-got_none}
-use Rattle.cjc_tokens.proofs.Held.{at_front, at_either, new-offered, listed_slot, shown-virtual}
+use Rattle.cjc_tokens.proofs.Held.{at_either, new-offered, listed_slot, shown-virtual}
 use Rattle.cjc_vtable.proofs.Assigned.{public-row}
 use Rattle.cjc_vtable.proofs.Given.{In-split}
 use Rattle.cjc_vtable.proofs.Numbers.{Numbered, at-kind, at-tree, named-number}
@@ -42,11 +43,6 @@ position-at {A = A} p (x ∷ xs) i e = by (p x) refl (position p xs) refl (sym (
         let at : suc j ≡ i = cc in
         let r = rest j g in
         (r.0, subst (λ k. slice_get (x ∷ xs) k ≡ Some r.0) at r.1, r.2)
-
-pub get-behind : {A : Type 0} (xs ys : List A) (i : ℕ) → slice_get (xs ++ ys) (length xs + i) ≡ slice_get ys i
-get-behind [] ys i = let at : 0 + i ≡ i = omega arith in ap (slice_get ys) at
-get-behind (x ∷ xs) ys i = let at : suc (length xs) + i ≡ suc (length xs + i) = omega arith
-    in ap (slice_get (x ∷ xs ++ ys)) at ∙ get-behind xs ys i
 
 -- ---- a method of a class has its name and descriptor
 
@@ -83,7 +79,7 @@ module _ (w : List Class) where
       by (Some i) g e =
           let r = position-at (λ m. test m && is_called s.name s.desc m) c.methods i g in
           let is : member_at c (length c.fields + i) ≡ f = cc in
-          found-named c i (length c.fields + i) r.0 f there refl (sym is) (at_front c.methods (added w c) i r.0 r.1)
+          found-named c i (length c.fields + i) r.0 f there refl (sym is) (in_front c.methods (added w c) i r.0 r.1)
           ∙ ap (λ q. Some q) (same-true (signature_of r.0) s (second (test r.0) (is_called s.name s.desc r.0) r.2))
 
   got-named : (s : Signature) (c : Class) (f : Found) → Numbered w c → got (added w c) s c ≡ Some f → named w f ≡ Some s
@@ -97,7 +93,7 @@ module _ (w : List Class) where
           let r = position-at (λ m. is_called s.name s.desc m) (added w c) i g in
           let is : member_at c (length c.fields + length c.methods + i) ≡ f = cc in
           found-named c (length c.methods + i) (length c.fields + length c.methods + i) r.0 f there (omega arith)
-          (sym is) (get-behind c.methods (added w c) i ∙ r.1)
+          (sym is) (get_behind c.methods (added w c) i ∙ r.1)
           ∙ ap (λ q. Some q) (same-true (signature_of r.0) s r.2)
 
   -- ---- along a line whose classes are those of their numbers
@@ -276,7 +272,7 @@ names-by : (class : List ℕ) (ms : List Member) → map signature_by (map (name
 names-by class [] = refl
 names-by class (m ∷ ms) = ap (λ q. signature_of m ∷ q) (names-by class ms)
 
-added-none : (w : List Class) (c : Class) → c.is_imported ≡ true → added w c ≡ []
+pub added-none : (w : List Class) (c : Class) → c.is_imported ≡ true → added w c ≡ []
 unfolding added
 added-none w c e = grind arith
 
@@ -322,7 +318,7 @@ added-place files f c place there le =
     let w = all_classes files in
     let at : place ≡ length c.methods + (place - length c.methods) = omega arith in
     ap (method_named w c) at
-    ∙ ap (option_map signature_of) (get-behind c.methods (added w c) (place - length c.methods))
+    ∙ ap (option_map signature_of) (get_behind c.methods (added w c) (place - length c.methods))
     ∙ sym (slice_get-map signature_of (added w c) (place - length c.methods))
     ∙ ap (λ q. slice_get q (place - length c.methods)) (sym (ids-added files f c there))
     ∙ slice_get-map signature_by (ids_at files f) (place - length c.methods)

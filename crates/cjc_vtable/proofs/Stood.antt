@@ -3,8 +3,11 @@ use Rattle.std.proofs.Common.{◌≡◌, ℕ, refl, sym, ap, subst, ◌∙◌, B
 use Rattle.std.proofs.Common.{⊎_elim}
 use Rattle.std.specs.Prelude.{◌||◌, ◌⊎◌, Some, if◌then◌else◌}
 use Rattle.std.specs.Str.{bytes_eq}
+use Rattle.std.proofs.lemmas.Bool.{or_left, or_right}
 use Rattle.cjc_world.specs.Classes.{Member, Class, class_named}
 use Rattle.cjc_bytes.specs.AccessFlags.{is_interface}
+use Rattle.cjc_bytes.proofs.Lists.{name_is}
+use Rattle.cjc_bytes.proofs.Bools.{left4, second4}
 use Rattle.cjc_world.specs.Supertypes.{Supertypes, End, Unknown, Known, AreSupertypes, ends, unknown_here, known_here}
 use Rattle.cjc_world.specs.Supertypes.{Lists, foremost, after, stands, stands_by_supers, upwards, is_one_named}
 use Rattle.cjc_world.specs.Interfaces.{where_listed, gathered, known}
@@ -12,7 +15,6 @@ use Rattle.cjc_world.specs.Added.{added, own_methods, methods_of}
 use Rattle.cjc_tokens.specs.Members.{all_methods, In}
 use Rattle.cjc_tokens.specs.Lines.{Imported, Declared, line_in}
 use Rattle.cjc_vtable.specs.Calls.{imported_methods}
-use Rattle.cjc_world.proofs.Settled.{bytes-refl}
 use Rattle.cjc_world.proofs.Cycles.{class_named-name}
 use Rattle.cjc_vtable.proofs.Asked.{Among, at_head, further, among-split, among-one}
 use Rattle.cjc_world.proofs.Rising.{known-append}
@@ -42,15 +44,6 @@ in-interface m (c ∷ cs) i = ⊎_elim
 
 -- ---- a name in a tree
 
-or1 : (a b c d : Bool) → a ≡ true → (a || b || c || d) ≡ true
-or1 true b c d e = refl
-or1 false b c d e = cc
-
-or2 : (a b c d : Bool) → b ≡ true → (a || b || c || d) ≡ true
-or2 true b c d e = refl
-or2 false true c d e = refl
-or2 false false c d e = cc
-
 or3 : (a b c d : Bool) → c ≡ true → (a || b || c || d) ≡ true
 or3 true b c d e = refl
 or3 false true c d e = refl
@@ -63,39 +56,32 @@ or4 false true c d e = refl
 or4 false false true d e = refl
 or4 false false false d e = e
 
-orl : (a b : Bool) → a ≡ true → (a || b) ≡ true
-orl true b e = refl
-orl false b e = cc
-
-orr : (a b : Bool) → b ≡ true → (a || b) ≡ true
-orr true b e = refl
-orr false b e = e
-
 pub upwards-stands : (k : Supertypes) (d : Class) → Among d (upwards k) → stands d.name k ≡ true
 upwards-stands End d i = elim i [ ]
-upwards-stands (Unknown x r) d i = orr (bytes_eq x d.name) (stands d.name r) (upwards-stands r d i)
-upwards-stands (Known c p q r) d at_head = or1 (bytes_eq c.name c.name) (stands c.name p) (stands c.name q)
-    (stands c.name r) (bytes-refl c.name)
+upwards-stands (Unknown x r) d i = or_right (bytes_eq x d.name) (stands d.name r) (upwards-stands r d i)
+upwards-stands (Known c p q r) d at_head = left4 (bytes_eq c.name c.name) (stands c.name p) (stands c.name q)
+    (stands c.name r) (name_is c.name)
 upwards-stands (Known c p q r) d (further i) = ⊎_elim
-    (λ j. or2 (bytes_eq c.name d.name) (stands d.name p) (stands d.name q) (stands d.name r) (upwards-stands p d j))
+    (λ j. second4 (bytes_eq c.name d.name) (stands d.name p) (stands d.name q) (stands d.name r) (upwards-stands p d j))
     (λ j. or4 (bytes_eq c.name d.name) (stands d.name p) (stands d.name q) (stands d.name r) (upwards-stands r d j))
     (among-split d (upwards p) (upwards r) i)
 
 pub upwards-below : (k : Supertypes) (d : Class) → Among d (upwards k) → stands_by_supers d.name k ≡ true
 upwards-below End d i = elim i [ ]
-upwards-below (Unknown x r) d i = orr (bytes_eq x d.name) (stands_by_supers d.name r) (upwards-below r d i)
-upwards-below (Known c p q r) d at_head = orl (bytes_eq c.name c.name || stands_by_supers c.name p)
-    (stands_by_supers c.name r) (orl (bytes_eq c.name c.name) (stands_by_supers c.name p) (bytes-refl c.name))
+upwards-below (Unknown x r) d i = or_right (bytes_eq x d.name) (stands_by_supers d.name r) (upwards-below r d i)
+upwards-below (Known c p q r) d at_head = or_left (bytes_eq c.name c.name || stands_by_supers c.name p)
+    (stands_by_supers c.name r) (or_left (bytes_eq c.name c.name) (stands_by_supers c.name p) (name_is c.name))
 upwards-below (Known c p q r) d (further i) = ⊎_elim
-    (λ j. orl (bytes_eq c.name d.name || stands_by_supers d.name p) (stands_by_supers d.name r)
-    (orr (bytes_eq c.name d.name) (stands_by_supers d.name p) (upwards-below p d j)))
-    (λ j. orr (bytes_eq c.name d.name || stands_by_supers d.name p) (stands_by_supers d.name r) (upwards-below r d j))
+    (λ j. or_left (bytes_eq c.name d.name || stands_by_supers d.name p) (stands_by_supers d.name r)
+    (or_right (bytes_eq c.name d.name) (stands_by_supers d.name p) (upwards-below p d j)))
+    (λ j. or_right (bytes_eq c.name d.name || stands_by_supers d.name p) (stands_by_supers d.name r)
+    (upwards-below r d j))
     (among-split d (upwards p) (upwards r) i)
 
 pub among-named : (d : Class) (cs : List Class) → Among d cs → is_one_named cs d.name ≡ true
 among-named d [] i = elim i [ ]
-among-named d (c ∷ cs) at_head = orl (bytes_eq d.name d.name) (is_one_named cs d.name) (bytes-refl d.name)
-among-named d (c ∷ cs) (further i) = orr (bytes_eq c.name d.name) (is_one_named cs d.name) (among-named d cs i)
+among-named d (c ∷ cs) at_head = or_left (bytes_eq d.name d.name) (is_one_named cs d.name) (name_is d.name)
+among-named d (c ∷ cs) (further i) = or_right (bytes_eq c.name d.name) (is_one_named cs d.name) (among-named d cs i)
 
 -- the interfaces of a class and of what is listed behind it
 parts : (listed : Bool) (c : Class) (p q r : Supertypes) (d : Class) → Among d (known (gathered listed (Known c p q r)))
@@ -132,16 +118,16 @@ none-gathered listed d i = elim i [ ]
 pub gathered-stands : (listed : Bool) (k : Supertypes) (d : Class) → Among d (known (gathered listed k))
     → stands d.name k ≡ true
 gathered-stands listed End d i = absurd (none-gathered listed d i)
-gathered-stands listed (Unknown x r) d i = orr (bytes_eq x d.name) (stands d.name r) (gathered-stands listed r d
+gathered-stands listed (Unknown x r) d i = or_right (bytes_eq x d.name) (stands d.name r) (gathered-stands listed r d
     (behind-unknown listed x r d i))
 gathered-stands listed (Known c p q r) d i =
-    let P = or2 (bytes_eq c.name d.name) (stands d.name p) (stands d.name q) (stands d.name r) in
+    let P = second4 (bytes_eq c.name d.name) (stands d.name p) (stands d.name q) (stands d.name r) in
     let Q = or3 (bytes_eq c.name d.name) (stands d.name p) (stands d.name q) (stands d.name r) in
     let R = or4 (bytes_eq c.name d.name) (stands d.name p) (stands d.name q) (stands d.name r) in
-    let H = or1 (bytes_eq c.name d.name) (stands d.name p) (stands d.name q) (stands d.name r) in
+    let H = left4 (bytes_eq c.name d.name) (stands d.name p) (stands d.name q) (stands d.name r) in
     ⊎_elim
     (λ a. ⊎_elim (λ j. P (gathered-stands false p d j)) (λ j. Q (gathered-stands true q d j)) a)
-    (λ a. ⊎_elim (λ j. H (ap (λ (v : Class). bytes_eq c.name v.name) j.1 ∙ bytes-refl c.name))
+    (λ a. ⊎_elim (λ j. H (ap (λ (v : Class). bytes_eq c.name v.name) j.1 ∙ name_is c.name))
     (λ j. R (gathered-stands listed r d j)) a)
     (parts listed c p q r d i)
 

@@ -14,7 +14,8 @@ use Rattle.cjc_tokens.specs.Slots.{listed_token, meant_by, new_in, or_next, slot
 use Rattle.cjc_tokens.specs.Slots.{with_all_taken, with_new, with_taken}
 use Rattle.cjc_vtable.specs.Calls.{IsOneToOne, IsTold}
 use Rattle.cjc_tokens.proofs.Facts.{same-refl, same-true}
-use Rattle.cjc_tokens.proofs.Held.{at_front, In-slot, shown-virtual}
+use Rattle.cjc_tokens.proofs.Held.{In-slot, shown-virtual}
+use Rattle.cjc_bytes.proofs.Gets.{in_front}
 
 -- ---- slots that are taken
 
@@ -114,12 +115,12 @@ first-told s (n ∷ ms) t e = by (told_by s n) refl e (first-told s ms t)
     by None f e rest = let r = rest e in (r.0, later r.1, r.2, r.3, r.4)
     by (Some k) f e rest = let q = told_by-some s n t (f ∙ e) in (n, first_of, q.0, q.1, q.2)
 
-In-front : (m : Member) (a b : List Member) → In m a → In m (a ++ b)
+pub In-front : (m : Member) (a b : List Member) → In m a → In m (a ++ b)
 In-front m [] b i = elim i [ ]
 In-front m (n ∷ a) b first_of = first_of
 In-front m (n ∷ a) b (later i) = later (In-front m a b i)
 
-In-behind : (m : Member) (a b : List Member) → In m b → In m (a ++ b)
+pub In-behind : (m : Member) (a b : List Member) → In m b → In m (a ++ b)
 In-behind m [] b i = i
 In-behind m (n ∷ a) b i = later (In-behind m a b i)
 
@@ -180,9 +181,9 @@ told-slot (Imported classes) s t told e = told-imported classes s t told e
 told-slot (Declared c given above) s t told e =
     let old = taken_slots c above (slots above) in
     let same_slots = taken-are c above (λ u k f. told-slot above u k told f) in
-    at_front (with_new old (signatures is_shown c.methods))
+    in_front (with_new old (signatures is_shown c.methods))
     (map Some (new_in (with_new old (signatures is_shown c.methods)) (map signature_of given))) t (Some s)
-    (at_front old (map Some (new_in old (signatures is_shown c.methods))) t (Some s)
+    (in_front old (map Some (new_in old (signatures is_shown c.methods))) t (Some s)
     (subst (λ q. slice_get q t ≡ Some (Some s)) (sym same_slots) (told-slot above s t told e)))
 
 -- Nothing is taken.

@@ -46,7 +46,7 @@ pub methods-behind : (a b : List Class) (m : Member) → In m (all_methods b) �
 methods-behind [] b m i = i
 methods-behind (c ∷ a) b m i = In-behind m c.methods (all_methods (a ++ b)) (methods-behind a b m i)
 
-In-either : (m : Member) (a b : List Member) (to : List Member) → (In m a → In m to) → (In m b → In m to)
+pub In-either : (m : Member) (a b : List Member) (to : List Member) → (In m a → In m to) → (In m b → In m to)
     → In m (a ++ b) → In m to
 In-either m [] b to f g i = g i
 In-either m (n ∷ a) b to f g first_of = f first_of

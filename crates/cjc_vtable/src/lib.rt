@@ -6,7 +6,6 @@
 pub use cjc_order as class_order;
 pub use cjc_subset as subset;
 pub use cjc_tokens as tokens;
-pub use cjc_world as world;
 
 mod building;
 mod entries;

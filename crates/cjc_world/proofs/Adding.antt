@@ -6,7 +6,12 @@ use Rattle.std.specs.List.{list_any, list_all}
 use Rattle.std.specs.Str.{bytes_eq}
 use Rattle.std.proofs.lemmas.List.{append-nil}
 use Rattle.std.proofs.lemmas.List.Folds.{list_any-append}
+use Rattle.std.proofs.lemmas.Bool.{or_right}
 use Rattle.cjc_bytes.specs.declared.fault.MemberId.{MemberId}
+use Rattle.cjc_bytes.proofs.Lists.{name_is}
+use Rattle.cjc_bytes.proofs.Bools.{both_front, both_back}
+use Rattle.cjc_bytes.proofs.Numbers.{same_place, number_same}
+use Rattle.cjc_bytes.proofs.Quantified.{any_of_map}
 use Rattle.cjc_world.specs.declared.tables.Above.{Above}
 use Rattle.cjc_world.specs.declared.tables.Order.TheVariants as orders
 use Rattle.cjc_classfile.specs.declared.tree.ClassTree.{ClassTree}
@@ -23,15 +28,14 @@ use Rattle.cjc_world.specs.Added.{takes_added, declares_open, own_methods, metho
 use Rattle.cjc_world.specs.Added.{lacking, added, named_by, added_to, added_at}
 use Rattle.cjc_world.specs.Working.Asked.{is_asked_of, is_asked_at, is_open_of, is_open_at, is_had, has_id, got_one}
 use Rattle.cjc_world.specs.Working.Asked.{got, methods_of_option, got_all}
-use Rattle.cjc_world.proofs.Settled.{bytes-refl, lists-front, lists-behind, clear-up, clear-AreSupertypes}
+use Rattle.cjc_world.proofs.Settled.{lists-front, lists-behind, clear-up, clear-AreSupertypes}
 use Rattle.cjc_world.proofs.Settled.{supertypes-AreSupertypes, AreSupertypes-one}
 use Rattle.cjc_world.proofs.Cycles.{class_named-name}
 use Rattle.cjc_world.proofs.Rising.{known-append}
-use Rattle.cjc_world.proofs.Joined.{same-true, joined-append, any-joined}
+use Rattle.cjc_world.proofs.Joined.{joined-append, any-joined, or-false}
 use Rattle.cjc_world.proofs.ByPlace.{AreNamed, named-append, class-place, places-append}
-use Rattle.cjc_world.proofs.Trees.{Alike, grove, all-front, all-back, tree-clear, listed-clear, tree-is-supertypes}
-use Rattle.cjc_world.proofs.Filling.{all-listed, same_or}
-use Rattle.cjc_world.proofs.Mapped.{any_of_map}
+use Rattle.cjc_world.proofs.Trees.{Alike, grove, tree-clear, listed-clear, tree-is-supertypes}
+use Rattle.cjc_world.proofs.Filling.{all-listed}
 
 -- ---- the classes of a tree are those of their names
 
@@ -294,14 +298,6 @@ module _ (w : List Class) (rows : List (Option Above)) (part : IsPart w rows) wh
 
 -- ---- getting
 
-or-true : (a b : Bool) → b ≡ true → (a || b) ≡ true
-or-true true b e = refl
-or-true false b e = e
-
-or-none : (b : Bool) → (b || false) ≡ b
-or-none true = refl
-or-none false = refl
-
 module _ (there : List ℕ → List ℕ → Bool) (class : List ℕ) where
   pub got-more : (ids : List MemberId) (xs ys : List Member) → got there class ids (xs ++ ys)
       ≡ got there class (got there class ids xs) ys
@@ -317,7 +313,7 @@ module _ (there : List ℕ → List ℕ → Bool) (class : List ℕ) where
   one-covers ids m = by (there m.name m.desc || has_id ids m.name m.desc) refl
     where
       self : (bytes_eq m.name m.name && bytes_eq m.desc m.desc) ≡ true
-      self = ap (λ b. b && bytes_eq m.desc m.desc) (bytes-refl m.name) ∙ bytes-refl m.desc
+      self = ap (λ b. b && bytes_eq m.desc m.desc) (name_is m.name) ∙ name_is m.desc
 
       by : (b : Bool) → (there m.name m.desc || has_id ids m.name m.desc) ≡ b
           → (there m.name m.desc || has_id (if b then ids else ids ++ record {
@@ -326,15 +322,15 @@ module _ (there : List ℕ → List ℕ → Bool) (class : List ℕ) where
             desc = m.desc;
           } ∷ []) m.name m.desc) ≡ true
       by true e = e
-      by false e = or-true (there m.name m.desc) (has_id (ids ++ record { class = class; name = m.name; desc = m.desc }
+      by false e = or_right (there m.name m.desc) (has_id (ids ++ record { class = class; name = m.name; desc = m.desc }
           ∷ []) m.name m.desc)
           (list_any-append (λ i. bytes_eq i.name m.name && bytes_eq i.desc m.desc) ids (record {
             class = class;
             name = m.name;
             desc = m.desc;
           } ∷ [])
-          ∙ or-true (has_id ids m.name m.desc) ((bytes_eq m.name m.name && bytes_eq m.desc m.desc)
-          || false) (or-none (bytes_eq m.name m.name && bytes_eq m.desc m.desc) ∙ self))
+          ∙ or_right (has_id ids m.name m.desc) ((bytes_eq m.name m.name && bytes_eq m.desc m.desc)
+          || false) (or-false (bytes_eq m.name m.name && bytes_eq m.desc m.desc) ∙ self))
 
   one-keeps : (ids : List MemberId) (name desc : List ℕ) (m : Member) → is_covered ids m ≡ true
       → is_covered (got_one there class ids name desc) m ≡ true
@@ -419,7 +415,7 @@ module _ (there : List ℕ → List ℕ → Bool) (class : List ℕ) where
             (methods_at q)
         by true f e rest =
             subst (λ v. Covered (got_all w there class (got there class ids (methods_of_option (slice_get w p))) ps)
-            (methods_at v)) (same-true p q f)
+            (methods_at v)) (number_same p q f)
             (all-keeps (got there class ids (methods_of_option (slice_get w p))) ps (methods_of_option (slice_get w p))
             (got-covers ids (methods_of_option (slice_get w p))))
         by false f e rest = rest e
@@ -508,9 +504,9 @@ module _ (w : List Class) (rows : List (Option Above)) (part : IsPart w rows) (c
       (above_at w rows 0 c).interfaces ≡ map (named_by c.name) (added w c)
   unfolding added asked_by there are_ready
   gets-added ready takes =
-      let rs = all-front (list_all (λ x. is_ready w rows x) c.supers) (list_all (λ x. is_ready w rows x) c.interfaces)
+      let rs = both_front (list_all (λ x. is_ready w rows x) c.supers) (list_all (λ x. is_ready w rows x) c.interfaces)
       ready in
-      let ri = all-back (list_all (λ x. is_ready w rows x) c.supers) (list_all (λ x. is_ready w rows x) c.interfaces)
+      let ri = both_back (list_all (λ x. is_ready w rows x) c.supers) (list_all (λ x. is_ready w rows x) c.interfaces)
       ready in
       let G = gathered false (supertypes w c.supers) ++ gathered true (supertypes w c.interfaces) in
       let is_there = λ (m : Member). declares_open m.name m.desc c || has_open m.name m.desc (supertypes w c.supers) in
@@ -560,4 +556,4 @@ added-made files rows row n holds count made here i l h = ⊎_elim
     (λ (is : i ≡ n). push-new rows row i (is ∙ sym count) ∙ ap Some (here (ap holds (sym is) ∙ h)
     ∙ ap (added_at files) (sym is)))
     (λ (other : i ≡ n → ⊥). push-old rows row i (omega arith) ∙ made i (omega arith) h)
-    (same_or i n)
+    (same_place i n)

@@ -14,7 +14,7 @@ use Rattle.cjc_world.specs.Added.{with_token, by_token, without_initialiser, own
 use Rattle.cjc_world.specs.Working.Asked.{unless_initialiser, positioned, asked, asked_from, IsNamed, got_one, got}
 use Rattle.cjc_world.specs.Working.Asked.{methods_of_option, got_all}
 
-without-append : (xs ys : List Member) → without_initialiser (xs ++ ys) ≡ without_initialiser xs
+pub without-append : (xs ys : List Member) → without_initialiser (xs ++ ys) ≡ without_initialiser xs
     ++ without_initialiser ys
 without-append [] ys = refl
 without-append (m ∷ xs) ys = by (bytes_eq m.name (codes "<clinit>")) (without-append xs ys)

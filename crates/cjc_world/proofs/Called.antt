@@ -21,6 +21,7 @@ use Rattle.std.proofs.lemmas.List.{append-nil, take_more}
 use Rattle.std.proofs.lemmas.List.Elements.{All-head, All-tail, filter_agree}
 use Rattle.std.proofs.lemmas.List.Sorted.{ranks_by, searchable_from_sorted}
 use Rattle.std.proofs.lemmas.Option.{slice_get-get_or}
+use Rattle.std.proofs.lemmas.Bool.{and_right}
 use Rattle.cjc_classfile.specs.declared.tree.ClassTree.{ClassTree}
 use Rattle.cjc_export.specs.declared.tree.ExportTree.{ExportTree}
 use Rattle.cjc_world.specs.declared.members.MemberIndex.{MemberIndex}
@@ -31,16 +32,9 @@ use Rattle.cjc_world.specs.Working.Members.{AreIndices, flags_at, flags_of, id_a
 use Rattle.cjc_world.specs.Working.Members.{IsMemberIndex, precedes}
 use Rattle.cjc_world.specs.Working.Spots.{at, IsCounted, stood}
 use Rattle.cjc_world.proofs.Indexing.{stood_append}
+use Rattle.cjc_bytes.proofs.Bools.{both_back}
 
 -- ---- the first that passes a test
-
-and-second : (a b : Bool) → (a && b) ≡ true → b ≡ true
-and-second true b e = e
-and-second false b e = cc
-
-and-false : (a b : Bool) → b ≡ false → (a && b) ≡ false
-and-false true b e = e
-and-false false b e = refl
 
 find-both : {A : Type 0} (p q : A → Bool) (xs : List A) → find (λ x. p x && q x) xs ≡ find p (filter q xs)
 find-both p q [] = refl
@@ -104,10 +98,6 @@ range-more : (a n : ℕ) → range_with_len a (suc n) ≡ range_with_len a n ++ 
 range-more a zero = ap (λ m. m ∷ []) (let e : a ≡ a + 0 = omega arith in e)
 range-more a (suc n) = ap (λ ps. a ∷ ps) (range-more (a + 1) n
     ∙ ap (λ m. range_with_len (a + 1) n ++ m ∷ []) (let e : a + 1 + n ≡ a + suc n = omega arith in e))
-
-pub range-from-zero : (n : ℕ) → range_with_len 0 (n + 1) ≡ range_with_len 0 n ++ n ∷ []
-range-from-zero n = ap (range_with_len 0) (add-one n) ∙ range-more 0 n
-    ∙ ap (λ m. range_with_len 0 n ++ m ∷ []) (let e : 0 + n ≡ n = omega arith in e)
 
 module _ {A : Type 0} (t : A → Bool) where
   position-cons : (x : A) (xs : List A) → position t (x ∷ xs) ≡ cond (t x) (Some 0) (option_map suc (position t xs))
@@ -240,10 +230,10 @@ module _ (ms : List Member) (places : List ℕ) (index : IsMemberIndex ms places
           → find (passes ms selecting name desc) (range_with_len 0 (length ms)) ≡ b
           → find (passes ms selecting name desc) places
           ≡ find (passes ms selecting name desc) (range_with_len 0 (length ms))
-      by (Some q) b e f = as-ordered (λ p. is_wanted selecting (flags_at ms p)) q (and-second (is_wanted selecting
+      by (Some q) b e f = as-ordered (λ p. is_wanted selecting (flags_at ms p)) q (both_back (is_wanted selecting
           (flags_at ms q)) (is_eq (id_cmp (id_at ms q) (name, desc))) (find-true (passes ms selecting name desc) places
           q e))
-      by None (Some q) e f = as-ordered (λ p. is_wanted selecting (flags_at ms p)) q (and-second (is_wanted selecting
+      by None (Some q) e f = as-ordered (λ p. is_wanted selecting (flags_at ms p)) q (both_back (is_wanted selecting
           (flags_at ms q)) (is_eq (id_cmp (id_at ms q) (name, desc))) (find-true (passes ms selecting name desc)
           (range_with_len 0 (length ms)) q f))
       by None None e f = e ∙ sym f
@@ -268,7 +258,7 @@ module _ (ms : List Member) (places : List ℕ) (index : IsMemberIndex ms places
       → is_lt (id_cmp (id_at ms (get_or places i d)) (name, desc)) ≡ true)
       → find (passes ms selecting name desc) (drop k places) ≡ find (passes ms selecting name desc) places
   found-behind selecting k l less = find-over (passes ms selecting name desc) places k l
-      (λ i d m. and-false (is_wanted selecting (flags_at ms (get_or places i d))) _
+      (λ i d m. and_right (is_wanted selecting (flags_at ms (get_or places i d))) _
       (less-unequal (id_cmp (id_at ms (get_or places i d)) (name, desc)) (less i d m)))
 
   -- where the one at a place has a greater one
@@ -277,7 +267,7 @@ module _ (ms : List Member) (places : List ℕ) (index : IsMemberIndex ms places
       → is_eq (id_cmp (id_at ms (get_or places k d)) (name, desc)) ≡ false
       → find (passes ms selecting name desc) (drop k places) ≡ None
   none-behind selecting k d l e f = find-past (passes ms selecting name desc) places k
-      (λ i x m n. and-false (is_wanted selecting (flags_at ms (get_or places i x))) _
+      (λ i x m n. and_right (is_wanted selecting (flags_at ms (get_or places i x))) _
       (high-unequal (id_cmp (id_at ms (get_or places i x)) (name, desc))
       (let up = rising k i x m n in
       let same : get_or places k x ≡ get_or places k d = grind (arith, common_steps) in

@@ -8,6 +8,7 @@ use Rattle.std.proofs.Math.Seq.{drop-cons}
 use Rattle.std.proofs.lemmas.Bool.Decides.{nat_tests}
 use Rattle.std.proofs.lemmas.Grind.{common_steps}
 use Rattle.cjc_bytes.specs.declared.settings.FileLine.{FileLine}
+use Rattle.cjc_bytes.proofs.Numbers.{like_number}
 use Rattle.cjc_classfile.specs.declared.tree.ClassTree.{ClassTree}
 use Rattle.cjc_export.specs.declared.tree.ExportClass.{ExportClass}
 use Rattle.cjc_export.specs.declared.tree.ExportTree.{ExportTree}
@@ -89,9 +90,6 @@ IsRising b s [] = Unit {0}
 IsRising b s (c ∷ w) = (is_of_kind b c.is_imported ≡ true → c.number ≡ s)
     × IsRising b (next (is_of_kind b c.is_imported) s) w
 
-same : (n : ℕ) → (n == n) ≡ true
-same n = grind (arith, nat_tests)
-
 unlike : (m n : ℕ) → m < n → (m == n) ≡ false
 unlike m n l = grind (arith, nat_tests)
 
@@ -122,7 +120,7 @@ number-meets b s m (c ∷ w) r n = by (is_of_kind b c.is_imported) r n (λ s n h
           0,
           (let z : m ≡ m + 0 = omega arith in z),
           sym (ap (λ k. if k == (s + 0) then Some c else class_at w b (s + 0))
-              is ∙ ap (λ t. if t then Some c else class_at w b (s + 0)) (same (s + 0))),
+              is ∙ ap (λ t. if t then Some c else class_at w b (s + 0)) (like_number (s + 0))),
         )
     by true r (suc n) rest =
         let is = r.0 refl in
@@ -294,7 +292,7 @@ number-itself b s (d ∷ w) r p c e k = by (is_of_kind b d.is_imported) refl r p
         let number : d.number ≡ c.number = ap (λ (v : Class). v.number) is in (
           omega arith,
           ap (λ n. if n == c.number then Some d else class_at w b c.number) number
-              ∙ ap (λ t. if t then Some d else class_at w b c.number) (same c.number) ∙ ap Some is,
+              ∙ ap (λ t. if t then Some d else class_at w b c.number) (like_number c.number) ∙ ap Some is,
         )
     by true f r (suc p) e rest =
         let on = rest (s + 1) p r.1 e in

@@ -3,12 +3,15 @@ use Rattle.std.proofs.Common.{◌≡◌, ℕ, zero, suc, ◌≤◌, refl, sym, a
 use Rattle.std.proofs.Common.{◌∷◌, ◌++◌, length, inl, inr, ⊎_elim}
 use Rattle.std.specs.Prelude.{◌||◌, ◌⊎◌, Option, Some, None, if◌then◌else◌}
 use Rattle.std.specs.Str.{bytes_eq}
+use Rattle.std.proofs.lemmas.Bool.{or_left, or_right}
 use Rattle.cjc_world.specs.Classes.{Class, class_named}
 use Rattle.cjc_world.specs.Supertypes.{Supertypes, known_as, in_a_row, supertypes_within, supertypes, Lists, foremost}
 use Rattle.cjc_world.specs.Supertypes.{after, Above, directly, onwards, stands, above_of, stands_above}
 use Rattle.cjc_world.specs.Supertypes.{StandsWhereAbove}
-use Rattle.cjc_world.proofs.Settled.{bytes-true, bytes-refl, is_left, without, without-less, without-left, none_left}
+use Rattle.cjc_world.proofs.Settled.{is_left, without, without-less, without-left, none_left}
 use Rattle.cjc_world.proofs.Settled.{lists-front, lists-behind, names, names-length, named-left}
+use Rattle.cjc_bytes.proofs.Lists.{name_is, bytes_true}
+use Rattle.cjc_bytes.proofs.Bools.{or_cases}
 
 pub class_named-name : (w : List Class) (x : List ℕ) (c : Class) → class_named w x ≡ Some c → c.name ≡ x
 unfolding class_named supertypes_within supertypes stands_above
@@ -17,23 +20,8 @@ class_named-name (d ∷ w) x c e = by (bytes_eq d.name x) refl e (class_named-na
   where
     by : (b : Bool) → bytes_eq d.name x ≡ b → (if b then Some d else class_named w x) ≡ Some c
         → (class_named w x ≡ Some c → c.name ≡ x) → c.name ≡ x
-    by true f e rest = let is : d ≡ c = cc in ap (λ q. q.name) (sym is) ∙ bytes-true d.name x f
+    by true f e rest = let is : d ≡ c = cc in ap (λ q. q.name) (sym is) ∙ bytes_true d.name x f
     by false f e rest = rest e
-
-or_left : (a b : Bool) → a ≡ true → (a || b) ≡ true
-unfolding class_named supertypes_within supertypes stands_above
-or_left true b e = refl
-or_left false b e = cc
-
-or_right : (a b : Bool) → b ≡ true → (a || b) ≡ true
-unfolding class_named supertypes_within supertypes stands_above
-or_right true b e = refl
-or_right false b e = e
-
-or_split : (a b : Bool) → (a || b) ≡ true → (a ≡ true) ⊎ (b ≡ true)
-unfolding class_named supertypes_within supertypes stands_above
-or_split true b e = inl refl
-or_split false b e = inr e
 
 module _ (w : List Class) where
   -- ---- what stands in the tree stands above
@@ -50,10 +38,10 @@ module _ (w : List Class) where
           → stands y (known_as (supertypes_within w n) x o next) ≡ true
           → ((ys : List (List ℕ)) → stands y (supertypes_within w n ys) ≡ true → (z : List ℕ) × Lists z ys
           × ((z ≡ y) ⊎ Above w z y)) → ((x ≡ y) ⊎ Above w x y) ⊎ (stands y next ≡ true)
-      node x xs next None f e rec = ⊎_elim (λ h. inl (inl (bytes-true x y h))) (λ h. inr h) (or_split (bytes_eq x y)
+      node x xs next None f e rec = ⊎_elim (λ h. inl (inl (bytes_true x y h))) (λ h. inr h) (or_cases (bytes_eq x y)
           (stands y next) e)
       node x xs next (Some c) f e rec = ⊎_elim
-          (λ h. inl (inl (sym (class_named-name w x c f) ∙ bytes-true c.name y h)))
+          (λ h. inl (inl (sym (class_named-name w x c f) ∙ bytes_true c.name y h)))
           (λ h. ⊎_elim
           (λ g. inl (inr (up (rec c.supers g).0 (lists-front (rec c.supers g).0 c.supers c.interfaces
           (rec c.supers g).1) (rec c.supers g).2)))
@@ -61,10 +49,10 @@ module _ (w : List Class) where
           (λ k. inl (inr (up (rec c.interfaces k).0 (lists-behind (rec c.interfaces k).0 c.supers c.interfaces
           (rec c.interfaces k).1) (rec c.interfaces k).2)))
           (λ k. inr k)
-          (or_split (stands y (supertypes_within w n c.interfaces)) (stands y next) g))
-          (or_split (stands y (supertypes_within w n c.supers)) (stands y (supertypes_within w n c.interfaces)
+          (or_cases (stands y (supertypes_within w n c.interfaces)) (stands y next) g))
+          (or_cases (stands y (supertypes_within w n c.supers)) (stands y (supertypes_within w n c.interfaces)
           || stands y next) h))
-          (or_split (bytes_eq c.name y) (stands y (supertypes_within w n c.supers)
+          (or_cases (bytes_eq c.name y) (stands y (supertypes_within w n c.supers)
           || (stands y (supertypes_within w n c.interfaces) || stands y next)) (regroup (bytes_eq c.name y)
           (stands y (supertypes_within w n c.supers)) (stands y (supertypes_within w n c.interfaces))
           (stands y next) e))
@@ -110,7 +98,7 @@ module _ (w : List Class) where
   avoid left x z y (step c e l i) = by (bytes_eq x z) refl
     where
       by : (b : Bool) → bytes_eq x z ≡ b → Through (without x left) z y ⊎ Leaves left x y
-      by true f = let is = bytes-true x z f in inr (
+      by true f = let is = bytes_true x z f in inr (
         c,
         ap (class_named w) is ∙ e,
         ap (is_left left) is
@@ -123,7 +111,7 @@ module _ (w : List Class) where
       by : (b : Bool) → bytes_eq x z ≡ b → Through (without x left) v y ⊎ Leaves left x y → Through (without x left) z y
           ⊎ Leaves left x y
       by b f (inr r) = inr r
-      by true f (inl r) = let is = bytes-true x z f in inr (
+      by true f (inl r) = let is = bytes_true x z f in inr (
         c,
         ap (class_named w) is ∙ e,
         ap (is_left left) is
@@ -169,9 +157,9 @@ module _ (w : List Class) where
   stands-itself n y next = by (class_named w y) refl
     where
       by : (o : Option Class) → class_named w y ≡ o → stands y (known_as (supertypes_within w n) y o next) ≡ true
-      by None e = or_left (bytes_eq y y) (stands y next) (bytes-refl y)
+      by None e = or_left (bytes_eq y y) (stands y next) (name_is y)
       by (Some c) e =
-          let same_name : bytes_eq c.name y ≡ true = ap (λ q. bytes_eq q y) (class_named-name w y c e) ∙ bytes-refl y in
+          let same_name : bytes_eq c.name y ≡ true = ap (λ q. bytes_eq q y) (class_named-name w y c e) ∙ name_is y in
           or_left (bytes_eq c.name y || stands y (supertypes_within w n c.supers)
           || stands y (supertypes_within w n c.interfaces)) (stands y next)
           (or_left (bytes_eq c.name y || stands y (supertypes_within w n c.supers))
@@ -198,14 +186,14 @@ module _ (w : List Class) where
       by None e rest = ⊎_elim (λ h. inl (or_left (bytes_eq x y) (stands y (in_a_row w (supertypes_within w n) a)) h))
           (λ h. ⊎_elim (λ g. inl (or_right (bytes_eq x y) (stands y (in_a_row w (supertypes_within w n) a)) g))
           (λ g. inr g) (rest h))
-          (or_split (bytes_eq x y) (stands y (in_a_row w (supertypes_within w n) (a ++ b))) e)
+          (or_cases (bytes_eq x y) (stands y (in_a_row w (supertypes_within w n) (a ++ b))) e)
       by (Some c) e rest =
           let front = bytes_eq c.name y || stands y (supertypes_within w n c.supers)
           || stands y (supertypes_within w n c.interfaces) in
           ⊎_elim (λ h. inl (or_left front (stands y (in_a_row w (supertypes_within w n) a)) h))
           (λ h. ⊎_elim (λ g. inl (or_right front (stands y (in_a_row w (supertypes_within w n) a)) g)) (λ g. inr g)
           (rest h))
-          (or_split front (stands y (in_a_row w (supertypes_within w n) (a ++ b))) e)
+          (or_cases front (stands y (in_a_row w (supertypes_within w n) (a ++ b))) e)
 
   pub through-tree : (n : ℕ) (left : List (List ℕ)) (x y : List ℕ) (c : Class) → length left ≤ n
       → class_named w x ≡ Some c → Through left x y → stands y (supertypes_within w n (c.supers ++ c.interfaces)) ≡ true

@@ -1,7 +1,7 @@
 -- A table is filled pass by pass: after each pass one more step upwards is there.
 use Rattle.std.proofs.Common.{◌≡◌, ℕ, zero, suc, ◌<◌, ◌≤◌, ◌+◌, refl, sym, ap, subst, ◌∙◌, arith, Bool, true, false}
-use Rattle.std.proofs.Common.{List, [], ◌∷◌, ◌++◌, length, inl, inr, ⊎_elim}
-use Rattle.std.specs.Prelude.{◌⊎◌, ◌&&◌, Option, Some, None, is_some, slice_get}
+use Rattle.std.proofs.Common.{List, [], ◌∷◌, ◌++◌, length, ⊎_elim}
+use Rattle.std.specs.Prelude.{◌&&◌, Option, Some, None, is_some, slice_get}
 use Rattle.std.specs.List.{list_all}
 use Rattle.std.proofs.Math.ListN.{set}
 use Rattle.cjc_world.specs.declared.tables.Above.{Above}
@@ -13,31 +13,8 @@ use Rattle.cjc_world.proofs.Settled.{Settles, nothing, something, clear_settles,
 use Rattle.cjc_world.proofs.Cycles.{above-class}
 use Rattle.cjc_world.proofs.ByPlace.{place-class, class-place}
 use Rattle.cjc_world.proofs.Trees.{above-tells, not-own-super}
-
--- ---- one item is written
-
-get-set-same : {A : Type 0} (xs : List A) (i : ℕ) (v : A) → i < length xs → slice_get (set xs i v) i ≡ Some v
-get-set-same [] i v l = absurd (omega arith)
-get-set-same (x ∷ xs) zero v l = refl
-get-set-same (x ∷ xs) (suc i) v l = get-set-same xs i v (omega arith)
-
-get-set-other : {A : Type 0} (xs : List A) (i j : ℕ) (v : A) → (j ≡ i → ⊥) → slice_get (set xs i v) j ≡ slice_get xs j
-get-set-other [] i j v n = refl
-get-set-other (x ∷ xs) zero zero v n = absurd (n refl)
-get-set-other (x ∷ xs) zero (suc j) v n = refl
-get-set-other (x ∷ xs) (suc i) zero v n = refl
-get-set-other (x ∷ xs) (suc i) (suc j) v n = get-set-other xs i j v (λ e. n (ap suc e))
-
-set-length : {A : Type 0} (xs : List A) (i : ℕ) (v : A) → length (set xs i v) ≡ length xs
-set-length [] i v = refl
-set-length (x ∷ xs) zero v = refl
-set-length (x ∷ xs) (suc i) v = ap suc (set-length xs i v)
-
-pub same_or : (p q : ℕ) → (p ≡ q) ⊎ (p ≡ q → ⊥)
-same_or zero zero = inl refl
-same_or zero (suc q) = inr (λ e. cc)
-same_or (suc p) zero = inr (λ e. cc)
-same_or (suc p) (suc q) = ⊎_elim (λ e. inl (ap suc e)) (λ n. inr (λ e. n cc)) (same_or p q)
+use Rattle.cjc_bytes.proofs.Gets.{slice_get_set_same, get_set_other, set_length}
+use Rattle.cjc_bytes.proofs.Numbers.{same_place}
 
 -- ---- what is ready stays so
 
@@ -92,7 +69,7 @@ module _ (w : List Class) where
     settles = λ q c l m e r. ⊎_elim
         (λ is. b.settles q c (let i : q ≡ to = is in omega arith) m e (are-ready-more old mid a.stays c r))
         (λ other. b.stays q (a.settles q c l (let n : q ≡ to → ⊥ = other in omega arith) e r))
-        (same_or q to);
+        (same_place q to);
   }
 
   -- what comes behind loses nothing
@@ -137,26 +114,26 @@ module _ (w : List Class) where
   pub closer-set : (rows : List (Option Above)) (p : ℕ) (d : Class) → p < length rows → slice_get w p ≡ Some d
       → are_ready w rows d ≡ true → Closer w rows (set rows p (Some (above_at w rows p d))) p (p + 1)
   closer-set rows p d within f ready = record {
-    count = set-length rows p (Some (above_at w rows p d));
+    count = set_length rows p (Some (above_at w rows p d));
     right = λ right x q a e g. ⊎_elim
         (λ is.
         let h : slice_get (set rows p (Some (above_at w rows p d))) q ≡ Some (Some (above_at w rows p d)) =
         ap (slice_get (set rows p (Some (above_at w rows p d)))) is
-        ∙ get-set-same rows p (Some (above_at w rows p d)) within in
+        ∙ slice_get_set_same rows p (Some (above_at w rows p d)) within in
         let same : above_at w rows p d ≡ a = cc in
         let at : place_named w x ≡ Some p = e ∙ ap Some is in
         let t = above-tells w rows right x p d at f ready in
         (t.0, t.1, sym same ∙ t.2))
-        (λ other. right x q a e (sym (get-set-other rows p q (Some (above_at w rows p d)) other) ∙ g))
-        (same_or q p);
+        (λ other. right x q a e (sym (get_set_other rows p q (Some (above_at w rows p d)) other) ∙ g))
+        (same_place q p);
     stays = λ q e. ⊎_elim
         (λ is. ap is_row (ap (slice_get (set rows p (Some (above_at w rows p d)))) is
-        ∙ get-set-same rows p (Some (above_at w rows p d)) within))
-        (λ other. ap is_row (get-set-other rows p q (Some (above_at w rows p d)) other) ∙ e)
-        (same_or q p);
+        ∙ slice_get_set_same rows p (Some (above_at w rows p d)) within))
+        (λ other. ap is_row (get_set_other rows p q (Some (above_at w rows p d)) other) ∙ e)
+        (same_place q p);
     settles = λ q c l m e r. let is : q ≡ p = omega arith
         in ap is_row (ap (slice_get (set rows p (Some (above_at w rows p d)))) is
-        ∙ get-set-same rows p (Some (above_at w rows p d)) within);
+        ∙ slice_get_set_same rows p (Some (above_at w rows p d)) within);
   }
 
   -- ---- how far the passes reach
@@ -200,7 +177,7 @@ module _ (w : List Class) where
       (λ y i. up y (lists-front y c.supers c.interfaces i)))
       ∙ all-listed old c.interfaces (λ y i. up y (lists-behind y c.supers c.interfaces i))))
       (λ (other : j ≡ n → ⊥). closer.stays p (r j (omega arith) p c e all))
-      (same_or j n)
+      (same_place j n)
     where
       got-within : {A : Type 0} (xs : List A) (i : ℕ) (x : A) → slice_get xs i ≡ Some x → i < length xs
       got-within [] i x e = cc

@@ -6,6 +6,8 @@ use Rattle.std.specs.List.{list_any, list_all}
 use Rattle.std.proofs.lemmas.Option.{slice_get_within}
 use Rattle.std.specs.Str.{bytes_eq}
 use Rattle.cjc_bytes.specs.declared.fault.MemberId.{MemberId}
+use Rattle.cjc_bytes.proofs.Bools.{both_front, both_back}
+use Rattle.cjc_bytes.proofs.Quantified.{any_of_map}
 use Rattle.cjc_classfile.specs.declared.tree.ClassTree.{ClassTree}
 use Rattle.cjc_export.specs.declared.tree.ExportClass.{ExportClass}
 use Rattle.cjc_world.specs.declared.circular.Cycles.{Cycles}
@@ -25,11 +27,10 @@ use Rattle.cjc_world.proofs.Settled.{lists-front, lists-behind}
 use Rattle.cjc_world.proofs.Rising.{stands-row}
 use Rattle.cjc_world.proofs.Subtypes.{reaches}
 use Rattle.cjc_world.proofs.ByPlace.{place-none}
-use Rattle.cjc_world.proofs.Trees.{all-front, all-back, tree-clear, lists-split}
+use Rattle.cjc_world.proofs.Trees.{tree-clear, lists-split}
 use Rattle.cjc_world.proofs.Filling.{all-listed}
 use Rattle.cjc_world.proofs.Indexing.{got_some}
 use Rattle.cjc_world.proofs.Adding.{added-here, table-of, table-ready}
-use Rattle.cjc_world.proofs.Mapped.{any_of_map}
 
 module _ (w : List Class) where
   pub none-above : IsAcyclic w → (x : List ℕ) → false ≡ stands_above w x x
@@ -133,9 +134,9 @@ module _ (w : List Class) where
         (and-right (stands d.0.name (supertypes w (c.supers ++ c.interfaces))) (is_own_super w d.0) d.1) in
         ready-clear up.0
         (⊎_elim
-        (λ i. one c.supers up.0 i (all-front (list_all (λ x. is_ready w rows x) c.supers)
+        (λ i. one c.supers up.0 i (both_front (list_all (λ x. is_ready w rows x) c.supers)
         (list_all (λ x. is_ready w rows x) c.interfaces) ready))
-        (λ i. one c.interfaces up.0 i (all-back (list_all (λ x. is_ready w rows x) c.supers)
+        (λ i. one c.interfaces up.0 i (both_back (list_all (λ x. is_ready w rows x) c.supers)
         (list_all (λ x. is_ready w rows x) c.interfaces) ready))
         (lists-split up.0 c.supers c.interfaces up.1))
         d.0.name up.2 far
@@ -143,8 +144,8 @@ module _ (w : List Class) where
         one : (xs : List (List ℕ)) (y : List ℕ) → Lists y xs → list_all (λ x. is_ready w rows x) xs ≡ true
             → is_ready w rows y ≡ true
         one [] y i e = elim i [ ]
-        one (x ∷ xs) y foremost e = all-front (is_ready w rows x) (list_all (λ x. is_ready w rows x) xs) e
-        one (x ∷ xs) y (after i) e = one xs y i (all-back (is_ready w rows x) (list_all (λ x. is_ready w rows x) xs) e)
+        one (x ∷ xs) y foremost e = both_front (is_ready w rows x) (list_all (λ x. is_ready w rows x) xs) e
+        one (x ∷ xs) y (after i) e = one xs y i (both_back (is_ready w rows x) (list_all (λ x. is_ready w rows x) xs) e)
 
     free-ready : is_under_cycle w c ≡ false → are_ready w rows c ≡ true
     unfolding are_ready is_under_cycle

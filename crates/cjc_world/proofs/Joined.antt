@@ -6,32 +6,17 @@ use Rattle.std.specs.List.{list_any}
 use Rattle.std.proofs.Math.Seq.{drop-cons}
 use Rattle.std.proofs.lemmas.Grind.{common_steps}
 use Rattle.std.proofs.lemmas.List.Folds.{list_any-append}
-use Rattle.std.proofs.lemmas.Bool.Decides.{nat_tests}
+use Rattle.std.proofs.lemmas.Bool.{or_left, or_right}
 use Rattle.cjc_world.specs.declared.found.Found.{Found}
 use Rattle.cjc_world.specs.Working.Places.{is_in, joined, first_place}
 use Rattle.cjc_world.specs.Lookup.{or_else}
+use Rattle.cjc_world.proofs.Rising.{or_else-assoc, or_else-none}
+use Rattle.cjc_bytes.proofs.Bools.{or_assoc}
+use Rattle.cjc_bytes.proofs.Numbers.{number_same}
 
 pub or-false : (b : Bool) → (b || false) ≡ b
 or-false true = refl
 or-false false = refl
-
-or-assoc : (a b c : Bool) → ((a || b) || c) ≡ (a || (b || c))
-or-assoc true b c = refl
-or-assoc false b c = refl
-
-or-left : (a b : Bool) → a ≡ true → (a || b) ≡ true
-or-left true b e = refl
-or-left false b e = cc
-
-or-right : (a b : Bool) → b ≡ true → (a || b) ≡ true
-or-right true b e = refl
-or-right false b e = e
-
-pub same-refl : (q : ℕ) → (q == q) ≡ true
-same-refl q = grind (arith, nat_tests)
-
-pub same-true : (q p : ℕ) → (q == p) ≡ true → q ≡ p
-same-true q p e = grind (arith, nat_tests)
 
 pub in-append : (q : ℕ) (ps rs : List ℕ) → is_in q (ps ++ rs) ≡ (is_in q ps || is_in q rs)
 in-append q ps rs = list_any-append (λ p. p == q) ps rs
@@ -47,11 +32,11 @@ in-joined q ps (r ∷ rs) = by (is_in r ps) refl (in-joined q ps rs) (in-joined 
     by true e h k = same (r == q) refl
       where
         same : (t : Bool) → (r == q) ≡ t → is_in q (joined ps rs) ≡ (is_in q ps || (t || is_in q rs))
-        same true f = let i : is_in q ps ≡ true = ap (λ v. is_in v ps) (sym (same-true r q f)) ∙ e in
-            h ∙ or-left (is_in q ps) (is_in q rs) i ∙ sym (or-left (is_in q ps) true i)
+        same true f = let i : is_in q ps ≡ true = ap (λ v. is_in v ps) (sym (number_same r q f)) ∙ e in
+            h ∙ or_left (is_in q ps) (is_in q rs) i ∙ sym (or_left (is_in q ps) true i)
         same false f = h
     by false e h k = k ∙ ap (λ b. b || is_in q rs) (in-append q ps (r ∷ [])
-        ∙ ap (λ b. is_in q ps || b) (or-false (r == q))) ∙ or-assoc (is_in q ps) (r == q) (is_in q rs)
+        ∙ ap (λ b. is_in q ps || b) (or-false (r == q))) ∙ or_assoc (is_in q ps) (r == q) (is_in q rs)
 
 pub joined-append : (ps qs rs : List ℕ) → joined ps (qs ++ rs) ≡ joined (joined ps qs) rs
 unfolding joined
@@ -112,7 +97,7 @@ joined-joined ps qs (r ∷ rs) = by (is_in r qs) refl (joined-joined ps qs rs) (
         → joined ps (joined (qs ++ r ∷ []) rs) ≡ joined (joined ps (qs ++ r ∷ [])) rs
         → joined ps (if b then joined qs rs else joined (qs ++ r ∷ []) rs) ≡ joined (joined ps qs) (r ∷ rs)
     by true e h k = h ∙ sym (joined-one-in (joined ps qs) r rs (in-joined r ps qs
-        ∙ or-right (is_in r ps) (is_in r qs) e))
+        ∙ or_right (is_in r ps) (is_in r qs) e))
     by false e h k = k ∙ ap (λ v. joined v rs) (joined-append ps qs (r ∷ []))
         ∙ sym (joined-append (joined ps qs) (r ∷ []) rs)
 
@@ -121,14 +106,6 @@ unfolding joined
 joined-once ps rs = joined-joined ps [] rs
 
 -- ---- the first answer
-
-or_else-assoc : (f g h : Option Found) → or_else (or_else f g) h ≡ or_else f (or_else g h)
-or_else-assoc None g h = refl
-or_else-assoc (Some f) g h = refl
-
-or_else-none : (f : Option Found) → or_else f None ≡ f
-or_else-none None = refl
-or_else-none (Some f) = refl
 
 first-place-append : (own : ℕ → Option Found) (ps qs : List ℕ) → first_place own (ps ++ qs)
     ≡ or_else (first_place own ps) (first_place own qs)
@@ -152,7 +129,7 @@ tried own q (p ∷ ps) e = by (p == q) refl e (tried own q ps)
     by : (b : Bool) → (p == q) ≡ b → (b || is_in q ps) ≡ true
         → (is_in q ps ≡ true → or_else (first_place own ps) (own q) ≡ first_place own ps)
         → or_else (or_else (own p) (first_place own ps)) (own q) ≡ or_else (own p) (first_place own ps)
-    by true f e rest = ap (λ v. or_else (or_else (own p) (first_place own ps)) (own v)) (sym (same-true p q f))
+    by true f e rest = ap (λ v. or_else (or_else (own p) (first_place own ps)) (own v)) (sym (number_same p q f))
         ∙ again (own p) (first_place own ps)
     by false f e rest = or_else-assoc (own p) (first_place own ps) (own q) ∙ ap (or_else (own p)) (rest e)
 
@@ -192,15 +169,15 @@ any-joined test ps (q ∷ qs) = by (is_in q ps) refl (any-joined test ps qs) (an
 
         here : (b : Bool) → (p == q) ≡ b → (b || is_in q ps) ≡ true → (is_in q ps ≡ true → (list_any test ps || test q)
             ≡ list_any test ps) → ((test p || list_any test ps) || test q) ≡ (test p || list_any test ps)
-        here true f e rest = ap (λ v. (test p || list_any test ps) || test v) (sym (same-true p q f))
+        here true f e rest = ap (λ v. (test p || list_any test ps) || test v) (sym (number_same p q f))
             ∙ again (test p) (list_any test ps)
-        here false f e rest = or-assoc (test p) (list_any test ps) (test q) ∙ ap (λ b. test p || b) (rest e)
+        here false f e rest = or_assoc (test p) (list_any test ps) (test q) ∙ ap (λ b. test p || b) (rest e)
 
     by : (b : Bool) → is_in q ps ≡ b → list_any test (joined ps qs) ≡ (list_any test ps || list_any test qs)
         → list_any test (joined (ps ++ q ∷ []) qs) ≡ (list_any test (ps ++ q ∷ []) || list_any test qs)
         → list_any test (if b then joined ps qs else joined (ps ++ q ∷ []) qs) ≡ (list_any test ps
         || (test q || list_any test qs))
-    by true e h k = h ∙ ap (λ b. b || list_any test qs) (sym (had ps e)) ∙ or-assoc (list_any test ps) (test q)
+    by true e h k = h ∙ ap (λ b. b || list_any test qs) (sym (had ps e)) ∙ or_assoc (list_any test ps) (test q)
         (list_any test qs)
     by false e h k = k ∙ ap (λ b. b || list_any test qs) (list_any-append test ps (q ∷ []) ∙ ap (λ b. list_any test ps
-        || b) (or-false (test q))) ∙ or-assoc (list_any test ps) (test q) (list_any test qs)
+        || b) (or-false (test q))) ∙ or_assoc (list_any test ps) (test q) (list_any test qs)

@@ -19,7 +19,6 @@ pub mod Filling
 pub mod Marking
 pub mod Piecing
 pub mod Noted
-pub mod Mapped
 pub mod Positions
 pub mod Asking
 pub mod Adding
@@ -30,4 +29,10 @@ pub mod Once
 pub mod Called
 pub mod UpwardLaws
 -- Lemmas of lower crates, for those above.
+pub use Rattle.cjc_bytes.proofs.Bools as BytesBools
+pub use Rattle.cjc_bytes.proofs.Gets as BytesGets
+pub use Rattle.cjc_bytes.proofs.Lists as BytesLists
+pub use Rattle.cjc_bytes.proofs.Numbers as BytesNumbers
+pub use Rattle.cjc_bytes.proofs.Quantified as BytesQuantified
+pub use Rattle.cjc_export.proofs.Rooted as ExportFileRooted
 pub use Rattle.cjc_export.proofs.Upwards as ExportFileUpwards

@@ -5,8 +5,9 @@ use Rattle.std.specs.Prelude.{◌||◌, ◌==◌, Some, slice_get}
 use Rattle.std.proofs.lemmas.Bool.Decides.{nat_tests}
 use Rattle.cjc_world.specs.Working.Places.{is_in}
 use Rattle.cjc_world.specs.Working.Tables.{AreMarked}
-use Rattle.cjc_world.proofs.Joined.{in-append, or-false, same-refl}
-use Rattle.cjc_world.proofs.Filling.{same_or}
+use Rattle.cjc_world.proofs.Joined.{in-append, or-false}
+use Rattle.cjc_bytes.proofs.Bools.{or_true}
+use Rattle.cjc_bytes.proofs.Numbers.{like_number, same_place}
 
 set-here : (marks : List Bool) (q : ℕ) (mark : Bool) → slice_get (slice_set marks q true) q ≡ Some mark → mark ≡ true
 set-here [] q mark e = cc
@@ -20,13 +21,9 @@ set-there (m ∷ marks) zero (suc p) n = refl
 set-there (m ∷ marks) (suc q) zero n = refl
 set-there (m ∷ marks) (suc q) (suc p) n = set-there marks q p (λ e. n (ap suc e))
 
-or-true : (b : Bool) → (b || true) ≡ true
-or-true true = refl
-or-true false = refl
-
 in-last : (places : List ℕ) (q : ℕ) → is_in q (places ++ q ∷ []) ≡ true
-in-last places q = in-append q places (q ∷ []) ∙ ap (λ b. is_in q places || b) (or-false (q == q) ∙ same-refl q)
-    ∙ or-true (is_in q places)
+in-last places q = in-append q places (q ∷ []) ∙ ap (λ b. is_in q places || b) (or-false (q == q) ∙ like_number q)
+    ∙ or_true (is_in q places)
 
 in-other : (places : List ℕ) (q p : ℕ) → (p ≡ q → ⊥) → is_in p (places ++ q ∷ []) ≡ is_in p places
 in-other places q p n =
@@ -45,7 +42,7 @@ mark-set marks places new q inv is = λ p mark e. ⊎_elim
     ∙ sym (in-last places q) ∙ ap (λ v. is_in v (places ++ q ∷ [])) (sym same) ∙ ap (is_in p) (sym is))
     (λ (other : p ≡ q → ⊥). inv p mark (sym (set-there marks q p other) ∙ e) ∙ sym (in-other places q p other)
     ∙ ap (is_in p) (sym is))
-    (same_or p q)
+    (same_place p q)
 
 -- the place has no mark
 pub mark-over : (marks : List Bool) (places new : List ℕ) (q : ℕ) → length marks ≤ q → AreMarked marks places

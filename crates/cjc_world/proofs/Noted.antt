@@ -13,18 +13,7 @@ use Rattle.cjc_world.specs.Classes.{Class}
 use Rattle.cjc_world.specs.Working.Names.{is_named, spot_named}
 use Rattle.cjc_world.specs.Working.Places.{place_named}
 use Rattle.cjc_world.specs.Working.Spots.{at, stood}
-use Rattle.cjc_world.proofs.Settled.{bytes-true, bytes-refl}
-
-bytes-flip : (x y : List ℕ) → bytes_eq x y ≡ bytes_eq y x
-bytes-flip x y = by (bytes_eq x y) (bytes_eq y x) refl refl
-  where
-    by : (a b : Bool) → bytes_eq x y ≡ a → bytes_eq y x ≡ b → a ≡ b
-    by true true e f = refl
-    by false false e f = refl
-    by true false e f = let h : bytes_eq y x ≡ true = ap (λ z. bytes_eq z x) (sym (bytes-true x y e)) ∙ bytes-refl x
-        in cc
-    by false true e f = let h : bytes_eq x y ≡ true = ap (λ z. bytes_eq z y) (sym (bytes-true y x f)) ∙ bytes-refl y
-        in cc
+use Rattle.cjc_bytes.proofs.Lists.{name_is, bytes_true, bytes_flip}
 
 module _ {K X S : Type 0} (bytes : K → List ℕ) where
   pub noted : (name : List ℕ) (m n : HashMap K X S) (w : Option X)
@@ -36,10 +25,10 @@ module _ {K X S : Type 0} (bytes : K → List ℕ) where
     where
       by : (b : Bool) → bytes_eq name other ≡ b → hash.get_by (λ k. bytes_eq other (bytes k)) n
           ≡ cond b w (hash.get_by (λ k. bytes_eq other (bytes k)) m)
-      by true e = subst (λ z. hash.get_by (λ k. bytes_eq z (bytes k)) n ≡ w) (bytes-true name other e) h.1
+      by true e = subst (λ z. hash.get_by (λ k. bytes_eq z (bytes k)) n ≡ w) (bytes_true name other e) h.1
       by false e = h.3 (λ k. bytes_eq other (bytes k))
-          (λ x y f. ap (λ z. bytes_eq z (bytes y)) (bytes-true other (bytes x) f))
-          (λ k f. bytes-flip other (bytes k) ∙ ap (λ z. bytes_eq z other) (sym (bytes-true name (bytes k) f)) ∙ e)
+          (λ x y f. ap (λ z. bytes_eq z (bytes y)) (bytes_true other (bytes x) f))
+          (λ k f. bytes_flip other (bytes k) ∙ ap (λ z. bytes_eq z other) (sym (bytes_true name (bytes k) f)) ∙ e)
 
 -- ---- spots
 
@@ -100,7 +89,7 @@ module _ (cs : List ClassTree) (es : List ExportTree) where
             → o ≡ or_here o b i
         by b g (Some q) h = refl
         by false g None h = refl
-        by true g None h = let same = bytes-true c.name x g in let k : old c.name ≡ None = ap old same ∙ kept x ∙ h
+        by true g None h = let same = bytes_true c.name x g in let k : old c.name ≡ None = ap old same ∙ kept x ∙ h
             in cc
 
     -- it is noted now
@@ -112,7 +101,7 @@ module _ (cs : List ClassTree) (es : List ExportTree) where
         ∙ ap (λ o. or_here (spot_named cs es (take i ss) x) (is_named o x) i) (sym e) ∙ sym (more ss i d x within)
       where
         by : (b : Bool) → bytes_eq c.name x ≡ b → cond b (Some i) (old x) ≡ or_here (spot_named cs es (take i ss) x) b i
-        by true g = let same = bytes-true c.name x g in let k : spot_named cs es (take i ss) x ≡ None = sym (kept x)
+        by true g = let same = bytes_true c.name x g in let k : spot_named cs es (take i ss) x ≡ None = sym (kept x)
             ∙ ap old (sym same) ∙ f in ap (λ o. or_here o true i) (sym k)
         by false g = kept x ∙ inner (spot_named cs es (take i ss) x)
           where

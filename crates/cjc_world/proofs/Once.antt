@@ -11,13 +11,14 @@ use Rattle.cjc_world.specs.Supertypes.{is_one_named, once}
 use Rattle.cjc_world.specs.Interfaces.{Interface, where_listed, gathered, is_among, each_once, known}
 use Rattle.cjc_world.specs.Working.Places.{place_named, places_of, at_places, is_in, joined}
 use Rattle.cjc_world.specs.Working.Tables.{IsTable, pieces, above_at}
-use Rattle.cjc_world.proofs.Settled.{bytes-true, bytes-refl, supertypes-AreSupertypes}
+use Rattle.cjc_world.proofs.Settled.{supertypes-AreSupertypes}
 use Rattle.cjc_world.proofs.Cycles.{class_named-name}
 use Rattle.cjc_world.proofs.Rising.{known-append}
-use Rattle.cjc_world.proofs.Joined.{same-refl, same-true}
 use Rattle.cjc_world.proofs.ByPlace.{AreNamed, named-append, place-class, class-place, places-append, at-places-of}
 use Rattle.cjc_world.proofs.Adding.{named-upwards, named-known, any-places, part-of, table-ready, line-above}
 use Rattle.cjc_world.proofs.Adding.{interfaces-of}
+use Rattle.cjc_bytes.proofs.Lists.{name_is, bytes_true}
+use Rattle.cjc_bytes.proofs.Numbers.{like_number, number_same}
 
 module _ (w : List Class) where
   -- ---- places and names
@@ -29,16 +30,16 @@ module _ (w : List Class) where
       by : (b s : Bool) → bytes_eq d.name x ≡ b → (q == p) ≡ s → s ≡ b
       by true true f g = refl
       by true false f g =
-          let one : Some q ≡ Some p = sym place ∙ ap (place_named w) (bytes-true d.name x f) ∙ e in
+          let one : Some q ≡ Some p = sym place ∙ ap (place_named w) (bytes_true d.name x f) ∙ e in
           let is : q ≡ p = cc in
-          let same : (q == p) ≡ true = ap (λ r. r == p) is ∙ same-refl p in cc
+          let same : (q == p) ≡ true = ap (λ r. r == p) is ∙ like_number p in cc
       by false true f g =
           let c = place-class w x p e in
-          let is : q ≡ p = same-true q p g in
+          let is : q ≡ p = number_same q p g in
           let one : Some d ≡ Some c.0 = sym at ∙ ap (slice_get w) is ∙ c.1 in
           let both : d ≡ c.0 = cc in
           let same : bytes_eq d.name x ≡ true = ap (λ (v : Class). bytes_eq v.name x) both
-          ∙ ap (λ n. bytes_eq n x) (class_named-name w x c.0 c.2) ∙ bytes-refl x in cc
+          ∙ ap (λ n. bytes_eq n x) (class_named-name w x c.0 c.2) ∙ name_is x in cc
       by false false f g = refl
 
   in-named : (seen : List Class) → AreNamed w seen → (x : List ℕ) (p : ℕ) → place_named w x ≡ Some p
@@ -116,7 +117,7 @@ module _ (w : List Class) where
       by None f rest = other (bytes_eq i.name x) refl
         where
           other : (b : Bool) → bytes_eq i.name x ≡ b → (b || is_among is x) ≡ is_one_named (known is) x
-          other true g = let n : None ≡ Some c = f ∙ ap (class_named w) (bytes-true i.name x g) ∙ e in cc
+          other true g = let n : None ≡ Some c = f ∙ ap (class_named w) (bytes_true i.name x g) ∙ e in cc
           other false g = rest
       by (Some d) f rest = ap (λ n. bytes_eq n x || is_among is x) (sym (class_named-name w i.name d (sym f)))
           ∙ ap (λ b. bytes_eq d.name x || b) rest

@@ -1,5 +1,5 @@
 -- The method at a position, of either kind of class.
-use Rattle.std.proofs.Common.{◌≡◌, ℕ, zero, suc, cond, refl, sym, ap, subst, ◌∙◌, Bool, true, false, List, [], ◌∷◌}
+use Rattle.std.proofs.Common.{◌≡◌, ℕ, cond, refl, sym, ap, subst, ◌∙◌, Bool, true, false, List, [], ◌∷◌}
 use Rattle.std.specs.Prelude.{◌==◌, map, slice_get, MatchOption, Option, Some, None, option_map}
 use Rattle.std.specs.List.{find}
 use Rattle.cjc_classfile.specs.declared.tree.ClassTree.{ClassTree}
@@ -8,11 +8,7 @@ use Rattle.cjc_export.specs.declared.tree.ExportClass.{ExportClass}
 use Rattle.cjc_export.specs.declared.tree.ExportMethod.{ExportMethod}
 use Rattle.cjc_world.specs.Classes.{Member, method_of_class, method_of_export, declared, imported}
 use Rattle.cjc_world.specs.Working.Asked.{IsNamed, positioned}
-
-get-map : {A B : Type 0} (f : A → B) (xs : List A) (k : ℕ) → slice_get (map f xs) k ≡ option_map f (slice_get xs k)
-get-map f [] k = refl
-get-map f (x ∷ xs) zero = refl
-get-map f (x ∷ xs) (suc k) = get-map f xs k
+use Rattle.cjc_bytes.proofs.Gets.{get_mapped}
 
 find-map : {A B : Type 0} (p : B → Bool) (f : A → B) (xs : List A)
     → find p (map f xs) ≡ option_map f (find (λ x. p (f x)) xs)
@@ -30,8 +26,8 @@ module _ {A : Type 0} (name desc : A → List ℕ) where
       → MatchOption o (positioned (declared n c) k ≡ None) (λ p. IsNamed (positioned (declared n c) k) (name p)
       (desc p))
   unfolding positioned
-  declared_at n c k None h = get-map method_of_class c.methods k ∙ ap (option_map method_of_class) h
-  declared_at n c k (Some p) h = subst (λ o. IsNamed o (name p) (desc p)) (sym (get-map method_of_class c.methods k
+  declared_at n c k None h = get_mapped method_of_class c.methods k ∙ ap (option_map method_of_class) h
+  declared_at n c k (Some p) h = subst (λ o. IsNamed o (name p) (desc p)) (sym (get_mapped method_of_class c.methods k
       ∙ ap (option_map method_of_class) h.1)) (h.2, h.3)
 
   pub imported_at : (n : ℕ) (c : ExportClass) (k : ℕ) (o : Option A)

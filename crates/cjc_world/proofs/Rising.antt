@@ -41,11 +41,11 @@ module _ {R X : Type 0} (answer : List X → R) (join : R → R → R) (none : R
   pub walk_past : (xs : List X) (i : ℕ) → length xs ≤ i → answer (drop i xs) ≡ answer xs → none ≡ answer xs
   walk_past xs i l kept = let e : drop i xs ≡ [] = grind (arith, common_steps) in sym (sym kept ∙ ap answer e ∙ empty)
 
-or_else-none : (f : Option Found) → or_else f None ≡ f
+pub or_else-none : (f : Option Found) → or_else f None ≡ f
 or_else-none None = refl
 or_else-none (Some f) = refl
 
-or_else-assoc : (f g h : Option Found) → or_else (or_else f g) h ≡ or_else f (or_else g h)
+pub or_else-assoc : (f g h : Option Found) → or_else (or_else f g) h ≡ or_else f (or_else g h)
 or_else-assoc None g h = refl
 or_else-assoc (Some f) g h = refl
 

@@ -3,20 +3,12 @@ use Rattle.std.proofs.Common.{◌≡◌, ℕ, zero, suc, ◌<◌, ◌≤◌, ref
 use Rattle.std.proofs.Common.{[], ◌∷◌, ◌++◌, length, inl, inr, ⊎_elim}
 use Rattle.std.specs.Prelude.{◌||◌, ◌⊎◌, Option, Some, None, if◌then◌else◌}
 use Rattle.std.specs.Str.{bytes_eq}
-use Rattle.std.proofs.lemmas.Slice.Eq.{bytes_eq-Decides}
 use Rattle.cjc_world.specs.Classes.{Class, class_named}
 use Rattle.cjc_world.specs.Working.Tables.{IsClear}
 use Rattle.cjc_world.specs.Supertypes.{Supertypes, End, Unknown, Known, known_as, in_a_row, supertypes_within}
 use Rattle.cjc_world.specs.Supertypes.{supertypes, AreSupertypes, ends, unknown_here, known_here, Lists, foremost}
 use Rattle.cjc_world.specs.Supertypes.{after, Above, directly, onwards, IsAcyclic}
-
-pub bytes-true : (x y : List ℕ) → bytes_eq x y ≡ true → x ≡ y
-unfolding class_named supertypes_within supertypes
-bytes-true x y e = grind (arith, bytes_eq-Decides)
-
-pub bytes-refl : (x : List ℕ) → bytes_eq x x ≡ true
-unfolding class_named supertypes_within supertypes
-bytes-refl x = grind (arith, bytes_eq-Decides)
+use Rattle.cjc_bytes.proofs.Lists.{bytes_true}
 
 -- every way upwards from the name ends within so many steps
 pub data Settles (w : List Class) : ℕ → List ℕ → Type 0 where
@@ -62,7 +54,7 @@ without-left x z (y ∷ ys) n e = by (bytes_eq y x) (bytes_eq y z) refl refl e (
   where
     by : (b a : Bool) → bytes_eq y x ≡ b → bytes_eq y z ≡ a → (a || is_left ys z) ≡ true → (is_left ys z ≡ true
         → is_left (without x ys) z ≡ true) → is_left (if b then without x ys else y ∷ without x ys) z ≡ true
-    by true true f g e rest = let p = bytes-true y x f in let q : bytes_eq x z ≡ true = ap (λ r. bytes_eq r z) (sym p)
+    by true true f g e rest = let p = bytes_true y x f in let q : bytes_eq x z ≡ true = ap (λ r. bytes_eq r z) (sym p)
         ∙ g in cc
     by true false f g e rest = rest e
     by false true f g e rest = ap (λ q. q || is_left (without x ys) z) g
@@ -119,7 +111,7 @@ module _ (w : List Class) where
           (other z (reach x y z c e i way) (bytes_eq x z) refl) (all z d (inr (reach x y z c e i way)) f)))
         where
           other : (z : List ℕ) → Above w x z → (b : Bool) → bytes_eq x z ≡ b → bytes_eq x z ≡ false
-          other z far true g = absurd (clear x (inl refl) (subst (λ q. Above w x q) (sym (bytes-true x z g)) far))
+          other z far true g = absurd (clear x (inl refl) (subst (λ q. Above w x q) (sym (bytes_true x z g)) far))
           other z far false g = g
 
 unfoldable pub names : List Class → List (List ℕ)

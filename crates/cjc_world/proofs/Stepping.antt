@@ -18,12 +18,9 @@ use Rattle.cjc_world.proofs.Rising.{stands-row, stands-empty, stands-unknown, st
 use Rattle.cjc_world.proofs.Rising.{below-empty, below-unknown, below-known}
 use Rattle.cjc_world.proofs.Cycles.{class_named-name}
 use Rattle.cjc_world.proofs.ByPlace.{place-class, place-none}
-use Rattle.cjc_world.proofs.Filling.{same_or}
 use Rattle.cjc_world.proofs.Adding.{push-old, push-new}
-
-or-false : (b : Bool) → (b || false) ≡ b
-or-false true = refl
-or-false false = refl
+use Rattle.cjc_world.proofs.Joined.{or-false}
+use Rattle.cjc_bytes.proofs.Numbers.{same_place}
 
 module _ (w : List Class) (by_supers : Bool) (y : List ℕ) where
   unfoldable pub Told : ℕ → List Bool → Type 0
@@ -174,7 +171,7 @@ pub made-more : {A : Type 0} (xs : List A) (y : A) (n : ℕ) (at : ℕ → A) �
 made-more xs y n at count made here p l = ⊎_elim
     (λ (is : p ≡ n). push-new xs y p (is ∙ sym count) ∙ ap Some (here ∙ ap at (sym is)))
     (λ (other : p ≡ n → ⊥). push-old xs y p (omega arith) ∙ made p (omega arith))
-    (same_or p n)
+    (same_place p n)
 
 pub not-own : (w : List Class) (x : List ℕ) (p : ℕ) → place_named w x ≡ Some p → slice_get w p ≡ None
     → false ≡ stands_above w x x

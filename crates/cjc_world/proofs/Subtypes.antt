@@ -3,19 +3,18 @@ use Rattle.std.proofs.Common.{◌≡◌, ℕ, suc, refl, sym, ap, subst, ◌∙�
 use Rattle.std.proofs.Common.{⊎_elim}
 use Rattle.std.specs.Prelude.{not, ◌==◌, ◌&&◌, ◌||◌, ◌⊎◌, if◌then◌else◌}
 use Rattle.std.specs.Str.{bytes_eq}
+use Rattle.std.proofs.lemmas.Bool.{or_left}
 use Rattle.cjc_world.specs.Classes.{Class}
 use Rattle.cjc_world.specs.Supertypes.{End, known_as, supertypes_within, supertypes, Lists, foremost, after, Above}
 use Rattle.cjc_world.specs.Supertypes.{directly, onwards, stands}
 use Rattle.cjc_world.specs.Lookup.{object}
-use Rattle.cjc_world.proofs.Settled.{names, names-length, bytes-true, bytes-refl}
+use Rattle.cjc_world.proofs.Settled.{names, names-length}
 use Rattle.cjc_world.proofs.Cycles.{From, tree-above, stands-itself, stands-append, through-tree, above-class}
 use Rattle.cjc_world.proofs.Cycles.{above-through}
 use Rattle.cjc_world.specs.Subtype.{is_subclass, starts, inner, element, is_element, is_subtype}
 use Rattle.cjc_world.specs.Laws.{IsReflexive, IsTransitive}
-
-or-false : (b : Bool) → (b || false) ≡ b
-or-false true = refl
-or-false false = refl
+use Rattle.cjc_world.proofs.Joined.{or-false}
+use Rattle.cjc_bytes.proofs.Lists.{name_is, bytes_true}
 
 pub element_cases : (w : List Class) (sub sup : List ℕ) → is_element w sub sup ≡
     (bytes_eq sub sup
@@ -44,10 +43,6 @@ element_object w sub sup e f g h =
 
 -- ---- classes
 
-or_true : (a b : Bool) → a ≡ true → (a || b) ≡ true
-or_true true b e = refl
-or_true false b e = cc
-
 above_trans : (w : List Class) (x y z : List ℕ) → Above w x y → Above w y z → Above w x z
 above_trans w x y z (directly c e i) far = onwards c e i far
 above_trans w x y z (onwards {y = m} c e i rest) far = onwards c e i (above_trans w m y z rest far)
@@ -72,10 +67,10 @@ subclass_of_above w x y far =
     let n = names-length w in
     let high = through-tree w (length w) (names w) x y c.0 (omega (arith, n)) c.1 (above-through w far) in
     ap (λ o. stands y (known_as (supertypes_within w (length w)) x o End)) c.1
-    ∙ or_true (bytes_eq c.0.name y || stands y (supertypes_within w (length w) c.0.supers)
+    ∙ or_left (bytes_eq c.0.name y || stands y (supertypes_within w (length w) c.0.supers)
     || stands y (supertypes_within w (length w) c.0.interfaces)) false
     (⊎_elim
-    (λ h. or_true (bytes_eq c.0.name y || stands y (supertypes_within w (length w) c.0.supers))
+    (λ h. or_left (bytes_eq c.0.name y || stands y (supertypes_within w (length w) c.0.supers))
     (stands y (supertypes_within w (length w) c.0.interfaces)) (or_second (bytes_eq c.0.name y)
     (stands y (supertypes_within w (length w) c.0.supers)) h))
     (λ h. or_second (bytes_eq c.0.name y || stands y (supertypes_within w (length w) c.0.supers))
@@ -134,7 +129,7 @@ element_trans w d e f (classes a b p) (classes g h q) = classes a h (subclass_tr
 
 to_element : (w : List Class) (d e : List ℕ) → is_element w d e ≡ true → Element w d e
 unfolding is_element
-to_element w [] e h = subst (λ v. Element w [] v) (bytes-true [] e h) same
+to_element w [] e h = subst (λ v. Element w [] v) (bytes_true [] e h) same
 to_element w (b ∷ bs) e h = by (bytes_eq (b ∷ bs) e) (b == 91) (starts 91 e) (b == 76) (starts 76 e) refl refl refl refl
     refl h (λ e f. to_element w bs e f)
   where
@@ -143,7 +138,7 @@ to_element w (b ∷ bs) e h = by (bytes_eq (b ∷ bs) e) (b == 91) (starts 91 e)
         → (t || (if a then (if g then is_element w bs (element e) else u && is_subclass w object (inner e)) else s && u
         && is_subclass w (inner (b ∷ bs)) (inner e))) ≡ true
         → ((e : List ℕ) → is_element w bs e ≡ true → Element w bs e) → Element w (b ∷ bs) e
-    by true a g s u p q r v x h rec = subst (λ v. Element w (b ∷ bs) v) (bytes-true (b ∷ bs) e p) same
+    by true a g s u p q r v x h rec = subst (λ v. Element w (b ∷ bs) v) (bytes_true (b ∷ bs) e p) same
     by false true true s u p q r v x h rec = arrays q r (rec (element e) h)
     by false true false s true p q r v x h rec = array_object q x h
     by false true false s false p q r v x h rec = cc
@@ -152,9 +147,9 @@ to_element w (b ∷ bs) e h = by (bytes_eq (b ∷ bs) e) (b == 91) (starts 91 e)
     by false false g false u p q r v x h rec = cc
 
 from_element : (w : List Class) (d e : List ℕ) → Element w d e → is_element w d e ≡ true
-from_element w d e same = element_cases w d d ∙ or_true (bytes_eq d d) (if starts 91 d
+from_element w d e same = element_cases w d d ∙ or_left (bytes_eq d d) (if starts 91 d
     then (if starts 91 d then is_element w (element d) (element d) else starts 76 d && is_subclass w object (inner d))
-    else starts 76 d && starts 76 d && is_subclass w (inner d) (inner d)) (bytes-refl d)
+    else starts 76 d && starts 76 d && is_subclass w (inner d) (inner d)) (name_is d)
 from_element w d e (arrays a b p) = element_cases w d e ∙ by (bytes_eq d e) (starts 91 d) (starts 91 e) a b
     (from_element w (element d) (element e) p)
   where

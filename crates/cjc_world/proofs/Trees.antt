@@ -1,7 +1,7 @@
 -- The rows of a table, where they are right, tell the trees of more names; and a name with a tree is not above itself.
 use Rattle.std.proofs.Common.{◌≡◌, ℕ, ◌<◌, ◌≤◌, ◌+◌, suc, refl, sym, ap, subst, ◌∙◌, arith, Bool, true, false, List, []}
 use Rattle.std.proofs.Common.{◌∷◌, ◌++◌, inl, inr, ⊎_elim}
-use Rattle.std.specs.Prelude.{◌⊎◌, ◌&&◌, Option, Some, None, slice_get, option_to_list, if◌then◌else◌}
+use Rattle.std.specs.Prelude.{◌⊎◌, Option, Some, None, slice_get, option_to_list, if◌then◌else◌}
 use Rattle.std.specs.List.{list_all}
 use Rattle.std.proofs.lemmas.List.{append-nil}
 use Rattle.cjc_world.specs.declared.tables.Above.{Above}
@@ -19,6 +19,7 @@ use Rattle.cjc_world.proofs.Cycles.{class_named-name}
 use Rattle.cjc_world.proofs.Rising.{known-append}
 use Rattle.cjc_world.proofs.Joined.{joined-append, joined-once}
 use Rattle.cjc_world.proofs.ByPlace.{place-class, place-none, places-append}
+use Rattle.cjc_bytes.proofs.Bools.{both_front, both_back}
 
 -- ---- lists that are joined alike
 
@@ -48,14 +49,6 @@ pub record Grove (w : List Class) (rows : List (Option Above)) (xs : List (List 
       (places_of w (known (gathered listed tree)))
   pub fields : Alike (pieces w orders.Fields false rows xs) (places_of w (in_field_order tree))
 
-pub all-front : (p q : Bool) → (p && q) ≡ true → p ≡ true
-all-front true q e = refl
-all-front false q e = cc
-
-pub all-back : (p q : Bool) → (p && q) ≡ true → q ≡ true
-all-back true q e = e
-all-back false q e = cc
-
 module _ (w : List Class) (rows : List (Option Above)) (right : AreRight w rows) where
   pub grove : (xs : List (List ℕ)) → list_all (λ x. is_ready w rows x) xs ≡ true → Grove w rows xs
   unfolding Alike pieces places_of gathered known told
@@ -66,8 +59,8 @@ module _ (w : List Class) (rows : List (Option Above)) (right : AreRight w rows)
     interfaces = λ l s. refl;
     fields = λ s. refl;
   }
-  grove (x ∷ xs) e = by (place_named w x) refl (all-front (is_ready w rows x) (list_all (λ x. is_ready w rows x) xs) e)
-      (grove xs (all-back (is_ready w rows x) (list_all (λ x. is_ready w rows x) xs) e))
+  grove (x ∷ xs) e = by (place_named w x) refl (both_front (is_ready w rows x) (list_all (λ x. is_ready w rows x) xs) e)
+      (grove xs (both_back (is_ready w rows x) (list_all (λ x. is_ready w rows x) xs) e))
     where
       by : (o : Option ℕ) → place_named w x ≡ o → is_ready_at rows o ≡ true → Grove w rows xs → Grove w rows (x ∷ xs)
       by None f ready g = record {
@@ -170,9 +163,9 @@ module _ (w : List Class) (rows : List (Option Above)) (right : AreRight w rows)
       let is : d.0 ≡ c = let b = d.1 in cc in
       let named : class_named w x ≡ Some c = d.2 ∙ ap Some is in
       let self : place_named w c.name ≡ Some p = ap (place_named w) (class_named-name w x c named) ∙ e in
-      let s = grove c.supers (all-front (list_all (λ x. is_ready w rows x) c.supers) (list_all (λ x. is_ready w rows x)
+      let s = grove c.supers (both_front (list_all (λ x. is_ready w rows x) c.supers) (list_all (λ x. is_ready w rows x)
       c.interfaces) ready) in
-      let i = grove c.interfaces (all-back (list_all (λ x. is_ready w rows x) c.supers)
+      let i = grove c.interfaces (both_back (list_all (λ x. is_ready w rows x) c.supers)
       (list_all (λ x. is_ready w rows x) c.interfaces) ready) in
       let G = gathered false s.tree ++ gathered true i.tree in (
         Known c s.tree i.tree End,

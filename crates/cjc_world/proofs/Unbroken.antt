@@ -6,6 +6,7 @@ use Rattle.cjc_bytes.specs.Breaks.{broken_at, list_spot}
 use Rattle.cjc_bytes.specs.declared.order.FileKey.{FileKey}
 use Rattle.cjc_bytes.specs.declared.order.FileKey.TheVariants as keys
 use Rattle.cjc_bytes.specs.declared.settings.FileLine.{FileLine}
+use Rattle.cjc_bytes.proofs.Lists.{none_left, none_right}
 use Rattle.cjc_classfile.specs.declared.tree.ClassTree.{ClassTree}
 use Rattle.cjc_export.specs.declared.tree.ExportTree.{ExportTree}
 use Rattle.cjc_world.specs.Files.{Files}
@@ -16,14 +17,6 @@ use Rattle.cjc_world.specs.Rules.{gets_missing, when, at_class, class_rules, mem
 use Rattle.cjc_world.specs.Rules.{class_file_breaks, export_file_breaks, breaks_from, breaks, is_of_package, is_second}
 use Rattle.cjc_world.specs.Rules.{lists_missing, is_own_super, lists_wrong, is_second_package, has_language}
 use Rattle.cjc_world.proofs.Cycles.{class_named-name, above-class, stands_where_above}
-
-pub nil_front : {A : Type 0} (xs ys : List A) → xs ++ ys ≡ [] → xs ≡ []
-nil_front [] ys e = refl
-nil_front (x ∷ xs) ys e = cc
-
-pub nil_back : {A : Type 0} (xs ys : List A) → xs ++ ys ≡ [] → ys ≡ []
-nil_back [] ys e = e
-nil_back (x ∷ xs) ys e = cc
 
 pub nil_of_map : {A B : Type 0} (f : A → B) (xs : List A) → map f xs ≡ [] → xs ≡ []
 nil_of_map f [] e = refl
@@ -67,8 +60,8 @@ class_clear p file fn k w c e =
     let M = members_from file fn k w c false 0 c.methods in
     let at = λ (rule : ℕ). at_class file fn k c.name rule in
     let R = map at (A ++ B ++ D ++ E ++ G) in
-    not_when (is_own_super w c) 204 (nil_back (A ++ B ++ D) E (nil_front (A ++ B ++ D ++ E) G (nil_of_map at (A ++ B
-    ++ D ++ E ++ G) (nil_front R F (nil_front (R ++ F) M e)))))
+    not_when (is_own_super w c) 204 (none_right (A ++ B ++ D) E (none_left (A ++ B ++ D ++ E) G (nil_of_map at (A ++ B
+    ++ D ++ E ++ G) (none_left R F (none_left (R ++ F) M e)))))
 
 classes_clear : (package_name : List ℕ) (file : FileKey) (file_name : List ℕ) (k : ℕ) (w cs : List Class)
     → classes_breaks package_name file file_name k w cs ≡ [] → Clear w cs
@@ -77,7 +70,7 @@ classes_clear p file fn k w [] e = tt
 classes_clear p file fn k w (c ∷ cs) e =
     let here = class_breaks p file fn k w c in
     let rest = classes_breaks p file fn (k + 1) w cs in
-    (class_clear p file fn k w c (nil_front here rest e), classes_clear p file fn (k + 1) w cs (nil_back here rest e))
+    (class_clear p file fn k w c (none_left here rest e), classes_clear p file fn (k + 1) w cs (none_right here rest e))
 
 class_file_clear : (files : Files) (file : FileKey) (file_name : List ℕ) (w : List Class) (number : ℕ)
     (o : Option ClassTree) → class_file_breaks files file file_name w number o ≡ [] → Clear w (of_class_file number o)
@@ -95,7 +88,7 @@ unfolding Clear
 export_file_clear files file fn w n number None e = tt
 export_file_clear files file fn w n number (Some t) e =
     classes_clear files.package_name file fn 1 w (numbered number t.classes)
-    (nil_back (map (λ rule. at_class file fn 0 [] rule) (when (is_second_package files n t) 202))
+    (none_right (map (λ rule. at_class file fn 0 [] rule) (when (is_second_package files n t) 202))
     (classes_breaks files.package_name file fn 1 w (numbered number t.classes)) e)
 
 lines_clear : (files : Files) (w : List Class) (k c e i : ℕ) (lines : List FileLine) → breaks_from files w k c e i lines
@@ -126,22 +119,22 @@ lines_clear files w k c e i (line ∷ lines) p =
         let rest = breaks_from files w (k + 1) (c + 1) e i lines in
         clear_append w (of_class_file c (slice_get files.classes c)) (classes_from files.classes files.exports (c + 1) e
         i lines)
-        (class_file_clear files (keys.Line k) line.name w c (slice_get files.classes c) (nil_front here rest q))
-        (r (nil_back here rest q))
+        (class_file_clear files (keys.Line k) line.name w c (slice_get files.classes c) (none_left here rest q))
+        (r (none_right here rest q))
     by false q r s =
         let here = export_file_breaks files (keys.Line k) line.name w e i (slice_get files.exports e) in
         let rest = breaks_from files w (k + 1) c (e + 1) (i + size (slice_get files.exports e)) lines in
         clear_append w (of_export_file i (slice_get files.exports e)) (classes_from files.classes files.exports c
         (e + 1) (i + size (slice_get files.exports e)) lines)
-        (export_file_clear files (keys.Line k) line.name w e i (slice_get files.exports e) (nil_front here rest q))
-        (s (nil_back here rest q))
+        (export_file_clear files (keys.Line k) line.name w e i (slice_get files.exports e) (none_left here rest q))
+        (s (none_right here rest q))
 
 pub unbroken_is_acyclic : (list : List ℕ) (files : Files) → breaks list files ≡ [] → IsAcyclic (all_classes files)
 unfolding breaks all_classes
 unbroken_is_acyclic list files e x far =
     let w = all_classes files in
     let c = above-class w x x far in
-    let clear = lines_clear files w 0 0 0 0 files.lines (nil_back (map (λ rule. broken_at (list_spot list) rule)
+    let clear = lines_clear files w 0 0 0 0 files.lines (none_right (map (λ rule. broken_at (list_spot list) rule)
     (when (not (has_language w files.exports)) 207)) (breaks_from files w 0 0 0 0 files.lines) e) in
     let not_above = clear_named w w x c.0 clear c.1 in
     let is = class_named-name w x c.0 c.1 in

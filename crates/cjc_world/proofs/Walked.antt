@@ -22,7 +22,7 @@ use Rattle.cjc_world.specs.Working.Places.{names, names_of, names_super, names_s
 use Rattle.cjc_world.specs.Working.Tables.{in_field_order, told, IsTable, row_at}
 use Rattle.cjc_world.proofs.Settled.{supertypes-AreSupertypes, supertypes-known}
 use Rattle.cjc_world.proofs.Cycles.{class_named-name}
-use Rattle.cjc_world.proofs.Rising.{first-append}
+use Rattle.cjc_world.proofs.Rising.{first-append, or_else-assoc}
 use Rattle.cjc_world.proofs.Joined.{first-joined, any-joined}
 use Rattle.cjc_world.proofs.ByPlace.{AreNamed, class-place, place-class, place-none}
 use Rattle.cjc_world.proofs.Adding.{named-upwards, named-known, named-fields, any-places}
@@ -71,10 +71,6 @@ module _ (w : List Class) where
       → slice_get w q ≡ Some d → f q ≡ g d) → list_any f (joined [] (places_of w cs)) ≡ list_any g cs
   any-told f g cs a same = any-joined f [] (places_of w cs) ∙ any-places w f g cs a (λ d q _ _ e. same d q e)
 
-or_else-assoc : (f g h : Option Found) → or_else (or_else f g) h ≡ or_else f (or_else g h)
-or_else-assoc None g h = refl
-or_else-assoc (Some f) g h = refl
-
 fields-first : (own : Class → Option Found) (k : Supertypes) → field_in own k ≡ first own (in_field_order k)
 unfolding first
 fields-first own End = refl
@@ -109,7 +105,7 @@ regroup false false false false true false l = refl
 regroup false false false false false true l = refl
 regroup false false false false false false l = refl
 
-or-assoc : (a b c : Bool) → (a || (b || c)) ≡ ((a || b) || c)
+pub or-assoc : (a b c : Bool) → (a || (b || c)) ≡ ((a || b) || c)
 or-assoc true b c = refl
 or-assoc false b c = refl
 

@@ -1,5 +1,5 @@
 -- An instruction is what its opcode, its operands and its table are.
-use Rattle.std.proofs.Common.{◌≡◌, ℕ, ◌+◌, ◌<◌, ◌≤◌, Bool, true, false, List, [], ◌∷◌, length, get_or, drop, refl, sym}
+use Rattle.std.proofs.Common.{◌≡◌, ℕ, ◌+◌, ◌<◌, ◌≤◌, List, [], ◌∷◌, length, get_or, drop, refl, sym}
 use Rattle.std.proofs.Common.{ap, ◌∙◌, inl, inr, arith, Option, Some, None, ℤ}
 use Rattle.std.specs.Prelude.{if◌then◌else◌}
 use Rattle.std.proofs.lemmas.Bool.{cases_lt}
@@ -9,16 +9,13 @@ use Rattle.cjc_capread.specs.Decode.{with_operands, decode_as, decode, size}
 use Rattle.cjc_capread.specs.Decoder.Decoded.{whole_table, table_of, kinds_in}
 use Rattle.cjc_capread.specs.Decoder.Shapes.{before}
 use Rattle.cjc_capread.proofs.DecoderLaws.Tables.{cut_short}
-
-either : {P : Type 0} → (t : Bool) → (t ≡ true → P) → (t ≡ false → P) → P
-either true p q = p refl
-either false p q = q refl
+use Rattle.cjc_bytes.proofs.Bools.{bool_either}
 
 whole : (op : ℕ) (f : Form) (vs t : List ℤ) (o : Option Front) → Some t ≡ whole_table f vs o
     → Some (record { opcode = op; operands = vs; table = t }) ≡ with_table op f vs o
 whole op f vs t None e = absurd cc
 whole op f vs t (Some front) e =
-    either (is_whole f vs front.values)
+    bool_either (is_whole f vs front.values)
     (λ is. let same : Some t ≡ Some front.values = e ∙ ap (λ b. if b then Some front.values else None) is
     in rw is (ap (λ (o : Option (List ℤ)). made o) same))
     (λ is. let none : Some t ≡ None = e ∙ ap (λ b. if b then Some front.values else None) is in absurd cc)
@@ -31,7 +28,7 @@ not_whole : (op : ℕ) (f : Form) (vs : List ℤ) (o : Option Front) → None �
     → None ≡ with_table op f vs o
 not_whole op f vs None e = refl
 not_whole op f vs (Some front) e =
-    either (is_whole f vs front.values)
+    bool_either (is_whole f vs front.values)
     (λ is. let some : None ≡ Some front.values = e ∙ ap (λ b. if b then Some front.values else None) is in absurd cc)
     (λ is. rw is refl)
 

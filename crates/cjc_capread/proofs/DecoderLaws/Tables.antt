@@ -140,7 +140,7 @@ rise_more wide bs r s x y le e f =
     let b = numbers_more wide (drop size bs) s y (omega (arith, le, n)) f in
     ap matches_ascend (a.1 ∙ ap (λ ns. x ∷ a.0 ∷ ns) b.1) ∙ ap (λ ns. int_lt x y && matches_ascend ns) (sym b.1)
 
-numbers_less : (wide : Bool) (bs : List ℕ) → length bs < entry_size (matches_of wide) → numbers (matches_of wide) bs
+pub numbers_less : (wide : Bool) (bs : List ℕ) → length bs < entry_size (matches_of wide) → numbers (matches_of wide) bs
     ≡ []
 unfolding numbers
 numbers_less false [] lt = refl

@@ -1,29 +1,19 @@
 -- The members of a class are counted, and a table of nothing is made of the counts.
 use Rattle.std.proofs.Common.{◌≡◌, ℕ, zero, suc, ◌+◌, ◌<◌, refl, sym, ap, ◌∙◌, arith, List, [], ◌∷◌, ◌++◌, length}
 use Rattle.std.proofs.Common.{get_or, drop, replicate, append_assoc, ⊎_elim}
-use Rattle.std.specs.Prelude.{map, slice_get, Option, Some, None}
+use Rattle.std.specs.Prelude.{map, slice_get, Some}
 use Rattle.std.specs.List.{range_with_len}
 use Rattle.std.proofs.lemmas.List.{length-map}
 use Rattle.std.proofs.lemmas.Option.{slice_get_cases}
 use Rattle.cjc_world.specs.ClassFile.declared.tree.ClassTree.{ClassTree}
-use Rattle.cjc_world.specs.Added.{added, added_at, added_to, named_by}
+use Rattle.cjc_world.specs.Added.{added_at}
 use Rattle.cjc_world.specs.Classes.{Class, all_classes, declared, field_of_class, method_of_class}
 use Rattle.cjc_world.specs.Files.{Files}
 use Rattle.cjc_classes.specs.Descriptor.Made.{member_count, numbered}
 use Rattle.cjc_classes.specs.declared.descriptor.parts.Extent.{Extent}
 use Rattle.cjc_captree.specs.Working.Tables.{nowhere, row_of}
-use Rattle.cjc_captree.proofs.ExtentsLaws.Finding.{at_item}
-
-added_long : (files : Files) (n : ℕ) (t : ClassTree) → slice_get files.classes n ≡ Some t → length (added_at files n)
-    ≡ length (added (all_classes files) (declared n t))
-unfolding added_at
-added_long files n t e = by (slice_get files.classes n) e
-  where
-    by : (o : Option ClassTree) → o ≡ Some t → length (added_to (all_classes files) n o)
-        ≡ length (added (all_classes files) (declared n t))
-    by (Some u) same = let is : u ≡ t = cc in length-map (added (all_classes files) (declared n u)) (named_by u.name)
-        ∙ ap (λ (v : ClassTree). length (added (all_classes files) (declared n v))) is
-    by None same = cc
+use Rattle.cjc_world.proofs.BytesGets.{at_item}
+use Rattle.cjc_methods.proofs.Members.{added_long}
 
 pub count_is : (files : Files) (n : ℕ) (t : ClassTree) → slice_get files.classes n ≡ Some t
     → length t.fields + length t.methods + length (added_at files n) ≡ member_count (all_classes files) (declared n t)

@@ -2,7 +2,7 @@
 use Rattle.std.proofs.Common.{◌≡◌, ℕ, suc, ◌+◌, ◌≤◌, ◌<◌, ◌==◌, refl, sym, ap, ◌∙◌, arith, Bool, true, false, List, []}
 use Rattle.std.proofs.Common.{◌∷◌, ◌++◌, length, get_or, drop, append_assoc, append-nil}
 use Rattle.std.specs.Prelude.{map, slice_get, slice_set, Some, if◌then◌else◌}
-use Rattle.std.proofs.lemmas.List.{drop_all, drop_more}
+use Rattle.std.proofs.lemmas.List.{drop_all}
 use Rattle.cjc_methods.specs.NCode.declared.narrow.NMethod.{NMethod}
 use Rattle.cjc_components.specs.Methods.{bytecode_count, extent_at, extent_from, handler_count, is_member, method_size}
 use Rattle.cjc_components.specs.Methods.{placed_from}
@@ -18,6 +18,7 @@ use Rattle.cjc_methods.specs.Layouts.Working.Offsets as kept
 use Rattle.cjc_methods.proofs.LayoutsLaws.Standing.{same_handlers}
 use Rattle.cjc_captree.specs.Working.Tables.{extent_by_layout, extents_by, found_in, table_of}
 use Rattle.cjc_captree.proofs.ExtentsLaws.Setting.{set_table}
+use Rattle.cjc_world.proofs.BytesGets.{at_item}
 
 same_extent : (at k : ℕ) (c : NMethod) (l : Laid) → IsLayout c l.layout → extent_by_layout at k l.layout
     ≡ extent_by (extent_at at k (laid_method c l))
@@ -64,10 +65,6 @@ found_is at k (c ∷ cs) (l ∷ ls) count each f =
         ∙ rest (at + method_size m) (k + handler_count m)
 
 -- ---- one after the other
-
-pub at_item : {A : Type 0} (i : ℕ) (x : A) (xs : List A) → i < length xs → x ≡ get_or xs i x
-    → drop i xs ≡ x ∷ drop (i + 1) xs
-at_item {A} i x xs lt is = drop_more xs i x lt ∙ ap (λ (y : A). y ∷ drop (i + 1) xs) (sym is)
 
 pub extents_more : (k h next at : ℕ) (os : List ℕ) (ls : List Laid) (l : Laid) (e : Extent) (row total : List Extent)
     → k < length os → k < length ls → at ≡ get_or os k at → l ≡ get_or ls k l → e ≡ extent_by_layout at h l.layout

@@ -17,6 +17,7 @@ use Rattle.cjc_components.specs.Methods.{extent_at, extent_from, handler_count, 
 use Rattle.cjc_components.specs.Package.{LaidMethod}
 use Rattle.cjc_methods.specs.Ready.{AreOrdered}
 use Rattle.cjc_classes.specs.Descriptor.Made.{member_count}
+use Rattle.cjc_world.proofs.BytesBools.{not_true}
 
 -- a member of a class of the package, within its row
 pub record IsInside (files : Files) (f : Found) : Type 0 where
@@ -88,10 +89,6 @@ both_true true true true e = (refl, refl, refl)
 both_true true true false e = cc
 both_true true false d e = cc
 both_true false b d e = cc
-
-not_true : (a : Bool) → not a ≡ true → a ≡ false
-not_true false e = refl
-not_true true e = cc
 
 module _ (files : Files) (f : Found) (outside : IsInside files f → ⊥) where
   not_member : (m : LaidMethod) → IsInside files m.member → is_member f m ≡ false

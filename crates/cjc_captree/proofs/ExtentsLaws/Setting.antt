@@ -11,9 +11,7 @@ use Rattle.cjc_world.specs.Lookup.{member_at}
 use Rattle.cjc_classes.specs.Descriptor.Made.{member_count, numbered}
 use Rattle.cjc_classes.specs.declared.descriptor.parts.Extent.{Extent}
 use Rattle.cjc_captree.specs.Working.Tables.{is_own, row_of, table_of}
-
-same_number : (n : ℕ) → (n == n) ≡ true
-same_number n = grind arith
+use Rattle.cjc_world.proofs.BytesNumbers.{like_number}
 
 other_number : (a b : ℕ) → a < b → (b == a) ≡ false
 other_number a b lt = grind arith
@@ -37,7 +35,7 @@ module _ {X : Type 0} (F : ℕ → X) (e : X) where
       let z : a ≡ a + 0 = omega arith in
       ap (λ xs. e ∷ xs) (sym (behind a (a + 1) count (omega arith)))
       ∙ ap (λ t. (if t then e else F a) ∷ map (λ j. if j == a then e else F j) (range_with_len (a + 1) count))
-      (sym (same_number a))
+      (sym (like_number a))
       ∙ ap (λ b. (if a == b then e else F a) ∷ map (λ j. if j == b then e else F j) (range_with_len (a + 1) count)) z
   set_range a (suc i) (suc count) =
       let s : a + 1 + i ≡ a + suc i = omega arith in

@@ -5,6 +5,7 @@ use Rattle.std.specs.Prelude.{◌||◌, not, is_some, option_map, slice_get, fil
 use Rattle.std.specs.List.{list_any}
 use Rattle.std.proofs.lemmas.Option.{slice_get_within}
 use Rattle.std.proofs.lemmas.List.Folds.{list_any-append}
+use Rattle.std.proofs.lemmas.Map.Keys.{any_passes_from_place}
 use Rattle.cjc_world.specs.Bytes.declared.fault.MemberId.{MemberId}
 use Rattle.cjc_world.specs.ClassFile.declared.tree.ClassTree.{ClassTree}
 use Rattle.cjc_components.specs.Subset.Types.{is_int_desc}
@@ -12,20 +13,17 @@ use Rattle.cjc_world.specs.Files.{Files}
 use Rattle.cjc_world.specs.Classes.{Member, Class, declared, field_of_class, method_of_class, all_classes, class_at}
 use Rattle.cjc_world.specs.declared.class.Known.{Known}
 use Rattle.cjc_world.specs.Working.Known.{class_of}
-use Rattle.cjc_world.specs.Added.{added, added_at, added_to, named_by}
+use Rattle.cjc_world.specs.Added.{added, added_at, named_by}
 use Rattle.cjc_components.proofs.VTableNumbers.{at-tree}
 use Rattle.cjc_exported.proofs.ExportFile.ByNumber.{of-number}
 use Rattle.cjc_exported.specs.ExportFile.Working.Sources.{is_of_kind}
 use Rattle.cjc_components.specs.Components.{has_int, uses_int}
 use Rattle.cjc_components.specs.Descriptor.{as_added}
-use Rattle.cjc_captree.proofs.LimitsLaws.Lists.{any_of_map, none_more, none_passes, some_passes}
+use Rattle.cjc_captree.proofs.LimitsLaws.Lists.{none_more, none_passes}
+use Rattle.cjc_world.proofs.BytesQuantified.{any_of_map}
+use Rattle.cjc_classes.proofs.TypeInfo.Order.{added_is}
 
 -- ---- a class
-
-added_names : (files : Files) (n : ℕ) (t : ClassTree) → slice_get files.classes n ≡ Some t
-    → added_at files n ≡ map (named_by t.name) (added (all_classes files) (declared n t))
-unfolding added_at
-added_names files n t e = ap (added_to (all_classes files) n) e
 
 -- its members, and those that it got
 pub class_ints : (files : Files) (n : ℕ) (c : Class) (t : ClassTree) (ids : List MemberId) (r : Bool)
@@ -41,7 +39,7 @@ class_ints files n c t ids r is tree got e =
     let methods = any_of_map (λ (m : Member). is_int_desc m.desc) method_of_class t.methods in
     let ids_are : list_any (λ (m : MemberId). is_int_desc m.desc) ids ≡ list_any (λ (m : Member). is_int_desc m.desc)
     given =
-    ap (list_any (λ (m : MemberId). is_int_desc m.desc)) (got ∙ added_names files n t tree)
+    ap (list_any (λ (m : MemberId). is_int_desc m.desc)) (got ∙ added_is files n t tree)
     ∙ any_of_map (λ (m : MemberId). is_int_desc m.desc) (named_by t.name) given in
     let added_are : list_any (λ (m : Member). is_int_desc m.desc) (map as_added given)
     ≡ list_any (λ (m : Member). is_int_desc m.desc) given = any_of_map (λ (m : Member). is_int_desc m.desc) as_added
@@ -109,7 +107,7 @@ module _ (files : Files) where
   pub ints_found : (k : ℕ) (c : Class) → class_at (all_classes files) false k ≡ Some c → has_int (all_classes files) c
       ≡ true → true ≡ uses_int (all_classes files)
   ints_found k c is is_so = sym (own_alone (has_int (all_classes files)) (all_classes files)
-      ∙ some_passes (has_int (all_classes files)) own k c (of-number files false k ∙ is) is_so)
+      ∙ any_passes_from_place (has_int (all_classes files)) own k c (of-number files false k ∙ is) is_so)
 
   pub ints_none : (k : ℕ) → class_at (all_classes files) false k ≡ None
       → list_any (has_int (all_classes files)) (take k own) ≡ false → false ≡ uses_int (all_classes files)

@@ -1,5 +1,5 @@
 -- What lists have at their places.
-use Rattle.std.proofs.Common.{◌≡◌, ℕ, zero, suc, ◌+◌, Bool, true, false, List, [], ◌∷◌, map, take, refl, ap, ◌∙◌}
+use Rattle.std.proofs.Common.{◌≡◌, ℕ, zero, suc, ◌+◌, Bool, true, false, List, [], ◌∷◌, take, refl, ap, ◌∙◌}
 use Rattle.std.proofs.Common.{add-one, Some, None}
 use Rattle.std.specs.Prelude.{◌||◌, slice_get}
 use Rattle.std.specs.List.{list_any}
@@ -22,17 +22,6 @@ pub none_more : {A : Type 0} (p : A → Bool) (xs : List A) (k : ℕ) (x : A) �
     → list_any p (take k xs) ≡ false → list_any p (take (k + 1) xs) ≡ false
 none_more p xs k x e isnt so_far = ap (λ n. list_any p (take n xs)) (add-one k) ∙ test_more p xs k x e isnt so_far
 
--- one that passes
-pub some_passes : {A : Type 0} (p : A → Bool) (xs : List A) (k : ℕ) (x : A) → slice_get xs k ≡ Some x → p x ≡ true
-    → list_any p xs ≡ true
-some_passes p [] k x e is = cc
-some_passes p (y ∷ ys) zero x e is = let same : y ≡ x = cc in ap (λ b. b || list_any p ys) (ap p same ∙ is)
-some_passes p (y ∷ ys) (suc k) x e is = by (p y) (some_passes p ys k x e is)
-  where
-    by : (b : Bool) → list_any p ys ≡ true → (b || list_any p ys) ≡ true
-    by true f = refl
-    by false f = f
-
 -- none passes
 pub none_passes : {A : Type 0} (p : A → Bool) (xs : List A) (k : ℕ) → slice_get xs k ≡ None → list_any p (take k xs)
     ≡ false → list_any p xs ≡ false
@@ -44,8 +33,3 @@ none_passes p (y ∷ ys) (suc k) e so_far = by (p y) so_far (none_passes p ys k 
         → (b || list_any p ys) ≡ false
     by true f rest = cc
     by false f rest = rest f
-
-pub any_of_map : {A B : Type 0} (p : B → Bool) (f : A → B) (xs : List A) → list_any p (map f xs)
-    ≡ list_any (λ x. p (f x)) xs
-any_of_map p f [] = refl
-any_of_map p f (x ∷ xs) = ap (λ b. p (f x) || b) (any_of_map p f xs)

@@ -1,12 +1,14 @@
 -- The words of values one after the other, and the values of words.
 use Rattle.std.proofs.Common.{◌≡◌, ℕ, zero, suc, ◌+◌, ◌<◌, List, [], ◌∷◌, ◌++◌, length, take, drop, map, refl, sym, ap}
-use Rattle.std.proofs.Common.{◌∙◌, append_assoc, arith, Bool, true, false}
-use Rattle.std.specs.Prelude.{Option, Some, None, option_map, ◌&&◌}
+use Rattle.std.proofs.Common.{◌∙◌, append_assoc, arith, Bool, true}
+use Rattle.std.specs.Prelude.{Option, Some, None, option_map}
 use Rattle.std.specs.List.{All}
+use Rattle.std.proofs.lemmas.Bool.{and_from}
 use Rattle.cjc_script.specs.declared.value.Value.{Value}
 use Rattle.cjc_script.specs.declared.value.Value.TheVariants.{Num, Null, Obj}
 use Rattle.cjc_script.specs.Sorts.{Sort, Boolean, Byte, Short, Int, Reference, Shape, all_fit, fits}
 use Rattle.cjc_card_semantics.specs.Bytecode.Arguments.{both_words, first_and, value_words, values_of, words_of}
+use Rattle.cjc_script.proofs.BytesBools.{both_front, both_back}
 
 -- behind words, those of a value and those of others
 pub both_behind : (words more : List Value) (a b : Option (List Value)) → option_map (λ m. words ++ m) a ≡ Some more
@@ -34,18 +36,6 @@ pub behind_one : (v : Value) (o : Option (List Value)) → option_map (λ m. (v 
 behind_one v None = refl
 behind_one v (Some xs) = refl
 
-and_first : (p q : Bool) → (p && q) ≡ true → p ≡ true
-and_first true q e = refl
-and_first false q e = cc
-
-and_second : (p q : Bool) → (p && q) ≡ true → q ≡ true
-and_second true q e = e
-and_second false q e = cc
-
-both_true : (p q : Bool) → p ≡ true → q ≡ true → (p && q) ≡ true
-both_true true q e h = h
-both_true false q e h = cc
-
 -- a value that fits by some types of objects fits by any
 any_fits : (is_of : ℕ → Shape (List ℕ) → Bool) (s : Sort) (v : Value) → fits is_of s v ≡ true
     → fits (λ k shape. true) s v ≡ true
@@ -63,9 +53,9 @@ all_any is_of [] [] e = refl
 all_any is_of [] (v ∷ values) e = absurd cc
 all_any is_of (s ∷ sorts) [] e = absurd cc
 all_any is_of (s ∷ sorts) (v ∷ values) e =
-    both_true (fits (λ k shape. true) s v) (all_fit (λ k shape. true) sorts values)
-    (any_fits is_of s v (and_first (fits is_of s v) (all_fit is_of sorts values) e))
-    (all_any is_of sorts values (and_second (fits is_of s v) (all_fit is_of sorts values) e))
+    and_from (fits (λ k shape. true) s v) (all_fit (λ k shape. true) sorts values)
+    (any_fits is_of s v (both_front (fits is_of s v) (all_fit is_of sorts values) e))
+    (all_any is_of sorts values (both_back (fits is_of s v) (all_fit is_of sorts values) e))
 
 -- as many values as types
 pub as_many : (is_of : ℕ → Shape (List ℕ) → Bool) (sorts : List Sort) (values : List Value) → all_fit is_of sorts values
@@ -74,13 +64,13 @@ as_many is_of [] [] e = refl
 as_many is_of [] (v ∷ values) e = absurd cc
 as_many is_of (s ∷ sorts) [] e = absurd cc
 as_many is_of (s ∷ sorts) (v ∷ values) e =
-    ap suc (as_many is_of sorts values (and_second (fits is_of s v) (all_fit is_of sorts values) e))
+    ap suc (as_many is_of sorts values (both_back (fits is_of s v) (all_fit is_of sorts values) e))
 
 -- the first of those that are left, and what follows it
 pub first_fits : (s : Sort) (v : Value) (sorts : List Sort) (values : List Value)
     → all_fit (λ k shape. true) (s ∷ sorts) (v ∷ values) ≡ true → fits (λ k shape. true) s v ≡ true
-first_fits s v sorts values e = and_first (fits (λ k shape. true) s v) (all_fit (λ k shape. true) sorts values) e
+first_fits s v sorts values e = both_front (fits (λ k shape. true) s v) (all_fit (λ k shape. true) sorts values) e
 
 pub others_fit : (s : Sort) (v : Value) (sorts : List Sort) (values : List Value)
     → all_fit (λ k shape. true) (s ∷ sorts) (v ∷ values) ≡ true → all_fit (λ k shape. true) sorts values ≡ true
-others_fit s v sorts values e = and_second (fits (λ k shape. true) s v) (all_fit (λ k shape. true) sorts values) e
+others_fit s v sorts values e = both_back (fits (λ k shape. true) s v) (all_fit (λ k shape. true) sorts values) e

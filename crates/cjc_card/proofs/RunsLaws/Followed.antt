@@ -1,6 +1,6 @@
 -- An instruction that has followed its row, as the machine goes on from it.
 use Rattle.std.proofs.Common.{◌≡◌, ℕ, ◌+◌, ◌≤◌, List, length, refl, sym, ap, ◌∙◌, arith}
-use Rattle.std.specs.Prelude.{IfOk, OnOk, Some, None, Result, Ok, Err, option_map, slice_get}
+use Rattle.std.specs.Prelude.{Some, None, option_map, slice_get}
 use Rattle.cjc_card_semantics.specs.CapRead.Decode.{Instruction, size}
 use Rattle.cjc_card_semantics.specs.Bytecode.Machine.{StuckAt, counted, turn_after_fault, turn_after_fetch, left, made}
 use Rattle.cjc_card_semantics.specs.Bytecode.Machine.{turn_after_toss}
@@ -50,11 +50,6 @@ module _ (l : Loaded) (f : FrameByToken) (w : Words) (e : EffectByToken) (v : St
       (callee_of callee) (record g { next = next }) outer s) row.same refl row.keeps
   goes_on (Leave r) row = still _ (λ g s. left (by_token l) (words_in r) g outer s) row.same refl row.keeps
   goes_on Stick row = still _ (λ g s. StuckAt g.at s) row.same refl row.keeps
-
--- of a result that is there, both
-pub both : {T E : Type 0} (r : Result T E) (P : T → Type 0) (Q : Type 0) → IfOk r P → OnOk r Q → IfOk r (λ x. P x × Q)
-both (Ok x) P Q p q = (p, q)
-both (Err e) P Q p q = p
 
 -- as many arrays and objects as there were, or one more, beside those that acts may make
 as_many : (a b : ℕ) (m m' : MemoryByToken) → m' ≡ m → length m'.heap + a + b ≤ length m.heap + a + b

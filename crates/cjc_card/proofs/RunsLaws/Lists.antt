@@ -3,6 +3,7 @@ use Rattle.std.proofs.Common.{◌≡◌, ℕ, zero, suc, ◌+◌, ◌<◌, List,
 use Rattle.std.proofs.Common.{◌∙◌, arith}
 use Rattle.std.proofs.lemmas.List.{map-append}
 use Rattle.std.specs.Prelude.{Some, None, slice_get}
+use Rattle.cjc_script.proofs.BytesGets.{one_taken}
 
 -- what stands first of those that are left
 pub left_are : {A : Type 0} (xs : List A) (k : ℕ) (x : A) → Some x ≡ slice_get xs k → drop k xs ≡ x ∷ drop (k + 1) xs
@@ -31,15 +32,6 @@ all_taken [] zero e = refl
 all_taken [] (suc k) e = refl
 all_taken (y ∷ xs) zero e = absurd (cc e)
 all_taken (y ∷ xs) (suc k) e = ap (λ zs. y ∷ zs) (all_taken xs k e)
-
--- an item more
-pub one_taken : {A : Type 0} (xs : List A) (k : ℕ) (x : A) → Some x ≡ slice_get xs k → take (k + 1) xs ≡ take k xs
-    ++ x ∷ []
-one_taken [] k x e = absurd (cc e)
-one_taken (y ∷ xs) zero x e = let same : x ≡ y = cc e in ap (λ z. z ∷ []) (sym same)
-one_taken (y ∷ xs) (suc k) x e =
-    let next : suc k + 1 ≡ suc (k + 1) = omega arith in
-    ap (λ n. take n (y ∷ xs)) next ∙ ap (λ zs. y ∷ zs) (one_taken xs k x e)
 
 -- what stands for an item more
 pub one_mapped : {A B : Type 0} (f : A → B) (xs : List A) (k : ℕ) (x : A) (ys more : List B) (y : B)

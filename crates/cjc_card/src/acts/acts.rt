@@ -18,8 +18,8 @@ use crate::acts::fitting::{item_fits, number_fits, shape_of};
 use cjc_card_frame::heap::{Class, Element, Heap, HeapObject, Parts, Shape};
 use cjc_card_frame::jvm_step::step::shape_named;
 use cjc_card_frame::parts::LookUps;
-use cjc_card_semantics::bytes::NoMemory;
 use cjc_jvm::acts::Sort;
+use cjc_script::bytes::NoMemory;
 use cjc_script::{Act, Value};
 use std::alloc::Global;
 

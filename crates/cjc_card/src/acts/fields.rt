@@ -7,8 +7,8 @@ ghost use Rattle.cjc_card_semantics.specs.Machine.ByToken.{letter_of as letter_b
 
 use cjc_card_frame::jvm_step::step::shape_named;
 use cjc_card_frame::opcodes::Letter;
-use cjc_card_semantics::bytes::{Desc, Kind, NoMemory};
 use cjc_script::Value;
+use cjc_script::bytes::{Desc, Kind, NoMemory};
 
 // More bytes than the descriptors of any file have.
 const TOO_LONG: usize = 1 << 32;

@@ -17,9 +17,9 @@ use crate::acts::fitting::all_fit;
 use cjc_card_frame::frame::words::{high_word, low_word, spelt_by};
 use cjc_card_frame::heap::Heap;
 use cjc_card_frame::parts::LookUps;
-use cjc_card_semantics::bytes::{NoMemory, Row};
 use cjc_jvm::acts::Sort;
 use cjc_script::Value;
+use cjc_script::bytes::{NoMemory, Row};
 use std::alloc::Global;
 
 // The words of a value of a type more.

@@ -9,9 +9,9 @@ ghost use Rattle.cjc_card_calls.specs.CardLink.Group.{alone};
 use cjc_card_calls::card_link::{Part, Tables};
 use cjc_card_calls::files::Files;
 use cjc_card_calls::lines::{Lines, are_near};
-use cjc_card_semantics::bytes::NoMemory;
 use cjc_card_semantics::capread::Method;
 use cjc_card_semantics::export_file::ExportTree;
+use cjc_script::bytes::NoMemory;
 use std::alloc::Global;
 use std::marker::Model;
 

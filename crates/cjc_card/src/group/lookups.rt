@@ -10,10 +10,10 @@ use cjc_card_frame::heap::{Class, Field, Shape, Slot};
 use cjc_card_frame::jvm_step::frame::Exception;
 use cjc_card_frame::opcodes::Mode;
 use cjc_card_frame::parts::{Callee, CellName, Code, LookUps, Reached, Start, StaticCell};
-use cjc_card_semantics::bytes::{MemberId, NoMemory, Row};
 use cjc_card_semantics::capread::StaticField;
 use cjc_card_semantics::capread::decoder::Insn;
 use cjc_script::FieldValue;
+use cjc_script::bytes::{MemberId, NoMemory, Row};
 use std::alloc::Global;
 
 impl LookUps for Group<'_> {

@@ -15,7 +15,7 @@ ghost use Rattle.cjc_card_calls.specs.CardLink.Tables.{AreKept, loaded_of};
 use crate::acts::{field_letter, zero_of};
 use cjc_card_calls::card_link::{ClassNames, FieldName, Tables};
 use cjc_card_frame::heap::{Class, Field, Slot, slot_at};
-use cjc_card_semantics::bytes::{Bytes, MemberId, NoMemory, Row};
+use cjc_script::bytes::{Bytes, MemberId, NoMemory, Row};
 use cjc_script::{FieldValue, Value};
 use std::alloc::Global;
 

@@ -18,8 +18,8 @@ use crate::turns::Machine;
 use cjc_card_frame::frames::Frame;
 use cjc_card_frame::heap::Heap;
 use cjc_card_frame::parts::{LookUps, Start};
-use cjc_card_semantics::bytes::{MemberId, NoMemory, Row};
 use cjc_jvm::acts::{Signature, Sort, signature_of};
+use cjc_script::bytes::{MemberId, NoMemory, Row};
 use cjc_script::{Entry, Outcome, Value};
 use std::alloc::Global;
 

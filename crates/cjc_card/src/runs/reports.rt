@@ -13,7 +13,7 @@ use crate::turns::{Machine, copy_of, type_name};
 use cjc_card_frame::heap::{Heap, Parts, Shape};
 use cjc_card_frame::image::Statics;
 use cjc_card_frame::parts::{CellName, LookUps};
-use cjc_card_semantics::bytes::{Bytes, MemberId, NoMemory, Row};
+use cjc_script::bytes::{Bytes, MemberId, NoMemory, Row};
 use cjc_script::{FieldValue, Outcome, Report, Thing, Value};
 use std::alloc::Global;
 

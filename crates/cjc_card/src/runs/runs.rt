@@ -18,7 +18,7 @@ use crate::runs::steps::step;
 use crate::turns::{After, Machine};
 use cjc_card_frame::frames::Frame;
 use cjc_card_frame::parts::LookUps;
-use cjc_card_semantics::bytes::NoMemory;
+use cjc_script::bytes::NoMemory;
 use cjc_script::{Outcome, Report, Script};
 use std::alloc::Global;
 

@@ -10,9 +10,9 @@ use cjc_card_frame::heap::Heap;
 use cjc_card_frame::image::{Statics, first_image, push_arrays};
 use cjc_card_frame::jvm_step::frame::Pile;
 use cjc_card_frame::parts::LookUps;
-use cjc_card_semantics::bytes::{NoMemory, Row};
 use cjc_card_semantics::capread::StaticField;
 use cjc_script::Script;
+use cjc_script::bytes::{NoMemory, Row};
 use std::alloc::Global;
 
 // More arrays and objects than have a number.

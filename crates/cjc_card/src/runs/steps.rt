@@ -13,10 +13,10 @@ ghost use Rattle.cjc_card.specs.Runs.Steps.{after_deed, made_by, most_after, mos
 use crate::turns::{After, Machine};
 use cjc_card_frame::frames::Frame;
 use cjc_card_frame::parts::LookUps;
-use cjc_card_semantics::bytes::NoMemory;
 use cjc_card_semantics::capread::decoder::Insn;
 use cjc_card_step::effects::Deed;
 use cjc_card_step::steps::{Step, execute};
+use cjc_script::bytes::NoMemory;
 use std::alloc::Global;
 
 // An instruction of a frame, on the heap and the static cells.

@@ -23,9 +23,9 @@ use crate::turns::notes::event;
 use cjc_card_frame::frame::words::{high_word, low_word, spelt_by};
 use cjc_card_frame::frames::Frame;
 use cjc_card_frame::parts::{ImportedMethod, LookUps};
-use cjc_card_semantics::bytes::{NoMemory, Row};
 use cjc_card_step::effects::Returned;
 use cjc_jvm::acts::{Sort, signature_of};
+use cjc_script::bytes::{NoMemory, Row};
 use cjc_script::{Answer, Note, Outcome, Reply, Value};
 use std::alloc::Global;
 

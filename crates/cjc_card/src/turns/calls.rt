@@ -15,8 +15,8 @@ use crate::turns::machine::Machine;
 use cjc_card_frame::frames::{Frame, arguments};
 use cjc_card_frame::jvm_step::frame::Exception;
 use cjc_card_frame::parts::{Callee, LookUps, Reached};
-use cjc_card_semantics::bytes::NoMemory;
 use cjc_script::Value;
+use cjc_script::bytes::NoMemory;
 use std::alloc::Global;
 
 // The deepest word, where there is one.

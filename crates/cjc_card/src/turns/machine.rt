@@ -7,7 +7,7 @@ use cjc_card_frame::frames::Frame;
 use cjc_card_frame::heap::Heap;
 use cjc_card_frame::image::Statics;
 use cjc_card_frame::jvm_step::frame::Pile;
-use cjc_card_semantics::bytes::Row;
+use cjc_script::bytes::Row;
 use cjc_script::{Answer, Entry, Note};
 use std::marker::Model;
 

@@ -6,7 +6,7 @@ ghost use Rattle.cjc_script.specs.declared.report.Note.TheVariants.{Event, Throw
 ghost use Rattle.cjc_card_frame.specs.Kinds.{method_id};
 
 use cjc_card_frame::parts::ImportedMethod;
-use cjc_card_semantics::bytes::{Bytes, MemberId, NoMemory, Row};
+use cjc_script::bytes::{Bytes, MemberId, NoMemory, Row};
 use cjc_script::{Note, Value};
 use std::alloc::Global;
 

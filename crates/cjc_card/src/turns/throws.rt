@@ -17,8 +17,8 @@ use cjc_card_frame::heap::{Class, Element, HeapObject, Shape};
 use cjc_card_frame::jvm_step::frame::{Exception, Pile};
 use cjc_card_frame::jvm_step::step::array_of;
 use cjc_card_frame::parts::LookUps;
-use cjc_card_semantics::bytes::{Bytes, NoMemory, Row};
 use cjc_script::Note;
+use cjc_script::bytes::{Bytes, NoMemory, Row};
 use std::alloc::Global;
 
 // The descriptor of an array of numbers.

@@ -4,21 +4,16 @@ use Rattle.std.proofs.Common.{◌∙◌, Bool, true, false, Option, Some, None, 
 use Rattle.std.specs.Prelude.{if◌then◌else◌, ◌==◌, option_and_then, option_map, slice_get, unwrap_or}
 use Rattle.std.specs.Borrow.{Bor}
 use Rattle.std.proofs.lemmas.List.{length-append, length-take-le, take_more}
-use Rattle.cjc_export.specs.declared.tree.ExportClass.{ExportClass}
-use Rattle.cjc_export.specs.declared.tree.ExportTree.{ExportTree}
-use Rattle.cjc_export.specs.Supers.{classes_of}
+use Rattle.cjc_card_semantics.specs.ExportFile.declared.tree.ExportClass.{ExportClass}
+use Rattle.cjc_card_semantics.specs.ExportFile.declared.tree.ExportTree.{ExportTree}
+use Rattle.cjc_card_semantics.specs.ExportFile.Supers.{classes_of}
 use Rattle.cjc_card_semantics.specs.Machine.Loaded.{Loaded}
 use Rattle.cjc_card_semantics.specs.Machine.Classes.{or_else, with_token}
 use Rattle.cjc_card_semantics.specs.Machine.Dispatch.{exported_line}
 use Rattle.cjc_card_calls.specs.declared.files.file.File.{File}
 use Rattle.cjc_card_calls.specs.Files.Files.{classes_at, line_at, line_in, line_listed, line_of, line_or_none}
 use Rattle.cjc_card_link.proofs.OrElse.{or_map}
-
-none_is_some : {A : Type 0} (x : A) → None ≡ Some x → ⊥
-none_is_some x e = cc
-
-the_same : {A : Type 0} (x y : A) → Some x ≡ Some y → x ≡ y
-the_same x y e = cc
+use Rattle.cjc_card_semantics.proofs.BytesPlain.{the_same, none_is_some}
 
 -- ---- the classes of a file
 

@@ -1,7 +1,7 @@
 -- Handlers with small offsets, and where they are.
-use Rattle.std.proofs.Common.{◌≡◌, ℕ, zero, suc, ◌+◌, ◌<◌, ◌^◌, List, [], ◌∷◌, length, get_or, drop, refl, sym, ap, ◌∙◌}
-use Rattle.std.proofs.Common.{arith, Bool, true, false, Option, Some, None}
-use Rattle.std.specs.Prelude.{option_and_then, slice_get, nat_lt, ◌&&◌}
+use Rattle.std.proofs.Common.{◌≡◌, ℕ, zero, suc, ◌+◌, ◌<◌, ◌^◌, List, [], ◌∷◌, length, get_or, drop, sym, ap, ◌∙◌}
+use Rattle.std.proofs.Common.{arith, true, false, Option, Some}
+use Rattle.std.specs.Prelude.{option_and_then, slice_get, nat_lt}
 use Rattle.std.proofs.lemmas.Bool.Decides.{nat_tests}
 use Rattle.std.proofs.lemmas.List.{drop_more}
 use Rattle.cjc_card_semantics.specs.CapRead.declared.tree.Handler.{Handler}
@@ -11,17 +11,13 @@ use Rattle.cjc_card_semantics.specs.Machine.Classes.{Class}
 use Rattle.cjc_card_semantics.specs.Machine.Methods.{Code, handler, handler_among, handler_in}
 use Rattle.cjc_card_frame.specs.Kinds.{pool_in, pool_of}
 use Rattle.cjc_card_calls.specs.Lines.Handlers.{are_near, are_parts_near}
-
-both : (b c : Bool) → (b && c) ≡ true → (b ≡ true) × (c ≡ true)
-both true c e = (refl, e)
-both false c e = absurd (false_is_true e) where
-  false_is_true : false ≡ true → ⊥
-  false_is_true e = cc
+use Rattle.cjc_card_semantics.proofs.BytesBools.{and_true}
+use Rattle.cjc_card_semantics.proofs.BytesPlain.{the_same, none_is_some}
 
 pub first_near : (h : Handler) (hs : List Handler) → are_near (h ∷ hs) ≡ true → (h.handler < 2 ^ 32)
     × (are_near hs ≡ true)
 first_near h hs e =
-    let p = both (nat_lt h.handler 0x100000000) (are_near hs) e in
+    let p = and_true (nat_lt h.handler 0x100000000) (are_near hs) e in
     let q : nat_lt h.handler 0x100000000 ≡ true = p.0 in
     (grind (arith, nat_tests, q), p.1)
 
@@ -41,22 +37,16 @@ pub near_behind : (hs : List Handler) (i : ℕ) → i < length hs → are_near (
     ≡ true
 near_behind hs i lt e = (next_near hs i no_handler lt e).1
 
-none_is_some : {A : Type 0} (x : A) → None ≡ Some x → ⊥
-none_is_some x e = cc
-
-the_same : {A : Type 0} (x y : A) → Some x ≡ Some y → x ≡ y
-the_same x y e = cc
-
 pub part_near : (parts : List Part) (n : ℕ) (part : Part) → slice_get parts n ≡ Some part → are_parts_near parts ≡ true
     → (let m = part.method in are_near m.handlers ≡ true)
 part_near [] n part is near = absurd (none_is_some part is)
 part_near (p ∷ parts) zero part is near =
     let m = p.method in
     ap (λ (q : Part). let k = q.method in are_near k.handlers) (sym (the_same p part is))
-    ∙ (both (are_near m.handlers) (are_parts_near parts) near).0
+    ∙ (and_true (are_near m.handlers) (are_parts_near parts) near).0
 part_near (p ∷ parts) (suc n) part is near =
     let m = p.method in
-    part_near parts n part is (both (are_near m.handlers) (are_parts_near parts) near).1
+    part_near parts n part is (and_true (are_near m.handlers) (are_parts_near parts) near).1
 
 -- the handlers of a package that is there
 pub handler_here : (l : Loaded) (code : Code) (at : ℕ) (kind : Shape Class) (part : Part) (handlers : List Handler)

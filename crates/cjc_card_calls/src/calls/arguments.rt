@@ -15,7 +15,7 @@ use crate::calls::found::Found;
 use crate::files::Files;
 use cjc_card_frame::parts::Callee;
 use cjc_card_link::Tables;
-use cjc_export::bytes::{Desc, Kind, NoMemory};
+use cjc_card_semantics::bytes::{Desc, Kind, NoMemory};
 
 // More bytes than the descriptors of any file have.
 const TOO_LONG: usize = 1 << 32;

@@ -53,7 +53,7 @@ pub fn dispatched_on<'a>(
 }
 
 /// A virtual method of the superclass of a class.
-pub(crate) fn dispatched_above<'a>(
+pub fn dispatched_above<'a>(
     tables: &Tables<'a>,
     files: &Files<'a>,
     class: Class,

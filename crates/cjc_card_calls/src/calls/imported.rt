@@ -3,7 +3,7 @@
 
 ghost use Rattle.std.specs.Prelude.{◌≡◌, ◌==◌, ◌&&◌};
 ghost use Rattle.std.specs.Option.{option_copied};
-ghost use Rattle.cjc_export.specs.Supers.{is_virtual, virtual_method};
+ghost use Rattle.cjc_card_semantics.specs.ExportFile.Supers.{is_virtual, virtual_method};
 ghost use Rattle.cjc_card_semantics.specs.Machine.Dispatch.{dispatched_outward, in_files, of_file, outward};
 ghost use Rattle.cjc_card_semantics.specs.Machine.Dispatch as dispatch;
 ghost use Rattle.cjc_card_semantics.specs.Machine.Loaded.{Loaded};
@@ -15,8 +15,8 @@ use crate::calls::found::Found;
 use crate::files::Files;
 use cjc_card_frame::parts::ImportedMethod;
 use cjc_card_link::Walk;
-use cjc_export::bytes::{is_private, is_static};
-use cjc_export::{ExportClass, ExportMethod};
+use cjc_card_semantics::bytes::{is_private, is_static};
+use cjc_card_semantics::export_file::{ExportClass, ExportMethod};
 
 // Whether a method is virtual.
 fn is_virtual(method: &ExportMethod) -> bool

@@ -32,7 +32,7 @@ fn of_names<'a>(names: &'a ClassNames, token: u64) -> Found<'a>
 }
 
 // The method of an interface itself.
-fn interface_method<'a>(tables: &Tables<'a>, interface: Class, token: u64) -> Found<'a>
+pub fn interface_method<'a>(tables: &Tables<'a>, interface: Class, token: u64) -> Found<'a>
     requires { AreKept tables.now }
     ensures { found_of result ≡ interface_method (loaded_of tables.now) (class_of interface) token }
 {

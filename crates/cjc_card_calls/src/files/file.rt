@@ -5,8 +5,8 @@ ghost use Rattle.std.specs.Prelude.{◌≡◌, ◌==◌, ℕ, [], Some, None, On
 ghost use Rattle.cjc_card_semantics.specs.Machine.Classes.{or_else};
 ghost use Rattle.cjc_card_calls.specs.Files.Files.{classes_at, line_in, row_under};
 
-use cjc_export::ExportClass;
-use cjc_export::bytes::{NoMemory, Row};
+use cjc_card_semantics::bytes::{NoMemory, Row};
+use cjc_card_semantics::export_file::ExportClass;
 use std::alloc::Global;
 use std::collections::HashMap;
 

@@ -11,8 +11,8 @@ use crate::files::file::File;
 use crate::files::named::Named;
 use crate::files::upwards::line;
 use cjc_card_link::Tables;
-use cjc_export::bytes::{NoMemory, Row};
-use cjc_export::{ExportClass, ExportTree};
+use cjc_card_semantics::bytes::{NoMemory, Row};
+use cjc_card_semantics::export_file::{ExportClass, ExportTree};
 use std::alloc::Global;
 
 // No memory is there for more classes in all lines together.

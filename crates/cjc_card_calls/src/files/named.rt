@@ -4,14 +4,14 @@
 ghost use Rattle.std.specs.Prelude.{◌≡◌, ℕ, List, Some, None, IfOk, OnOk, if◌then◌else◌};
 ghost use Rattle.std.specs.Option.{option_copied};
 ghost use Rattle.std.specs.Str.{bytes_eq};
-ghost use Rattle.cjc_export.specs.Supers.{class_named, classes_of, super_count};
+ghost use Rattle.cjc_card_semantics.specs.ExportFile.Supers.{class_named, classes_of, super_count};
 ghost use Rattle.cjc_card_semantics.specs.Machine.Classes.{or_else};
 ghost use Rattle.cjc_card_calls.specs.Files.Named.{class_under};
 
 use crate::files::steps::super_count;
 use cjc_card_link::Name;
-use cjc_export::bytes::NoMemory;
-use cjc_export::{ExportClass, ExportTree};
+use cjc_card_semantics::bytes::NoMemory;
+use cjc_card_semantics::export_file::{ExportClass, ExportTree};
 use std::alloc::Global;
 use std::collections::HashMap;
 use std::marker::Model;
@@ -88,8 +88,8 @@ pub(crate) struct Named<'a> {
 
 impl<'a> Model for Named<'a> {
     ghost use Rattle.std.specs.Prelude.{List};
-    ghost use Rattle.cjc_export.specs.declared.tree.ExportClass.{ExportClass as Class};
-    ghost use Rattle.cjc_export.specs.Supers.{classes_of};
+    ghost use Rattle.cjc_card_semantics.specs.ExportFile.declared.tree.ExportClass.{ExportClass as Class};
+    ghost use Rattle.cjc_card_semantics.specs.ExportFile.Supers.{classes_of};
     ghost use Rattle.cjc_card_calls.specs.Files.Named.{AreNamed};
 
     ghost Value = { List Class };

@@ -1,10 +1,10 @@
 //! How many supers the classes of export files list in all: so many steps reach all that stands above some names.
 
 ghost use Rattle.std.specs.Prelude.{◌≡◌, ◌+◌, IfOk};
-ghost use Rattle.cjc_export.specs.Supers.{classes_of, super_count};
+ghost use Rattle.cjc_card_semantics.specs.ExportFile.Supers.{classes_of, super_count};
 
-use cjc_export::bytes::NoMemory;
-use cjc_export::{ExportClass, ExportTree};
+use cjc_card_semantics::bytes::NoMemory;
+use cjc_card_semantics::export_file::{ExportClass, ExportTree};
 
 /// No memory is there for 2^64 steps.
 pub(crate) fn sum(a: u64, b: u64) -> Result<u64, NoMemory>

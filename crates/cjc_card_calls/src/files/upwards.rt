@@ -12,8 +12,8 @@ use crate::files::named::Named;
 use crate::files::steps::sum;
 use cjc_card_frame::jvm_step::frame::Pile;
 use cjc_card_link::Name;
-use cjc_export::ExportClass;
-use cjc_export::bytes::{Bytes, NoMemory, Row};
+use cjc_card_semantics::bytes::{Bytes, NoMemory, Row};
+use cjc_card_semantics::export_file::ExportClass;
 use std::alloc::Global;
 use std::collections::HashMap;
 

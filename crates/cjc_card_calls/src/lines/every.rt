@@ -9,8 +9,8 @@ ghost use Rattle.cjc_card_link.specs.Tables.{AreKept, loaded_of};
 
 use cjc_card_frame::heap::Class;
 use cjc_card_link::Tables;
-use cjc_export::bytes::{NoMemory, Row};
-use cjc_export::{ExportClass, ExportTree};
+use cjc_card_semantics::bytes::{NoMemory, Row};
+use cjc_card_semantics::export_file::{ExportClass, ExportTree};
 use std::alloc::Global;
 
 // More export files than there are.

@@ -13,7 +13,7 @@ ghost use Rattle.cjc_card_link.specs.Tables.{AreKept, loaded_of};
 use crate::lines::every::every_class;
 use cjc_card_frame::heap::Class;
 use cjc_card_link::{Key, Tables};
-use cjc_export::bytes::{NoMemory, Row};
+use cjc_card_semantics::bytes::{NoMemory, Row};
 use std::alloc::Global;
 use std::collections::HashMap;
 

@@ -16,8 +16,8 @@ use crate::names::names::named_among;
 use cjc_card_frame::heap::Class;
 use cjc_card_frame::parts::Token;
 use cjc_card_link::{MethodName, Tables};
+use cjc_card_semantics::bytes::{MemberId, has, is_private, is_static};
 use cjc_card_semantics::capread::{ClassDescriptor, ClassRef, MethodDescriptor};
-use cjc_export::bytes::{MemberId, has, is_private, is_static};
 
 // The flag of a constructor in Descriptor.
 const ACC_CONSTRUCTOR: u16 = 0x80;

@@ -20,7 +20,7 @@ use crate::names::names::{listed_token, place_named};
 use cjc_card_frame::heap::Class;
 use cjc_card_frame::parts::Start;
 use cjc_card_link::Tables;
-use cjc_export::bytes::MemberId;
+use cjc_card_semantics::bytes::MemberId;
 
 // The token of the method of a name in an imported interface.
 fn token_abroad(tables: &Tables<'_>, tree: u32, number: u8, id: &MemberId) -> Option<u64>

@@ -3,15 +3,15 @@
 
 ghost use Rattle.std.specs.Prelude.{◌≡◌, ◌&&◌, map, position, slice_get, if◌then◌else◌, Some, None};
 ghost use Rattle.std.specs.Str.{bytes_eq};
-ghost use Rattle.cjc_export.specs.Supers.{is_virtual};
+ghost use Rattle.cjc_card_semantics.specs.ExportFile.Supers.{is_virtual};
 ghost use Rattle.cjc_card_semantics.specs.Machine.Calls.{is_named, listed_token, named_among, place_named};
 ghost use Rattle.cjc_card_semantics.specs.Machine.Calls.{token_in_files};
 ghost use Rattle.cjc_card_link.specs.Names.{method_name_of};
 
 use cjc_card_link::MethodName;
+use cjc_card_semantics::bytes::{MemberId, is_private, is_static};
 use cjc_card_semantics::capread::MethodDescriptor;
-use cjc_export::bytes::{MemberId, is_private, is_static};
-use cjc_export::{ExportClass, ExportMethod};
+use cjc_card_semantics::export_file::{ExportClass, ExportMethod};
 
 // Whether a method has a name and descriptor.
 fn is_named(name: &MethodName, id: &MemberId) -> bool

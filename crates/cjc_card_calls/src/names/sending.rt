@@ -20,7 +20,7 @@ use crate::names::tokens::token_from;
 use cjc_card_frame::heap::{Class, Shape};
 use cjc_card_frame::parts::{Start, Token};
 use cjc_card_link::Tables;
-use cjc_export::bytes::MemberId;
+use cjc_card_semantics::bytes::MemberId;
 
 // A method that is found decides, also where it has no token; else an interface above the named class may have it.
 fn sent_by(

@@ -10,7 +10,7 @@ ghost use Rattle.cjc_card_calls.specs.Names.Described.{described_of};
 use crate::names::described::{Described, declared};
 use cjc_card_frame::parts::Start;
 use cjc_card_link::Tables;
-use cjc_export::bytes::{MemberId, is_static};
+use cjc_card_semantics::bytes::{MemberId, is_static};
 
 // A method that is static.
 fn static_start(tables: &Tables<'_>, described: Described) -> Option<Start>

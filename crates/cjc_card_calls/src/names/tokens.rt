@@ -15,7 +15,7 @@ use crate::names::names::token_in_files;
 use cjc_card_frame::heap::Class;
 use cjc_card_frame::parts::Token;
 use cjc_card_link::Tables;
-use cjc_export::bytes::MemberId;
+use cjc_card_semantics::bytes::MemberId;
 
 // The token of a method of an imported class.
 fn open_token(token: Option<u8>) -> Option<Token>

@@ -1,6 +1,6 @@
 -- Matches with their offsets, one after another.
-use Rattle.std.proofs.Common.{◌≡◌, ℕ, ◌+◌, ◌-◌, ◌*◌, ◌<◌, ◌≤◌, ◌^◌, Bool, true, false, List, [], ◌∷◌, length, drop}
-use Rattle.std.proofs.Common.{refl, sym, ap, ◌∙◌, arith, Option, Some, ℤ}
+use Rattle.std.proofs.Common.{◌≡◌, ℕ, ◌+◌, ◌-◌, ◌*◌, ◌≤◌, ◌^◌, Bool, true, false, List, [], ◌∷◌, length, drop}
+use Rattle.std.proofs.Common.{sym, ap, ◌∙◌, arith, Option, Some, ℤ}
 use Rattle.std.specs.Prelude.{◌&&◌, if◌then◌else◌}
 use Rattle.std.specs.Int.RustNames.{int_le}
 use Rattle.std.proofs.lemmas.Option.{same_Some}
@@ -12,7 +12,7 @@ use Rattle.cjc_card_semantics.specs.CapRead.declared.decoder.table.Matches.TheVa
 use Rattle.cjc_card_semantics.specs.CapRead.Decoder.Decoded.{numbers}
 use Rattle.cjc_card_semantics.specs.CapRead.Decoder.Shapes.{entry_size, matches_of, match_of}
 
-value_is : (x y : ℤ) (r s : List ℕ) → ◌≡◌ {A = Option First} (Some (record { value = x; rest = r }))
+pub value_is : (x y : ℤ) (r s : List ℕ) → ◌≡◌ {A = Option First} (Some (record { value = x; rest = r }))
     (Some (record { value = y; rest = s })) → x ≡ y
 value_is x y r s e = ap (λ (f : First). f.value) (same_Some _ _ e)
 
@@ -39,22 +39,6 @@ pair_is true (a ∷ b ∷ c ∷ d ∷ f ∷ g ∷ bs) r s x far le e k =
     ap (λ y. y ∷ signed 32768 (256 * f + g) ∷ numbers Int bs)
     (value_is (signed (2 ^ 31) (16777216 * a + 65536 * b + 256 * c + d)) x (f ∷ g ∷ bs) r e)
     ∙ ap (λ y. x ∷ y ∷ numbers Int bs) (value_is (signed 32768 (256 * f + g)) far bs s k)
-
-pub none_left : (wide : Bool) (bs : List ℕ) → length bs < entry_size (matches_of wide) → numbers (matches_of wide) bs
-    ≡ []
-unfolding numbers
-none_left false [] lt = refl
-none_left false (a ∷ []) lt = refl
-none_left false (a ∷ b ∷ []) lt = refl
-none_left false (a ∷ b ∷ c ∷ []) lt = refl
-none_left false (a ∷ b ∷ c ∷ d ∷ bs) lt = absurd (omega (arith, lt))
-none_left true [] lt = refl
-none_left true (a ∷ []) lt = refl
-none_left true (a ∷ b ∷ []) lt = refl
-none_left true (a ∷ b ∷ c ∷ []) lt = refl
-none_left true (a ∷ b ∷ c ∷ d ∷ []) lt = refl
-none_left true (a ∷ b ∷ c ∷ d ∷ f ∷ []) lt = refl
-none_left true (a ∷ b ∷ c ∷ d ∷ f ∷ g ∷ bs) lt = absurd (omega (arith, lt))
 
 both : (a b : Bool) (p q : ℕ) (t : Bool) → (a && b) ≡ t → (if a then (if b then p else q) else q) ≡ (if t then p else q)
 both true b p q t e = ap (λ u. if u then p else q) e

@@ -1,22 +1,17 @@
 -- A table that is counted from a low number on.
 use Rattle.std.proofs.Common.{◌≡◌, ℕ, zero, suc, ◌+◌, ◌*◌, ◌<◌, Bool, true, false, List, [], ◌∷◌, length, drop, refl}
-use Rattle.std.proofs.Common.{sym, ap, ◌∙◌, arith, Option, Some, None, ℤ, pos, ◌+ℤ◌, ◌≤ℤ◌, ◌<ℤ◌}
+use Rattle.std.proofs.Common.{sym, ap, ◌∙◌, arith, Some, None, ℤ, pos, ◌+ℤ◌, ◌<ℤ◌}
 use Rattle.std.specs.Prelude.{slice_get, if◌then◌else◌}
 use Rattle.std.specs.Int.RustNames.{int_le}
 use Rattle.std.proofs.lemmas.Int.{ints}
-use Rattle.std.proofs.lemmas.Option.{same_Some}
 use Rattle.cjc_card_semantics.specs.CapRead.Opcodes.{Signed2}
-use Rattle.cjc_card_semantics.specs.CapRead.Decode.{First, operand, signed}
+use Rattle.cjc_card_semantics.specs.CapRead.Decode.{operand, signed}
 use Rattle.cjc_card_semantics.specs.Bytecode.Effects.{arm_of, with_some}
 use Rattle.cjc_card_semantics.specs.Machine.Operations.{moved, ranged}
 use Rattle.cjc_card_semantics.specs.CapRead.declared.decoder.table.Matches.TheVariants.{Counted}
 use Rattle.cjc_card_semantics.specs.CapRead.Decoder.Decoded.{numbers}
-
-le_true : (a b : ℤ) → a ≤ℤ b → int_le a b ≡ true
-le_true a b h = grind (arith, ints)
-
-le_false : (a b : ℤ) → b <ℤ a → int_le a b ≡ false
-le_false a b h = grind (arith, ints)
+use Rattle.cjc_card_frame.proofs.FetchLaws.Pairs.{value_is}
+use Rattle.cjc_script.proofs.BytesIntegers.{le_true, le_false}
 
 chosen : (t u : Bool) (p q : ℕ) → t ≡ true → u ≡ true → (if t then (if u then p else q) else q) ≡ p
 chosen true true p q e f = refl
@@ -51,10 +46,6 @@ above other at low (far ∷ ns) x (suc n) e =
     passed (int_le low x) (int_le x low) (moved at far) (arm_of other (ranged at (low +ℤ pos 1) ns) x)
     (le_true low x (omega (arith, ints, e))) (le_false x low (omega (arith, ints, e)))
     ∙ above other at (low +ℤ pos 1) ns x n (omega (arith, ints, e))
-
-value_is : (x y : ℤ) (r s : List ℕ) → ◌≡◌ {A = Option First} (Some (record { value = x; rest = r }))
-    (Some (record { value = y; rest = s })) → x ≡ y
-value_is x y r s e = ap (λ (f : First). f.value) (same_Some _ _ e)
 
 two_more : (n k : ℕ) → k ≡ 2 * suc n → k ≡ suc (suc (2 * n))
 two_more n k e = omega (arith, e)

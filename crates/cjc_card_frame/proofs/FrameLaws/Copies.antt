@@ -1,36 +1,22 @@
 -- Words that are copied below others, and words that change places.
 use Rattle.std.proofs.Common.{◌≡◌, ℕ, zero, suc, ◌<◌, ◌≤◌, refl, sym, ap, ◌∙◌, arith, List, [], ◌∷◌, ◌++◌, length, take}
-use Rattle.std.proofs.Common.{drop, Bool, true, false, ⊎_elim, inl, inr}
-use Rattle.std.specs.Prelude.{Some, None, slice_get, ◌&&◌, ◌||◌, ◌==◌, ◌⊎◌}
+use Rattle.std.proofs.Common.{drop, Bool, true, false, ⊎_elim}
+use Rattle.std.specs.Prelude.{Some, None, slice_get, ◌&&◌, ◌==◌}
 use Rattle.std.proofs.lemmas.List.{take_at, drop_at, take-append-drop, length-take-le}
-use Rattle.std.proofs.lemmas.Bool.Decides.{nat_tests}
 use Rattle.cjc_card_semantics.specs.Bytecode.Calculations.{if_so, is_swap, swap_x}
 use Rattle.cjc_card_frame.specs.Frame.Frames.{Words, Does, sunk}
 use Rattle.cjc_card_frame.specs.declared.frame.ending.Ending.{Ending}
+use Rattle.cjc_script.proofs.BytesBools.{or_cases}
+use Rattle.cjc_script.proofs.BytesNumbers.{number_same}
+use Rattle.cjc_script.proofs.BytesGets.{behind_2, get_in_front}
 
 -- the words of s, when all but so many of the top ones have been copied
 abbrev pub copied_from : {A : Type 0} (words below left : ℕ) → List A → List A
 copied_from words below left s = take below s ++ (drop left (take words s) ++ drop below s)
 
-behind : {A : Type 0} (n : ℕ) (s : List A) → drop n (take n s) ≡ []
-behind zero s = refl
-behind (suc n) [] = refl
-behind (suc n) (x ∷ s) = behind n s
-
 pub none_copied : {A : Type 0} (words below : ℕ) (s : List A) → s ≡ copied_from words below words s
 none_copied words below s = sym (take-append-drop below s) ∙ ap (λ front. take below s ++ (front ++ drop below s))
-    (sym (behind words s))
-
--- an item in front of those behind it
-in_front : {A : Type 0} (n left : ℕ) (s : List A) (w : A) → left < n → slice_get s left ≡ Some w → drop left (take n s)
-    ≡ w ∷ drop (suc left) (take n s)
-in_front zero left s w lt e = absurd (omega arith)
-in_front (suc n) left [] w lt e = absurd cc
-in_front (suc n) zero (x ∷ s) w lt e = ap (λ y. y ∷ take n s) (inner x w e)
-  where
-    inner : {A : Type 0} (x w : A) → Some x ≡ Some w → x ≡ w
-    inner x w e = cc
-in_front (suc n) (suc left) (x ∷ s) w lt e = in_front n left s w (omega arith) e
+    (sym (behind_2 words s))
 
 -- what stands among the top words, whatever stands below
 top_same : {A : Type 0} (below left : ℕ) (s rest : List A) → left < below → below ≤ length s
@@ -51,7 +37,7 @@ one_copied words below left k s t w all some lt next e at =
     let inside : left < below = omega arith in
     let there : slice_get s left ≡ Some w = sym (ap (λ xs. slice_get xs left) e ∙ top_same below left s rest inside all)
     ∙ at in
-    let first = in_front words left s w lt there in
+    let first = get_in_front words left s w lt there in
     ap (λ xs. xs ++ w ∷ drop below t) front
     ∙ ap (λ xs. take below s ++ w ∷ xs) back
     ∙ ap (λ n. take below s ++ w ∷ (drop n (take words s) ++ drop below s)) next
@@ -72,15 +58,8 @@ none_missing words below left k s t all some lt e at =
     missing (x ∷ s) zero lt e = absurd cc
     missing (x ∷ s) (suc n) lt e = missing s n (omega arith) e
 
-or_cases : (a b : Bool) → (a || b) ≡ true → (a ≡ true) ⊎ (b ≡ true)
-or_cases true b e = inl refl
-or_cases false b e = inr e
-
-ones : (n k : ℕ) → (n == k) ≡ true → n ≡ k
-ones n k e = grind (arith, nat_tests)
-
 pub is_two : (n : ℕ) → is_swap n ≡ true → (n ≡ 1 → ⊥) → n ≡ 2
-is_two n e h = ⊎_elim (λ t. absurd (h (ones n 1 t))) (λ t. ones n 2 t) (or_cases (n == 1) (n == 2) e)
+is_two n e h = ⊎_elim (λ t. absurd (h (number_same n 1 t))) (λ t. number_same n 2 t) (or_cases (n == 1) (n == 2) e)
 
 pub swaps : (m n room : ℕ) (e : Ending) (old new : Words) → is_swap m ≡ true → is_swap n ≡ true
     → Does (sunk m n) room e old new → Does (swap_x m n) room e old new

@@ -7,19 +7,9 @@ use Rattle.std.proofs.lemmas.List.{reverse-append}
 use Rattle.std.proofs.lemmas.List.Elements.{All-append}
 use Rattle.cjc_script.specs.declared.value.Value.{Value}
 use Rattle.cjc_card_frame.specs.Frame.Frames.{IsLocal, IsWord}
+use Rattle.cjc_script.proofs.BytesGets.{behind_2, get_in_front}
 
 -- ---- lists
-
--- an item in front of those behind it
-in_front : {A : Type 0} (n left : ℕ) (s : List A) (w : A) → left < n → slice_get s left ≡ Some w → drop left (take n s)
-    ≡ w ∷ drop (suc left) (take n s)
-in_front zero left s w lt e = absurd (omega arith)
-in_front (suc n) left [] w lt e = absurd cc
-in_front (suc n) zero (x ∷ s) w lt e = ap (λ y. y ∷ take n s) (inner x w e)
-  where
-    inner : {A : Type 0} (x w : A) → Some x ≡ Some w → x ≡ w
-    inner x w e = cc
-in_front (suc n) (suc left) (x ∷ s) w lt e = in_front n left s w (omega arith) e
 
 -- one item more
 pub one_more : {A : Type 0} (xs : List A) (i : ℕ) (x : A) → slice_get xs i ≡ Some x → take (i + 1) xs ≡ take i xs
@@ -42,13 +32,8 @@ all_and P xs x all p = All-append P xs (x ∷ []) all (one_of P x p)
 
 -- ---- arguments
 
-behind : {A : Type 0} (n : ℕ) (s : List A) → drop n (take n s) ≡ []
-behind zero s = refl
-behind (suc n) [] = refl
-behind (suc n) (x ∷ s) = behind n s
-
 pub none_taken : {A : Type 0} (n : ℕ) (s : List A) → reverse (drop n (take n s)) ≡ []
-none_taken n s = ap reverse (behind n s)
+none_taken n s = ap reverse (behind_2 n s)
 
 pub one_taken : {A : Type 0} (n left k : ℕ) (s : List A) (w : A) → left < n → k ≡ suc left → slice_get s left ≡ Some w
     → reverse (drop k (take n s)) ++ w ∷ [] ≡ reverse (drop left (take n s))
@@ -56,7 +41,7 @@ one_taken n left k s w lt e at =
     let rest = drop (suc left) (take n s) in
     ap (λ j. reverse (drop j (take n s)) ++ w ∷ []) e
     ∙ sym (reverse-append (w ∷ []) rest)
-    ∙ ap reverse (sym (in_front n left s w lt at))
+    ∙ ap reverse (sym (get_in_front n left s w lt at))
 
 -- ---- locals
 

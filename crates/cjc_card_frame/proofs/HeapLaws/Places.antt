@@ -6,6 +6,7 @@ use Rattle.cjc_card_semantics.specs.Bytecode.Effects.{Slot, slot_of, slots_with}
 use Rattle.cjc_card_semantics.specs.Machine.Classes.{Field, same_field}
 use Rattle.cjc_card_frame.specs.declared.heap.slots.Slot.{Slot as SlotData}
 use Rattle.cjc_card_frame.specs.Objects.{place_in, slot_by}
+use Rattle.cjc_script.proofs.BytesPlain.{the_same}
 
 -- what is held under a field that is nowhere
 pub none_held : (slots : List (Slot Field)) (f : Field) → None ≡ place_in slots f → slot_of same_field slots f ≡ None
@@ -32,9 +33,6 @@ none_put (s ∷ slots) f v e = by (same_field s.key f) (place_in slots f) (λ h.
     by false None rest h = ap (λ more. s ∷ more) (rest refl)
     by false (Some q) rest h = absurd cc
 
-some_is : {A : Type 0} (x y : A) → Some x ≡ Some y → x ≡ y
-some_is x y e = cc
-
 next_is : (p q : ℕ) → Some p ≡ Some (suc q) → p ≡ suc q
 next_is p q e = cc
 
@@ -50,7 +48,7 @@ held_at (t ∷ slots) f p s e at = by (same_field (slot_by t).key f) (place_in (
         else option_map suc o) → (if same then Some t.value else slot_of same_field (map slot_by slots) f)
         ≡ Some s.value
     by true o rest h =
-        let first = some_is t s (ap (λ n. slice_get (t ∷ slots) n) (sym (some_is p 0 h)) ∙ at) in
+        let first = the_same t s (ap (λ n. slice_get (t ∷ slots) n) (sym (the_same p 0 h)) ∙ at) in
         ap (λ (x : SlotData). Some x.value) first
     by false None rest h = absurd cc
     by false (Some q) rest h = rest q refl (ap (λ n. slice_get (t ∷ slots) n) (sym (next_is p q h)) ∙ at)
@@ -70,8 +68,8 @@ put_at (t ∷ slots) f v p s e at = by (same_field (slot_by t).key f) (place_in 
         then record (slot_by t) { value = v } ∷ map slot_by slots else slot_by t
         ∷ slots_with same_field (map slot_by slots) f v)
     by true o rest h =
-        let none = some_is p 0 h in
-        let first = some_is t s (ap (λ n. slice_get (t ∷ slots) n) (sym none) ∙ at) in
+        let none = the_same p 0 h in
+        let first = the_same t s (ap (λ n. slice_get (t ∷ slots) n) (sym none) ∙ at) in
         ap (λ n. map slot_by (slice_set (t ∷ slots) n (record s { value = v }))) none
         ∙ ap (λ (x : SlotData). record (slot_by x) { value = v } ∷ map slot_by slots) (sym first)
     by false None rest h = absurd cc
@@ -89,9 +87,6 @@ place_below (t ∷ slots) f p e = by (same_field (slot_by t).key f) (place_in (m
   where
     by : (same : Bool) (o : Option ℕ) → ((q : ℕ) → Some q ≡ o → (s : SlotData) × (slice_get slots q ≡ Some s))
         → Some p ≡ (if same then Some 0 else option_map suc o) → (s : SlotData) × (slice_get (t ∷ slots) p ≡ Some s)
-    by true o rest h = (t, ap (λ n. slice_get (t ∷ slots) n) (some_is p 0 h))
+    by true o rest h = (t, ap (λ n. slice_get (t ∷ slots) n) (the_same p 0 h))
     by false None rest h = absurd cc
     by false (Some q) rest h = let r = rest q refl in (r.0, ap (λ n. slice_get (t ∷ slots) n) (next_is p q h) ∙ r.1)
-
-pub none_there : {A : Type 0} (x : A) → None ≡ Some x → ⊥
-none_there x e = absurd cc

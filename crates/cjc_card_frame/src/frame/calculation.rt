@@ -13,9 +13,9 @@ ghost use Rattle.cjc_card_frame.specs.Frame.Frames.{AreOperands, Does, NoLocal};
 use crate::frame::cells::Cells;
 use crate::frame::ending::Ending;
 use crate::opcodes::{Calculation, Kind};
-use cjc_card_semantics::bytes::NoMemory;
 use cjc_card_semantics::capread::decoder::Operands;
 use cjc_script::Value;
+use cjc_script::bytes::NoMemory;
 
 /// The number of a local, where there is one operand and it is not negative.
 fn local_of(operands: Operands) -> Option<usize>

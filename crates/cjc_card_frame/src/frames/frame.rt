@@ -11,8 +11,8 @@ ghost use Rattle.cjc_card_frame.specs.Kinds.{start_of};
 use crate::frame::Cells;
 use crate::frames::taking::{locals_of, put_words};
 use crate::parts::{Code, Start};
-use cjc_card_semantics::bytes::NoMemory;
 use cjc_script::Value;
+use cjc_script::bytes::NoMemory;
 use std::alloc::Global;
 use std::marker::Model;
 

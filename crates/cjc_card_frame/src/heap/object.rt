@@ -10,8 +10,8 @@ ghost use Rattle.cjc_card_frame.specs.Objects.{with_number, with_reference, with
 
 use crate::heap::class::{Class, Element, Field, Shape};
 use crate::heap::slots::{Slot, put_slot};
-use cjc_card_semantics::bytes::NoMemory;
 use cjc_script::Value;
+use cjc_script::bytes::NoMemory;
 use std::alloc::Global;
 use std::marker::Model;
 

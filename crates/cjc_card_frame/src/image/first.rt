@@ -10,9 +10,9 @@ ghost use Rattle.cjc_card_frame.specs.Objects.{element_of};
 use crate::heap::{Element, Heap, HeapObject};
 use crate::image::image::Image;
 use crate::image::numbers::{byte_in, int_in, short_in};
-use cjc_card_semantics::bytes::NoMemory;
 use cjc_card_semantics::capread::{ArrayInit, StaticField};
 use cjc_script::Value;
+use cjc_script::bytes::NoMemory;
 use std::alloc::Global;
 
 /// What the elements of an array are, by the number of their type.

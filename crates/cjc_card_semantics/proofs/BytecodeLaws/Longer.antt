@@ -24,10 +24,10 @@ use Rattle.cjc_card_semantics.specs.Bytecode.Machine.{State, Turn, Next, Ended, 
 use Rattle.cjc_card_semantics.specs.Bytecode.Machine
 use Rattle.cjc_card_semantics.specs.Bytecode.Runs.{Move, On, Over, Device, after, run, led, device, Lawful}
 
-same_notes : (notes : List Note) → IsBegun notes notes
+pub same_notes : (notes : List Note) → IsBegun notes notes
 same_notes notes = ([], sym (append-nil notes))
 
-begun_trans : (a b c : List Note) → IsBegun a b → IsBegun b c → IsBegun a c
+pub begun_trans : (a b c : List Note) → IsBegun a b → IsBegun b c → IsBegun a c
 begun_trans a b c h k = (h.0 ++ k.0, k.1 ∙ ap (λ l. l ++ k.0) h.1 ∙ append_assoc a h.0 k.0)
 
 -- ---- any machine

@@ -1,6 +1,6 @@
 -- An instruction does the same under other names and places, where what is asked of known names is the same; and what
 -- is known stays known.
-use Rattle.std.proofs.Common.{◌≡◌, ℕ, zero, suc, refl, sym, ap, subst, ◌∙◌, arith, Bool, true, false, List, [], ◌∷◌}
+use Rattle.std.proofs.Common.{◌≡◌, ℕ, zero, suc, refl, sym, ap, subst, ◌∙◌, Bool, true, false, List, [], ◌∷◌}
 use Rattle.std.proofs.Common.{◌++◌, length, replicate, ℤ, pos, negsuc}
 use Rattle.std.specs.Prelude.{Option, Some, None, map, nat_le, slice_get, slice_set, if◌then◌else◌}
 use Rattle.std.specs.Int.RustNames.{int_le}
@@ -30,6 +30,8 @@ use Rattle.cjc_card_semantics.specs.Bytecode.Renaming.{operation_as, effect_as, 
 use Rattle.cjc_card_semantics.specs.Bytecode.Renaming.{numbers_known, references_known, object_known, KnownHeap}
 use Rattle.cjc_card_semantics.specs.Bytecode.Renaming.{no_things, one_thing, KnownMemory, KnownOperation, KnownEffect}
 use Rattle.cjc_card_semantics.specs.Bytecode.Renaming.{UnmadeAlike, AreAlike, keys}
+use Rattle.cjc_export.proofs.BytesLists.{length_mapped}
+use Rattle.cjc_export.proofs.BytesGets.{map_set}
 
 -- ---- lists
 
@@ -38,19 +40,9 @@ get_map f [] k = refl
 get_map f (x ∷ xs) zero = refl
 get_map f (x ∷ xs) (suc k) = get_map f xs k
 
-pub set_map : {A B : Type 0} (f : A → B) (xs : List A) (k : ℕ) (x : A) → slice_set (map f xs) k (f x)
-    ≡ map f (slice_set xs k x)
-set_map f [] k x = refl
-set_map f (y ∷ xs) zero x = refl
-set_map f (y ∷ xs) (suc k) x = ap (λ ys. f y ∷ ys) (set_map f xs k x)
-
 pub map_last : {A B : Type 0} (f : A → B) (xs : List A) (x : A) → map f xs ++ f x ∷ [] ≡ map f (xs ++ x ∷ [])
 map_last f [] x = refl
 map_last f (y ∷ xs) x = ap (λ ys. f y ∷ ys) (map_last f xs x)
-
-pub length_as : {A B : Type 0} (f : A → B) (xs : List A) → length (map f xs) ≡ length xs
-length_as f [] = refl
-length_as f (y ∷ xs) = let r = length_as f xs in omega arith
 
 pub arm_of_map : (to : ℕ → ℕ) (other : ℕ) (arms : List Arm) (x : ℤ) → arm_of (to other) (map (arm_as to) arms) x
     ≡ to (arm_of other arms x)
@@ -265,7 +257,7 @@ module _ {C F S X D G T Y : Type 0} (known : Knows C F S X) (class : C → D) (f
         ≡ moved (Go next rest locals (with_thing m k t))
     put_there next rest locals m k t =
         ap (λ h. Go (to next) rest locals (record { heap = h; statics = statics m.statics }))
-        (set_map (heap_object_as class slots) m.heap k t)
+        (map_set (heap_object_as class slots) m.heap k t)
 
     by_onward : (words : List Value) (room next : ℕ) (locals : List (Option Value)) (m : Memory C F X)
         (rest : List Value) → onward words room (to next) locals (memory m) rest
@@ -281,7 +273,7 @@ module _ {C F S X D G T Y : Type 0} (known : Knows C F S X) (class : C → D) (f
               ++ heap_object_as class slots t ∷ [];
           statics = statics m.statics;
         }) rest)
-        (length_as (heap_object_as class slots) m.heap)
+        (length_mapped (heap_object_as class slots) m.heap)
         ∙ ap (λ h. onward (Obj (length m.heap) ∷ []) room (to next) locals (record {
           heap = h;
           statics = statics m.statics;

@@ -34,9 +34,11 @@ use Rattle.cjc_card_semantics.specs.Bytecode.Alike.{start_as, frame_as, Names, s
 use Rattle.cjc_card_semantics.specs.Bytecode.Alike.{KnownFrames, no_frames, one_frame, KnownState, SettingsAlike}
 use Rattle.cjc_card_semantics.specs.Bytecode.Alike.{MissesAlike, IsFree, RunsAgree, RunsStickAlike}
 use Rattle.cjc_card_semantics.proofs.BytecodeLaws.Natural
-use Rattle.cjc_card_semantics.proofs.BytecodeLaws.Natural.{get_map, set_map, map_last, length_as, get_known, set_known}
+use Rattle.cjc_card_semantics.proofs.BytecodeLaws.Natural.{get_map, map_last, get_known, set_known}
 use Rattle.cjc_card_semantics.proofs.BytecodeLaws.Natural.{last_known, shape_known, Follows, does, effect_natural}
 use Rattle.cjc_card_semantics.proofs.BytecodeLaws.Natural.{effect_keeps}
+use Rattle.cjc_export.proofs.BytesLists.{length_mapped}
+use Rattle.cjc_export.proofs.BytesGets.{map_set}
 
 module _ {P C F S M X Q D G T N Y : Type 0} (n : Names P C F S M X Q D G T N Y) (known : Knows C F S X) (KnownCode : P
     → Type 0) (KnownMethod : M → Type 0) (set : Setting P C F S M X) (set' : Setting Q D G T N Y) (alike : SettingsAlike
@@ -211,7 +213,7 @@ module _ {P C F S M X Q D G T N Y : Type 0} (n : Names P C F S M X Q D G T N Y) 
       }) in
       subst (λ t. Together one (two (length (things s.memory.heap)) (things s.memory.heap ++ t ∷ []))) (bare_there c kt)
       (subst (λ k. Together one (two k (things s.memory.heap ++ thing (Object c []) ∷ [])))
-      (sym (length_as thing s.memory.heap))
+      (sym (length_mapped thing s.memory.heap))
       (subst (λ h. Together one (two (length s.memory.heap) h)) (sym (map_last thing s.memory.heap (Object c [])))
       (caught_together f.at (n.to f.code f.at) (f ∷ outer) (length s.memory.heap) (OfClass c) new
       (receiver_of (Object c []) kt) kf (grown_known s (Object c []) km kt))))
@@ -407,7 +409,7 @@ module _ {P C F S M X Q D G T N Y : Type 0} (n : Names P C F S M X Q D G T N Y) 
       (things heap) k o')
   placed_same heap k _ _ kh no_thing = no_heap
   placed_same heap k _ _ kh (a_thing t kt) =
-      subst (λ h. SameHeap (Some (slice_set heap k t)) (Some h)) (sym (set_map thing heap k t))
+      subst (λ h. SameHeap (Some (slice_set heap k t)) (Some h)) (sym (map_set thing heap k t))
       (a_heap (slice_set heap k t) (set_known known k t kh kt))
 
   item_fits_same : (heap : List (HeapObject C F)) (c : C) (v : Value) → KnownHeap known heap → known.class c

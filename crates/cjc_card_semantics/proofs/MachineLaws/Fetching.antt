@@ -1,15 +1,12 @@
 -- An instruction that stands in a method's code is fetched as its opcode means.
-use Rattle.std.proofs.Common.{◌≡◌, ℕ, ◌+◌, ◌≤◌, ap, ◌∙◌, arith, true, List, ◌++◌}
-use Rattle.std.specs.Prelude.{Some, None, option_and_then, slice_get, nat_le, if◌then◌else◌}
-use Rattle.std.proofs.lemmas.Bool.Decides.{nat_tests}
+use Rattle.std.proofs.Common.{◌≡◌, ℕ, ◌+◌, ◌≤◌, ap, ◌∙◌, List, ◌++◌}
+use Rattle.std.specs.Prelude.{Some, None, option_and_then, slice_get, if◌then◌else◌}
 use Rattle.cjc_capread.specs.Opcodes.{Form}
 use Rattle.cjc_capread.specs.Decode.{Instruction, decode, emitted, size, IsWritable}
 use Rattle.cjc_capread.proofs.Decoding.{decode_emitted}
 use Rattle.cjc_card_semantics.specs.Machine.Loaded.{Part, Loaded}
 use Rattle.cjc_card_semantics.specs.Machine.Methods.{Code, bytes_from, fetched_as, fetched_within, fetched_in, fetch}
-
-at_most : (a b : ℕ) → a ≤ b → nat_le a b ≡ true
-at_most a b h = grind (arith, nat_tests)
+use Rattle.cjc_export.proofs.BytesNumbers.{at_most}
 
 pub fetch_written : (l : Loaded) (code : Code) (at : ℕ) (part : Part) (f : Form) (i : Instruction) (rest : List ℕ)
     → slice_get l.parts code.part ≡ Some part → code.first ≤ at → at + size i ≤ code.end

@@ -1,6 +1,6 @@
 -- What the entries of a switch's table are, by its meaning.
 use Rattle.std.proofs.Common.{◌≡◌, ℕ, ◌<◌, refl, sym, ap, ◌∙◌, List, Bool, true, false}
-use Rattle.std.specs.Prelude.{Option, Some, None, ◌&&◌}
+use Rattle.std.specs.Prelude.{Option, Some, None}
 use Rattle.cjc_card_semantics.specs.CapRead.Opcodes.{Operand, Signed2, Signed4, Form, Fields, Table, Lookup, form}
 use Rattle.cjc_card_semantics.specs.Bytecode.Meanings.{Meaning, Ranged, Paired, meaning}
 use Rattle.cjc_card_semantics.specs.Bytecode.Worked.{is_told, is_told_as, takes, are_matches}
@@ -12,10 +12,7 @@ use Rattle.cjc_card_semantics.specs.CapRead.declared.decoder.table.Matches.{Matc
 use Rattle.cjc_card_semantics.specs.CapRead.declared.decoder.table.Matches.TheVariants.{Counted, Short, Int}
 use Rattle.cjc_card_semantics.specs.CapRead.Decoder.Decoded.{IsAtFront}
 use Rattle.cjc_card_semantics.specs.CapRead.Decoder.Shapes.{form_of, matches_in, matches_of}
-
-first : (p q : Bool) → (p && q) ≡ true → p ≡ true
-first true q e = refl
-first false q e = cc
+use Rattle.cjc_card_semantics.proofs.BytesBools.{both_front}
 
 -- the form of a switch over numbers
 ranged_form : (op : ℕ) (f : Option Form) (is_int : Bool) → is_told_as op f (Ranged is_int) ≡ true → (m : Operand)
@@ -31,7 +28,7 @@ paired_form : (op : ℕ) (f : Option Form) (is_int : Bool) → is_told_as op f (
 paired_form op None is_int e = absurd cc
 paired_form op (Some (Fields xs)) is_int e = absurd cc
 paired_form op (Some (Table m)) is_int e = absurd cc
-paired_form op (Some (Lookup m)) is_int e = (m, refl, first (are_matches is_int m) _ e)
+paired_form op (Some (Lookup m)) is_int e = (m, refl, both_front (are_matches is_int m) _ e)
 
 -- entries without matches
 counted_in : (s : Shape) (m : Operand) → form_of s ≡ Some (Table m) → matches_in s ≡ Counted

@@ -7,8 +7,8 @@ use Rattle.cjc_capread.specs.declared.tree.ClassInfo.{ClassInfo}
 use Rattle.cjc_capread.specs.declared.tree.ClassDescriptor.{ClassDescriptor}
 use Rattle.cjc_capread.specs.declared.tree.MethodDescriptor.{MethodDescriptor}
 use Rattle.cjc_check_rules.specs.Classes.{is_own_class}
-use Rattle.cjc_check_rules.proofs.Firsts.{either}
 use Rattle.cjc_check.specs.Codes.Working.Steps.{methods_of, methods_of_all}
+use Rattle.cjc_capread.proofs.BytesBools.{bool_either}
 
 pub classes_more : (info : ClassInfo) (i : ℕ) (x : ClassDescriptor) (xs : List ClassDescriptor) (done next total :
     List MethodDescriptor) → i < length xs → x ≡ get_or xs i x
@@ -31,6 +31,6 @@ pub methods_are : (info : ClassInfo) (ds : List ClassDescriptor) → methods_of_
     (filter (λ d. is_own_class info d.this_class) ds)
 methods_are info [] = refl
 methods_are info (d ∷ ds) =
-    either (is_own_class info d.this_class)
+    bool_either (is_own_class info d.this_class)
     (λ t. rw t (ap (λ ms. d.methods ++ ms) (methods_are info ds)))
     (λ t. rw t (methods_are info ds))

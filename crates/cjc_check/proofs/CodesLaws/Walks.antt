@@ -3,7 +3,6 @@ use Rattle.std.proofs.Common.{◌≡◌, ℕ, zero, suc, ◌+◌, ◌-◌, ◌*�
 use Rattle.std.proofs.Common.{length, get_or, take, drop, map, refl, sym, ap, ◌∙◌, arith, append-nil, Option, Some}
 use Rattle.std.proofs.Common.{None, Result, Ok, Err}
 use Rattle.std.specs.Prelude.{if◌then◌else◌, option_map, IfOk, slice_get}
-use Rattle.std.proofs.lemmas.Option.{same_Some, slice_get-get_or}
 use Rattle.cjc_check.specs.declared.codes.cutting.Step.TheVariants.{Whole, Ends}
 use Rattle.std.proofs.lemmas.List.{map-append, take_min, drop_more, drop_all}
 use Rattle.cjc_capread.specs.Decode.{Instruction, decode, size}
@@ -104,9 +103,6 @@ followed_is (Whole b) at size count ms bs e =
     ap (λ k. onto (code_of b) (codes_from k ms (drop (size + count) bs))) (sym e)
     ∙ ap (λ k. onto (code_of b) (codes_from b.end ms (drop k bs))) far
 followed_is (Ends k) at size count ms bs e = refl
-
-pub same_item : {A : Type 0} (xs : List A) (i : ℕ) (d : A) → i < length xs → get_or xs i d ≡ get_or xs i (get_or xs i d)
-same_item xs i d lt = same_Some _ _ (sym (slice_get-get_or xs i d lt) ∙ slice_get-get_or xs i (get_or xs i d) lt)
 
 -- a step along methods
 pub cut_more : (at i : ℕ) (m : MethodDescriptor) (ms : List MethodDescriptor) (bs : List ℕ) (done : List Body)

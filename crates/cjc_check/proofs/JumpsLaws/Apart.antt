@@ -2,7 +2,7 @@
 use Rattle.std.proofs.Common.{◌≡◌, ℕ, zero, suc, ◌+◌, ◌-◌, ◌<◌, ◌≤◌, ◌==◌, Bool, true, false, List, [], ◌∷◌, length}
 use Rattle.std.proofs.Common.{get_or, take, drop, map, refl, sym, ap, subst, ◌∙◌, arith, Option, Some, None, Result, Ok}
 use Rattle.std.proofs.Common.{Err}
-use Rattle.std.specs.Prelude.{◌||◌, nat_le, if◌then◌else◌, slice_get}
+use Rattle.std.specs.Prelude.{nat_le, if◌then◌else◌, slice_get}
 use Rattle.std.specs.List.{list_any, find, prefix_len}
 use Rattle.std.specs.List.Sorted.{IsNonDecreasingBy}
 use Rattle.std.proofs.lemmas.Bool.Decides.{nat_tests}
@@ -18,8 +18,8 @@ use Rattle.cjc_check_rules.specs.Codes.{Code, all_codes, codes, codes_from, cut,
 use Rattle.cjc_check_rules.specs.Codes.{with_code, with_header, with_instruction}
 use Rattle.cjc_check_rules.specs.Instructions.{has_start}
 use Rattle.cjc_check_rules.specs.Members.{class_methods}
-use Rattle.cjc_check_rules.proofs.Firsts.{either}
 use Rattle.cjc_check.specs.Jumps.Standing.{AreApart}
+use Rattle.cjc_capread.proofs.BytesBools.{bool_either, split_or}
 
 -- ---- instructions
 
@@ -31,14 +31,10 @@ begins_at is offset = list_any (λ p. p.at == offset) is
 abbrev AreWithin : (from count : ℕ) → List (Placed Instruction) → Type 0
 AreWithin from count is = (offset : ℕ) → begins_at is offset ≡ true → (from ≤ offset) × (offset < from + count)
 
-or_true : (a b : Bool) {P : Type 0} → (a || b) ≡ true → (a ≡ true → P) → (b ≡ true → P) → P
-or_true true b e p q = p refl
-or_true false b e p q = q e
-
 one_more : (at count bytes : ℕ) (i : Instruction) (is : List (Placed Instruction)) → 0 < count
     → AreWithin (at + bytes) (count - bytes) is → AreWithin at count (record { at = at; item = i } ∷ is)
 one_more at count bytes i is some all offset e =
-    or_true (at == offset) (begins_at is offset) e
+    split_or (at == offset) (begins_at is offset) e
     (λ h. let same : at ≡ offset = grind (arith, nat_tests) in (omega (arith, same), omega (arith, same, some)))
     (λ h. let low = all offset h in let a = low.0 in let b = low.1 in (omega (arith, a), omega (arith, a, b)))
 
@@ -152,7 +148,7 @@ ends_rise from (b ∷ bs) h (suc i) zero d le lt = absurd (omega (arith, le))
 ends_rise from (b ∷ bs) h (suc i) (suc j) d le lt = ends_rise b.end bs h.2 i j d (omega (arith, le)) (omega (arith, lt))
 
 not_start : (code : Code) (offset : ℕ) → (has_start code offset ≡ true → ⊥) → has_start code offset ≡ false
-not_start code offset f = either (has_start code offset) (λ t. absurd (f t)) (λ t. t)
+not_start code offset f = bool_either (has_start code offset) (λ t. absurd (f t)) (λ t. t)
 
 -- what begins the method, if it is there
 abbrev pub if_start : (offset : ℕ) → Option Body → Option Code
@@ -183,14 +179,14 @@ ends_behind : (b : Body) (bs : List Body) (offset : ℕ) → nat_le b.end offset
     → find (λ code. has_start code offset) (map code_of bs) ≡ None
     → find (λ code. has_start code offset) (map code_of (b ∷ bs))
     ≡ if_start offset (slice_get (b ∷ bs) (prefix_len (λ x. nat_le x.end offset) (b ∷ bs)))
-ends_behind b bs offset e none = either (has_start (code_of b) offset) (λ t. rw (e, t) refl) (λ t. rw (e, t) none)
+ends_behind b bs offset e none = bool_either (has_start (code_of b) offset) (λ t. rw (e, t) refl) (λ t. rw (e, t) none)
 
 pub found_by_end : (from offset : ℕ) (bs : List Body) → AreApart from (map code_of bs)
     → find (λ code. has_start code offset) (map code_of bs)
     ≡ if_start offset (slice_get bs (prefix_len (λ x. nat_le x.end offset) bs))
 found_by_end from offset [] h = refl
 found_by_end from offset (b ∷ bs) h =
-    either (nat_le b.end offset)
+    bool_either (nat_le b.end offset)
     (λ t. let le : b.end ≤ offset = grind (arith, nat_tests) in
     ends_before b bs offset t (not_start (code_of b) offset (λ s. let w = h.0 offset s in let a = w.1
     in omega (arith, a, le))) (found_by_end b.end offset bs h.2))

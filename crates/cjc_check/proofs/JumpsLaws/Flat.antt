@@ -1,17 +1,12 @@
 -- The first place of items, each of which has places of its own.
-use Rattle.std.proofs.Common.{◌≡◌, ℕ, ◌+◌, ◌<◌, ◌≤◌, List, ◌∷◌, ◌++◌, length, get_or, drop, map, sym, ap, ◌∙◌, Option}
+use Rattle.std.proofs.Common.{◌≡◌, ℕ, ◌+◌, ◌<◌, ◌≤◌, List, ◌++◌, length, get_or, drop, map, sym, ap, ◌∙◌, Option}
 use Rattle.std.proofs.Common.{append_assoc, append-nil}
 use Rattle.std.specs.Prelude.{flat_map}
-use Rattle.std.proofs.lemmas.List.{drop_more, drop_all}
-use Rattle.std.proofs.lemmas.Option.{same_Some, slice_get-get_or}
+use Rattle.std.proofs.lemmas.List.{drop_all}
 use Rattle.cjc_check_rules.specs.declared.spot.ComponentPlace.{ComponentPlace}
 use Rattle.cjc_check_rules.specs.Spots.{earlier, first}
 use Rattle.cjc_check_rules.proofs.Firsts.{earlier_none, earlier_assoc, first_append, first_nothing}
-
--- at the item of a number and behind it
-pub at_item : {A : Type 0} (i : ℕ) (x : A) (xs : List A) → i < length xs → x ≡ get_or xs i x
-    → drop i xs ≡ x ∷ drop (i + 1) xs
-at_item {A} i x xs lt is = drop_more xs i x lt ∙ ap (λ (y : A). y ∷ drop (i + 1) xs) (sym is)
+use Rattle.cjc_capread.proofs.BytesGets.{at_item}
 
 pub flat_more : {A B : Type 0} (view : A → B) (broken : B → List ComponentPlace) (i : ℕ) (x : A) (xs : List A)
     (best found total : Option ComponentPlace)
@@ -47,6 +42,3 @@ pub put_all : {A B C : Type 0} (view : A → B) (part : B → List C) (i : ℕ) 
     → length xs ≤ i → done ++ flat_map part (map view (drop i xs)) ≡ total → done ≡ total
 put_all {A} view part i xs done total le so_far =
     sym (append-nil done) ∙ ap (λ (ys : List A). done ++ flat_map part (map view ys)) (sym (drop_all i xs le)) ∙ so_far
-
-pub same_item : {A : Type 0} (xs : List A) (i : ℕ) (d : A) → i < length xs → get_or xs i d ≡ get_or xs i (get_or xs i d)
-same_item xs i d lt = same_Some _ _ (sym (slice_get-get_or xs i d lt) ∙ slice_get-get_or xs i (get_or xs i d) lt)

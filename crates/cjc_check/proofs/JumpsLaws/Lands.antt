@@ -25,7 +25,8 @@ use Rattle.cjc_check_rules.specs.Instructions.{ends_code, default_of, in_code, i
 use Rattle.cjc_check_rules.specs.Instructions.{pair_offsets, switch_offsets}
 use Rattle.cjc_check_rules.proofs.Firsts.{earlier_none, earlier_assoc, first_append, first_nothing}
 use Rattle.cjc_check.specs.Jumps.Offsets.{is_switch, natural, offsets_in}
-use Rattle.cjc_check.proofs.JumpsLaws.Flat.{at_item}
+use Rattle.cjc_check_tables.proofs.CheckIndexEdges.{and_true}
+use Rattle.cjc_capread.proofs.BytesGets.{at_item}
 
 -- ---- where a jump goes
 
@@ -178,10 +179,6 @@ switch_jumps P s i m t jump is shape matches default e =
     ∙ sym (ap (λ b. list_all P (if b then i.operands else switch_offsets (form i.opcode) i)) jump)
 
 -- ---- instructions one by one
-
-and_true : (b : Bool) → (b && true) ≡ b
-and_true true = refl
-and_true false = refl
 
 step_in : (code : Code) (a : At) (rest : List At) (t : Bool) → t ≡ (jumps_land code (placed_of a)
     && (nat_lt 0 (length rest) || ends_code a.insn.opcode))

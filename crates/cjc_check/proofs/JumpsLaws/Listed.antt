@@ -1,15 +1,16 @@
 -- The places of indices, and their distances.
 use Rattle.std.proofs.Common.{◌≡◌, ℕ, suc, ◌+◌, ◌-◌, ◌/◌, ◌%◌, ◌<◌, ◌≤◌, ◌==◌, List, [], ◌∷◌, ◌++◌, length, get_or}
-use Rattle.std.proofs.Common.{drop, replicate, refl, sym, ap, ◌∙◌, arith, append_assoc, append-nil}
+use Rattle.std.proofs.Common.{drop, refl, sym, ap, ◌∙◌, arith, append_assoc, append-nil}
 use Rattle.std.specs.Prelude.{flat_map, sum_by}
 use Rattle.std.proofs.lemmas.List.{drop_all}
 use Rattle.std.proofs.lemmas.List.Sums.{sum_by-cons}
 use Rattle.cjc_capread.specs.declared.tree.Handler.{Handler}
-use Rattle.cjc_check_rules.proofs.Firsts.{either}
 use Rattle.cjc_check_rules.specs.Instructions.{IndexOperand}
 use Rattle.cjc_check_rules.specs.Locations.{catch_places, distance, distances, places_of}
 use Rattle.cjc_check.specs.Jumps.Listing.{catch_place, place_of}
-use Rattle.cjc_check.proofs.JumpsLaws.Flat.{at_item}
+use Rattle.cjc_capread.proofs.BytesBools.{bool_either}
+use Rattle.cjc_capread.proofs.BytesGets.{at_item}
+use Rattle.cjc_capread.proofs.BytesNumbers.{number_full}
 
 pub one_each : {A : Type 0} (xs : List A) → sum_by (λ x. 1) xs ≡ length xs
 one_each [] = omega arith
@@ -21,7 +22,7 @@ one_each {A} (x ∷ xs) =
 pub places_are : (size : ℕ) (is : List IndexOperand) → flat_map (place_of size) is ≡ places_of size is
 places_are size [] = refl
 places_are size (i ∷ is) =
-    either (i.size == size)
+    bool_either (i.size == size)
     (λ t. rw t (ap (λ (ps : List ℕ). i.at ∷ ps) (places_are size is)))
     (λ t. rw t (places_are size is))
 
@@ -44,14 +45,11 @@ catch_all at i hs done total le so_far =
 
 -- ---- distances
 
-full : (k n : ℕ) → k ≡ suc n → replicate {A = ℕ} k 255 ≡ 255 ∷ replicate n 255
-full k n e = ap (λ m. replicate {A = ℕ} m 255) e
-
 pub distance_more : (n : ℕ) → 255 ≤ n → distance n ≡ 255 ∷ distance (n - 255)
 distance_more n le =
     let q : n / 255 ≡ suc ((n - 255) / 255) = omega arith in
     let r : n % 255 ≡ (n - 255) % 255 = omega arith in
-    rw (full (n / 255) ((n - 255) / 255) q, r) refl
+    rw (number_full (n / 255) ((n - 255) / 255) q, r) refl
 
 pub distance_last : (n : ℕ) → n < 255 → distance n ≡ n ∷ []
 distance_last n lt =

@@ -13,7 +13,7 @@ use Rattle.cjc_check_rules.specs.Spots.{earlier, first, in_info, unless}
 use Rattle.cjc_check_rules.specs.Codes.{Code}
 use Rattle.cjc_check_rules.specs.Handlers.{in_code, targets_from}
 use Rattle.cjc_check_rules.proofs.Firsts.{earlier_none, earlier_assoc, first_append, first_nothing}
-use Rattle.cjc_check.proofs.JumpsLaws.Flat.{at_item}
+use Rattle.cjc_capread.proofs.BytesGets.{at_item}
 
 pub starts_any : (insns : List At) (n : ℕ) → list_any (λ m. m == n) (map (λ a. a.at) insns) ≡ list_any (λ p. p.at == n)
     (map placed_of insns)

@@ -21,10 +21,10 @@ use Rattle.cjc_check_index.specs.Imported.Tokens.{all_tokens, by_token, each_cla
 use Rattle.cjc_check_index.specs.Imported.Tokens.{static_method}
 use Rattle.cjc_check_index.specs.Imported.Working.Rows.{lists_field, lists_method, with_answer}
 use Rattle.cjc_check_index.specs.Imported.Working.Lookup.{holds_of, answer_by_token, answer_of_class}
-use Rattle.cjc_check_index.proofs.ImportedLaws.Loops.{either, or_true, or_false, map_same}
-
-apart : (a b : ℕ) → (a == b) ≡ false → b ≡ a → ⊥
-apart a b is e = let s : (a == b) ≡ true = grind (arith, nat_tests, e) in (cc)
+use Rattle.cjc_check_index.proofs.ImportedLaws.Loops.{or_false}
+use Rattle.cjc_export.proofs.BytesBools.{or_true, bool_either, or_assoc}
+use Rattle.cjc_export.proofs.BytesNumbers.{number_apart}
+use Rattle.cjc_export.proofs.BytesLists.{map_same}
 
 -- ---- the loop
 
@@ -33,19 +33,16 @@ pub length-with_answer : (asked : Bool) (answers : List Bool) (token : ℕ) → 
 length-with_answer true answers token = length-set answers token true
 length-with_answer false answers token = refl
 
-swap : (a b c : Bool) → ((a || b) || c) ≡ (a || (b || c))
-swap true b c = refl
-swap false b c = refl
-
 one_answer : (asked : Bool) (answers : List Bool) (token t : ℕ) → t < length answers
     → get_or (with_answer asked answers token) t false ≡ (get_or answers t false || (asked && (token == t)))
 one_answer false answers token t lt = sym (or_false (get_or answers t false))
-one_answer true answers token t lt = either (token == t)
+one_answer true answers token t lt = bool_either (token == t)
     (λ yes.
     let same : t ≡ token = grind (arith, nat_tests, yes) in
     get_or-set_at answers token t true false same (omega (arith, same, lt)) ∙ sym (or_true (get_or answers t false))
     ∙ ap (λ b. get_or answers t false || b) (sym yes))
-    (λ off. get_or-set_other answers token t true false (apart token t off) ∙ sym (or_false (get_or answers t false))
+    (λ off. get_or-set_other answers token t true false (number_apart token t off) ∙ sym (or_false
+    (get_or answers t false))
     ∙ ap (λ b. get_or answers t false || b) (sym off))
 
 pub answers_more : {A : Type 0} (asked : A → Bool) (token : A → ℕ) (i t : ℕ) (x : A) (xs : List A) (answers next :
@@ -58,7 +55,7 @@ answers_more {A} asked token i t x xs answers next total lt is small n so_far =
     let d : drop i xs ≡ x ∷ drop (i + 1) xs = drop_more xs i x lt ∙ ap (λ (y : A). y ∷ drop (i + 1) xs) (sym is) in
     ap (λ (bs : List Bool). get_or bs t false || list_any test (drop (i + 1) xs)) n
     ∙ ap (λ b. b || list_any test (drop (i + 1) xs)) (one_answer (asked x) answers (token x) t small)
-    ∙ swap (get_or answers t false) (test x) (list_any test (drop (i + 1) xs))
+    ∙ or_assoc (get_or answers t false) (test x) (list_any test (drop (i + 1) xs))
     ∙ ap (λ (ys : List A). get_or answers t false || list_any test ys) (sym d) ∙ so_far
 
 pub answers_all : {A : Type 0} (asked : A → Bool) (token : A → ℕ) (i : ℕ) (xs : List A) (answers : List Bool)

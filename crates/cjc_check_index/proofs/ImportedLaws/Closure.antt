@@ -14,9 +14,10 @@ use Rattle.cjc_check_index.specs.Imported.Working.Names.{place_from}
 use Rattle.cjc_check_index.specs.Imported.Working.Reach.{IsReached}
 use Rattle.cjc_check_index.specs.Imported.Working.Rows.{column, has_or_inherits, inherits, is_any_marked}
 use Rattle.cjc_check_index.proofs.ImportedLaws.Answers.{token_at}
-use Rattle.cjc_check_index.proofs.ImportedLaws.Loops.{or_true, or_cases, same_when, map_is}
+use Rattle.cjc_check_index.proofs.ImportedLaws.Loops.{same_when, map_is}
 use Rattle.cjc_check_index.proofs.ImportedLaws.Names.{found, found_place, in_places, place_in}
 use Rattle.cjc_check_index.proofs.ImportedLaws.Inherited.{passes_above, stands_above, one_step, inherits_is}
+use Rattle.cjc_export.proofs.BytesBools.{or_true, or_cases}
 
 module _ (classes : List ExportClass) (test : ExportClass → Bool) (below : List (List ℕ)) (begin marks : List Bool)
     (rows : AreBelow (above_of classes) below) (first : begin ≡ map test classes) (reached : IsReached below begin

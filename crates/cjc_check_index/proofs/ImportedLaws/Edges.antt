@@ -9,10 +9,9 @@ use Rattle.std.proofs.lemmas.Grind.{get_or-set_at}
 use Rattle.std.proofs.lemmas.List.{get_or-set_other, get_or_default, get_or_past, length-set, length-map}
 use Rattle.std.proofs.lemmas.List.Folds.{list_any-append}
 use Rattle.cjc_check_index.specs.Imported.Working.Graph.{AreBelow, is_in, with_edge}
-use Rattle.cjc_check_index.proofs.ImportedLaws.Loops.{either, or_false}
-
-apart : (a b : ℕ) → (a == b) ≡ false → b ≡ a → ⊥
-apart a b is e = let s : (a == b) ≡ true = grind (arith, nat_tests, e) in (cc)
+use Rattle.cjc_check_index.proofs.ImportedLaws.Loops.{or_false}
+use Rattle.cjc_export.proofs.BytesBools.{and_false, bool_either}
+use Rattle.cjc_export.proofs.BytesNumbers.{number_apart}
 
 -- ---- one edge, and several
 
@@ -21,13 +20,9 @@ regroup true y z w = refl
 regroup false true z w = refl
 regroup false false z w = refl
 
-and_true : (y : Bool) → (y && true) ≡ y
+pub and_true : (y : Bool) → (y && true) ≡ y
 and_true true = refl
 and_true false = refl
-
-and_false : (y : Bool) → (y && false) ≡ false
-and_false true = refl
-and_false false = refl
 
 length-with_edge : (b : ℕ) (rows : List (List ℕ)) (a : ℕ) → length (with_edge b rows a) ≡ length rows
 length-with_edge b rows a = length-set rows a (get_or rows a [] ++ b ∷ [])
@@ -36,7 +31,7 @@ one_edge : (b : ℕ) (rows : List (List ℕ)) (a k j : ℕ) → j < length rows 
     ≡ (is_in k (get_or rows j []) || ((b == k) && (a == j)))
 one_edge b rows a k j lt =
     let row = get_or rows a [] ++ b ∷ [] in
-    either (a == j)
+    bool_either (a == j)
     (λ t.
     let same : j ≡ a = grind (arith, nat_tests, t) in
     let e : get_or (with_edge b rows a) j [] ≡ row = get_or-set_at rows a j row [] same (omega (arith, same, lt)) in
@@ -46,7 +41,8 @@ one_edge b rows a k j lt =
     ∙ ap (λ x. is_in k (get_or rows j []) || x) (sym (and_true (b == k)))
     ∙ ap (λ x. is_in k (get_or rows j []) || ((b == k) && x)) (sym t))
     (λ t.
-    let e : get_or (with_edge b rows a) j [] ≡ get_or rows j [] = get_or-set_other rows a j row [] (apart a j t) in
+    let e : get_or (with_edge b rows a) j [] ≡ get_or rows j [] = get_or-set_other rows a j row []
+    (number_apart a j t) in
     ap (λ (xs : List ℕ). is_in k xs) e
     ∙ sym (or_false (is_in k (get_or rows j [])))
     ∙ ap (λ x. is_in k (get_or rows j []) || x) (sym (and_false (b == k)))
@@ -90,9 +86,6 @@ put_none above rows e = record {
   after = λ k j le less. ap (λ (rs : List (List ℕ)). is_in k (get_or rs j [])) e
       ∙ ap (λ (xs : List ℕ). is_in k xs) (empty_at above j);
 }
-
-or_none : (x y : Bool) → x ≡ false → y ≡ false → (x || y) ≡ false
-or_none x y e f = ap (λ a. a || y) e ∙ f
 
 pub put_more : (i : ℕ) (x : List ℕ) (above rows next : List (List ℕ)) → i < length above → x ≡ get_or above i x
     → next ≡ fold (with_edge i) rows x → ArePut i above rows → ArePut (i + 1) above next

@@ -7,12 +7,14 @@ use Rattle.std.specs.Str.{bytes_eq}
 use Rattle.std.proofs.lemmas.List.{get_or-map}
 use Rattle.cjc_export.specs.declared.tree.ExportClass.{ExportClass}
 use Rattle.cjc_export.specs.Supers.{class_named, is_one_of, IsAtOrAbove, at, above, upwards}
-use Rattle.cjc_export.proofs.Upwards.{all_found, each_own, found_is}
+use Rattle.cjc_export.proofs.Upwards.{all_found, each_own, found_is, one_here, one_more}
 use Rattle.cjc_check_index.specs.Imported.Working.Graph.{places}
 use Rattle.cjc_check_index.specs.Imported.Working.Rows.{has_or_inherits, is_any_marked}
-use Rattle.cjc_check_index.proofs.ImportedLaws.Loops.{or_true, or_cases, same_when}
-use Rattle.cjc_check_index.proofs.ImportedLaws.Names.{same_name, one_here, one_more, found, found_place, in_places}
+use Rattle.cjc_check_index.proofs.ImportedLaws.Loops.{same_when}
+use Rattle.cjc_check_index.proofs.ImportedLaws.Names.{found, found_place, in_places}
 use Rattle.cjc_check_index.proofs.ImportedLaws.Names.{place_in}
+use Rattle.cjc_export.proofs.BytesLists.{bytes_true}
+use Rattle.cjc_export.proofs.BytesBools.{or_true, or_cases}
 
 -- ---- a class that passes, among several of which each is that of its name
 
@@ -50,7 +52,8 @@ passes_in : (classes : List ExportClass) (test : ExportClass → Bool) (xs : Lis
 passes_in classes test [] y d own named t h = absurd cc
 passes_in classes test (x ∷ xs) y d own named t h = elim (or_cases (bytes_eq x.name y) (is_one_of (names_of xs) y) h) [
   | inl same ↦ (
-      let e : Some x ≡ Some d = sym own.0 ∙ ap (λ (z : List ℕ). class_named classes z) (same_name x.name y same) ∙ named
+      let e : Some x ≡ Some d = sym own.0 ∙ ap (λ (z : List ℕ). class_named classes z) (bytes_true x.name y same)
+      ∙ named
       in
       let is : x ≡ d = cc in
       ap (λ b. b || list_any test xs) (ap test is ∙ t))

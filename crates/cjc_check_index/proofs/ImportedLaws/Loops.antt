@@ -1,29 +1,17 @@
 -- Loops that put down what a function gives of each item; and tests.
 use Rattle.std.proofs.Common.{◌≡◌, ℕ, suc, ◌+◌, ◌<◌, ◌≤◌, Bool, true, false, List, [], ◌∷◌, ◌++◌, length, get_or, take}
 use Rattle.std.proofs.Common.{map, refl, sym, ap, ◌∙◌, arith}
-use Rattle.std.specs.Prelude.{◌||◌, ◌⊎◌}
-use Rattle.std.proofs.Common.{inl, inr}
+use Rattle.std.specs.Prelude.{◌||◌}
 use Rattle.std.proofs.lemmas.List.{map-append, take_more, take_all}
-
-pub either : {P : Type 0} → (t : Bool) → (t ≡ true → P) → (t ≡ false → P) → P
-either true p q = p refl
-either false p q = q refl
+use Rattle.cjc_export.proofs.BytesBools.{bool_either}
 
 pub same_when : (a b : Bool) → (a ≡ true → b ≡ true) → (b ≡ true → a ≡ true) → a ≡ b
 same_when true b p q = sym (p refl)
-same_when false b p q = either b (λ t. q t ∙ sym t) (λ t. sym t)
-
-pub or_true : (b : Bool) → (b || true) ≡ true
-or_true true = refl
-or_true false = refl
+same_when false b p q = bool_either b (λ t. q t ∙ sym t) (λ t. sym t)
 
 pub or_false : (b : Bool) → (b || false) ≡ b
 or_false true = refl
 or_false false = refl
-
-pub or_cases : (a b : Bool) → (a || b) ≡ true → (a ≡ true) ⊎ (b ≡ true)
-or_cases true b e = inl refl
-or_cases false b e = inr e
 
 pub map_more : {A B : Type 0} (f : A → B) (i : ℕ) (x : A) (y : B) (xs : List A) (done next : List B) → i < length xs
     → x ≡ get_or xs i x → y ≡ f x → next ≡ done ++ y ∷ []
@@ -46,9 +34,3 @@ map_is {A} {B} f e (y ∷ ys) (x ∷ xs) l h =
     let first : y ≡ f x = h 0 x (omega arith) in
     let rest : ys ≡ map f xs = map_is f e ys xs (omega (arith, l)) (λ i d lt. h (suc i) d (omega (arith, lt))) in
     ap (λ (z : B). z ∷ ys) first ∙ ap (λ (zs : List B). f x ∷ zs) rest
-
--- two functions that agree
-pub map_same : {A B : Type 0} (f g : A → B) → ((x : A) → f x ≡ g x) → (xs : List A) → map f xs ≡ map g xs
-map_same f g h [] = refl
-map_same {A} {B} f g h (x ∷ xs) = ap (λ (z : B). z ∷ map f xs) (h x)
-    ∙ ap (λ (zs : List B). g x ∷ zs) (map_same f g h xs)

@@ -9,7 +9,8 @@ use Rattle.std.proofs.lemmas.List.Folds.{list_any-append}
 use Rattle.cjc_check_index.specs.Imported.Working.Graph.{is_in}
 use Rattle.cjc_check_index.specs.Imported.Working.Reach.{IsWalk, IsReached, marked_from, marks_after, stack_after}
 use Rattle.cjc_check_index.specs.Imported.Working.Reach.{unmarked, with_mark, with_new}
-use Rattle.cjc_check_index.proofs.ImportedLaws.Loops.{either, or_true, or_false, or_cases}
+use Rattle.cjc_check_index.proofs.ImportedLaws.Loops.{or_false}
+use Rattle.cjc_export.proofs.BytesBools.{or_true, or_cases, bool_either}
 
 no : {P : Type 0} → (b : Bool) → b ≡ true → b ≡ false → P
 no b t f = let e : true ≡ false = sym t ∙ f in absurd (cc)
@@ -183,7 +184,7 @@ walk_on below begin marks left j more rest g w = record {
     | inr f ↦ f
   ];
   closed = λ a i h e lt out. elim (g.new a h) [
-    | inl old ↦ either (j == a)
+    | inl old ↦ bool_either (j == a)
         (λ t.
         let same : a ≡ j = grind (arith, nat_tests, t) in
         let z = w.size in

@@ -4,27 +4,15 @@ use Rattle.std.proofs.Common.{refl, sym, ap, ◌∙◌, arith, append_assoc, app
 use Rattle.std.specs.Prelude.{◌||◌, ◌⊎◌, if◌then◌else◌}
 use Rattle.std.specs.List.{list_any}
 use Rattle.std.specs.Str.{bytes_eq}
-use Rattle.std.proofs.lemmas.Slice.Eq.{bytes_eq-Decides}
 use Rattle.std.proofs.lemmas.List.{drop_more, drop_all}
 use Rattle.std.proofs.lemmas.List.Folds.{list_any-append}
 use Rattle.cjc_export.specs.declared.tree.ExportClass.{ExportClass}
 use Rattle.cjc_export.specs.Supers.{class_named, is_one_of}
+use Rattle.cjc_export.proofs.Upwards.{one_here, one_more}
 use Rattle.cjc_check_index.specs.Imported.Working.Graph.{one_place, places}
 use Rattle.cjc_check_index.specs.Imported.Working.Names.{or_else, place_from}
-use Rattle.cjc_check_index.proofs.ImportedLaws.Loops.{either, or_true, or_cases}
-
-pub same_name : (x y : List ℕ) → bytes_eq x y ≡ true → x ≡ y
-same_name x y e = (bytes_eq-Decides x y).0 e
-
-pub name_is : (x : List ℕ) → bytes_eq x x ≡ true
-name_is x = (bytes_eq-Decides x x).1 refl
-
-pub one_here : (x : List ℕ) (names : List (List ℕ)) → is_one_of (x ∷ names) x ≡ true
-one_here x names = ap (λ b. b || is_one_of names x) (name_is x)
-
-pub one_more : (x : List ℕ) (names : List (List ℕ)) (y : List ℕ) → is_one_of names y ≡ true → is_one_of (x ∷ names) y
-    ≡ true
-one_more x names y h = ap (λ b. bytes_eq x y || b) h ∙ or_true (bytes_eq x y)
+use Rattle.cjc_export.proofs.BytesLists.{bytes_true}
+use Rattle.cjc_export.proofs.BytesBools.{or_true, or_cases, bool_either}
 
 -- ---- one name
 
@@ -76,7 +64,7 @@ nowhere at c classes name t r = record {
 
 pub look : (at : ℕ) (classes : List ExportClass) (name : List ℕ) → Found at classes name ⊎ Absent at classes name
 look at [] name = inr (record { placed = refl; named = refl })
-look at (c ∷ classes) name = either (bytes_eq c.name name)
+look at (c ∷ classes) name = bool_either (bytes_eq c.name name)
     (λ t. inl (here at c classes name t))
     (λ t. elim (look (at + 1) classes name) [
       | inl r ↦ inl (later at c classes name t r)
@@ -152,7 +140,7 @@ pub place_in : (classes : List ExportClass) (names : List (List ℕ)) (test : �
 place_in classes [] test y k h p t = absurd cc
 place_in classes (x ∷ names) test y k h p t = elim (or_cases (bytes_eq x y) (is_one_of names y) h) [
   | inl same ↦ (
-      let e : place_from 0 classes x ≡ Some k = ap (λ z. place_from 0 classes z) (same_name x y same) ∙ p in
+      let e : place_from 0 classes x ≡ Some k = ap (λ z. place_from 0 classes z) (bytes_true x y same) ∙ p in
       let o : list_any test (places classes (x ∷ names)) ≡ (test k || list_any test (places classes names)) =
       ap (λ q. list_any test (one_place q ++ places classes names)) e in
       o ∙ ap (λ b. b || list_any test (places classes names)) t)
@@ -183,7 +171,7 @@ index_more i c classes x old new total lt is n so_far =
     ∙ ap (λ (y : ExportClass). y ∷ drop (i + 1) classes) (sym is) in
     let before : or_else old (if bytes_eq c.name x then Some i else rest) ≡ total =
     ap (λ (cs : List ExportClass). or_else old (place_from i cs x)) (sym d) ∙ so_far in
-    either (bytes_eq c.name x)
+    bool_either (bytes_eq c.name x)
     (λ t.
     ap (λ o. or_else o rest) (n ∙ ap (λ b. or_else old (if b then Some i else None)) t) ∙ once old i rest
     ∙ ap (λ b. or_else old (if b then Some i else rest)) (sym t) ∙ before)

@@ -9,8 +9,8 @@ use Rattle.std.proofs.lemmas.List.FromFn.{length-map-range_with_len, get_or-map-
 use Rattle.cjc_export.specs.declared.tree.ExportClass.{ExportClass}
 use Rattle.cjc_export.specs.declared.tree.ExportTree.{ExportTree}
 use Rattle.cjc_check_rules.specs.Classes.{imported, class_with}
-use Rattle.cjc_check_rules.proofs.Firsts.{either}
 use Rattle.cjc_check_index.specs.Lookup.Indexed.{place_from, places_of}
+use Rattle.cjc_export.proofs.BytesBools.{bool_either}
 
 pub places_are_256 : (classes : List ExportClass) → length (places_of classes) ≡ 256
 places_are_256 classes = length-map-range_with_len (place_from 0 classes) 0 256
@@ -23,7 +23,7 @@ place_is classes places token d lt e = rw e (get_or-map-range_with_len (place_fr
 above : (at token k : ℕ) (classes : List ExportClass) → place_from at classes token ≡ Some k → at ≤ k
 above at token k [] e = absurd (cc)
 above at token k (c ∷ classes) e =
-    either (c.token == token)
+    bool_either (c.token == token)
     (λ is. let f : Some at ≡ Some k = sym (ap (λ (t : Bool). if t then Some at else place_from (at + 1) classes token)
     is) ∙ e in let g : at ≡ k = cc in omega (arith, g))
     (λ is. let f : place_from (at + 1) classes token ≡ Some k = sym (ap (λ (t : Bool). if t then Some at
@@ -47,7 +47,7 @@ found_from : (at token : ℕ) (classes : List ExportClass) → class_from at cla
 unfolding class_from
 found_from at token [] = refl
 found_from at token (c ∷ classes) =
-    either (c.token == token)
+    bool_either (c.token == token)
     (λ is. let z : at - at ≡ 0 = omega arith in rw is (ap (λ (n : ℕ). slice_get (c ∷ classes) n) z))
     (λ is. rw is (later at token c classes (place_from (at + 1) classes token) refl
     ∙ found_from (at + 1) token classes))

@@ -11,7 +11,9 @@ use Rattle.cjc_check_rules.specs.CapRead.declared.tree.ClassDescriptor.{ClassDes
 use Rattle.cjc_check_rules.specs.CapRead.declared.tree.MethodDescriptor.{MethodDescriptor}
 use Rattle.cjc_check_rules.specs.Classes.{is_own_class}
 use Rattle.cjc_check_index.specs.Lookup.MethodStarts.{is_asked, offset_of, offsets_of, class_offsets, all_offsets}
-use Rattle.cjc_check_rules.proofs.Firsts.{either}
+use Rattle.cjc_check_index.proofs.ImportedLaws.Loops.{or_false}
+use Rattle.cjc_check_index.proofs.ImportedLaws.Edges.{and_true}
+use Rattle.cjc_export.proofs.BytesBools.{and_false, bool_either}
 
 -- ---- loops
 
@@ -45,22 +47,10 @@ classes_all only info i xs done total le so_far =
 
 -- ---- what is among them
 
-and_true : (b : Bool) → (b && true) ≡ b
-and_true true = refl
-and_true false = refl
-
-and_false : (b : Bool) → (b && false) ≡ false
-and_false true = refl
-and_false false = refl
-
-or_false : (b : Bool) → (b || false) ≡ b
-or_false true = refl
-or_false false = refl
-
 one_any : (only : Bool) (o : ℕ) (m : MethodDescriptor) → list_any (λ n. n == o) (offset_of only m) ≡ (m.offset == o
     && is_asked only m)
 one_any only o m =
-    either (is_asked only m)
+    bool_either (is_asked only m)
     (λ is. rw is (or_false (m.offset == o) ∙ sym (and_true (m.offset == o))))
     (λ is. rw is (sym (and_false (m.offset == o))))
 
@@ -80,7 +70,7 @@ classes_any only o info (d ∷ ds) =
     let test : MethodDescriptor → Bool = λ m. m.offset == o && is_asked only m in
     let rest = flat_map (λ (x : ClassDescriptor). x.methods) (filter (λ (x : ClassDescriptor). is_own_class info
     x.this_class) ds) in
-    either (is_own_class info d.this_class)
+    bool_either (is_own_class info d.this_class)
     (λ is. rw is (
     list_any-append (λ n. n == o) (offsets_of only d.methods) (all_offsets only info ds)
     ∙ ap (λ (b : Bool). b || list_any (λ n. n == o) (all_offsets only info ds)) (offsets_any only o d.methods)

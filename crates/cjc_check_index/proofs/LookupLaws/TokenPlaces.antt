@@ -1,5 +1,5 @@
 -- Places of classes put down by token, one by one.
-use Rattle.std.proofs.Common.{◌≡◌, ℕ, ◌+◌, ◌<◌, ◌≤◌, ◌==◌, Bool, true, false, List, [], ◌∷◌, ◌++◌, length, get_or, set}
+use Rattle.std.proofs.Common.{◌≡◌, ℕ, ◌+◌, ◌<◌, ◌≤◌, ◌==◌, Bool, List, [], ◌∷◌, ◌++◌, length, get_or, set}
 use Rattle.std.proofs.Common.{take, drop, map, refl, sym, ap, ◌∙◌, arith, Option, Some, None}
 use Rattle.std.specs.Prelude.{if◌then◌else◌}
 use Rattle.std.proofs.lemmas.List.{drop_more, drop_all, get_or-set_other, map-append, take_more}
@@ -10,7 +10,8 @@ use Rattle.cjc_export.specs.declared.tree.ExportClass.{ExportClass}
 use Rattle.cjc_export.specs.declared.tree.ExportTree.{ExportTree}
 use Rattle.cjc_check_index.specs.Lookup.Indexed.{place_from, places_of}
 use Rattle.cjc_check_index.specs.Lookup.Tokens.{or_else}
-use Rattle.cjc_check_rules.proofs.Firsts.{either}
+use Rattle.cjc_export.proofs.BytesBools.{bool_either}
+use Rattle.cjc_export.proofs.BytesNumbers.{number_apart}
 
 twice : (a : Option ℕ) (i : ℕ) (r : Option ℕ) → or_else (or_else a (Some i)) r ≡ or_else a (Some i)
 twice None i r = refl
@@ -20,9 +21,6 @@ front : (i t : ℕ) (x : ExportClass) (xs : List ExportClass) → i < length xs 
     → place_from i (drop i xs) t ≡ (if x.token == t then Some i else place_from (i + 1) (drop (i + 1) xs) t)
 front i t x xs lt is = ap (λ (ys : List ExportClass). place_from i ys t) (drop_more xs i x lt
     ∙ ap (λ (y : ExportClass). y ∷ drop (i + 1) xs) (sym is))
-
-apart : (a b : ℕ) → (a == b) ≡ false → b ≡ a → ⊥
-apart a b is e = let s : (a == b) ≡ true = grind (arith, nat_tests, e) in (cc)
 
 pub places_more : (i t : ℕ) (x : ExportClass) (xs : List ExportClass) (places next : List (Option ℕ)) (total : Option ℕ)
     → i < length xs → x ≡ get_or xs i x → length places ≡ 256 → t < 256
@@ -34,7 +32,7 @@ places_more i t x xs places next total lt is len small n so_far =
     let v = or_else (get_or places x.token None) (Some i) in
     let before : or_else (get_or places t None) (if x.token == t then Some i else rest) ≡ total =
     sym (ap (or_else (get_or places t None)) (front i t x xs lt is)) ∙ so_far in
-    either (x.token == t)
+    bool_either (x.token == t)
     (λ yes.
     let same : x.token ≡ t = grind (arith, nat_tests, yes) in
     let g : get_or next t None ≡ v = ap (λ (ys : List (Option ℕ)). get_or ys t None) n
@@ -44,7 +42,7 @@ places_more i t x xs places next total lt is len small n so_far =
     rw g (twice (get_or places x.token None) i rest ∙ ap (λ (k : ℕ). or_else (get_or places k None) (Some i)) same ∙ b))
     (λ no.
     let g : get_or next t None ≡ get_or places t None = ap (λ (ys : List (Option ℕ)). get_or ys t None) n
-    ∙ get_or-set_other places x.token t v None (apart x.token t no) in
+    ∙ get_or-set_other places x.token t v None (number_apart x.token t no) in
     let b : or_else (get_or places t None) rest ≡ total =
     sym (ap (λ (q : Bool). or_else (get_or places t None) (if q then Some i else rest)) no) ∙ before in
     rw g b)

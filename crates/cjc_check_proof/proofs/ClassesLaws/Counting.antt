@@ -10,6 +10,8 @@ use Rattle.std.proofs.lemmas.Bool.Decides.{nat_tests}
 use Rattle.std.proofs.lemmas.List.{length-map}
 use Rattle.std.proofs.lemmas.Option.{slice_get-map}
 use Rattle.cjc_bytes.specs.AccessFlags.{is_interface}
+use Rattle.cjc_bytes.proofs.Numbers.{like_number}
+use Rattle.cjc_bytes.proofs.Gets.{get_behind}
 use Rattle.cjc_capread.specs.declared.tree.ClassDescriptor.{ClassDescriptor}
 use Rattle.cjc_capread.specs.declared.tree.ClassEntry.{ClassEntry}
 use Rattle.cjc_capread.specs.declared.tree.ImplementedInterface.{ImplementedInterface}
@@ -25,30 +27,29 @@ use Rattle.cjc_world.specs.Interfaces.{known}
 use Rattle.cjc_world.specs.Lookup.{member_at}
 use Rattle.cjc_world.specs.Order.{class_order, in_order, methods_of_class, places, written}
 use Rattle.cjc_world.proofs.Unbroken.{unbroken_is_acyclic}
+use Rattle.cjc_world.proofs.Places.{position_within}
 use Rattle.cjc_tokens.specs.Fields.{field_tokens}
 use Rattle.cjc_tokens.specs.Lines.{line_at}
 use Rattle.cjc_tokens.specs.Members.{Signature, is_initialiser, same, signature_of}
 use Rattle.cjc_tokens.specs.Methods.{class_method_tokens, interface_methods, interface_token, interfaces_at}
 use Rattle.cjc_tokens.specs.Slots.{hidden_slots, shown_token}
 use Rattle.cjc_tokens.specs.Tokens.{OfClass, assigned, classes_from, joined, method_tokens, of_class, one_more}
-use Rattle.cjc_tokens.proofs.Facts.{position-cons}
 use Rattle.cjc_vtable.specs.Tables.{interface_map, or_zero, table_of}
-use Rattle.cjc_vtable.proofs.Filed.{Has, at_front, behind, get-has}
+use Rattle.cjc_vtable.proofs.Filed.{Has, at_front, behind, get-has, has-either}
 use Rattle.cjc_components.specs.Package.{Package, has_applets, world}
 use Rattle.cjc_components.specs.Class.{class_entry, implemented}
 use Rattle.cjc_components.specs.Descriptor.{class_descriptor, method_descriptor}
 use Rattle.cjc_components.specs.Names.{class_ref, member_token}
 use Rattle.cjc_token_proof.specs.Components.Whole.{exports_of, whole}
-use Rattle.cjc_token_proof.proofs.ComponentsLaws.Tests.{same_number}
 use Rattle.cjc_token_proof.specs.Tables.Sound.{IsSound}
 use Rattle.cjc_token_proof.proofs.TablesLaws.Clean.{has_named, own_name}
 use Rattle.cjc_token_proof.proofs.TablesLaws.Filed.{own_filed}
 use Rattle.cjc_token_proof.proofs.TablesLaws.Interfaces.{interface_is}
 use Rattle.cjc_token_proof.proofs.TablesLaws.Named.{has_entry, has_info}
-use Rattle.cjc_token_proof.proofs.TablesLaws.Order.{has-either, kind-in, order_in}
+use Rattle.cjc_token_proof.proofs.TablesLaws.Order.{kind-in, order_in}
 use Rattle.cjc_check_proof.specs.Classes.Premises.{ImportsAreWhole}
 use Rattle.cjc_check_proof.proofs.ClassesLaws.Exporting.{fields_long, one_offset}
-use Rattle.cjc_check_proof.proofs.ClassesLaws.Lists.{get-behind, has-mapped}
+use Rattle.cjc_check_proof.proofs.ClassesLaws.Lists.{has-mapped}
 use Rattle.cjc_check_proof.proofs.ClassesLaws.Supers.{entry_there, is_one}
 
 -- ---- lists
@@ -58,17 +59,6 @@ all_map : {A B : Type 0} (test : B → Bool) (f : A → B) (xs : List A) → ((x
 all_map test f [] each = refl
 all_map test f (x ∷ xs) each = ap (λ b. b && list_all test (map f xs)) (each x at_front)
     ∙ all_map test f xs (λ y h. each y (behind h))
-
-position_below : {A : Type 0} (test : A → Bool) (xs : List A) (k : ℕ) → position test xs ≡ Some k → k < length xs
-position_below test [] k e = absurd (cc)
-position_below test (x ∷ xs) k e = by (test x) (position test xs) (sym (position-cons test x xs)
-    ∙ e) (position_below test xs)
-  where
-    by : (b : Bool) (o : Option ℕ) → (if b then Some 0 else option_map suc o) ≡ Some k → ((j : ℕ) → o ≡ Some j
-        → j < length xs) → k < suc (length xs)
-    by true o f rest = let is : 0 ≡ k = cc in omega (arith, is)
-    by false None f rest = absurd (cc)
-    by false (Some j) f rest = let is : suc j ≡ k = cc in let lt = rest j refl in omega (arith, is, lt)
 
 -- ---- methods of a class stand behind its fields
 
@@ -137,7 +127,7 @@ small : (ss : List Signature) (o : Option Member)
     → is_held (length ss) (unwrap_or (joined (option_map (interface_token ss) o)) 0xFF) ≡ true
 small ss None = refl
 small ss (Some m) = by (is_initialiser m.name) (position (λ s. same s (signature_of m)) ss)
-    (position_below (λ s. same s (signature_of m)) ss)
+    (position_within (λ s. same s (signature_of m)) ss)
   where
     last : (a : Bool) {b : Bool} → b ≡ true → (a || b) ≡ true
     last true f = refl
@@ -177,7 +167,7 @@ module _ (list : List ℕ) (p : Package) (sound : IsSound list p.files) where
       c.methods ++ map (λ m. shown_token (line_at w c) (signature_of m)) (added w c)) kind in
       let there : slice_get all.members (length c.fields + j) ≡ option_map (interface_token ss)
       (slice_get c.methods j) =
-      ap (λ q. slice_get (fields ++ method_tokens w ex c) (q + j)) long ∙ get-behind fields (method_tokens w ex c) j
+      ap (λ q. slice_get (fields ++ method_tokens w ex c) (q + j)) long ∙ get_behind fields (method_tokens w ex c) j
       ∙ ap (λ ts. slice_get ts j) tokens_are ∙ slice_get-map (interface_token ss) c.methods j in
       let is : member_token p (Some (member_at c (length c.fields + j)))
       ≡ unwrap_or (joined (option_map (interface_token ss) (slice_get c.methods j))) 0xFF =
@@ -218,7 +208,7 @@ module _ (list : List ℕ) (p : Package) (sound : IsSound list p.files) where
             ap (λ q. is_long_enough (whole p) (exports_of p) q (length (interface_methods w i))) r.ref
             ∙ ap (λ o. has_methods o (length (interface_methods w i))) (entry_there list p sound i r)
             ∙ ap (λ n. length e.methods == n) (ap (λ (d : Class). length (interface_methods w d)) r.class ∙ count)
-            ∙ same_number (length e.methods)
+            ∙ like_number (length e.methods)
         by false f =
             let a = has_info list p sound i h f in
             let count = length (interface_methods w i) in

@@ -11,7 +11,8 @@ use Rattle.cjc_world.specs.Order.{in_order}
 
 -- ---- what stands next waits for none of its supers
 
-next_stands : (w : List Class) (i : Bool) (placed : List ℕ) (cs : List Class) (c : Class) → next w i placed cs ≡ Some c
+pub next_stands : (w : List Class) (i : Bool) (placed : List ℕ) (cs : List Class) (c : Class) → next w i placed cs
+    ≡ Some c
     → may_stand w i placed c ≡ true
 unfolding next
 next_stands w i placed [] c e = absurd (cc)

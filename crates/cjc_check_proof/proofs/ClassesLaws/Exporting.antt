@@ -10,6 +10,8 @@ use Rattle.std.proofs.lemmas.List.{length-map}
 use Rattle.std.proofs.lemmas.Nat.{and_shr}
 use Rattle.cjc_bytes.specs.AccessFlags.{has, is_interface, is_private, is_static, acc_public, acc_private}
 use Rattle.cjc_bytes.specs.AccessFlags.{acc_protected, acc_static, acc_final, acc_abstract}
+use Rattle.cjc_bytes.proofs.Numbers.{like_number}
+use Rattle.cjc_bytes.proofs.Gets.{in_front, get_behind}
 use Rattle.cjc_capread.specs.declared.tree.ClassDescriptor.{ClassDescriptor}
 use Rattle.cjc_capread.specs.declared.tree.FieldDescriptor.{FieldDescriptor}
 use Rattle.cjc_capread.specs.declared.tree.FieldPlace.TheVariants as places
@@ -55,7 +57,7 @@ use Rattle.cjc_components.specs.Statics.{cell_offset}
 use Rattle.cjc_token_proof.specs.Components.Methods.{HasMethods}
 use Rattle.cjc_token_proof.specs.Components.Whole.{whole}
 use Rattle.cjc_token_proof.proofs.ComponentsLaws.Starts.{ref_is_start}
-use Rattle.cjc_token_proof.proofs.ComponentsLaws.Tests.{same_number, passes, none_in_both}
+use Rattle.cjc_token_proof.proofs.ComponentsLaws.Tests.{passes, none_in_both}
 use Rattle.cjc_token_proof.specs.Tables.Infos.{HasInfo}
 use Rattle.cjc_token_proof.specs.Tables.Loading.{part}
 use Rattle.cjc_token_proof.specs.Tables.Sound.{IsSound}
@@ -66,7 +68,7 @@ use Rattle.cjc_token_proof.proofs.TablesLaws.Order.{order_has, order_in, own_nam
 use Rattle.cjc_check_proof.specs.Classes.Premises.{InterfacesAreUnbound}
 use Rattle.cjc_check_proof.proofs.ClassesLaws.Installs.{any_has, described_static, method_start, written_has}
 use Rattle.cjc_check_proof.proofs.ClassesLaws.Listing.{exported_at, kept_at, open_at}
-use Rattle.cjc_check_proof.proofs.ClassesLaws.Lists.{get-behind, get-front, has-back, has-front, has-map}
+use Rattle.cjc_check_proof.proofs.ClassesLaws.Lists.{has-back, has-front, has-map}
 use Rattle.cjc_check_proof.proofs.ClassesLaws.Refs.{class_begins_at, info, interface_begins}
 use Rattle.cjc_check_proof.proofs.ClassesLaws.Supers.{in_place}
 
@@ -325,9 +327,9 @@ module _ (list : List ℕ) (p : Package) (sound : IsSound list p.files) (methods
     it_is =
         let q = placed in
         ap (λ k. k == n && is_inside (class_ref p c.name) offset) class_token
-        ∙ ap (λ b. b && is_inside (class_ref p c.name) offset) (same_number n)
+        ∙ ap (λ b. b && is_inside (class_ref p c.name) offset) (like_number n)
         ∙ ap (λ r. is_inside r offset) q.ref
-        ∙ same_number offset
+        ∙ like_number offset
 
     second : (a b : Bool) → (a && b) ≡ true → b ≡ true
     second true b e = e
@@ -359,7 +361,7 @@ module _ (list : List ℕ) (p : Package) (sound : IsSound list p.files) (methods
         let ex = is_exported w (has_applets p) c in
         let all = of_class w (has_applets p) n j t in
         let there : slice_get all.members i ≡ Some (field_token ex t.fields i f) =
-        get-front (field_tokens ex t.fields 0 t.fields) (method_tokens w ex c) i (field_token ex t.fields i f)
+        in_front (field_tokens ex t.fields 0 t.fields) (method_tokens w ex c) i (field_token ex t.fields i f)
         (field_row ex t.fields 0 t.fields i f e ∙ ap (λ m. Some (field_token ex t.fields m f)) z) in
         ap (λ o. unwrap_or (option_and_then (λ (k : OfClass). joined (slice_get k.members i)) o) 0xFF) row
         ∙ ap (λ o. unwrap_or (joined o) 0xFF) there
@@ -381,10 +383,10 @@ module _ (list : List ℕ) (p : Package) (sound : IsSound list p.files) (methods
         let token_is = its_field_token r.0 f r.1 r.2 ∙ r.3 in
         let cell : is_cell_at d.place at ≡ true = ap (λ b. is_cell_at (if b then places.Static at
         else places.Instance (class_ref p c.name) (member_token p (Some (member_at c r.0)))) at) s.0
-        ∙ same_number at in
+        ∙ like_number at in
         any_has (λ (x : FieldDescriptor). x.token == k && is_cell_at x.place at) d
         (fields_from p c 0 (fields_of p.files c)) described
-        (ap (λ m. m == k && is_cell_at d.place at) token_is ∙ ap (λ b. b && is_cell_at d.place at) (same_number k)
+        (ap (λ m. m == k && is_cell_at d.place at) token_is ∙ ap (λ b. b && is_cell_at d.place at) (like_number k)
         ∙ cell)
 
     -- static methods and constructors
@@ -409,9 +411,9 @@ module _ (list : List ℕ) (p : Package) (sound : IsSound list p.files) (methods
         let there : slice_get all.members (length c.fields + i) ≡ Some (class_method_token ex shown hidden c.methods i
         m) =
         ap (λ q. slice_get (fields ++ method_tokens w ex c) (q + i)) long
-        ∙ get-behind fields (method_tokens w ex c) i
+        ∙ get_behind fields (method_tokens w ex c) i
         ∙ ap (λ ts. slice_get ts i) tokens_are
-        ∙ get-front own (map (λ q. shown (signature_of q)) (added w c)) i (class_method_token ex shown hidden
+        ∙ in_front own (map (λ q. shown (signature_of q)) (added w c)) i (class_method_token ex shown hidden
         c.methods i m) (method_row ex shown hidden c.methods 0 c.methods i m e
         ∙ ap (λ q. Some (class_method_token ex shown hidden c.methods q m)) z) in
         ap (λ o. unwrap_or (option_and_then (λ (k : OfClass). joined (slice_get k.members (length c.fields + i))) o)
@@ -436,7 +438,7 @@ module _ (list : List ℕ) (p : Package) (sound : IsSound list p.files) (methods
         let back : length c.fields + i - length c.fields ≡ i = omega arith in
         let is : method_in w c (length c.fields + i) ≡ m =
         ap (λ q. unwrap_or (slice_get (methods_with_added w c) q) no_member) back
-        ∙ ap (λ o. unwrap_or o no_member) (get-front c.methods (map as_added (added w c)) i m e) in
+        ∙ ap (λ o. unwrap_or o no_member) (in_front c.methods (map as_added (added w c)) i m e) in
         let flags : (is_static d.flags || members.is_constructor d.flags) ≡ true = ap (λ q. is_static (method_flags q)
         || members.is_constructor (method_flags q)) is ∙ described_bound m s.0 in
         let token_is = its_method_token kind i m e bound ∙ count in
@@ -445,9 +447,9 @@ module _ (list : List ℕ) (p : Package) (sound : IsSound list p.files) (methods
         && (is_static x.flags || members.is_constructor x.flags) && x.offset == at) d (map (method_descriptor p c)
         (methods_of_class w c)) (has-map (method_descriptor p c) f (methods_of_class w c) there)
         (ap (λ q. q == k && (is_static d.flags || members.is_constructor d.flags) && at == at) token_is
-        ∙ ap (λ b. b && (is_static d.flags || members.is_constructor d.flags) && at == at) (same_number k)
+        ∙ ap (λ b. b && (is_static d.flags || members.is_constructor d.flags) && at == at) (like_number k)
         ∙ ap (λ b. b && at == at) flags
-        ∙ same_number at) in
+        ∙ like_number at) in
         ap (λ b. b && has_method (class_descriptor p c) k at) start ∙ any
 
     method_there : (k : ℕ) (f : Found) → slice_get (open_methods c (length c.fields) c.methods) k ≡ Some f

@@ -8,6 +8,8 @@ use Rattle.std.specs.Str.{bytes_eq}
 use Rattle.std.proofs.lemmas.Bool.Decides.{nat_tests}
 use Rattle.std.proofs.lemmas.Nat.{and_mod}
 use Rattle.cjc_bytes.specs.AccessFlags.{has, is_static, acc_public, acc_private, acc_protected, acc_final, acc_abstract}
+use Rattle.cjc_bytes.proofs.Numbers.{like_number}
+use Rattle.cjc_bytes.proofs.Gets.{in_front}
 use Rattle.cjc_capread.specs.declared.tree.ClassDescriptor.{ClassDescriptor}
 use Rattle.cjc_capread.specs.declared.tree.MethodDescriptor.{MethodDescriptor}
 use Rattle.cjc_check_rules.specs.Classes.{is_own_class}
@@ -26,8 +28,7 @@ use Rattle.cjc_world.specs.Added.{added}
 use Rattle.cjc_token_proof.specs.Components.Methods.{HasMethods}
 use Rattle.cjc_token_proof.specs.Components.OwnNames.{HaveOwnNames}
 use Rattle.cjc_token_proof.specs.Components.Whole.{whole}
-use Rattle.cjc_token_proof.proofs.ComponentsLaws.Tests.{same_number}
-use Rattle.cjc_check_proof.proofs.ClassesLaws.Lists.{get-front, has-front, has-back, has-map, has-flat}
+use Rattle.cjc_check_proof.proofs.ClassesLaws.Lists.{has-front, has-back, has-map, has-flat}
 use Rattle.cjc_check_proof.proofs.ClassesLaws.Offsets.{all_left, offset_below, offset_some}
 use Rattle.cjc_check_proof.proofs.ClassesLaws.Refs.{info, class_begins}
 
@@ -150,7 +151,7 @@ module _ (p : Package) (own : HaveOwnNames (class_order (world p))) (methods : H
       let all : Has md (class_methods (whole p)) = has-flat (λ (x : ClassDescriptor). x.methods) d md _ kept
       (has-map (method_descriptor p c) f (methods_of_class w c) there) in
       let any = any_has (λ (x : MethodDescriptor). x.offset == method_offset p f) md (class_methods (whole p)) all
-      (same_number (method_offset p f)) in
+      (like_number (method_offset p f)) in
       let nonzero : (method_offset p f == 0) ≡ false = grind (arith, nat_tests, some) in
       ap (λ b. not b && list_any (λ (x : MethodDescriptor). x.offset == method_offset p f) (class_methods (whole p)))
       nonzero ∙ any
@@ -185,11 +186,11 @@ module _ (p : Package) (own : HaveOwnNames (class_order (world p))) (methods : H
       let back : length c.fields + k - length c.fields ≡ k = omega arith in
       let is : method_in w c (length c.fields + k) ≡ m =
       ap (λ j. unwrap_or (slice_get (methods_with_added w c) j) no_member) back
-      ∙ ap (λ o. unwrap_or o no_member) (get-front c.methods (map as_added (added w c)) k m e) in
+      ∙ ap (λ o. unwrap_or o no_member) (in_front c.methods (map as_added (added w c)) k m e) in
       let flag : is_static md.flags ≡ true = ap (λ (q : Member). is_static (method_flags q)) is
       ∙ described_static m static in
       let test : (md.offset == method_offset p f && is_static md.flags) ≡ true =
-      ap (λ b. b && is_static md.flags) (same_number (method_offset p f)) ∙ flag in
+      ap (λ b. b && is_static md.flags) (like_number (method_offset p f)) ∙ flag in
       let any = any_has (λ (x : MethodDescriptor). x.offset == method_offset p f && is_static x.flags) md
       (class_methods (whole p)) all test in
       let nonzero : (method_offset p f == 0) ≡ false = grind (arith, nat_tests, some) in

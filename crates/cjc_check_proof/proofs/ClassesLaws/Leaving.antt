@@ -2,9 +2,9 @@
 use Rattle.std.proofs.Common.{◌≡◌, ℕ, zero, suc, ◌<◌, ◌+◌, ◌==◌, refl, sym, ap, subst, ◌∙◌, arith, Bool, true, false}
 use Rattle.std.proofs.Common.{List, [], ◌∷◌, ◌++◌, reverse, append_assoc, append-nil, inl, inr, ⊎_elim}
 use Rattle.std.specs.Prelude.{not, ◌||◌, ◌⊎◌, Option, Some, None, is_some, map, slice_get, unwrap_or, if◌then◌else◌}
-use Rattle.std.proofs.lemmas.Bool.Decides.{nat_tests}
 use Rattle.std.proofs.lemmas.List.{reverse-append}
 use Rattle.cjc_bytes.specs.AccessFlags.{is_interface}
+use Rattle.cjc_bytes.proofs.Numbers.{like_number, other_way}
 use Rattle.cjc_capread.specs.declared.tree.ClassRef.{ClassRef}
 use Rattle.cjc_capread.specs.declared.tree.ClassRef.TheVariants.{Inside, Outside}
 use Rattle.cjc_capread.specs.declared.tree.ClassEntry.{ClassEntry}
@@ -21,7 +21,6 @@ use Rattle.cjc_vtable.proofs.Filed.{Has, get-has}
 use Rattle.cjc_components.specs.Package.{Package, world}
 use Rattle.cjc_components.specs.Class.{class_entry, superclass}
 use Rattle.cjc_components.specs.Names.{class_ref}
-use Rattle.cjc_token_proof.proofs.ComponentsLaws.Tests.{same_number}
 use Rattle.cjc_token_proof.specs.Tables.Sound.{IsSound}
 use Rattle.cjc_token_proof.proofs.TablesLaws.Clean.{has_named, kept}
 use Rattle.cjc_token_proof.proofs.TablesLaws.Filed.{one_class, own_filed}
@@ -41,9 +40,6 @@ IsAbove (Outside import class) all = true ≡ true
 abbrev IsGood : List (Placed ClassEntry) → Type 0
 IsGood [] = Unit {0}
 IsGood (q ∷ earlier) = (let x = q.item in IsAbove x.superclass earlier) × IsGood earlier
-
-other_way : (a b : ℕ) → (a == b) ≡ false → (b == a) ≡ false
-other_way a b e = grind (arith, nat_tests, e)
 
 leaves_good : (all : List (Placed ClassEntry)) (ref : ClassRef) → IsGood all → IsAbove ref all → leaves all ref ≡ true
 unfolding leaves
@@ -86,7 +82,7 @@ one_later q before all k (Inside o) e = ⊎_elim (λ h. inl (last (q.at == o) h)
     at zero x lt f g =
         let is : q ≡ x = cc in
         let here : q.at ≡ o = ap (λ (z : Placed ClassEntry). z.at) is ∙ g in
-        inl (ap (λ n. n == o || begins before o) here ∙ ap (λ b. b || begins before o) (same_number o))
+        inl (ap (λ n. n == o || begins before o) here ∙ ap (λ b. b || begins before o) (like_number o))
     at (suc j) x lt f g = inr (j, x, omega (arith, lt), f, g)
 
 pub turned : (before all : List (Placed ClassEntry)) (q : Placed ClassEntry) → reverse (q ∷ all) ++ before ≡ reverse all

@@ -1,14 +1,12 @@
 -- The k-th of the exported classes, fields and methods of a package has the token k.
 use Rattle.std.proofs.Common.{◌≡◌, ℕ, zero, suc, ◌+◌, ◌≤◌, refl, sym, ap, subst, ◌∙◌, arith, Bool, true, false, List}
-use Rattle.std.proofs.Common.{[], ◌∷◌, ◌++◌, length, drop, add-one, get_or, inl, inr}
-use Rattle.std.specs.Prelude.{not, ◌&&◌, ◌<◌, ◌⊎◌, cond, count_by, filter, take, Option, Some, None, slice_get}
+use Rattle.std.proofs.Common.{[], ◌∷◌, ◌++◌, length, drop}
+use Rattle.std.specs.Prelude.{not, ◌&&◌, cond, count_by, filter, take, Option, Some, None, slice_get}
 use Rattle.std.specs.Prelude.{if◌then◌else◌}
-use Rattle.std.proofs.Math.Seq.{drop-cons}
-use Rattle.std.proofs.lemmas.Grind.{common_steps}
 use Rattle.std.proofs.lemmas.List.Elements.{filter-append}
 use Rattle.std.proofs.lemmas.List.Sums.{sum_by-cons}
-use Rattle.std.proofs.lemmas.Option.{slice_get_within, slice_get_cases, get_or_from_slice_get}
 use Rattle.cjc_bytes.specs.declared.settings.FileLine.{FileLine}
+use Rattle.cjc_bytes.proofs.Gets.{drop_past, get_past, drop_at}
 use Rattle.cjc_world.specs.ClassFile.declared.tree.ClassTree.{ClassTree}
 use Rattle.cjc_world.specs.ExportFile.declared.tree.ExportClass.{ExportClass}
 use Rattle.cjc_world.specs.ExportFile.declared.tree.ExportTree.{ExportTree}
@@ -22,6 +20,7 @@ use Rattle.cjc_world.specs.Lookup.{member_at}
 use Rattle.cjc_tokens.specs.Methods.{is_open_bound}
 use Rattle.cjc_tokens.specs.Tokens.{classes_from, of_class, one_more}
 use Rattle.cjc_components.specs.Exports.{open_methods}
+use Rattle.cjc_vtable.proofs.ClassOrderStanding.{class_count-cons}
 
 -- ---- those of a list that pass, by how many pass before them
 
@@ -147,23 +146,6 @@ filter_both p q (x ∷ xs) = by (p x) (filter_both p q xs)
     by true h = ap (λ ys. cond (q x) (x ∷ ys) ys) h
     by false h = h
 
-past-all : {A : Type 0} (xs : List A) (k : ℕ) → length xs ≤ k → drop k xs ≡ []
-past-all xs k long = grind (arith, common_steps)
-
-past : {A : Type 0} (xs : List A) (k : ℕ) → slice_get xs k ≡ None → (drop k xs ≡ []) × (drop (k + 1) xs ≡ [])
-past {A = A} xs k e = by (slice_get_cases xs k).1
-  where
-    by : ((x : A) × (k < length xs) × (slice_get xs k ≡ Some x) × (get_or xs k x ≡ x))
-        ⊎ ((length xs ≤ k) × (slice_get xs k ≡ None)) → (drop k xs ≡ []) × (drop (k + 1) xs ≡ [])
-    by (inl s) = let no = s.2 in cc
-    by (inr n) = let long = n.0 in (past-all xs k long, past-all xs (k + 1) (omega arith))
-
-here : {A : Type 0} (xs : List A) (k : ℕ) (x : A) → slice_get xs k ≡ Some x → drop k xs ≡ x ∷ drop (k + 1) xs
-here xs k x e =
-    let within = slice_get_within xs k x e in
-    drop-cons xs k x within ∙ ap (λ q. q ∷ drop (suc k) xs) (get_or_from_slice_get xs k x x e)
-    ∙ ap (λ n. x ∷ drop n xs) (sym (add-one k))
-
 no-own : (n : ℕ) (cs : List ExportClass) → filter is_own (numbered n cs) ≡ []
 no-own n [] = refl
 no-own n (c ∷ cs) = no-own (n + 1) cs
@@ -172,10 +154,6 @@ no-own-file : (n : ℕ) (o : Option ExportTree) → filter is_own (of_export_fil
 no-own-file n None = refl
 no-own-file n (Some t) = no-own n t.classes
 
-class_count-cons : (line : FileLine) (lines : List FileLine) → class_count (line ∷ lines) ≡ cond line.class_file 1 0 +
-    class_count lines
-class_count-cons line lines = sum_by-cons (λ (l : FileLine). cond l.class_file 1 0) line lines
-
 module _ (trees : List ClassTree) (exports : List ExportTree) where
   abbrev from_lines : (c e i : ℕ) → List FileLine → List Class
   from_lines c e i lines = worlds.classes_from trees exports c e i lines
@@ -183,7 +161,7 @@ module _ (trees : List ClassTree) (exports : List ExportTree) where
   own-lines : (c e i : ℕ) (lines : List FileLine) → length trees ≤ c + class_count lines
       → filter is_own (from_lines c e i lines) ≡ numbered_from c (drop c trees)
   unfolding worlds.classes_from
-  own-lines c e i [] le = ap (numbered_from c) (sym (past-all trees c (omega (arith, le))))
+  own-lines c e i [] le = ap (numbered_from c) (sym (drop_past trees c (omega (arith, le))))
   own-lines c e i (line ∷ lines) le =
       by line.class_file (subst (λ q. length trees ≤ c + q) (class_count-cons line lines) le) (own-lines (c + 1) e i
       lines) (own-lines c (e + 1) (i + size (slice_get exports e)) lines)
@@ -191,8 +169,9 @@ module _ (trees : List ClassTree) (exports : List ExportTree) where
       at : (o : Option ClassTree) → slice_get trees c ≡ o → filter is_own (from_lines (c + 1) e i lines)
           ≡ numbered_from (c + 1) (drop (c + 1) trees) → filter is_own (of_class_file c o
           ++ from_lines (c + 1) e i lines) ≡ numbered_from c (drop c trees)
-      at None f rest = let q = past trees c f in rest ∙ ap (numbered_from (c + 1)) q.1 ∙ ap (numbered_from c) (sym q.0)
-      at (Some t) f rest = ap (λ q. declared c t ∷ q) rest ∙ ap (numbered_from c) (sym (here trees c t f))
+      at None f rest = let q = get_past trees c f in rest ∙ ap (numbered_from (c + 1)) q.1 ∙ ap (numbered_from c)
+          (sym q.0)
+      at (Some t) f rest = ap (λ q. declared c t ∷ q) rest ∙ ap (numbered_from c) (sym (drop_at trees c t f))
 
       by : (b : Bool) → length trees ≤ c + (cond b 1 0 + class_count lines)
           → (length trees ≤ c + 1 + class_count lines → filter is_own (from_lines (c + 1) e i lines)

@@ -1,23 +1,14 @@
 -- Items of lists, and lists of places that are empty.
 use Rattle.std.proofs.Common.{◌≡◌, ℕ, zero, suc, ◌+◌, ◌<◌, ◌≤◌, ◌==◌, Bool, true, false, List, [], ◌∷◌, ◌++◌, length}
 use Rattle.std.proofs.Common.{refl, ap, ◌∙◌, arith, inl, inr}
-use Rattle.std.specs.Str.{bytes_eq}
-use Rattle.std.proofs.lemmas.Slice.Eq.{bytes_eq-Decides}
 use Rattle.std.specs.Prelude.{◌||◌, ◌⊎◌, Some, map, flat_map, slice_get, sum_by}
 use Rattle.std.proofs.lemmas.Bool.Decides.{nat_tests}
 use Rattle.std.proofs.lemmas.List.Sums.{sum_by-cons}
 use Rattle.cjc_check_rules.specs.declared.spot.ComponentPlace.{ComponentPlace}
 use Rattle.cjc_check_rules.specs.Spots.{along, beside, placed, starts, begins}
 use Rattle.cjc_vtable.proofs.Filed.{Has, at_front, behind}
-use Rattle.cjc_token_proof.proofs.ComponentsLaws.Tests.{same_number, none_in_both}
-
--- ---- names
-
-pub bytes-true : (x y : List ℕ) → bytes_eq x y ≡ true → x ≡ y
-bytes-true x y e = grind (arith, bytes_eq-Decides)
-
-pub bytes-sym : (x y : List ℕ) → bytes_eq x y ≡ true → bytes_eq y x ≡ true
-bytes-sym x y e = grind (arith, bytes_eq-Decides)
+use Rattle.cjc_token_proof.proofs.ComponentsLaws.Tests.{none_in_both}
+use Rattle.cjc_bytes.proofs.Numbers.{like_number}
 
 -- ---- items
 
@@ -52,27 +43,6 @@ has-mapped f y (x ∷ xs) (behind h) = let r = has-mapped f y xs h in (r.0, behi
 
 -- ---- by place
 
-pub get-front : {A : Type 0} (xs ys : List A) (k : ℕ) (x : A) → slice_get xs k ≡ Some x → slice_get (xs ++ ys) k
-    ≡ Some x
-get-front [] ys k x e = absurd (cc)
-get-front (z ∷ xs) ys zero x e = e
-get-front (z ∷ xs) ys (suc k) x e = get-front xs ys k x e
-
-pub get-behind : {A : Type 0} (xs ys : List A) (k : ℕ) → slice_get (xs ++ ys) (length xs + k) ≡ slice_get ys k
-get-behind [] ys k = let z : 0 + k ≡ k = omega arith in ap (slice_get ys) z
-get-behind (x ∷ xs) ys k = let s : length (x ∷ xs) + k ≡ suc (length xs + k) = omega arith
-    in ap (slice_get (x ∷ (xs ++ ys))) s ∙ get-behind xs ys k
-
-pub get-in-front : {A : Type 0} (xs ys : List A) (k : ℕ) → k < length xs → slice_get (xs ++ ys) k ≡ slice_get xs k
-get-in-front [] ys k lt = absurd (omega (arith, lt))
-get-in-front (x ∷ xs) ys zero lt = refl
-get-in-front (x ∷ xs) ys (suc k) lt = get-in-front xs ys k (omega (arith, lt))
-
-pub get-length : {A : Type 0} (xs : List A) (k : ℕ) (x : A) → slice_get xs k ≡ Some x → k < length xs
-get-length [] k x e = absurd (cc)
-get-length (y ∷ xs) zero x e = omega arith
-get-length (y ∷ xs) (suc k) x e = let lt = get-length xs k x e in omega (arith, lt)
-
 pub get-either : {A : Type 0} (xs ys : List A) (k : ℕ) (x : A) → slice_get (xs ++ ys) k ≡ Some x
     → (slice_get xs k ≡ Some x) ⊎ ((j : ℕ) × (slice_get ys j ≡ Some x))
 get-either [] ys k x e = inr (k, e)
@@ -84,11 +54,6 @@ pub get-map : {A B : Type 0} (f : A → B) (xs : List A) (k : ℕ) (x : A) → s
 get-map f [] k x e = absurd (cc)
 get-map f (y ∷ xs) zero x e = let is : y ≡ x = cc in ap (λ z. Some (f z)) is
 get-map f (y ∷ xs) (suc k) x e = get-map f xs k x e
-
-pub get-within : {A : Type 0} (xs : List A) (k : ℕ) → k < length xs → (x : A) × (slice_get xs k ≡ Some x)
-get-within [] k lt = absurd (omega (arith, lt))
-get-within (x ∷ xs) zero lt = (x, refl)
-get-within (x ∷ xs) (suc k) lt = get-within xs k (omega (arith, lt))
 
 -- ---- nothing is broken
 
@@ -118,7 +83,7 @@ begins_where size from (x ∷ xs) zero lt = (
   from,
   refl,
   ap (λ b. b || begins (placed size (from + size x) xs) from)
-      (same_number from),
+      (like_number from),
   omega arith,
 )
 begins_where size from (x ∷ xs) (suc k) lt =
@@ -137,7 +102,7 @@ unfolding placed
 begins_at size from [] k s e = absurd (cc)
 begins_at size from (x ∷ xs) zero s e = let is : from ≡ s = cc
     in ap (λ n. n == s || begins (placed size (from + size x) xs) s) is
-    ∙ ap (λ b. b || begins (placed size (from + size x) xs) s) (same_number s)
+    ∙ ap (λ b. b || begins (placed size (from + size x) xs) s) (like_number s)
 begins_at size from (x ∷ xs) (suc k) s e = last (from == s) (begins_at size (from + size x) xs k s e)
   where
     last : (b : Bool) {c : Bool} → c ≡ true → (b || c) ≡ true

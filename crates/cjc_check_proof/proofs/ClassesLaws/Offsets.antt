@@ -19,8 +19,9 @@ use Rattle.cjc_components.specs.Methods.{is_member, method_offset, method_size, 
 use Rattle.cjc_components.specs.Descriptor.{method_descriptor}
 use Rattle.cjc_vtable.proofs.Filed.{Has, at_front, behind}
 use Rattle.cjc_token_proof.proofs.ComponentsLaws.Apart.{AreApart, is_same, order_own, order_apart}
-use Rattle.cjc_token_proof.proofs.ComponentsLaws.Tests.{same_number, passes, none_in_both}
+use Rattle.cjc_token_proof.proofs.ComponentsLaws.Tests.{passes, none_in_both}
 use Rattle.cjc_token_proof.specs.Components.Methods.{HasMethods}
+use Rattle.cjc_bytes.proofs.Numbers.{like_number}
 
 -- ---- bytes
 
@@ -57,7 +58,7 @@ module _ (p : Package) where
   itself f m e own =
       ap (λ g. not f.imported && f.class == g.class && f.member == g.member) e
       ∙ ap (λ b. not b && f.class == f.class && f.member == f.member) own
-      ∙ ap (λ b. b && f.member == f.member) (same_number f.class) ∙ same_number f.member
+      ∙ ap (λ b. b && f.member == f.member) (like_number f.class) ∙ like_number f.member
 
   -- the first of them
   pub step : (at : ℕ) (ms : List LaidMethod) (f : Found) (fs : List Found) → Left p at ms (f ∷ fs) → (m : LaidMethod)

@@ -16,8 +16,9 @@ use Rattle.cjc_components.specs.Class.{class_info, class_entry, interface_entry}
 use Rattle.cjc_components.specs.Names.{class_ref}
 use Rattle.cjc_token_proof.specs.Components.OwnNames.{HaveOwnNames}
 use Rattle.cjc_token_proof.proofs.ComponentsLaws.Starts.{infos_stand_alike, ref_is_start, starts_long}
-use Rattle.cjc_check_proof.proofs.ClassesLaws.Lists.{get-front, get-behind, get-in-front, get-length, get-either}
+use Rattle.cjc_check_proof.proofs.ClassesLaws.Lists.{get-either}
 use Rattle.cjc_check_proof.proofs.ClassesLaws.Lists.{begins_at, begins_above, start_within}
+use Rattle.cjc_bytes.proofs.Gets.{get_front, in_front, get_behind, get_below}
 
 pub interface_some : (i : InterfaceEntry) → 0 < interface_size i
 interface_some i = omega arith
@@ -46,11 +47,11 @@ module _ (p : Package) where
         × (slice_get interface_starts k ≡ Some s) × (class_ref p c.name ≡ Inside s)
     unfolding class_order
     interface_ref k c e =
-        let r = ref_is_start p own k c (get-front (in_order (world p) true) (in_order (world p) false) k c e) in
+        let r = ref_is_start p own k c (in_front (in_order (world p) true) (in_order (world p) false) k c e) in
         let all = ap (λ ss. slice_get ss k) (infos_stand_alike (class_ref p) (λ name. Inside 0) p) ∙ r.1 in
-        let lt = get-length (in_order (world p) true) k c e in
+        let lt = get_below (in_order (world p) true) k c e in
         let long = interfaces_long in
-        (r.0, sym (get-in-front interface_starts class_starts k (omega (arith, lt, long))) ∙ all, r.2)
+        (r.0, sym (get_front interface_starts class_starts k (omega (arith, lt, long))) ∙ all, r.2)
 
     -- a class that is no interface
     pub own_ref : (k : ℕ) (c : Class) → slice_get (in_order (world p) false) k ≡ Some c → (s : ℕ)
@@ -58,12 +59,12 @@ module _ (p : Package) where
     unfolding class_order
     own_ref k c e =
         let is = in_order (world p) true in
-        let r = ref_is_start p own (length is + k) c (get-behind is (in_order (world p) false) k ∙ e) in
+        let r = ref_is_start p own (length is + k) c (get_behind is (in_order (world p) false) k ∙ e) in
         let all = ap (λ ss. slice_get ss (length is + k)) (infos_stand_alike (class_ref p) (λ name. Inside 0) p) ∙ r.1
         in
         let at : length interface_starts + k ≡ length is + k = ap (λ n. n + k) interfaces_long in (
           r.0,
-          sym (get-behind interface_starts class_starts k)
+          sym (get_behind interface_starts class_starts k)
               ∙ ap (λ n. slice_get (interface_starts ++ class_starts) n) at ∙ all,
           r.2,
         )

@@ -18,7 +18,7 @@ use Rattle.cjc_world.proofs.Settled.{supertypes-AreSupertypes}
 use Rattle.cjc_world.proofs.Unbroken.{unbroken_is_acyclic}
 use Rattle.cjc_tokens.specs.Methods.{interfaces_at}
 use Rattle.cjc_vtable.proofs.Asked.{Among, at_head, further, among-split}
-use Rattle.cjc_vtable.proofs.Filed.{Has, at_front, behind, has-get}
+use Rattle.cjc_vtable.proofs.Filed.{Has, at_front, behind, has-get, has-either}
 use Rattle.cjc_vtable.proofs.Stood.{gathered-interface}
 use Rattle.cjc_components.specs.Package.{Package, world}
 use Rattle.cjc_components.specs.Names.{class_ref}
@@ -28,7 +28,7 @@ use Rattle.cjc_token_proof.specs.Tables.Sound.{IsSound}
 use Rattle.cjc_token_proof.proofs.TablesLaws.Clean.{has_named, kept}
 use Rattle.cjc_token_proof.proofs.TablesLaws.Lists.{right_supers}
 use Rattle.cjc_token_proof.proofs.TablesLaws.Named.{has_entry}
-use Rattle.cjc_token_proof.proofs.TablesLaws.Order.{has-either, kind-in, order_has, own_names}
+use Rattle.cjc_token_proof.proofs.TablesLaws.Order.{kind-in, order_has, own_names}
 use Rattle.cjc_check_proof.proofs.ClassesLaws.Refs.{info, interface_begins, class_begins_at}
 
 -- ---- lists

@@ -4,6 +4,8 @@ use Rattle.std.proofs.Common.{[], ◌∷◌, ◌++◌, length, drop, inl, inr, �
 use Rattle.std.specs.Prelude.{not, ◌&&◌, ◌||◌, ◌⊎◌, Option, Some, None, map, option_map, position, if◌then◌else◌, codes}
 use Rattle.std.specs.Str.{bytes_eq}
 use Rattle.cjc_bytes.specs.AccessFlags.{is_interface}
+use Rattle.cjc_bytes.proofs.Bools.{both_front}
+use Rattle.cjc_bytes.proofs.Gets.{get_below}
 use Rattle.cjc_world.specs.declared.found.Found.{Found}
 use Rattle.cjc_world.specs.Classes.{Member, Class, class_named}
 use Rattle.cjc_world.specs.Added.{added}
@@ -14,6 +16,7 @@ use Rattle.cjc_world.specs.Order.{in_order, methods_of_class, places, written}
 use Rattle.cjc_world.specs.Rules.{is_interface_of, is_of_class_file}
 use Rattle.cjc_world.proofs.Settled.{supertypes-AreSupertypes, lists-front}
 use Rattle.cjc_world.proofs.Unbroken.{unbroken_is_acyclic}
+use Rattle.cjc_world.proofs.Rising.{first-append}
 use Rattle.cjc_tokens.specs.Lines.{Imported, Declared, line_at, line_in}
 use Rattle.cjc_tokens.specs.Members.{Signature, is_constructor, is_exposed, is_hidden, is_initialiser, is_shown}
 use Rattle.cjc_tokens.specs.Members.{is_virtual}
@@ -28,7 +31,7 @@ use Rattle.cjc_token_proof.specs.Tables.Sound.{IsSound}
 use Rattle.cjc_token_proof.proofs.TablesLaws.Clean.{has_named, kept, own_name}
 use Rattle.cjc_token_proof.proofs.TablesLaws.Lists.{right_supers}
 use Rattle.cjc_check_proof.proofs.ClassesLaws.Installs.{written_has}
-use Rattle.cjc_check_proof.proofs.ClassesLaws.Lists.{get-length, has-back, has-front, has-mapped}
+use Rattle.cjc_check_proof.proofs.ClassesLaws.Lists.{has-back, has-front, has-mapped}
 use Rattle.cjc_check_proof.proofs.ClassesLaws.Supers.{in_place}
 
 -- ---- lists
@@ -58,17 +61,6 @@ methods_has f [] h = elim h [ ]
 methods_has f (None ∷ os) h = behind (methods_has f os h)
 methods_has f (Some g ∷ os) h = first_or f g (methods os) os h (methods_has f os)
 
-first_append : (look : Class → Option Found) (a b : List Class) → first look (a ++ b) ≡ or_else (first look a)
-    (first look b)
-unfolding first
-first_append look [] b = refl
-first_append look (c ∷ a) b = by (look c) (first_append look a b)
-  where
-    by : (o : Option Found) → first look (a ++ b) ≡ or_else (first look a) (first look b)
-        → or_else o (first look (a ++ b)) ≡ or_else (or_else o (first look a)) (first look b)
-    by None e = e
-    by (Some f) e = refl
-
 or_parts : (a b : Option Found) (g : Found) → or_else a b ≡ Some g → (a ≡ Some g) ⊎ (b ≡ Some g)
 or_parts None b g e = inr e
 or_parts (Some f) b g e = inl e
@@ -95,10 +87,6 @@ hidden_plain m e = by (is_exposed m.flags) (is_selectable m.flags) (is_construct
     by false false c d e = absurd (cc)
     by true b c d e = absurd (cc)
 
-and_front : (a b : Bool) → (a && b) ≡ true → a ≡ true
-and_front true b e = refl
-and_front false b e = absurd (cc)
-
 module _ (w : List Class) (c : Class) where
   own_has : (test : Member → Bool) → ((m : Member) → test m ≡ true → bytes_eq m.name (codes "<clinit>") ≡ false)
       → (s : Signature) (g : Found) → own test s c ≡ Some g → Has g (methods_of_class w c)
@@ -111,7 +99,7 @@ module _ (w : List Class) (c : Class) where
       by (Some i) f h =
           let is : member_at c (length c.fields + i) ≡ g = cc in
           let r = position-at (λ m. test m && is_called s.name s.desc m) c.methods i f in
-          let passes = and_front (test r.0) (is_called s.name s.desc r.0) r.2 in
+          let passes = both_front (test r.0) (is_called s.name s.desc r.0) r.2 in
           subst (λ (v : Found). Has v (methods_of_class w c)) is (has-front (member_at c (length c.fields + i))
           (written c (length c.fields) c.methods) _ (written_has c (length c.fields) c.methods i r.0 r.1
           (plain r.0 passes)))
@@ -129,7 +117,7 @@ module _ (w : List Class) (c : Class) where
           let r = position-at (λ m. is_called s.name s.desc m) (added w c) i f in
           subst (λ (v : Found). Has v (methods_of_class w c)) is
           (has-back (member_at c (length c.fields + length c.methods + i)) (written c (length c.fields) c.methods) _
-          (places_has c (length c.fields + length c.methods) (length (added w c)) i (get-length (added w c) i r.0
+          (places_has c (length c.fields + length c.methods) (length (added w c)) i (get_below (added w c) i r.0
           r.1)))
 
 -- a method of a class of the package that is no interface
@@ -156,7 +144,7 @@ module _ (list : List ℕ) (p : Package) (sound : IsSound list p.files) where
       (λ j. far test s g c.supers a sp (λ y d l f. above y d l f) j)
       (λ j. far test s g xs r b (λ y d l f. all y d (after l) f) j)
       (or_parts (first (own test s) (upwards a)) (first (own test s) (upwards r)) g
-      (sym (first_append (own test s) (upwards a) (upwards r)) ∙ h)))
+      (sym (first-append (own test s) (upwards a) (upwards r)) ∙ h)))
       (or_parts (own test s c) (first (own test s) (upwards a ++ upwards r)) g e)
     where
       above : (y : List ℕ) (d : Class) → Lists y c.supers → class_named w y ≡ Some d → d.is_imported ≡ true

@@ -21,9 +21,9 @@ use Rattle.cjc_token_proof.proofs.TablesLaws.Clean.{has_named, kept}
 use Rattle.cjc_token_proof.proofs.TablesLaws.Named.{has_info, has_entry}
 use Rattle.cjc_token_proof.proofs.TablesLaws.Order.{own_names}
 use Rattle.cjc_check_proof.specs.Classes.Premises.{HasShortRefs, is_known}
-use Rattle.cjc_check_proof.proofs.ClassesLaws.Lists.{get-length}
 use Rattle.cjc_check_proof.proofs.ClassesLaws.Nibbles.{IsShort}
 use Rattle.cjc_check_proof.proofs.ClassesLaws.Refs.{ref_within}
+use Rattle.cjc_bytes.proofs.Gets.{get_below}
 
 some_either : {A : Type 0} (a b : Option A) (x : A) → b ≡ Some x → is_some (or_else a b) ≡ true
 some_either None b x e = ap is_some e
@@ -103,7 +103,7 @@ module _ (list : List ℕ) (p : Package) (sound : IsSound list p.files) where
       there : (c : Class) → HasEntry p c → IsShort (class_ref p c.name)
       there c r =
           let files = p.files in
-          let lt = get-length files.exports r.file r.tree r.in_list in
+          let lt = get_below files.exports r.file r.tree r.in_list in
           let few = s.few_imports in
           let read = sound.read in
           let tree = read.exports r.file r.tree r.in_list in

@@ -15,12 +15,12 @@ use Rattle.cjc_components.specs.Package.{Package, pool}
 use Rattle.cjc_components.specs.Types.{nibbles_of, all_descs, types_of, type_descriptor, type_starts, type_offset}
 use Rattle.cjc_components.specs.Descriptor.{descriptor, pool_type}
 use Rattle.cjc_vtable.proofs.Filed.{Has, at_front, behind}
-use Rattle.cjc_token_proof.proofs.ComponentsLaws.Tests.{same_bytes}
-use Rattle.cjc_capwrite.specs.Descriptor.{type_bytes, types_bytes}
-use Rattle.cjc_capwrite.proofs.Lengths.{types_length}
-use Rattle.cjc_token_proof.proofs.ComponentsLaws.Sizes.{each_size, type_is}
+use Rattle.cjc_components.specs.CapWrite.Descriptor.{type_bytes, types_bytes}
+use Rattle.cjc_components.proofs.CapWriteLengths.{types_length}
+use Rattle.cjc_token_proof.proofs.ComponentsLaws.Sizes.{type_is}
 use Rattle.cjc_tokens.proofs.Facts.{position-cons}
-use Rattle.cjc_check_proof.proofs.ClassesLaws.Lists.{bytes-sym, has-map, has-mapped, has-other, begins_where}
+use Rattle.cjc_check_proof.proofs.ClassesLaws.Lists.{has-map, has-mapped, has-other, begins_where}
+use Rattle.cjc_bytes.proofs.Lists.{name_is, bytes_sym, each_size}
 
 -- ---- what is kept once is there
 
@@ -68,7 +68,7 @@ kept x seen (y ∷ xs) at_front = by (is_one_of seen x) refl
         ⊎ ((k : ℕ) × (position (bytes_eq x) (if b then each_once seen xs else x ∷ each_once (seen ++ x ∷ []) xs)
         ≡ Some k))
     by true e = inl e
-    by false e = inr (placed_at x x (each_once (seen ++ x ∷ []) xs) (same_bytes x))
+    by false e = inr (placed_at x x (each_once (seen ++ x ∷ []) xs) (name_is x))
 kept x seen (y ∷ xs) (behind h) = by (is_one_of seen y) (kept x seen xs h) (kept x (seen ++ y ∷ []) xs h)
   where
     by : (b : Bool) → (is_one_of seen x ≡ true) ⊎ ((k : ℕ) × (position (bytes_eq x) (each_once seen xs) ≡ Some k))
@@ -79,7 +79,7 @@ kept x seen (y ∷ xs) (behind h) = by (is_one_of seen y) (kept x seen xs h) (ke
         ≡ Some k))
     by true r s = r
     by false r s = ⊎_elim
-        (λ e. ⊎_elim (λ f. inl f) (λ f. inr (placed_at x y (each_once (seen ++ y ∷ []) xs) (bytes-sym y x f)))
+        (λ e. ⊎_elim (λ f. inl f) (λ f. inr (placed_at x y (each_once (seen ++ y ∷ []) xs) (bytes_sym y x f)))
         (one_more seen y x e))
         (λ k. inr (placed_behind x y (each_once (seen ++ y ∷ []) xs) k.0 k.1))
         s

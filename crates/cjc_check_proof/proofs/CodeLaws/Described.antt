@@ -19,11 +19,11 @@ use Rattle.cjc_components.specs.Package.{LaidMethod, Package, world}
 use Rattle.cjc_components.specs.Methods.{Extent, extent_at, extent_from, extent_of, first_method, handler_count}
 use Rattle.cjc_components.specs.Methods.{method_size, placed_at, placed_from}
 use Rattle.cjc_components.specs.Descriptor.{class_descriptor, method_descriptor}
-use Rattle.cjc_token_proof.proofs.ComponentsLaws.Tests.{same_number}
 use Rattle.cjc_token_proof.specs.Components.Methods.{HasMethods}
 use Rattle.cjc_token_proof.proofs.ComponentsLaws.Apart.{AreApart, AreOwn, is_same, order_apart, order_own}
 use Rattle.cjc_check_proof.proofs.CodeLaws.Lists.{each_both}
 use Rattle.cjc_check_proof.proofs.CodeLaws.Methods.{Describes}
+use Rattle.cjc_bytes.proofs.Numbers.{like_number}
 
 -- ---- the handlers stand before the methods
 
@@ -55,8 +55,8 @@ AreOf p (d ∷ ds) (f ∷ fs) = (d.offset ≡ (let e = extent_of p f in e.offset
     × (d.bytecode_count ≡ (let e = extent_of p f in e.bytecode_count)) × AreOf p ds fs
 
 pub itself : (f : Found) → f.imported ≡ false → is_same f f ≡ true
-itself f own = by (not f.imported) (f.class == f.class) (f.member == f.member) (ap not own) (same_number f.class)
-    (same_number f.member)
+itself f own = by (not f.imported) (f.class == f.class) (f.member == f.member) (ap not own) (like_number f.class)
+    (like_number f.member)
   where
     by : (a b c : Bool) → a ≡ true → b ≡ true → c ≡ true → (a && b && c) ≡ true
     by true true true e f g = refl

@@ -38,9 +38,10 @@ use Rattle.cjc_check_proof.proofs.CodeLaws.Handlers.{AllTold, IsTold}
 use Rattle.cjc_check_proof.proofs.CodeLaws.Indices.{array_none, bare_none, here, interface_one, named_by, pairs_none}
 use Rattle.cjc_check_proof.proofs.CodeLaws.Indices.{plain_none, range_none, test_none, test_one}
 use Rattle.cjc_check_proof.proofs.CodeLaws.Instructions.{AllSpelt, first_spelt, next_spelt}
-use Rattle.cjc_check_proof.proofs.CodeLaws.Lists.{each_append, each_split}
+use Rattle.cjc_check_proof.proofs.CodeLaws.Lists.{each_split}
 use Rattle.cjc_check_proof.proofs.CodeLaws.Methods.{spelt}
 use Rattle.cjc_check_proof.proofs.CodeLaws.Opcodes.{is_test, is_use, names_nothing, needs, tests}
+use Rattle.cjc_bytes.proofs.Quantified.{all_both}
 
 module _ (n : Naming) (entries : List PoolEntry) where
   -- the pool has the key's entry at its index
@@ -137,7 +138,7 @@ module _ (n : Naming) (entries : List PoolEntry) where
   code_right to at (i ∷ insns) [] same forms said kinds held = tt
   code_right to at (i ∷ insns) (w ∷ wide) same forms said kinds held =
       let h = each_split IsHeld (insn_keys i) (flat_map insn_keys insns) held in
-      each_append IsRight (indices (here at (laid n to at w i)))
+      all_both IsRight (indices (here at (laid n to at w i)))
       (flat_map indices (laid_code n to (at + insn_size n w i) insns wide))
       (insn_right to at w i (forms 0 i refl) (first_spelt n to at i insns w wide said) (kinds 0 i refl) h.0)
       (code_right to (at + insn_size n w i) insns wide (omega (arith, same)) (λ j x e. forms (suc j) x e)
@@ -158,7 +159,7 @@ module _ (n : Naming) (entries : List PoolEntry) where
       let own = each_split IsHeld (flat_map insn_keys code.insns) (flat_map (λ (x : NCatch). class_key x.class)
       code.catches) h.0 in
       let start = first (placed_at at m) in
-      each_append IsRight (flat_map indices (laid_code n (offset_of n (placed_at at m)) start m.code.insns m.wide))
+      all_both IsRight (flat_map indices (laid_code n (offset_of n (placed_at at m)) start m.code.insns m.wide))
       (flat_map (λ (c : Code). flat_map indices c.instructions) (codes_at n (at + method_size m) ms))
       (code_right (offset_of n (placed_at at m)) start m.code.insns m.wide c.count c.forms (spelt n at m c)
       (kinds 0 m refl) own.0)

@@ -24,13 +24,14 @@ use Rattle.cjc_components.specs.Emit.Emitted.{CanBeWritten}
 use Rattle.cjc_components.specs.Emit.Emitted as Emitted
 use Rattle.cjc_components.specs.Package.{LaidMethod}
 use Rattle.cjc_components.specs.Methods.{method_size, placed_from}
-use Rattle.cjc_token_proof.proofs.ComponentsLaws.Tests.{none_in_both, passes, same_number}
+use Rattle.cjc_token_proof.proofs.ComponentsLaws.Tests.{none_in_both, passes}
 use Rattle.cjc_check_proof.specs.Code.Caught.{HandlersLie}
 use Rattle.cjc_check_proof.specs.Code.Codes.{code_at, codes_at}
 use Rattle.cjc_check_proof.specs.Code.Written.{AllWritable}
 use Rattle.cjc_check_proof.proofs.CodeLaws.Places.{count, end, label_ascends, label_grows, label_high, label_low}
 use Rattle.cjc_check_proof.proofs.CodeLaws.Places.{label_order, last_label, none_behind, start_there, to}
 use Rattle.cjc_check_proof.proofs.CodeLaws.Sorted.{each_lies, each_ordered, ordered_ranges, ordered_rise, Rise}
+use Rattle.cjc_bytes.proofs.Numbers.{like_number}
 
 -- it covers something
 abbrev IsRanged : NCatch → Type 0
@@ -87,7 +88,7 @@ module _ (n : Naming) (at : ℕ) (m : LaidMethod) (can : CanBeWritten n (Emitted
       let here : to n at m can k ≡ code.end = ap (to n at m can) same ∙ last
       ∙ (let e : at + method_size m ≡ code.end = omega arith in e) in
       or_second (has_start code (to n at m can k)) (to n at m can k == code.end) (ap (λ x. x == code.end) here
-      ∙ same_number code.end))
+      ∙ like_number code.end))
       (cases_lt k (count n at m can))
     where
       or_second : (a b : Bool) → b ≡ true → (a || b) ≡ true

@@ -11,6 +11,7 @@ use Rattle.cjc_components.specs.Emit.Emitted.{header_bytes, is_short}
 use Rattle.cjc_components.proofs.EmitShifted.{header_read}
 use Rattle.cjc_components.specs.Package.{LaidMethod}
 use Rattle.cjc_components.specs.Methods.{header_of, with_abstract}
+use Rattle.cjc_bytes.proofs.Bools.{both_front}
 
 -- bytes begin with this header, which tells whether its method is abstract
 pub record IsRead (abstract_one : Bool) (header behind : List ℕ) : Type 0 where
@@ -18,10 +19,6 @@ pub record IsRead (abstract_one : Bool) (header behind : List ℕ) : Type 0 wher
   pub read : method_header (header ++ behind) ≡ Some says
   pub size : says.size ≡ length header
   pub is_abstract : says.is_abstract ≡ abstract_one
-
-first_of : (a b : Bool) → (a && b) ≡ true → a ≡ true
-first_of true b e = refl
-first_of false b e = absurd cc
 
 abstract_short : (stack second : ℕ) (behind : List ℕ) → stack < 16 → IsRead true ((0x40 + stack) ∷ second ∷ []) behind
 abstract_short stack second behind lt =
@@ -63,7 +60,7 @@ reads_by true m behind = by (is_short m) refl
     by : (short : Bool) → is_short m ≡ short → IsRead true (with_abstract (if short then writing.short_header m
         else writing.extended_header m)) behind
     by true e =
-        let t = first_of (nat_lt m.max_stack 16) (nat_lt m.nargs 16 && nat_lt m.max_locals 16) e in
+        let t = both_front (nat_lt m.max_stack 16) (nat_lt m.nargs 16 && nat_lt m.max_locals 16) e in
         let lt : m.max_stack < 16 = grind (arith, nat_tests, t) in
         abstract_short m.max_stack (16 * m.nargs + m.max_locals) behind lt
     by false e = abstract_extended m.max_stack m.nargs m.max_locals behind

@@ -1,7 +1,8 @@
 -- The pool of a package has the entry of each key that its code and its handlers name.
-use Rattle.std.proofs.Common.{◌≡◌, refl, ap, ◌∙◌, Bool, true, false, List, [], ◌∷◌}
+use Rattle.std.proofs.Common.{◌≡◌, refl, ap, ◌∙◌, true, List, [], ◌∷◌}
 use Rattle.std.specs.Prelude.{flat_map, ◌||◌, Some}
 use Rattle.std.specs.List.{AllByRecursion, list_any}
+use Rattle.std.proofs.lemmas.Bool.{or_right}
 use Rattle.cjc_ncode.specs.declared.narrow.PoolKey.{PoolKey}
 use Rattle.cjc_ncode.specs.declared.narrow.PoolKey.TheVariants as keys
 use Rattle.cjc_ncode.specs.PoolOrder.{method_keys, same_key}
@@ -12,10 +13,6 @@ use Rattle.cjc_components.specs.Package.{codes, Package}
 use Rattle.cjc_components.specs.Names.{names, naming_over, pool_entries, unloaded}
 use Rattle.cjc_check_proof.proofs.CodeLaws.Entries.{all_keys, IsHeld}
 
-or_second : (a b : Bool) → b ≡ true → (a || b) ≡ true
-or_second true b e = refl
-or_second false b e = e
-
 -- each of these keys, where all are among others
 each_among : (P : PoolKey → Type 0) (all xs : List PoolKey) → ((key : PoolKey) → list_any (same_key key) all ≡ true
     → P key) → ((key : PoolKey) → list_any (same_key key) xs ≡ true → list_any (same_key key) all ≡ true)
@@ -23,7 +20,7 @@ each_among : (P : PoolKey → Type 0) (all xs : List PoolKey) → ((key : PoolKe
 each_among P all [] h more = tt
 each_among P all (x ∷ xs) h more = (
   h x (more x (ap (λ b. b || list_any (same_key x) xs) (same_itself x))),
-  each_among P all xs h (λ key e. more key (or_second (same_key key x) (list_any (same_key key) xs) e)),
+  each_among P all xs h (λ key e. more key (or_right (same_key key x) (list_any (same_key key) xs) e)),
 )
 
 -- its entry is the same, whoever loads the package

@@ -6,8 +6,11 @@ use Rattle.std.specs.Prelude.{reverse, slice_get, unwrap_or}
 use Rattle.std.specs.List.{list_any}
 use Rattle.std.proofs.lemmas.List.{length-map}
 use Rattle.std.proofs.lemmas.Option.{slice_get-map}
+use Rattle.std.proofs.lemmas.Map.Keys.{any_passes_from_place}
 use Rattle.cjc_bytes.specs.declared.fault.MemberId.{MemberId}
 use Rattle.cjc_bytes.specs.AccessFlags.{is_static}
+use Rattle.cjc_bytes.proofs.Numbers.{like_number}
+use Rattle.cjc_bytes.proofs.Gets.{in_front, get_behind}
 use Rattle.cjc_world.specs.ExportFile.declared.tree.ExportClass.{ExportClass}
 use Rattle.cjc_world.specs.ExportFile.declared.tree.ExportField.{ExportField}
 use Rattle.cjc_world.specs.ExportFile.declared.tree.ExportMethod.{ExportMethod}
@@ -32,23 +35,10 @@ use Rattle.cjc_components.specs.Names.{field_token, member_ref, member_token, na
 use Rattle.cjc_components.specs.Names.{virtual_token}
 use Rattle.cjc_components.specs.Statics.{cell_offset}
 use Rattle.cjc_token_proof.specs.Components.Whole.{exports_of, whole}
-use Rattle.cjc_token_proof.proofs.ComponentsLaws.Tests.{same_number}
 use Rattle.cjc_check_proof.specs.Code.Members.{classes_before, imported_member, IsImportedClass, IsImportedField}
 use Rattle.cjc_check_proof.specs.Code.Members.{IsImportedMethod, IsImportedVirtual}
-use Rattle.cjc_check_proof.proofs.CodeLaws.Jumps.{any_at}
 
 -- ---- lists
-
-in_front : {A : Type 0} (xs ys : List A) (k : ℕ) (x : A) → slice_get xs k ≡ Some x → slice_get (xs ++ ys) k ≡ Some x
-in_front [] ys zero x e = absurd cc
-in_front [] ys (suc k) x e = absurd cc
-in_front (y ∷ xs) ys zero x e = e
-in_front (y ∷ xs) ys (suc k) x e = in_front xs ys k x e
-
-in_back : {A : Type 0} (xs ys : List A) (k : ℕ) → slice_get (xs ++ ys) (length xs + k) ≡ slice_get ys k
-in_back [] ys k = let z : 0 + k ≡ k = omega arith in ap (slice_get ys) z
-in_back (x ∷ xs) ys k = let s : suc (length xs) + k ≡ suc (length xs + k) = omega arith
-    in ap (slice_get (x ∷ xs ++ ys)) s ∙ in_back xs ys k
 
 three : (a b c : Bool) → a ≡ true → b ≡ true → c ≡ true → (a && b && c) ≡ true
 three true true true e f g = refl
@@ -77,7 +67,7 @@ imports_there (u ∷ trees) (suc file) place t c e f =
     let at : length u.classes + classes_before file trees + place ≡ length (map of_import u.classes) +
     (classes_before file trees + place) = omega (arith, many) in
     ap (slice_get (map of_import u.classes ++ imports_of trees)) at
-    ∙ in_back (map of_import u.classes) (imports_of trees) (classes_before file trees + place)
+    ∙ get_behind (map of_import u.classes) (imports_of trees) (classes_before file trees + place)
     ∙ imports_there trees file place t c e f
 
 module _ (p : Package) where
@@ -97,7 +87,7 @@ module _ (p : Package) where
       let fields = map listed_field_token c.fields in
       let methods = map listed_method_token c.methods in
       let many : length fields ≡ length c.fields = length-map c.fields listed_field_token in
-      ap (λ n. slice_get (fields ++ methods) (n + k)) (sym many) ∙ in_back fields methods k
+      ap (λ n. slice_get (fields ++ methods) (n + k)) (sym many) ∙ get_behind fields methods k
       ∙ slice_get-map listed_method_token c.methods k ∙ ap (option_map listed_method_token) e
       ∙ ap (λ b. Some (if b then None else Some m.token)) none
 
@@ -127,8 +117,9 @@ module _ (p : Package) where
       ap (member_token p) is.found ∙ listed_token m.class c of (length c.fields + is.place) em.token
       (method_token c is.place em is.there is.is_no_initialiser) in
       let there : list_any (λ (x : ExportMethod). x.token == em.token && is_unbound x) c.methods ≡ true =
-      any_at (λ (x : ExportMethod). x.token == em.token && is_unbound x) c.methods is.place em is.there (ap (λ b. b
-      && is_unbound em) (same_number em.token) ∙ is.is_unbound) in
+      any_passes_from_place (λ (x : ExportMethod). x.token == em.token && is_unbound x) c.methods is.place em is.there
+      (ap (λ b. b
+      && is_unbound em) (like_number em.token) ∙ is.is_unbound) in
       ap (λ x. is_method (whole p) (exports_of p) (member_ref x (offset_where p f) (member_token p f))) of.named
       ∙ ap (λ t. has_static_method (imported (exports_of p) of.file c.token) t) token
       ∙ ap (λ o. has_static_method o em.token) (class_is m.class c of) ∙ there
@@ -143,9 +134,10 @@ module _ (p : Package) where
       ∙ listed_token f.class c of is.place ef.token (field_token_of c is.place ef is.there is.is_no_constant) in
       let there : list_any (λ (x : ExportField). x.token == ef.token && is_static x.flags && is_none x.constant)
       c.fields ≡ true =
-      any_at (λ (x : ExportField). x.token == ef.token && is_static x.flags && is_none x.constant) c.fields is.place ef
+      any_passes_from_place (λ (x : ExportField). x.token == ef.token && is_static x.flags && is_none x.constant)
+      c.fields is.place ef
       is.there
-      (three (ef.token == ef.token) (is_static ef.flags) (is_none ef.constant) (same_number ef.token) is.is_static
+      (three (ef.token == ef.token) (is_static ef.flags) (is_none ef.constant) (like_number ef.token) is.is_static
       (ap is_none is.is_no_constant)) in
       ap (λ x. is_field (whole p) (exports_of p) (member_ref x (cell_offset p.image f) (field_token p f))) of.named
       ∙ ap (λ t. has_static_field (imported (exports_of p) of.file c.token) t) token
@@ -165,9 +157,10 @@ module _ (p : Package) where
       ∙ listed_token f.class c of is.place ef.token (field_token_of c is.place ef is.there is.is_no_constant) in
       let there : list_any (λ (x : ExportField). x.token == ef.token && not (is_static x.flags) && is_none x.constant)
       c.fields ≡ true =
-      any_at (λ (x : ExportField). x.token == ef.token && not (is_static x.flags) && is_none x.constant) c.fields
+      any_passes_from_place (λ (x : ExportField). x.token == ef.token && not
+      (is_static x.flags) && is_none x.constant) c.fields
       is.place ef is.there
-      (three (ef.token == ef.token) (not (is_static ef.flags)) (is_none ef.constant) (same_number ef.token)
+      (three (ef.token == ef.token) (not (is_static ef.flags)) (is_none ef.constant) (like_number ef.token)
       (ap not is.is_static) (ap is_none is.is_no_constant)) in
       let listed : class_has_field (exports_of p) (imported (exports_of p) of.file c.token) (field_token p f) ≡ true =
       ap (λ o. class_has_field (exports_of p) o (field_token p f)) (class_is f.class c of)
@@ -192,8 +185,9 @@ module _ (p : Package) where
       let c = is.class in
       let em = is.method in
       let listed : list_any (λ (x : ExportMethod). is_virtual x && (x.token == em.token)) c.methods ≡ true =
-      any_at (λ (x : ExportMethod). is_virtual x && (x.token == em.token)) c.methods is.place em is.there (ap (λ b. b
-      && (em.token == em.token)) is.is_virtual ∙ same_number em.token) in
+      any_passes_from_place (λ (x : ExportMethod). is_virtual x && (x.token == em.token)) c.methods is.place em is.there
+      (ap (λ b. b
+      && (em.token == em.token)) is.is_virtual ∙ like_number em.token) in
       ap (λ x. has_virtual (whole p) (exports_of p) (ref_to x) (virtual_token p m)) of.named
       ∙ ap (has_virtual (whole p) (exports_of p) (Outside of.file c.token)) is.token
       ∙ outside_has (reverse (let w = whole p in classes_at w.class)) of.file c.token em.token

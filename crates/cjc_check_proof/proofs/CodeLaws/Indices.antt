@@ -5,6 +5,7 @@ use Rattle.std.specs.Prelude.{slice_get, filter, flat_map, ◌==◌, ◌&&◌, i
 use Rattle.std.proofs.lemmas.Bool.Decides.{nat_tests}
 use Rattle.std.proofs.lemmas.List.{map-append}
 use Rattle.std.proofs.lemmas.List.Elements.{filter-append}
+use Rattle.std.proofs.lemmas.Bool.{and_right}
 use Rattle.cjc_capread.specs.Opcodes.{Form, Fields, Table, Lookup, Operand, Byte, Signed1, Signed2, Signed4, Index1}
 use Rattle.cjc_capread.specs.Opcodes.{Index2, form, forms, info, op_info}
 use Rattle.cjc_capread.specs.Decode.{AllFit, Instruction, before_table, more}
@@ -71,10 +72,6 @@ none_without (Index2 ∷ kinds) = refl
 if_none : {A : Type 0} (b : Bool) (xs : List A) → xs ≡ [] → (if b then [] else xs) ≡ []
 if_none true xs e = refl
 if_none false xs e = e
-
-and_false : (b c : Bool) → c ≡ false → (b && c) ≡ false
-and_false true c e = e
-and_false false c e = refl
 
 -- ---- one instruction
 
@@ -148,7 +145,7 @@ module _ (n : Naming) (to : ℕ → ℕ) (at : ℕ) where
       } ∷ []
   test_one op kind index e away =
       let i = untabled op (pos kind ∷ pos index ∷ []) in
-      ap (λ b. if b then [] else index_by (here at i) (form op)) (and_false (lies_between 0x94 0x95 op)
+      ap (λ b. if b then [] else index_by (here at i) (form op)) (and_right (lies_between 0x94 0x95 op)
       (lies_between 10 13 kind) away)
       ∙ ap (index_by (here at i)) (tests op e).1
 

@@ -2,11 +2,12 @@
 use Rattle.std.proofs.Common.{◌≡◌, ℕ, zero, suc, ◌+◌, ◌-◌, ◌<◌, ◌≤◌, refl, ap, ◌∙◌, ⊎_elim, arith, Bool, true, false}
 use Rattle.std.proofs.Common.{List, [], ◌∷◌, length, Option, Some, None, ℤ, pos, negsuc}
 use Rattle.std.specs.Prelude.{slice_get, nat_le, ◌&&◌, ◌||◌, not, ◌==◌, flat_map, if◌then◌else◌, ◌+ℤ◌}
-use Rattle.std.specs.List.{list_all, list_any}
+use Rattle.std.specs.List.{list_all}
 use Rattle.std.specs.Ordering.{int_eq}
 use Rattle.std.proofs.lemmas.Bool.{cases_lt, eqb-true}
 use Rattle.std.proofs.lemmas.Bool.Decides.{Decides-int_eq, nat_tests}
 use Rattle.std.proofs.lemmas.Int.{ints}
+use Rattle.std.proofs.lemmas.Map.Keys.{any_passes_from_place}
 use Rattle.cjc_capread.specs.Opcodes.{Form, Fields, Table, Lookup, form, forms}
 use Rattle.cjc_capread.specs.Decode.{Instruction}
 use Rattle.cjc_ncode.specs.CardSemantics.Bytecode.Meanings.{Ranged, Paired, meaning}
@@ -50,17 +51,6 @@ leads_to at x = ⊎_elim
 
     forth : at ≤ x → pos at +ℤ pos (x - at) ≡ pos x
     forth le = omega (arith, ints, le)
-
-pub any_at : {A : Type 0} (test : A → Bool) (xs : List A) (k : ℕ) (x : A) → slice_get xs k ≡ Some x → test x ≡ true
-    → list_any test xs ≡ true
-any_at test [] zero x e h = absurd cc
-any_at test [] (suc k) x e h = absurd cc
-any_at test (y ∷ xs) zero x e h = let same : y ≡ x = cc in ap (λ b. b || list_any test xs) (ap test same ∙ h)
-any_at test (y ∷ xs) (suc k) x e h = by (test y) (any_at test xs k x e h)
-  where
-    by : (a : Bool) → list_any test xs ≡ true → (a || list_any test xs) ≡ true
-    by true f = refl
-    by false f = f
 
 same_place : (n : ℕ) → int_eq (pos n) (pos n) ≡ true
 same_place n = (Decides-int_eq (pos n) (pos n)).1 refl
@@ -263,7 +253,7 @@ module _ (n : Naming) (at : ℕ) (m : LaidMethod) (can : CanBeWritten n (Emitted
       let same : int_eq (pos p.at) (pos from +ℤ distance from (to label)) ≡ true =
       ap (λ z. int_eq (pos p.at) z) (leads_to from (to label)) ∙ ap (λ k. int_eq (pos k) (pos (to label))) r.2
       ∙ same_place (to label) in
-      any_at (λ j. int_eq (pos j.at) (pos from +ℤ distance from (to label))) items label p r.1 same
+      any_passes_from_place (λ j. int_eq (pos j.at) (pos from +ℤ distance from (to label))) items label p r.1 same
 
   pub method_lands : code_spots (code_at n at m) ≡ []
   unfolding in_code

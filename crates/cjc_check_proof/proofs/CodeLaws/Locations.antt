@@ -10,11 +10,12 @@ use Rattle.cjc_ncode.specs.Lowering.Placed as Lower
 use Rattle.cjc_components.specs.Emit.Emitted.{code_places}
 use Rattle.cjc_components.specs.Package.{LaidMethod}
 use Rattle.cjc_components.specs.Methods.{method_size, placed_at, placed_from}
-use Rattle.cjc_token_proof.proofs.ComponentsLaws.Tests.{none_in_both, passes, same_number}
+use Rattle.cjc_token_proof.proofs.ComponentsLaws.Tests.{none_in_both, passes}
 use Rattle.cjc_check_proof.specs.Code.Codes.{codes_at, laid_code}
 use Rattle.cjc_check_proof.specs.Code.Written.{AllWritable}
 use Rattle.cjc_check_proof.proofs.CodeLaws.Indices.{code_indexed, places_append}
 use Rattle.cjc_check_proof.proofs.CodeLaws.Methods.{spelt}
+use Rattle.cjc_bytes.proofs.Numbers.{like_number}
 
 -- the places of indices in a method at its offset
 abbrev pub placed_places : Naming → (bytes : ℕ) → Lower.Placed → List ℕ
@@ -42,10 +43,10 @@ codes_indexed k some n at (m ∷ ms) can =
 none_differ : (at : ℕ) (bytes : List ℕ) → differ at bytes bytes ≡ []
 unfolding beside
 none_differ at [] = refl
-none_differ at (b ∷ bytes) = none_in_both (passes _ (in_info 9 at) (same_number b)) (none_differ (at + 1) bytes)
+none_differ at (b ∷ bytes) = none_in_both (passes _ (in_info 9 at) (like_number b)) (none_differ (at + 1) bytes)
 
 -- what is wanted is listed
 pub all_listed : (at : ℕ) (listed wanted : List ℕ) → listed ≡ wanted → are_listed at listed wanted ≡ []
 all_listed at listed wanted e =
-    ap (are_listed at listed) (sym e) ∙ none_in_both (passes _ (in_info 9 at) (same_number (length listed)))
+    ap (are_listed at listed) (sym e) ∙ none_in_both (passes _ (in_info 9 at) (like_number (length listed)))
     (none_differ (at + 2) listed)

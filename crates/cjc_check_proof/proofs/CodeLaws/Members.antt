@@ -3,11 +3,14 @@ use Rattle.std.proofs.Common.{◌≡◌, ℕ, zero, suc, ◌+◌, ◌*◌, ◌<�
 use Rattle.std.proofs.Common.{Bool, true, false, List, [], ◌∷◌, ◌++◌, length, map, Some}
 use Rattle.std.specs.Prelude.{◌==◌, ◌&&◌, ◌||◌, not, if◌then◌else◌, flat_map, is_some, nat_lt, slice_get, sum_by}
 use Rattle.std.specs.List.{AllByRecursion, list_any}
-use Rattle.std.proofs.lemmas.Bool.{lt-ltb}
+use Rattle.std.proofs.lemmas.Bool.{lt-ltb, or_right}
 use Rattle.std.proofs.lemmas.Bool.Decides.{nat_tests}
 use Rattle.std.proofs.lemmas.List.Sums.{sum_by-append, sum_by-cons}
 use Rattle.cjc_bytes.specs.declared.fault.MemberId.{MemberId}
 use Rattle.cjc_bytes.specs.AccessFlags.{is_final, is_static}
+use Rattle.cjc_bytes.proofs.Gets.{all_at}
+use Rattle.cjc_bytes.proofs.Numbers.{like_number}
+use Rattle.cjc_bytes.proofs.Quantified.{any_front, any_right}
 use Rattle.cjc_capread.specs.declared.tree.ClassDescriptor.{ClassDescriptor}
 use Rattle.cjc_capread.specs.declared.tree.ClassRef.{ClassRef}
 use Rattle.cjc_capread.specs.declared.tree.ClassRef.TheVariants.{Inside, Outside}
@@ -48,7 +51,7 @@ use Rattle.cjc_token_proof.specs.Components.Methods.{HasMethods}
 use Rattle.cjc_token_proof.specs.Components.OwnNames.{HaveOwnNames}
 use Rattle.cjc_token_proof.specs.Components.Whole.{exports_of, whole}
 use Rattle.cjc_token_proof.proofs.ComponentsLaws.Starts.{ref_is_start}
-use Rattle.cjc_token_proof.proofs.ComponentsLaws.Tests.{none_in_both, passes, same_number}
+use Rattle.cjc_token_proof.proofs.ComponentsLaws.Tests.{none_in_both, passes}
 use Rattle.cjc_check_proof.specs.Code.Members.{AllAreNamed, by_token, CellsFit, imported_cell, imported_field}
 use Rattle.cjc_check_proof.specs.Code.Members.{imported_method, imported_virtual, IsNamed, IsOwnCell, IsOwnField}
 use Rattle.cjc_check_proof.specs.Code.Members.{IsOwnMethod, of_cell, of_class, of_field, of_method}
@@ -56,32 +59,6 @@ use Rattle.cjc_token_proof.proofs.ComponentsLaws.Apart.{IsOwn, order_own}
 use Rattle.cjc_check_proof.proofs.CodeLaws.Described.{AreOf, classes_are, itself}
 use Rattle.cjc_check_proof.proofs.CodeLaws.Imported.{cell_listed, field_listed, method_listed, virtual_listed}
 use Rattle.cjc_check_proof.proofs.CodeLaws.OwnClasses.{own_classes}
-
--- ---- lists
-
-or_second : (a b : Bool) → b ≡ true → (a || b) ≡ true
-or_second true b e = refl
-or_second false b e = e
-
-any_back : {A : Type 0} (test : A → Bool) (xs ys : List A) → list_any test ys ≡ true → list_any test (xs ++ ys) ≡ true
-any_back test [] ys e = e
-any_back test (x ∷ xs) ys e = or_second (test x) (list_any test (xs ++ ys)) (any_back test xs ys e)
-
-any_front : {A : Type 0} (test : A → Bool) (xs ys : List A) → list_any test xs ≡ true → list_any test (xs ++ ys) ≡ true
-any_front test [] ys e = absurd cc
-any_front test (x ∷ xs) ys e = by (test x) e (any_front test xs ys)
-  where
-    by : (b : Bool) → (b || list_any test xs) ≡ true → (list_any test xs ≡ true → list_any test (xs ++ ys) ≡ true)
-        → (b || list_any test (xs ++ ys)) ≡ true
-    by true f rest = refl
-    by false f rest = rest f
-
-each_at : {A : Type 0} (P : A → Type 0) (xs : List A) (k : ℕ) (x : A) → AllByRecursion P xs → slice_get xs k ≡ Some x
-    → P x
-each_at P [] zero x all e = absurd cc
-each_at P [] (suc k) x all e = absurd cc
-each_at P (y ∷ xs) zero x all e = let same : y ≡ x = cc in subst P same all.0
-each_at P (y ∷ xs) (suc k) x all e = each_at P xs k x all.1 e
 
 -- ---- cells
 
@@ -155,8 +132,8 @@ module _ (p : Package) where
       let here : d.offset ≡ (let x = extent_of p f in x.offset) = of.0 ∙ ap (λ h. let x = extent_of p h
       in x.offset) same in
       ap (λ b. b || list_any (λ (d : MethodDescriptor). d.offset == (let x = extent_of p f in x.offset)) ds)
-      (ap (λ n. n == (let x = extent_of p f in x.offset)) here ∙ same_number (let x = extent_of p f in x.offset))
-  of_there (d ∷ ds) (g ∷ fs) (suc k) f of e = or_second (d.offset == (let x = extent_of p f in x.offset)) _
+      (ap (λ n. n == (let x = extent_of p f in x.offset)) here ∙ like_number (let x = extent_of p f in x.offset))
+  of_there (d ∷ ds) (g ∷ fs) (suc k) f of e = or_right (d.offset == (let x = extent_of p f in x.offset)) _
       (of_there ds fs k f of.2 e)
 
   -- a method that is there stands behind the handlers
@@ -187,7 +164,7 @@ module _ (p : Package) where
     unfolding method_order
     start_there k f e =
         let offset = method_offset p f in
-        let own : f.imported ≡ false = each_at IsOwn (method_order (world p)) k f (order_own (world p)) e in
+        let own : f.imported ≡ false = all_at IsOwn (method_order (world p)) k f (order_own (world p)) e in
         let high = stands_behind (first_method p.methods) 0 p.methods k f (ap (λ fs. slice_get fs k) order ∙ e) own in
         let some : (offset == 0) ≡ false = grind (arith, nat_tests, high) in
         let ds : class_methods (whole p) ≡ flat_map (λ (d : ClassDescriptor). d.methods) (map (class_descriptor p)
@@ -226,8 +203,8 @@ module _ (p : Package) where
         by false false false d e = refl
 
     same_ref : (r : ClassRef) → same_class r r ≡ true
-    same_ref (Inside offset) = same_number offset
-    same_ref (Outside import class) = ap (λ b. b && class == class) (same_number import) ∙ same_number class
+    same_ref (Inside offset) = like_number offset
+    same_ref (Outside import class) = ap (λ b. b && class == class) (like_number import) ∙ like_number class
 
     -- a field that is no constant is described
     field_described : (c : Class) (i : ℕ) (fs : List FieldTree) (k : ℕ) (f : FieldTree) (test : FieldDescriptor → Bool)
@@ -244,7 +221,7 @@ module _ (p : Package) where
         ∙ ap (λ j. test (field_descriptor p c j f)) (sym here) ∙ t)
     field_described c i (g ∷ fs) (suc k) f test e plain t =
         let next : i + 1 + k ≡ i + suc k = omega arith in
-        any_back test (if is_constant g then [] else field_descriptor p c i g ∷ []) (fields_from p c (i + 1) fs)
+        any_right test (if is_constant g then [] else field_descriptor p c i g ∷ []) (fields_from p c (i + 1) fs)
         (field_described c (i + 1) fs k f test e plain (ap (λ j. test (field_descriptor p c j f)) next ∙ t))
 
     class_described : (cs : List Class) (k : ℕ) (c : Class) (test : FieldDescriptor → Bool) → slice_get cs k ≡ Some c
@@ -258,7 +235,7 @@ module _ (p : Package) where
         (map (class_descriptor p) cs)) (ap (λ (x : Class). list_any test (fields_from p x 0 (fields_of p.files x)))
         same ∙ t)
     class_described (d ∷ cs) (suc k) c test e t =
-        any_back test (fields_from p d 0 (fields_of p.files d)) (flat_map (λ (d : ClassDescriptor). d.fields)
+        any_right test (fields_from p d 0 (fields_of p.files d)) (flat_map (λ (d : ClassDescriptor). d.fields)
         (map (class_descriptor p) cs)) (class_described cs k c test e t)
 
     pub field_named : (f : MemberId) → IsOwnField p f
@@ -280,7 +257,7 @@ module _ (p : Package) where
         token) is.is_instance
         ∙ ap (λ x. same_class x (Inside r.0) && member_token p (Some (member_at c (0 + is.place))) == token) r.2
         ∙ ap (λ b. b && member_token p (Some (member_at c (0 + is.place))) == token) (same_ref (Inside r.0))
-        ∙ ap (λ t. t == token) its ∙ same_number token in
+        ∙ ap (λ t. t == token) its ∙ like_number token in
         ap (λ x. has_field (whole p) (exports_of p) x token) inside
         ∙ class_described (class_order (world p)) o.place c test o.there (field_described c 0 (fields_of p.files c)
         is.place tree test is.there (instance_plain tree is.is_instance) here)
@@ -303,7 +280,7 @@ module _ (p : Package) where
         ap (λ b. is_cell_at (if b then places.Static (cell_offset p.image (field_id c.name tree))
         else places.Instance (class_ref p c.name) (member_token p (Some (member_at c (0 + is.place))))) at)
         is.is_static
-        ∙ ap (λ g. cell_offset p.image g == at) is.is ∙ same_number at in
+        ∙ ap (λ g. cell_offset p.image g == at) is.is ∙ like_number at in
         ap (is_field (whole p) (exports_of p)) (own_ref (class_at p f.class) r.0 at (field_token p f) inside)
         ∙ ap (λ b. b && list_any test (all_fields (whole p))) low
         ∙ class_described (class_order (world p)) o.place c test o.there (field_described c 0 (fields_of p.files c)

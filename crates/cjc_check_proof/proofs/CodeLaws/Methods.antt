@@ -21,11 +21,11 @@ use Rattle.cjc_components.specs.Emit.Emitted as Emitted
 use Rattle.cjc_components.proofs.EmitShifted.{laid_shift}
 use Rattle.cjc_components.specs.Package.{LaidMethod}
 use Rattle.cjc_components.specs.Methods.{bytecode_count, header_of, method_size, placed_at, placed_from}
-use Rattle.cjc_token_proof.proofs.ComponentsLaws.Tests.{same_number}
 use Rattle.cjc_check_proof.specs.Code.Codes.{code_at, codes_at, laid_code}
 use Rattle.cjc_check_proof.specs.Code.Written.{AllWritable}
 use Rattle.cjc_check_proof.proofs.CodeLaws.Instructions.{AllSpelt, code_cut}
 use Rattle.cjc_check_proof.proofs.CodeLaws.Headers.{header_reads}
+use Rattle.cjc_bytes.proofs.Numbers.{like_number}
 
 -- Descriptor has these offsets and numbers of bytes of methods that stand one behind the other
 abbrev pub Describes : (at : ℕ) → List MethodDescriptor → List LaidMethod → Type 0
@@ -50,7 +50,7 @@ unfolding codes_from
 one_code at d ds bytes h is codes here read cut rest =
     let count = d.bytecode_count in
     let go : ℕ → List ℕ → Result (List Code) ℕ = λ next more. codes_from next ds more in
-    let stands : (d.offset == at) ≡ true = ap (λ x. x == at) here ∙ same_number at in
+    let stands : (d.offset == at) ≡ true = ap (λ x. x == at) here ∙ like_number at in
     ap (λ b. if b then with_header at d bytes (method_header bytes) go else Err at) stands
     ∙ ap (λ o. with_header at d bytes o go) read
     ∙ ap (λ x. with_code h (at + h.size) count x (codes_from (at + h.size + count) ds (drop (h.size + count) bytes)))

@@ -1,15 +1,14 @@
 -- What the form of an opcode is by its meaning, and which opcodes jump, end code or test types: by a look at each
 -- opcode.
-use Rattle.std.proofs.Common.{◌≡◌, ℕ, zero, suc, ◌<◌, ◌≤◌, refl, sym, ap, subst, ◌∙◌, ⊎_elim, arith, Bool, true, false}
-use Rattle.std.proofs.Common.{List, [], ◌∷◌, length, Option, Some, None}
-use Rattle.std.specs.Prelude.{slice_get, ◌&&◌, not, if◌then◌else◌}
+use Rattle.std.proofs.Common.{◌≡◌, ℕ, zero, suc, ◌<◌, refl, sym, ap, subst, ◌∙◌, ⊎_elim, arith, Bool, true, false}
+use Rattle.std.proofs.Common.{List, [], ◌∷◌, Option, Some, None}
+use Rattle.std.specs.Prelude.{◌&&◌, not, if◌then◌else◌}
 use Rattle.std.proofs.lemmas.Bool.{cases_lt}
 use Rattle.cjc_capread.specs.Opcodes.{Form, Fields, Table, Lookup, Operand, Byte, Signed1, Signed2, Signed4, Index1}
 use Rattle.cjc_capread.specs.Opcodes.{Index2, form, forms}
 use Rattle.cjc_ncode.specs.CardSemantics.Bytecode.Meanings.{Use, Gets, Puts, GetsStatic, PutsStatic, Calls, Makes}
 use Rattle.cjc_ncode.specs.CardSemantics.Bytecode.Meanings.{MakesReferences, Virtual, Special, Static, Meaning, Plain}
 use Rattle.cjc_ncode.specs.CardSemantics.Bytecode.Meanings.{Branches, Ranged, Paired, Uses, Casts, Asks, Nothing}
-use Rattle.cjc_ncode.specs.CardSemantics.Bytecode.Meanings.{meanings}
 use Rattle.cjc_ncode.specs.CardSemantics.Bytecode.Meanings.{meaning, known_meaning}
 use Rattle.cjc_check_rules.specs.Spots.{lies_between}
 use Rattle.cjc_check_rules.specs.Instructions.{ends_code, is_jump, is_needed_by}
@@ -21,6 +20,8 @@ use Rattle.cjc_ncode.specs.declared.narrow.PoolKey.{PoolKey}
 use Rattle.cjc_ncode.specs.declared.narrow.PoolKey.TheVariants as keys
 use Rattle.cjc_ncode.specs.Lowering.Naming.{Naming, entry_of}
 use Rattle.cjc_check_proof.specs.Code.Kinds.{is_for}
+use Rattle.cjc_bytes.proofs.Bools.{and_true, not_true}
+use Rattle.cjc_components.proofs.EmitForms.{nothing_past}
 
 -- ---- meanings
 
@@ -127,17 +128,12 @@ the_index2 Signed2 e = absurd cc
 the_index2 Signed4 e = absurd cc
 the_index2 Index1 e = absurd cc
 
-pub both : (a b : Bool) → (a && b) ≡ true → (a ≡ true) × (b ≡ true)
-both true true e = (refl, refl)
-both true false e = absurd cc
-both false b e = absurd cc
-
 the_test : (kinds : List Operand) → are_test kinds ≡ true → kinds ≡ Byte ∷ Index2 ∷ []
 the_test [] e = absurd cc
 the_test (a ∷ []) e = absurd cc
 the_test (a ∷ b ∷ c ∷ kinds) e = absurd cc
 the_test (a ∷ b ∷ []) e =
-    let t = both (is_byte a) (is_index2 b) e in
+    let t = and_true (is_byte a) (is_index2 b) e in
     ap (λ k. k ∷ b ∷ []) (the_byte a t.0) ∙ ap (λ k. Byte ∷ k ∷ []) (the_index2 b t.1)
 
 the_test_form : (f : Option Form) → is_test_form f ≡ true → f ≡ Some (Fields (Byte ∷ Index2 ∷ []))
@@ -180,18 +176,9 @@ all_fine fine (suc n) = fine n && all_fine fine n
 fine_below : (fine : ℕ → Bool) (n op : ℕ) → all_fine fine n ≡ true → op < n → fine op ≡ true
 fine_below fine zero op e h = absurd (omega (arith, h))
 fine_below fine (suc n) op e h =
-    let p = both (fine n) (all_fine fine n) e in
+    let p = and_true (fine n) (all_fine fine n) e in
     ⊎_elim (λ lt. fine_below fine n op p.1 lt) (λ le. let s : n ≡ op = omega (arith, h, le)
     in subst (λ k. fine k ≡ true) s p.0) (cases_lt op n)
-
-get_past : {A : Type 0} (xs : List A) (k : ℕ) → length xs ≤ k → slice_get xs k ≡ None
-get_past [] k h = refl
-get_past (x ∷ xs) zero h = absurd (omega (arith, h))
-get_past (x ∷ xs) (suc k) h = get_past xs k (omega (arith, h))
-
-nothing_past : (op : ℕ) → 185 ≤ op → meaning op ≡ known_meaning None
-unfolding meaning
-nothing_past op h = ap known_meaning (get_past meanings op h)
 
 abbrev follows : (Meaning → Bool) → (ℕ → Bool) → ℕ → Bool
 follows test what op = if test (meaning op) then what op else true
@@ -207,10 +194,6 @@ rule test what all off op e = ⊎_elim
 calm_all : all_fine (follows is_calm (λ op. not (is_jump op))) 185 ≡ true
 unfolding meaning
 calm_all = refl
-
-not_true : (b : Bool) → not b ≡ true → b ≡ false
-not_true true e = absurd cc
-not_true false e = refl
 
 -- what has another meaning than a jump is none
 pub calm : (op : ℕ) → is_calm (meaning op) ≡ true → is_jump op ≡ false
@@ -259,7 +242,7 @@ tests_all = refl
 pub tests : (op : ℕ) → is_test (meaning op) ≡ true → (lies_between 0x94 0x95 op ≡ true)
     × (form op ≡ Some (Fields (Byte ∷ Index2 ∷ [])))
 tests op e =
-    let t = both (lies_between 0x94 0x95 op) (is_test_form (form op)) (rule is_test (λ op. lies_between 0x94 0x95 op
+    let t = and_true (lies_between 0x94 0x95 op) (is_test_form (form op)) (rule is_test (λ op. lies_between 0x94 0x95 op
     && is_test_form (form op)) tests_all refl op e) in
     (t.0, the_test_form (form op) t.1)
 
@@ -311,8 +294,8 @@ needs n op how key e kind = by how key kind (ap (λ m. takes_by m op) (sym e)
     by (GetsStatic letter) (keys.StaticField f) k t = t
     by (PutsStatic letter) (keys.StaticField f) k t = t
     by (Calls Virtual) (keys.Virtual m) k t = t
-    by (Calls Special) (keys.Super m) k t = (both _ _ t).0
-    by (Calls Special) (keys.StaticMethod m) k t = (both (is_needed_by (SuperMethodref (Inside 0) 0) op) _ t).1
+    by (Calls Special) (keys.Super m) k t = (and_true _ _ t).0
+    by (Calls Special) (keys.StaticMethod m) k t = (and_true (is_needed_by (SuperMethodref (Inside 0) 0) op) _ t).1
     by (Calls Static) (keys.StaticMethod m) k t = t
     by Makes (keys.Class c) k t = t
     by MakesReferences (keys.Class c) k t = t

@@ -6,9 +6,9 @@ use Rattle.std.proofs.lemmas.Bool.Decides.{nat_tests}
 use Rattle.std.proofs.lemmas.List.{length-map, map-append}
 use Rattle.std.proofs.lemmas.List.Elements.{filter-append}
 use Rattle.std.proofs.lemmas.List.Sums.{sum_by-cons}
+use Rattle.std.proofs.lemmas.Bool.{or_right}
 use Rattle.cjc_capread.specs.declared.tree.ClassDescriptor.{ClassDescriptor}
 use Rattle.cjc_capread.specs.declared.tree.ClassRef.TheVariants.{Inside}
-use Rattle.cjc_capread.specs.declared.tree.InterfaceEntry.{InterfaceEntry}
 use Rattle.cjc_check_rules.specs.Spots.{Placed, placed, begins, starts}
 use Rattle.cjc_check_rules.specs.Complete.{interface_size, class_size}
 use Rattle.cjc_check_rules.specs.Classes.{classes_at, first_class, first_interface, is_own_class}
@@ -20,14 +20,12 @@ use Rattle.cjc_components.specs.Class.{class_info, interface_entry}
 use Rattle.cjc_components.specs.Names.{class_ref}
 use Rattle.cjc_components.specs.Descriptor.{class_descriptor}
 use Rattle.cjc_token_proof.specs.Components.OwnNames.{HaveOwnNames}
-use Rattle.cjc_token_proof.proofs.ComponentsLaws.Starts.{infos_stand_alike, ref_is_start}
-use Rattle.cjc_token_proof.proofs.ComponentsLaws.Tests.{same_number}
+use Rattle.cjc_token_proof.proofs.ComponentsLaws.Starts.{infos_stand_alike, ref_is_start, starts_long}
+use Rattle.cjc_bytes.proofs.Numbers.{like_number}
+use Rattle.cjc_bytes.proofs.Gets.{get_front, get_behind}
+use Rattle.cjc_check_proof.proofs.ClassesLaws.Refs.{interface_some}
 
 -- ---- starts
-
-or_second : (a b : Bool) → b ≡ true → (a || b) ≡ true
-or_second true b e = refl
-or_second false b e = e
 
 -- what stands among the starts of items begins an item
 pub begins_there : {A : Type 0} (items : List (Placed A)) (k s : ℕ) → slice_get (map (λ p. p.at) items) k ≡ Some s
@@ -35,8 +33,8 @@ pub begins_there : {A : Type 0} (items : List (Placed A)) (k s : ℕ) → slice_
 begins_there [] zero s e = absurd cc
 begins_there [] (suc k) s e = absurd cc
 begins_there (x ∷ items) zero s e = let same : x.at ≡ s = cc in ap (λ n. n == s || begins items s) same
-    ∙ ap (λ b. b || begins items s) (same_number s)
-begins_there (x ∷ items) (suc k) s e = or_second (x.at == s) (begins items s) (begins_there items k s e)
+    ∙ ap (λ b. b || begins items s) (like_number s)
+begins_there (x ∷ items) (suc k) s e = or_right (x.at == s) (begins items s) (begins_there items k s e)
 
 -- items begin from the first offset on
 pub begins_above : {A : Type 0} (size : A → ℕ) (from s : ℕ) (xs : List A) → s < from → begins (placed size from xs) s
@@ -64,25 +62,7 @@ starts_below size some from (x ∷ xs) (suc k) s e =
     let all = sum_by-cons size x xs in
     omega (arith, r, all)
 
-starts_count : {A : Type 0} (size : A → ℕ) (at : ℕ) (xs : List A) → length (starts size at xs) ≡ length xs
-unfolding placed
-starts_count size at [] = refl
-starts_count size at (x ∷ xs) = ap suc (starts_count size (at + size x) xs)
-
-get_left : {A : Type 0} (xs ys : List A) (k : ℕ) → k < length xs → slice_get (xs ++ ys) k ≡ slice_get xs k
-get_left [] ys k lt = absurd (omega (arith, lt))
-get_left (x ∷ xs) ys zero lt = refl
-get_left (x ∷ xs) ys (suc k) lt = get_left xs ys k (omega (arith, lt))
-
-get_right : {A : Type 0} (xs ys : List A) (k : ℕ) → slice_get (xs ++ ys) (length xs + k) ≡ slice_get ys k
-get_right [] ys k = let z : 0 + k ≡ k = omega arith in ap (slice_get ys) z
-get_right (x ∷ xs) ys k = let s : suc (length xs) + k ≡ suc (length xs + k) = omega arith
-    in ap (slice_get (x ∷ xs ++ ys)) s ∙ get_right xs ys k
-
 -- ---- classes and interfaces
-
-interface_bytes : (x : InterfaceEntry) → 0 < interface_size x
-interface_bytes x = omega arith
 
 module _ (p : Package) (apart : HaveOwnNames (class_order (world p))) where
   abbrev is_class : Class → Bool
@@ -102,7 +82,7 @@ module _ (p : Package) (apart : HaveOwnNames (class_order (world p))) where
   last_starts = let info = class_info (class_ref p) p in starts class_size (first_class info) info.classes
 
   as_many : length first_starts ≡ length (in_order (world p) true)
-  as_many = starts_count interface_size first_interface (map (interface_entry (class_ref p) (world p))
+  as_many = starts_long interface_size first_interface (map (interface_entry (class_ref p) (world p))
       (in_order (world p) true)) ∙ length-map (in_order (world p) true) (interface_entry (class_ref p) (world p))
 
   pub interface_is_none : (k : ℕ) (c : Class) → slice_get (in_order (world p) true) k ≡ Some c
@@ -110,12 +90,12 @@ module _ (p : Package) (apart : HaveOwnNames (class_order (world p))) where
   unfolding class_order
   interface_is_none k c e lt =
       let info = class_info (class_ref p) p in
-      let r = start_of k c (get_left (in_order (world p) true) (in_order (world p) false) k lt ∙ e) in
+      let r = start_of k c (get_front (in_order (world p) true) (in_order (world p) false) k lt ∙ e) in
       let many = as_many in
       let here : slice_get first_starts k ≡ Some r.0 =
-      sym (get_left first_starts last_starts k (omega (arith, lt, many))) ∙ r.1 in
+      sym (get_front first_starts last_starts k (omega (arith, lt, many))) ∙ r.1 in
       ap (is_own_class info) r.2
-      ∙ begins_above class_size (first_class info) r.0 info.classes (starts_below interface_size interface_bytes
+      ∙ begins_above class_size (first_class info) r.0 info.classes (starts_below interface_size interface_some
       first_interface info.interfaces k r.0 here)
 
   pub class_is_one : (k : ℕ) (c : Class) → slice_get (in_order (world p) false) k ≡ Some c → is_class c ≡ true
@@ -123,8 +103,8 @@ module _ (p : Package) (apart : HaveOwnNames (class_order (world p))) where
   class_is_one k c e =
       let info = class_info (class_ref p) p in
       let n = length (in_order (world p) true) in
-      let r = start_of (n + k) c (get_right (in_order (world p) true) (in_order (world p) false) k ∙ e) in
-      let here : slice_get last_starts k ≡ Some r.0 = sym (get_right first_starts last_starts k)
+      let r = start_of (n + k) c (get_behind (in_order (world p) true) (in_order (world p) false) k ∙ e) in
+      let here : slice_get last_starts k ≡ Some r.0 = sym (get_behind first_starts last_starts k)
       ∙ ap (λ m. slice_get (first_starts ++ last_starts) (m + k)) as_many ∙ r.1 in
       ap (is_own_class info) r.2 ∙ begins_there (classes_at info) k r.0 here
 

@@ -4,6 +4,7 @@ use Rattle.std.proofs.Common.{◌∷◌, length}
 use Rattle.std.specs.Prelude.{nat_lt, ◌==◌, ◌||◌}
 use Rattle.std.proofs.lemmas.Bool.{cases_lt}
 use Rattle.std.proofs.lemmas.Bool.Decides.{nat_tests}
+use Rattle.std.proofs.lemmas.Map.Keys.{any_passes_from_place}
 use Rattle.cjc_capread.specs.Decode.{Instruction}
 use Rattle.cjc_check_rules.specs.Spots.{Placed, begins}
 use Rattle.cjc_check_rules.specs.Instructions.{has_start}
@@ -16,9 +17,9 @@ use Rattle.cjc_components.specs.Emit.Emitted.{CanBeWritten}
 use Rattle.cjc_components.specs.Emit.Emitted as Emitted
 use Rattle.cjc_components.specs.Package.{LaidMethod}
 use Rattle.cjc_components.specs.Methods.{bytecode_count, method_size, placed_at}
-use Rattle.cjc_token_proof.proofs.ComponentsLaws.Tests.{same_number}
 use Rattle.cjc_check_proof.specs.Code.Codes.{code_at, laid_code}
-use Rattle.cjc_check_proof.proofs.CodeLaws.Jumps.{any_at, item_of}
+use Rattle.cjc_check_proof.proofs.CodeLaws.Jumps.{item_of}
+use Rattle.cjc_bytes.proofs.Numbers.{like_number}
 
 -- no instruction stands behind the end of code
 laid_below : (n : Naming) (to : ℕ → ℕ) (at s : ℕ) (insns : List NInsn) (wide : List Bool)
@@ -82,8 +83,9 @@ module _ (n : Naming) (at : ℕ) (m : LaidMethod) (can : CanBeWritten n (Emitted
   pub start_there : (k : ℕ) → k < count → has_start (code_at n at m) (to k) ≡ true
   start_there k lt =
       let r = item_of n to (first (placed_at at m)) m.code.insns m.wide can.count k lt in
-      any_at (λ (p : Placed Instruction). p.at == to k) (laid_code n to (first (placed_at at m)) m.code.insns m.wide) k
-      r.0 r.1 (ap (λ x. x == to k) r.2 ∙ same_number (to k))
+      any_passes_from_place (λ (p : Placed Instruction). p.at == to k) (laid_code n to (first
+      (placed_at at m)) m.code.insns m.wide) k
+      r.0 r.1 (ap (λ x. x == to k) r.2 ∙ like_number (to k))
 
   -- none begins behind the method
   pub none_behind : (s : ℕ) → end ≤ s → has_start (code_at n at m) s ≡ false

@@ -3,6 +3,7 @@ use Rattle.std.proofs.Common.{◌≡◌, ℕ, zero, suc, refl, sym, ap, subst, �
 use Rattle.std.specs.Prelude.{Some, slice_get, is_some, map, not, ◌&&◌, ◌||◌, ◌⊎◌}
 use Rattle.cjc_bytes.specs.AccessFlags.{has, is_abstract, is_interface, is_private, is_protected, is_public, is_static}
 use Rattle.cjc_bytes.specs.declared.settings.Settings.{Settings}
+use Rattle.cjc_bytes.proofs.Bools.{or_left, or_right}
 use Rattle.cjc_world.specs.ClassFile.declared.tree.ClassTree.{ClassTree}
 use Rattle.cjc_world.specs.ClassFile.declared.tree.MethodTree.{MethodTree}
 use Rattle.cjc_ncode.specs.Bytecode.declared.method_code.MethodCode.{MethodCode}
@@ -25,14 +26,6 @@ use Rattle.cjc_check_proof.specs.Exports.{ExportsHaveOneAccess}
 
 -- ---- tests that fail
 
-left_false : (a b : Bool) → (a || b) ≡ false → a ≡ false
-left_false true b e = absurd (cc)
-left_false false b e = refl
-
-right_false : (a b : Bool) → (a || b) ≡ false → b ≡ false
-right_false true b e = absurd (cc)
-right_false false b e = e
-
 -- public, private and protected: of two that are never together the second is not there
 one_access : (a b c : Bool) → ((a && b) || (a && c) || (b && c)) ≡ false → (a || c) ≡ true → b ≡ false
 one_access a false c e f = refl
@@ -44,13 +37,13 @@ one_access false true false e f = absurd (cc)
 bound : (A S P n s f w C N H : Bool) → (S ≡ true) ⊎ (C ≡ true) → ((n || s || f || w || (A && (S || P)))
     || (A && (C || N)) || (N && not S) || (true && H && not N)) ≡ false → (n ≡ false → A ≡ false → H ≡ true) → N ≡ true
 bound A S P n s f w C N H which e code =
-    let kind_named = left_false (kind || named) (N && not S) (left_false (kind || named || (N && not S)) coded e) in
-    let kind_off = left_false kind named kind_named in
-    let named_off = right_false kind named kind_named in
-    let coded_off = right_false (kind || named || (N && not S)) coded e in
-    let native_off = left_false n s (left_false (n || s) f (left_false (n || s || f) w (left_false (n || s || f || w) (A
+    let kind_named = or_left (kind || named) (N && not S) (or_left (kind || named || (N && not S)) coded e) in
+    let kind_off = or_left kind named kind_named in
+    let named_off = or_right kind named kind_named in
+    let coded_off = or_right (kind || named || (N && not S)) coded e in
+    let native_off = or_left n s (or_left (n || s) f (or_left (n || s || f) w (or_left (n || s || f || w) (A
     && (S || P)) kind_off))) in
-    last H N (code native_off (concrete A S P C N which (right_false (n || s || f || w) (A && (S || P)) kind_off)
+    last H N (code native_off (concrete A S P C N which (or_right (n || s || f || w) (A && (S || P)) kind_off)
     named_off)) coded_off
   where
     kind : Bool
@@ -129,12 +122,12 @@ module _ (list : List ℕ) (p : Package) (codes : List MethodCode) (settings : S
           let second = N && not (is_static t.flags) in
           let third = is_interface r.tree.flags && is_some t.code && not N in
           let kind = is_unfit_method_kind t.flags in
-          let kind_off = left_false kind first (left_false (kind || first) second (left_false (kind || first
+          let kind_off = or_left kind first (or_left (kind || first) second (or_left (kind || first
           || second) third r.fits)) in
           let n = has t.flags 0x0100 in
           let s = has t.flags 0x0020 in
           let w = has t.flags 0x0800 in
-          let two_off = right_false (n || s || w) (has_two_accesses t.flags) (left_false (n || s || w
+          let two_off = or_right (n || s || w) (has_two_accesses t.flags) (or_left (n || s || w
           || has_two_accesses t.flags) (A && (is_static t.flags || is_private t.flags)) kind_off) in
           let same_exposed : is_exposed t.flags ≡ true = ap (λ (q : Member). is_exposed q.flags) r.is ∙ exposed in
           sym (ap (λ (q : Member). is_private q.flags) r.is) ∙ one_access (is_public t.flags) (is_private t.flags)

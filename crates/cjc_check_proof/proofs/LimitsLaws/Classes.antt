@@ -5,7 +5,10 @@ use Rattle.std.specs.Prelude.{slice_get, not, ◌&&◌, if◌then◌else◌}
 use Rattle.std.specs.List.{AllByRecursion}
 use Rattle.std.proofs.lemmas.List.{length-map}
 use Rattle.cjc_bytes.specs.AccessFlags.{is_interface}
-use Rattle.cjc_capwrite.specs.Fits.{ClassEntryFits, ClassFits, ClassInfoFits, Fits2, ImplementedFits, InterfaceFits}
+use Rattle.cjc_bytes.proofs.Bools.{both_front, both_back}
+use Rattle.cjc_bytes.proofs.Gets.{in_front}
+use Rattle.cjc_components.specs.CapWrite.Fits.{ClassEntryFits, ClassFits, ClassInfoFits, Fits2, ImplementedFits}
+use Rattle.cjc_components.specs.CapWrite.Fits.{InterfaceFits}
 use Rattle.cjc_world.specs.declared.found.Found.{Found}
 use Rattle.cjc_world.specs.Classes.{Class}
 use Rattle.cjc_world.specs.Order.{and_then, class_order, in_order, is_in, is_of_kind, lined_up, may_stand, next, waits}
@@ -20,34 +23,16 @@ use Rattle.cjc_check_proof.specs.Limits.Premises.{ClassIsSmall, IsLimited}
 use Rattle.cjc_check_proof.proofs.LimitsLaws.Lists.{all_mapped}
 use Rattle.cjc_check_proof.proofs.LimitsLaws.Offsets.{offset_low}
 use Rattle.cjc_check_proof.proofs.LimitsLaws.Refs.{class_fits}
+use Rattle.cjc_check_proof.proofs.ClassesLaws.Earlier.{next_stands}
 
 -- ---- what stands in order is of its kind
-
-first : (a b : Bool) → (a && b) ≡ true → a ≡ true
-first true b e = refl
-first false b e = cc
-
-second : (a b : Bool) → (a && b) ≡ true → b ≡ true
-second true b e = e
-second false b e = cc
-
-next_stands : (w : List Class) (i : Bool) (placed : List ℕ) (cs : List Class) (c : Class) → next w i placed cs ≡ Some c
-    → may_stand w i placed c ≡ true
-unfolding next
-next_stands w i placed [] c e = cc
-next_stands w i placed (d ∷ cs) c e = by (may_stand w i placed d) refl e (λ f. next_stands w i placed cs c f)
-  where
-    by : (b : Bool) → may_stand w i placed d ≡ b → (if b then Some d else next w i placed cs) ≡ Some c
-        → (next w i placed cs ≡ Some c → may_stand w i placed c ≡ true) → may_stand w i placed c ≡ true
-    by true f e rest = let same : d ≡ c = cc in ap (may_stand w i placed) (sym same) ∙ f
-    by false f e rest = rest e
 
 stands_of_kind : (w : List Class) (i : Bool) (placed : List ℕ) (c : Class) → may_stand w i placed c ≡ true
     → is_of_kind i c ≡ true
 unfolding may_stand
 stands_of_kind w i placed c e =
-    let waiting : waits i placed c ≡ true = first (waits i placed c) _ e in
-    second (not c.is_imported) (is_of_kind i c) (first (not c.is_imported && is_of_kind i c)
+    let waiting : waits i placed c ≡ true = both_front (waits i placed c) _ e in
+    both_back (not c.is_imported) (is_of_kind i c) (both_front (not c.is_imported && is_of_kind i c)
     (not (is_in placed c.number)) waiting)
 
 lined_of_kind : (w : List Class) (i : Bool) (n : ℕ) (placed : List ℕ) (k : ℕ) (c : Class)
@@ -73,11 +58,6 @@ of_kind w i k c e = lined_of_kind w i (length w) [] k c e
 
 -- ---- in the order of all
 
-get_front : {A : Type 0} (xs ys : List A) (k : ℕ) (x : A) → slice_get xs k ≡ Some x → slice_get (xs ++ ys) k ≡ Some x
-get_front [] ys k x e = cc
-get_front (y ∷ xs) ys zero x e = e
-get_front (y ∷ xs) ys (suc k) x e = get_front xs ys k x e
-
 get_behind : {A : Type 0} (xs ys : List A) (k : ℕ) (x : A) → slice_get ys k ≡ Some x
     → slice_get (xs ++ ys) (length xs + k) ≡ Some x
 get_behind {A} xs ys k x e = behind xs k e
@@ -90,7 +70,7 @@ get_behind {A} xs ys k x e = behind xs k e
 module _ (p : Package) (h : IsLimited p) where
   small_interface : (k : ℕ) (c : Class) → slice_get (in_order (world p) true) k ≡ Some c → ClassIsSmall p c
   unfolding class_order
-  small_interface k c e = h.classes k c (get_front (in_order (world p) true) (in_order (world p) false) k c e)
+  small_interface k c e = h.classes k c (in_front (in_order (world p) true) (in_order (world p) false) k c e)
 
   small_class : (k : ℕ) (c : Class) → slice_get (in_order (world p) false) k ≡ Some c → ClassIsSmall p c
   unfolding class_order

@@ -6,16 +6,19 @@ use Rattle.std.specs.List.{AllByRecursion, list_any}
 use Rattle.std.specs.Str.{bytes_eq}
 use Rattle.std.proofs.lemmas.List.{length-map}
 use Rattle.cjc_bytes.specs.AccessFlags.{acc_final, acc_private, acc_protected, acc_public, acc_static, has, is_static}
+use Rattle.cjc_bytes.proofs.Gets.{all_at}
+use Rattle.cjc_bytes.proofs.Bools.{or_left, or_right}
+use Rattle.cjc_bytes.proofs.Quantified.{all_both}
+use Rattle.cjc_bytes.proofs.Lists.{each_size}
 use Rattle.cjc_capread.specs.declared.tree.ClassRef.{ClassRef}
 use Rattle.cjc_capread.specs.declared.tree.ClassRef.TheVariants.{Inside, Outside}
 use Rattle.cjc_capread.specs.declared.tree.ClassDescriptor.{ClassDescriptor}
 use Rattle.cjc_capread.specs.declared.tree.FieldPlace.TheVariants as places
-use Rattle.cjc_capread.specs.declared.tree.TypeDescriptor.{TypeDescriptor}
-use Rattle.cjc_capwrite.specs.Descriptor.{class_descriptor_bytes, type_bytes}
-use Rattle.cjc_capwrite.specs.Files.{is_wide}
-use Rattle.cjc_capwrite.specs.Fits.{ClassDescriptorFits, ClassFits, DescriptorFits, FieldFits, Fits2}
-use Rattle.cjc_capwrite.specs.Fits.{MethodDescriptorFits, PlaceFits, TypeDescriptorFits, TypeFits}
-use Rattle.cjc_capwrite.proofs.Lengths.{class_descriptor_length, descriptor_length, type_length, types_length}
+use Rattle.cjc_components.specs.CapWrite.Descriptor.{class_descriptor_bytes, type_bytes}
+use Rattle.cjc_components.specs.CapWrite.Files.{is_wide}
+use Rattle.cjc_components.specs.CapWrite.Fits.{ClassDescriptorFits, ClassFits, DescriptorFits, FieldFits, Fits2}
+use Rattle.cjc_components.specs.CapWrite.Fits.{MethodDescriptorFits, PlaceFits, TypeDescriptorFits, TypeFits}
+use Rattle.cjc_components.proofs.CapWriteLengths.{class_descriptor_length, descriptor_length, types_length}
 use Rattle.cjc_world.specs.ClassFile.declared.tree.FieldTree.{FieldTree}
 use Rattle.cjc_components.specs.Clinit.Image.{field_id}
 use Rattle.cjc_world.specs.ExportFile.Supers.{is_one_of}
@@ -39,11 +42,12 @@ use Rattle.cjc_components.specs.Types.{all_descs, array_nibble, desc_of_key, nib
 use Rattle.cjc_components.specs.Types.{result_nibbles, shape_nibbles, sort_nibbles, type_descriptor, type_offset}
 use Rattle.cjc_components.specs.Types.{type_starts, types_of}
 use Rattle.cjc_check_proof.specs.Limits.Premises.{IsLimited}
-use Rattle.cjc_check_proof.proofs.LimitsLaws.Lists.{all_mapped, at_place, one_of_all}
-use Rattle.cjc_check_proof.proofs.LimitsLaws.Limits.{at_most, entries_few, first_off, narrow_types, second_off}
+use Rattle.cjc_check_proof.proofs.LimitsLaws.Lists.{all_mapped, one_of_all}
+use Rattle.cjc_check_proof.proofs.LimitsLaws.Limits.{at_most, entries_few, narrow_types}
 use Rattle.cjc_check_proof.proofs.LimitsLaws.Limits.{sizes_kept, types_near}
 use Rattle.cjc_check_proof.proofs.LimitsLaws.Offsets.{cell_low, descriptor_short, extent_low}
-use Rattle.cjc_check_proof.proofs.LimitsLaws.Refs.{all_both, class_fits, each_size, starts_below}
+use Rattle.cjc_check_proof.proofs.LimitsLaws.Refs.{class_fits, starts_below}
+use Rattle.cjc_token_proof.proofs.ComponentsLaws.Sizes.{type_is}
 
 -- ---- nibbles
 
@@ -101,15 +105,12 @@ types_by : (ns : List (List ℕ)) → list_any is_wide (map type_descriptor ns) 
 types_by [] narrow all = tt
 types_by (x ∷ ns) narrow all = (
   record {
-    count = (let le = at_most 255 (length x) (first_off (nat_lt 255 (length x))
+    count = (let le = at_most 255 (length x) (or_left (nat_lt 255 (length x))
         (list_any is_wide (map type_descriptor ns)) narrow) in let lt : length x < 2 ^ 8 = omega (arith, le) in lt);
     nibbles = all.0;
   },
-  types_by ns (second_off (nat_lt 255 (length x)) (list_any is_wide (map type_descriptor ns)) narrow) all.1,
+  types_by ns (or_right (nat_lt 255 (length x)) (list_any is_wide (map type_descriptor ns)) narrow) all.1,
 )
-
-type_is : (x : TypeDescriptor) → length (type_bytes x) ≡ type_size x
-type_is x = type_length x ∙ omega arith
 
 -- ---- flags
 
@@ -173,7 +174,7 @@ module _ (p : Package) (h : IsLimited p) where
 
       by : (o : Option ℕ) → unwrap_or (option_and_then (slice_get (type_starts p)) o) 0 ≤ 32767
       by None = omega arith
-      by (Some k) = get (slice_get (type_starts p) k) (λ s e. at_place (λ s. s ≤ 32767) (type_starts p) k s starts_low
+      by (Some k) = get (slice_get (type_starts p) k) (λ s e. all_at (λ s. s ≤ 32767) (type_starts p) k s starts_low
           e)
 
   type_low : (desc : List ℕ) → type_offset p desc < 2 ^ 16

@@ -1,25 +1,18 @@
 -- What is kept where 411 and 416 are not broken.
 use Rattle.std.proofs.Common.{◌≡◌, ℕ, ◌≤◌, refl, Bool, true, false, List, [], ◌∷◌, ◌++◌, length, arith}
-use Rattle.std.specs.Prelude.{◌||◌, nat_lt}
+use Rattle.std.specs.Prelude.{nat_lt}
 use Rattle.std.specs.List.{list_any}
 use Rattle.std.proofs.lemmas.Bool.Decides.{nat_tests}
 use Rattle.cjc_bytes.specs.Breaks.{Break, RulePlace, at}
-use Rattle.cjc_capwrite.specs.Files.{Infos, infos_of, is_too_large, is_wide}
-use Rattle.cjc_capwrite.specs.Descriptor.{types_bytes}
+use Rattle.cjc_bytes.proofs.Bools.{or_left, or_right}
+use Rattle.cjc_components.specs.CapWrite.Files.{Infos, infos_of, is_too_large, is_wide}
+use Rattle.cjc_components.specs.CapWrite.Descriptor.{types_bytes}
 use Rattle.cjc_components.specs.Package.{Package, pool}
 use Rattle.cjc_components.specs.Components.{components_of}
 use Rattle.cjc_components.specs.Descriptor.{descriptor}
 use Rattle.cjc_components.specs.Limits.{code_breaks, else_of, form_breaks, has_far_types, has_large_component}
 use Rattle.cjc_components.specs.Limits.{has_many_entries, int_breaks, layout_breaks, limit_breaks, of_methods}
 use Rattle.cjc_components.specs.Limits.{size_breaks, spot_of_list, widest_method, word_breaks}
-
-pub first_off : (a b : Bool) → (a || b) ≡ false → a ≡ false
-first_off true b e = cc
-first_off false b e = refl
-
-pub second_off : (a b : Bool) → (a || b) ≡ false → b ≡ false
-second_off true b e = cc
-second_off false b e = e
 
 front_off : (a b : Bool) (s : RulePlace) (m n : ℕ) → at a s m ++ at b s n ≡ [] → a ≡ false
 front_off true b s m n e = cc
@@ -36,11 +29,11 @@ at_most limit n e = grind (arith, nat_tests, e)
 
 -- ---- what is tested first is not broken either
 
-after_first : (a b : List Break) → else_of a b ≡ [] → b ≡ []
+pub after_first : (a b : List Break) → else_of a b ≡ [] → b ≡ []
 after_first [] b e = e
 after_first (x ∷ a) b e = cc
 
-before_second : (a b : List Break) → else_of a b ≡ [] → a ≡ []
+pub before_second : (a b : List Break) → else_of a b ≡ [] → a ≡ []
 before_second [] b e = refl
 before_second (x ∷ a) b e = cc
 
@@ -64,7 +57,7 @@ module _ (p : Package) (none : limit_breaks p ≡ []) where
   many_off = behind_off (of_methods p (layout_breaks p)) (has_many_entries p) (spot_of_list p) 414 forms_kept
 
   pub entries_few : length (pool p) ≤ 16383
-  entries_few = at_most 16383 (length (pool p)) (first_off _ _ many_off)
+  entries_few = at_most 16383 (length (pool p)) (or_left _ _ many_off)
 
 -- ---- bytes
 
@@ -83,25 +76,25 @@ pub record AreShort (i : Infos) : Type 0 where
 
 pub are_short : (i : Infos) → is_too_large i ≡ false → AreShort i
 are_short i e =
-    let e1 = second_off _ _ e in
-    let e2 = second_off _ _ e1 in
-    let e3 = second_off _ _ e2 in
-    let e4 = second_off _ _ e3 in
-    let e5 = second_off _ _ e4 in
-    let e6 = second_off _ _ e5 in
-    let e7 = second_off _ _ e6 in
-    let e8 = second_off _ _ e7 in
-    let e9 = second_off _ _ e8 in
+    let e1 = or_right _ _ e in
+    let e2 = or_right _ _ e1 in
+    let e3 = or_right _ _ e2 in
+    let e4 = or_right _ _ e3 in
+    let e5 = or_right _ _ e4 in
+    let e6 = or_right _ _ e5 in
+    let e7 = or_right _ _ e6 in
+    let e8 = or_right _ _ e7 in
+    let e9 = or_right _ _ e8 in
     record {
-      class = at_most 32767 (length i.class) (first_off _ _ e);
-      header = at_most 65535 (length i.header) (first_off _ _ e1);
-      directory = at_most 65535 (length i.directory) (first_off _ _ e2);
-      applet = at_most 65535 (length i.applet) (first_off _ _ e3);
-      import = at_most 65535 (length i.import) (first_off _ _ e4);
-      pool = at_most 65535 (length i.pool) (first_off _ _ e5);
-      statics = at_most 65535 (length i.statics) (first_off _ _ e6);
-      locations = at_most 65535 (length i.locations) (first_off _ _ e7);
-      export = at_most 65535 (length i.export) (first_off _ _ e8);
+      class = at_most 32767 (length i.class) (or_left _ _ e);
+      header = at_most 65535 (length i.header) (or_left _ _ e1);
+      directory = at_most 65535 (length i.directory) (or_left _ _ e2);
+      applet = at_most 65535 (length i.applet) (or_left _ _ e3);
+      import = at_most 65535 (length i.import) (or_left _ _ e4);
+      pool = at_most 65535 (length i.pool) (or_left _ _ e5);
+      statics = at_most 65535 (length i.statics) (or_left _ _ e6);
+      locations = at_most 65535 (length i.locations) (or_left _ _ e7);
+      export = at_most 65535 (length i.export) (or_left _ _ e8);
       descriptor = at_most 65535 (length i.descriptor) e9;
     }
 
@@ -110,16 +103,16 @@ module _ (p : Package) (none : size_breaks p ≡ []) where
   not_large = back_off (has_far_types p) (has_large_component p) (spot_of_list p) 411 416 none
 
   pub method_counted : widest_method p ≤ 65535
-  method_counted = at_most 65535 (widest_method p) (first_off _ _ not_large)
+  method_counted = at_most 65535 (widest_method p) (or_left _ _ not_large)
 
   pub components_short : AreShort (infos_of (components_of p))
-  components_short = are_short (infos_of (components_of p)) (second_off _ _ not_large)
+  components_short = are_short (infos_of (components_of p)) (or_right _ _ not_large)
 
   not_far : has_far_types p ≡ false
   not_far = front_off (has_far_types p) (has_large_component p) (spot_of_list p) 411 416 none
 
   pub narrow_types : list_any is_wide (let d = descriptor p in d.types) ≡ false
-  narrow_types = first_off _ _ not_far
+  narrow_types = or_left _ _ not_far
 
   pub types_near : length (types_bytes (descriptor p)) ≤ 32767
-  types_near = at_most 32767 (length (types_bytes (descriptor p))) (second_off _ _ not_far)
+  types_near = at_most 32767 (length (types_bytes (descriptor p))) (or_right _ _ not_far)

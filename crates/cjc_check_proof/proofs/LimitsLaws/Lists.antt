@@ -1,5 +1,5 @@
 -- Facts of all items of a list, and how many bytes many items have.
-use Rattle.std.proofs.Common.{◌≡◌, ℕ, zero, suc, ◌*◌, ◌≤◌, refl, ap, subst, List, [], ◌∷◌, map, length, length-append}
+use Rattle.std.proofs.Common.{◌≡◌, ℕ, zero, suc, ◌*◌, ◌≤◌, refl, ap, List, [], ◌∷◌, map, length, length-append}
 use Rattle.std.proofs.Common.{arith, Some}
 use Rattle.std.specs.Prelude.{slice_get, sum_by, flat_map}
 use Rattle.std.specs.List.{AllByRecursion}
@@ -14,12 +14,6 @@ pub all_of : {A : Type 0} (P : A → Type 0) (xs : List A) → ((k : ℕ) (x : A
     → AllByRecursion P xs
 all_of P [] h = tt
 all_of P (x ∷ xs) h = (h 0 x refl, all_of P xs (λ k y at. h (suc k) y at))
-
-pub at_place : {A : Type 0} (P : A → Type 0) (xs : List A) (k : ℕ) (x : A) → AllByRecursion P xs
-    → slice_get xs k ≡ Some x → P x
-at_place P [] k x all e = cc
-at_place P (y ∷ xs) zero x all e = let same : y ≡ x = cc in subst P same all.0
-at_place P (y ∷ xs) (suc k) x all e = at_place P xs k x all.1 e
 
 -- items that each have some bytes
 pub many : {A : Type 0} (f : A → List ℕ) (n : ℕ) → ((x : A) → n ≤ length (f x)) → (xs : List A)

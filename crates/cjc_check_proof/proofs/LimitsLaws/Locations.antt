@@ -1,8 +1,8 @@
 -- ReferenceLocation.
 use Rattle.std.proofs.Common.{◌^◌, ◌<◌, ◌≤◌, length, arith}
-use Rattle.cjc_capwrite.specs.Fits.{LocationsFit}
-use Rattle.cjc_capwrite.specs.Statics.{reference_location_bytes}
-use Rattle.cjc_capwrite.proofs.Lengths.{locations_length}
+use Rattle.cjc_components.specs.CapWrite.Fits.{LocationsFit}
+use Rattle.cjc_components.specs.CapWrite.Statics.{reference_location_bytes}
+use Rattle.cjc_components.proofs.CapWriteLengths.{locations_length}
 use Rattle.cjc_components.specs.Package.{Package}
 use Rattle.cjc_components.specs.Components.{reference_location}
 use Rattle.cjc_check_proof.specs.Limits.Premises.{IsLimited}

@@ -9,9 +9,9 @@ use Rattle.cjc_capread.specs.Decode.{Instruction, before_table, in_table, operan
 use Rattle.cjc_capread.specs.Decode as Decode
 use Rattle.cjc_capread.specs.Opcodes.{Operand, Byte, Signed1, Signed2, Signed4, Index1, Index2, Form, form, width}
 use Rattle.cjc_capread.specs.Opcodes.{widths}
-use Rattle.cjc_capwrite.specs.Fits.{HandlerFits, MethodFits}
-use Rattle.cjc_capwrite.specs.Method.{method_bytes}
-use Rattle.cjc_capwrite.proofs.Lengths.{method_length}
+use Rattle.cjc_components.specs.CapWrite.Fits.{HandlerFits, MethodFits}
+use Rattle.cjc_components.specs.CapWrite.Method.{method_bytes}
+use Rattle.cjc_components.proofs.CapWriteLengths.{method_length}
 use Rattle.cjc_components.specs.Narrow.Keys.Index.{index_of}
 use Rattle.cjc_components.specs.Layout.Handlers.{table_order}
 use Rattle.cjc_components.specs.Layout.Sizes as Sizes
@@ -36,7 +36,7 @@ use Rattle.cjc_check_proof.specs.Limits.Premises.{IsLimited, MethodIsShort}
 use Rattle.cjc_check_proof.proofs.LimitsLaws.Limits.{entries_few, method_counted, sizes_kept}
 use Rattle.cjc_check_proof.proofs.LimitsLaws.Lists.{all_of}
 use Rattle.cjc_check_proof.proofs.LimitsLaws.Offsets.{code_few, methods_short, widest_short}
-use Rattle.cjc_check_proof.proofs.LimitsLaws.Refs.{all_both}
+use Rattle.cjc_bytes.proofs.Quantified.{all_both}
 
 -- ---- no instruction has more bytes than its size
 

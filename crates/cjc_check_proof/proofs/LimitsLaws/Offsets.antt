@@ -5,8 +5,8 @@ use Rattle.std.specs.Prelude.{sum_by, flat_map, slice_get, if◌then◌else◌}
 use Rattle.std.specs.List.{AllByRecursion}
 use Rattle.std.proofs.lemmas.List.Sums.{sum_by-cons}
 use Rattle.cjc_bytes.specs.declared.fault.MemberId.{MemberId}
-use Rattle.cjc_capwrite.specs.Descriptor.{class_descriptor_bytes, descriptor_bytes}
-use Rattle.cjc_capwrite.proofs.Lengths.{class_descriptor_length, descriptor_length}
+use Rattle.cjc_components.specs.CapWrite.Descriptor.{class_descriptor_bytes, descriptor_bytes}
+use Rattle.cjc_components.proofs.CapWriteLengths.{class_descriptor_length, descriptor_length}
 use Rattle.cjc_script.specs.Sorts.{Sort, Boolean, Byte, Short, Int, Reference, NoValue, field_sort}
 use Rattle.cjc_world.specs.declared.found.Found.{Found}
 use Rattle.cjc_world.specs.Classes.{Class}

@@ -4,19 +4,17 @@ use Rattle.std.specs.Prelude.{nat_le, ◌&&◌, Some, None, IfSome, codes, if◌
 use Rattle.std.proofs.lemmas.Bool.Decides.{nat_tests}
 use Rattle.std.specs.List.{AllByRecursion}
 use Rattle.std.proofs.lemmas.List.{length-map}
-use Rattle.cjc_capwrite.specs.Fits.{AppletEntryFits, AppletFits, HeaderFits, ImportedPackageFits, ImportFits}
+use Rattle.cjc_components.specs.CapWrite.Fits.{AppletEntryFits, AppletFits, HeaderFits, ImportedPackageFits, ImportFits}
 use Rattle.cjc_world.specs.ExportFile.Pool.{aid_length}
 use Rattle.cjc_components.specs.Package.{Package}
 use Rattle.cjc_components.specs.Components.{applet, applet_entry, applet_with, header, import, imported_package}
 use Rattle.cjc_check_proof.specs.Limits.Premises.{IsLimited}
 use Rattle.cjc_bytes.specs.declared.settings.AppletLine.{AppletLine}
+use Rattle.cjc_bytes.proofs.Gets.{all_at}
+use Rattle.cjc_bytes.proofs.Bools.{both_back}
 use Rattle.cjc_world.specs.Lookup.{find_method}
-use Rattle.cjc_check_proof.proofs.LimitsLaws.Lists.{all_mapped, at_place}
+use Rattle.cjc_check_proof.proofs.LimitsLaws.Lists.{all_mapped}
 use Rattle.cjc_check_proof.proofs.LimitsLaws.Refs.{where_low}
-
-second : (a b : Bool) → (a && b) ≡ true → b ≡ true
-second true b e = e
-second false b e = cc
 
 module _ (p : Package) (h : IsLimited p) where
   pub header_fits : HeaderFits (header p)
@@ -29,7 +27,7 @@ module _ (p : Package) (h : IsLimited p) where
   aid_short n e = by (nat_le 5 n && nat_le n 16) refl e
     where
       by : (b : Bool) → (nat_le 5 n && nat_le n 16) ≡ b → (if b then Some n else None) ≡ Some n → n < 2 ^ 8
-      by true f g = let low : nat_le n 16 ≡ true = second (nat_le 5 n) (nat_le n 16) f in let le : n ≤ 16 =
+      by true f g = let low : nat_le n 16 ≡ true = both_back (nat_le 5 n) (nat_le n 16) f in let le : n ≤ 16 =
           grind (arith, nat_tests, low) in omega (arith, le)
       by false f g = cc
 
@@ -54,7 +52,7 @@ module _ (p : Package) (h : IsLimited p) where
     count = (let same = length-map (a ∷ xs) (applet_entry p) in let lt : length (map (applet_entry p) (a ∷ xs)) < 2 ^
         8 = omega (arith, few, same) in lt);
     applets = all_mapped AppletEntryFits (applet_entry p) (a ∷ xs) (λ k b e. entry_fits b
-        (at_place (λ (a : AppletLine). length a.aid ≤ 16) (a ∷ xs) k b short e));
+        (all_at (λ (a : AppletLine). length a.aid ≤ 16) (a ∷ xs) k b short e));
   }
 
   pub applet_fits : IfSome (applet p) AppletFits

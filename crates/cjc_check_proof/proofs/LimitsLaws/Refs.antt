@@ -1,19 +1,21 @@
 -- References to classes and to static members.
 use Rattle.std.proofs.Common.{◌≡◌, ℕ, ◌+◌, ◌*◌, ◌^◌, ◌<◌, ◌≤◌, refl, sym, ap, subst, ◌∙◌, Bool, true, false, List, []}
-use Rattle.std.proofs.Common.{◌∷◌, ◌++◌, map, length, length-append, arith, Option, Some, None}
-use Rattle.std.specs.Prelude.{slice_get, sum_by, flat_map, position, option_and_then, option_map, unwrap_or}
+use Rattle.std.proofs.Common.{◌∷◌, ◌++◌, map, length, arith, Option, Some, None}
+use Rattle.std.specs.Prelude.{slice_get, sum_by, position, option_and_then, option_map, unwrap_or}
 use Rattle.std.specs.Prelude.{if◌then◌else◌}
 use Rattle.std.specs.List.{AllByRecursion}
 use Rattle.std.specs.Str.{bytes_eq}
 use Rattle.std.proofs.lemmas.List.{length-map}
 use Rattle.std.proofs.lemmas.List.Sums.{sum_by-cons}
 use Rattle.cjc_bytes.specs.declared.fault.MemberId.{MemberId}
+use Rattle.cjc_bytes.proofs.Gets.{all_at}
+use Rattle.cjc_bytes.proofs.Quantified.{all_both}
+use Rattle.cjc_bytes.proofs.Lists.{each_size, sums_same}
 use Rattle.cjc_capread.specs.declared.tree.ClassRef.{ClassRef}
 use Rattle.cjc_capread.specs.declared.tree.ClassRef.TheVariants.{Inside}
-use Rattle.cjc_capread.specs.declared.tree.ClassEntry.{ClassEntry}
-use Rattle.cjc_capwrite.specs.Class.{interface_bytes, implemented_bytes, class_entry_bytes, class_info_bytes}
-use Rattle.cjc_capwrite.specs.Fits.{ClassFits, StaticFits}
-use Rattle.cjc_capwrite.proofs.Lengths.{interface_length, implemented_length, class_entry_length, class_info_length}
+use Rattle.cjc_components.specs.CapWrite.Class.{interface_bytes, class_entry_bytes, class_info_bytes}
+use Rattle.cjc_components.specs.CapWrite.Fits.{ClassFits, StaticFits}
+use Rattle.cjc_components.proofs.CapWriteLengths.{interface_length, class_info_length}
 use Rattle.cjc_ncode.specs.CardSemantics.Machine.Classes.{Class as CardClass, Own, External, external_from, or_else}
 use Rattle.cjc_ncode.specs.CardSemantics.Machine.Classes.{token_named}
 use Rattle.cjc_world.specs.ExportFile.declared.tree.ExportClass.{ExportClass}
@@ -33,34 +35,12 @@ use Rattle.cjc_components.specs.Class.{class_info, class_entry, interface_entry,
 use Rattle.cjc_components.specs.Names.{class_at, class_offset, class_ref, field_ref, info_starts, member_ref}
 use Rattle.cjc_components.specs.Names.{method_ref, offset_where, ref_to}
 use Rattle.cjc_check_proof.specs.Limits.Premises.{IsLimited}
-use Rattle.cjc_check_proof.proofs.LimitsLaws.Lists.{all_of, at_place}
+use Rattle.cjc_check_proof.proofs.LimitsLaws.Lists.{all_of}
 use Rattle.cjc_check_proof.proofs.LimitsLaws.Limits.{components_short, sizes_kept}
 use Rattle.cjc_check_proof.proofs.LimitsLaws.Offsets.{cell_low, offset_low}
+use Rattle.cjc_token_proof.proofs.ComponentsLaws.Sizes.{class_is}
 
 -- ---- the bytes of Class, whatever class_refs it holds
-
-pub each_size : {X Y : Type 0} (f : X → List Y) (size : X → ℕ) → ((x : X) → length (f x) ≡ size x) → (xs : List X)
-    → length (flat_map f xs) ≡ sum_by size xs
-each_size f size h [] = refl
-each_size f size h (x ∷ xs) =
-    let e : length (f x) ≡ size x = h x in
-    let r : length (flat_map f xs) ≡ sum_by size xs = each_size f size h xs in
-    let s : sum_by size (x ∷ xs) ≡ size x + sum_by size xs = sum_by-cons size x xs in
-    length-append (f x) (flat_map f xs) ∙ omega (arith, e, r, s)
-
-class_is : (x : ClassEntry) → length (class_entry_bytes x) ≡ class_size x
-class_is x =
-    class_entry_length x ∙ ap (λ n. 10 + 2 * length x.public_methods + 2 * length x.package_methods + n)
-    (each_size implemented_bytes map_size implemented_length x.interfaces)
-
-sums_same : {X A : Type 0} (size : A → ℕ) (f g : X → A) → ((x : X) → size (f x) ≡ size (g x)) → (xs : List X)
-    → sum_by size (map f xs) ≡ sum_by size (map g xs)
-sums_same size f g h [] = refl
-sums_same size f g h (x ∷ xs) =
-    let e : size (f x) ≡ size (g x) = h x in
-    let r : sum_by size (map f xs) ≡ sum_by size (map g xs) = sums_same size f g h xs in
-    sum_by-cons size (f x) (map f xs) ∙ ap (λ n. n + sum_by size (map f xs)) e ∙ ap (λ n. size (g x) + n) r
-    ∙ sym (sum_by-cons size (g x) (map g xs))
 
 module _ (ref other : List ℕ → ClassRef) (p : Package) where
   interface_same : (i : Class) → interface_size (interface_entry ref (world p) i)
@@ -91,11 +71,6 @@ starts_below size at limit [] le = tt
 starts_below size at limit (x ∷ xs) le =
     let l = sum_by-cons size x xs in
     (omega (arith, le, l), starts_below size (at + size x) limit xs (omega (arith, le, l)))
-
-pub all_both : {A : Type 0} (P : A → Type 0) (xs ys : List A) → AllByRecursion P xs → AllByRecursion P ys
-    → AllByRecursion P (xs ++ ys)
-all_both P [] ys a b = b
-all_both P (x ∷ xs) ys a b = (a.0, all_both P xs ys a.1 b)
 
 -- ---- export files
 
@@ -165,7 +140,7 @@ module _ (p : Package) (h : IsLimited p) where
     where
       by : (o : Option ℕ) → option_and_then (slice_get (info_starts p)) o ≡ Some s → s ≤ 32767
       by None e = cc
-      by (Some k) e = at_place (λ s. s ≤ 32767) (info_starts p) k s starts_low e
+      by (Some k) e = all_at (λ s. s ≤ 32767) (info_starts p) k s starts_low e
 
   pub class_fits : (name : List ℕ) → ClassFits (class_ref p name)
   class_fits name = let files = p.files in

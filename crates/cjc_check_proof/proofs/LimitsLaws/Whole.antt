@@ -2,10 +2,10 @@
 use Rattle.std.proofs.Common.{◌≡◌, ℕ, ◌^◌, ◌<◌, ◌≤◌, refl, length, arith}
 use Rattle.std.specs.Prelude.{replicate}
 use Rattle.std.specs.List.{AllByRecursion}
-use Rattle.cjc_capwrite.specs.Package.{directory_bytes}
-use Rattle.cjc_capwrite.specs.Fits.{DirectoryFits, Fits2}
-use Rattle.cjc_capwrite.specs.Writable.{IsWritable}
-use Rattle.cjc_capwrite.proofs.Lengths.{directory_length}
+use Rattle.cjc_components.specs.CapWrite.Package.{directory_bytes}
+use Rattle.cjc_components.specs.CapWrite.Fits.{DirectoryFits, Fits2}
+use Rattle.cjc_components.specs.CapWrite.Writable.{IsWritable}
+use Rattle.cjc_components.proofs.CapWriteLengths.{directory_length}
 use Rattle.cjc_components.specs.Components.{components_of, directory_with, sizes}
 use Rattle.cjc_components.specs.Package.{Package}
 use Rattle.cjc_check_proof.specs.Limits.Premises.{IsLimited}

@@ -7,6 +7,7 @@ use Rattle.std.proofs.lemmas.Bool.{lt-ltb}
 use Rattle.std.proofs.lemmas.List.Elements.{Contains-append_left}
 use Rattle.cjc_tokens.specs.Fixpoint.Working.Edges.{contains_head}
 use Rattle.cjc_bytes.specs.declared.fault.MemberId.{MemberId}
+use Rattle.cjc_bytes.proofs.Gets.{get_inside}
 use Rattle.cjc_world.specs.ClassFile.Code.{CodeTree}
 use Rattle.cjc_world.specs.ClassFile.declared.tree.ClassTree.{ClassTree}
 use Rattle.cjc_world.specs.ClassFile.declared.tree.MethodTree.{MethodTree}
@@ -34,7 +35,6 @@ use Rattle.cjc_narrow_proof.specs.Types.Tables.{IsLeastTable, IsMethodOf}
 use Rattle.cjc_narrow_proof.specs.Types.TypeLaws.Closed.{IsClosedTable}
 use Rattle.cjc_narrow_proof.proofs.TypesLowered.{least_closed}
 use Rattle.cjc_narrow_proof.proofs.TypesStanding.{next_there}
-use Rattle.cjc_components.proofs.LayoutPlaces.{get_inside}
 use Rattle.cjc_narrow_proof.proofs.SelectedLaws.Cuts.{decoded, few}
 use Rattle.cjc_check_rules.specs.Instructions.{ends_code}
 use Rattle.cjc_check_proof.specs.Code.Ends.{last_ends}

@@ -5,7 +5,11 @@ use Rattle.std.specs.Prelude.{Option, Some, None, option_map, position, not, ◌
 use Rattle.std.specs.List.{AllByRecursion, list_any}
 use Rattle.std.specs.Str.{bytes_eq}
 use Rattle.std.proofs.lemmas.Bool.Decides.{nat_tests}
+use Rattle.std.proofs.lemmas.Map.Keys.{any_passes_from_place}
 use Rattle.cjc_bytes.specs.AccessFlags.{is_interface, is_private, is_static}
+use Rattle.cjc_bytes.proofs.Bools.{and_true}
+use Rattle.cjc_bytes.proofs.Lists.{bytes_true}
+use Rattle.cjc_bytes.proofs.Numbers.{like_number}
 use Rattle.cjc_capread.specs.declared.tree.ClassRef.TheVariants.{Outside}
 use Rattle.cjc_world.specs.ExportFile.declared.tree.ExportClass.{ExportClass}
 use Rattle.cjc_world.specs.ExportFile.declared.tree.ExportMethod.{ExportMethod}
@@ -22,7 +26,6 @@ use Rattle.cjc_world.specs.Supertypes.{unknown_here}
 use Rattle.cjc_world.specs.Supertypes as supertype_trees
 use Rattle.cjc_world.specs.Lookup.{first, member_at, or_else}
 use Rattle.cjc_world.proofs.Cycles.{class_named-name}
-use Rattle.cjc_world.proofs.Settled.{bytes-true}
 use Rattle.cjc_tokens.specs.Members.{In, all_methods, is_constructor, is_initialiser, is_virtual}
 use Rattle.cjc_vtable.specs.Dispatch.{own_by_token}
 use Rattle.cjc_vtable.specs.Laws.{KeepsRules}
@@ -32,8 +35,6 @@ use Rattle.cjc_vtable.proofs.SlotNames.{position-at}
 use Rattle.cjc_components.specs.Package.{Package, world}
 use Rattle.cjc_components.specs.Names.{class_ref}
 use Rattle.cjc_token_proof.specs.Components.Whole.{exports_of}
-use Rattle.cjc_token_proof.proofs.ComponentsLaws.Tests.{same_number}
-use Rattle.cjc_check_proof.proofs.CodeLaws.Jumps.{any_at}
 use Rattle.cjc_token_proof.specs.Tables.Infos.{HasEntry}
 use Rattle.cjc_token_proof.specs.Tables.Sound.{IsSound}
 use Rattle.cjc_token_proof.proofs.TablesLaws.Clean.{has_named}
@@ -43,10 +44,6 @@ use Rattle.cjc_token_proof.proofs.WrittenCalls.Files.{export_from, in_at, lists_
 use Rattle.cjc_token_proof.proofs.WrittenCalls.Known.{in_file}
 
 -- ---- methods by token
-
-both : (a b : Bool) → (a && b) ≡ true → (a ≡ true) × (b ≡ true)
-both true b e = (refl, e)
-both false b e = absurd (cc)
 
 -- what is found by a token going upwards is a virtual method that has it
 first_by_token : (t : ℕ) (cs : List Class) (f : Found) → first (own_by_token t) cs ≡ Some f → (m : Member)
@@ -63,7 +60,7 @@ first_by_token t (c ∷ cs) f e = by (position (λ (m : Member). is_virtual m &&
     by None g h rest = let r = rest h in (r.0, In-behind r.0 c.methods (all_methods cs) r.1, r.2, r.3)
     by (Some i) g h rest =
         let r = position-at (λ (m : Member). is_virtual m && (m.token == t)) c.methods i g in
-        let two = both (is_virtual r.0) (r.0.token == t) r.2 in
+        let two = and_true (is_virtual r.0) (r.0.token == t) r.2 in
         (r.0, In-front r.0 c.methods (all_methods cs) (in_at c.methods i r.0 r.1), two.0, number_same r.0.token t two.1)
       where
         number_same : (a b : ℕ) → (a == b) ≡ true → a ≡ b
@@ -84,9 +81,9 @@ listed : (t k : ℕ) (e : ExportClass) (m : Member) → In m (imported k e).meth
 listed t k e m i virtual token =
     let j = place_in (map method_of_export e.methods) m i in
     let x = export_from e.methods j.0 m j.1 in
-    let its : (x.0.token == t) ≡ true = ap (λ (q : Member). q.token == t) x.2 ∙ ap (λ n. n == t) token ∙ same_number t
+    let its : (x.0.token == t) ≡ true = ap (λ (q : Member). q.token == t) x.2 ∙ ap (λ n. n == t) token ∙ like_number t
     in
-    any_at (λ (y : ExportMethod). exports.is_virtual y && (y.token == t)) e.methods j.0 x.0 x.1
+    any_passes_from_place (λ (y : ExportMethod). exports.is_virtual y && (y.token == t)) e.methods j.0 x.0 x.1
     (ap (λ b. b && (x.0.token == t)) (export_virtual x.0 (ap is_virtual x.2 ∙ virtual)) ∙ its)
 
 -- ---- classes above an imported class
@@ -107,7 +104,7 @@ any_named es test (u ∷ us) y e all passes = by (bytes_eq u.name y) refl e (λ 
         → (is_one_of (map (λ (v : ExportClass). v.name) us) y ≡ true → list_any test us ≡ true)
         → (test u || list_any test us) ≡ true
     by true f g rest =
-        ap (λ b. b || list_any test us) (passes u (ap (exports.class_named es) (sym (bytes-true u.name y f)) ∙ all.0))
+        ap (λ b. b || list_any test us) (passes u (ap (exports.class_named es) (sym (bytes_true u.name y f)) ∙ all.0))
     by false f g rest = second (test u) (list_any test us) (rest g)
 
 module _ (list : List ℕ) (p : Package) (sound : IsSound list p.files) (are_supertypes : (xs : List (List ℕ))

@@ -1,8 +1,9 @@
 -- The indices of interface maps are tokens of virtual methods that their classes have.
-use Rattle.std.proofs.Common.{◌≡◌, ℕ, ◌+◌, ◌==◌, refl, sym, ap, subst, ◌∙◌, arith, Bool, true, false, List, [], length}
+use Rattle.std.proofs.Common.{◌≡◌, ℕ, ◌+◌, ◌==◌, sym, ap, subst, ◌∙◌, arith, true, false, List, [], length}
 use Rattle.std.specs.Prelude.{Some, map, not, ◌&&◌, slice_get}
 use Rattle.std.proofs.lemmas.Bool.Decides.{nat_tests}
 use Rattle.cjc_bytes.specs.AccessFlags.{is_interface}
+use Rattle.cjc_bytes.proofs.Bools.{not_true}
 use Rattle.cjc_capread.specs.declared.tree.ClassRef.TheVariants.{Inside}
 use Rattle.cjc_capread.specs.declared.tree.ClassEntry.{ClassEntry}
 use Rattle.cjc_capread.specs.declared.tree.ImplementedInterface.{ImplementedInterface}
@@ -47,10 +48,6 @@ AreLong p =
     in slice_get info.classes j ≡ Some x) → slice_get x.interfaces k ≡ Some m
     → is_long_enough (whole p) (exports_of p) m.interface (length m.index) ≡ true
 
-plain : (b : Bool) → not b ≡ true → b ≡ false
-plain true e = absurd (cc)
-plain false e = refl
-
 module _ (list : List ℕ) (p : Package) (sound : IsSound list p.files) (are_supertypes : (xs : List (List ℕ))
     → AreSupertypes (world p) xs (supertypes (world p) xs)) (one_supertypes : (xs : List (List ℕ)) (j k : Supertypes)
     → AreSupertypes (world p) xs j → AreSupertypes (world p) xs k → j ≡ k)
@@ -66,7 +63,7 @@ module _ (list : List ℕ) (p : Package) (sound : IsSound list p.files) (are_sup
     m = kind-in list p.files sound false c (get-has c (in_order w false) k e)
 
     class_here : is_interface c.flags ≡ false
-    class_here = plain (is_interface c.flags) m.2
+    class_here = not_true (is_interface c.flags) m.2
 
     named : class_named w c.name ≡ Some c
     named = own_name list p.files sound c m.0

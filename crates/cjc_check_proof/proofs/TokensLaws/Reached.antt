@@ -5,6 +5,7 @@ use Rattle.std.specs.Prelude.{Option, Some, None, ◌⊎◌, nat_le, nat_lt, not
 use Rattle.std.proofs.lemmas.Bool.Decides.{nat_tests}
 use Rattle.std.proofs.lemmas.List.{append-nil, length-map, length-reverse}
 use Rattle.cjc_bytes.specs.AccessFlags.{is_interface}
+use Rattle.cjc_bytes.proofs.Gets.{get_below}
 use Rattle.cjc_capread.specs.declared.tree.ClassRef.TheVariants.{Inside}
 use Rattle.cjc_capread.specs.declared.tree.ClassEntry.{ClassEntry}
 use Rattle.cjc_check_rules.specs.Spots.{Placed}
@@ -37,7 +38,7 @@ use Rattle.cjc_token_proof.proofs.TablesLaws.Lists.{right_supers}
 use Rattle.cjc_token_proof.proofs.TablesLaws.Order.{kind-in, own_names}
 use Rattle.cjc_check_proof.proofs.ClassesLaws.Earlier.{super_before}
 use Rattle.cjc_check_proof.proofs.ClassesLaws.Leaving.{placed_at, turned}
-use Rattle.cjc_check_proof.proofs.ClassesLaws.Lists.{get-length, get-map, starts_rise}
+use Rattle.cjc_check_proof.proofs.ClassesLaws.Lists.{get-map, starts_rise}
 use Rattle.cjc_check_proof.proofs.ClassesLaws.Refs.{class_some, class_starts, info, own_ref}
 use Rattle.cjc_check_proof.proofs.ClassesLaws.Supers.{in_place}
 use Rattle.cjc_check_proof.proofs.ClassesLaws.There.{super_known}
@@ -264,7 +265,7 @@ module _ (list : List ℕ) (p : Package) (sound : IsSound list p.files) (are_sup
         by false f =
             let k = has-get c (in_order w false) (in_place list p sound c false (has_named w x c e) f class_here) in
             let r = own_ref p (own_names list p.files sound) k.0 c k.1 in
-            let few = get-length (class_starts p) k.0 r.0 r.1 in
+            let few = get_below (class_starts p) k.0 r.0 r.1 in
             let long : length (class_starts p) ≡ length (reverse items) =
             length-map items (λ (q : Placed ClassEntry). q.at) ∙ sym (length-reverse items) in
             let name = class_named-name w x c e in
@@ -280,7 +281,7 @@ module _ (list : List ℕ) (p : Package) (sound : IsSound list p.files) (are_sup
   not_below a b e = grind (arith, nat_tests, e)
 
   inside : {A : Type 0} (xs : List A) (k : ℕ) (x : A) → slice_get xs k ≡ Some x → nat_lt k (length xs) ≡ true
-  inside xs k x e = let lt = get-length xs k x e in grind (arith, nat_tests, lt)
+  inside xs k x e = let lt = get_below xs k x e in grind (arith, nat_tests, lt)
 
   pub open_there : (x : List ℕ) (c : Class) → class_named w x ≡ Some c → is_interface c.flags ≡ false → (t : ℕ)
       → t < 128 → (f : Found) → dispatched (tower_of w x) t ≡ Some f

@@ -13,7 +13,7 @@ use Rattle.cjc_world.specs.Classes.{Class, Member, class_named, imported}
 use Rattle.cjc_tokens.specs.Methods.{interface_methods, is_open_bound}
 use Rattle.cjc_ncode.specs.declared.narrow.PoolKey.{PoolKey}
 use Rattle.cjc_ncode.specs.declared.narrow.PoolKey.TheVariants as keys
-use Rattle.cjc_capwrite.specs.Files.{ends_too_far}
+use Rattle.cjc_components.specs.CapWrite.Files.{ends_too_far}
 use Rattle.cjc_components.specs.Package.{Package, pool, world}
 use Rattle.cjc_components.specs.Class.{class_info}
 use Rattle.cjc_components.specs.Methods.{first_method, method_size}

@@ -1,21 +1,19 @@
 -- Places by token that are put down one by one.
-use Rattle.std.proofs.Common.{◌≡◌, ℕ, suc, ◌+◌, ◌<◌, ◌≤◌, ◌==◌, Bool, true, false, List, [], ◌∷◌, length, get_or, drop}
+use Rattle.std.proofs.Common.{◌≡◌, ℕ, suc, ◌+◌, ◌≤◌, ◌==◌, Bool, true, false, List, [], ◌∷◌, length, drop}
 use Rattle.std.proofs.Common.{refl, sym, ap, ◌∙◌, arith, Option, Some, None}
 use Rattle.std.specs.Prelude.{◌&&◌, ◌||◌, slice_get}
 use Rattle.std.specs.List.{list_any, find}
 use Rattle.std.proofs.lemmas.List.{drop_all}
-use Rattle.std.proofs.lemmas.Option.{same_Some, slice_get-get_or}
 use Rattle.cjc_capread.specs.Bytes.AccessFlags.{is_static}
 use Rattle.cjc_capread.specs.ClassRefs.{is_inside}
 use Rattle.cjc_capread.specs.declared.tree.ClassDescriptor.{ClassDescriptor}
 use Rattle.cjc_capread.specs.declared.tree.ExportedClass.{ExportedClass}
 use Rattle.cjc_capread.specs.declared.tree.MethodDescriptor.{MethodDescriptor}
 use Rattle.cjc_check_rules.specs.Members.{is_constructor}
-use Rattle.cjc_check_rules.proofs.Firsts.{either}
 use Rattle.cjc_check_tables.specs.Exported.{class_in, first_place, has_start, place_from}
-
-pub same_item : {A : Type 0} (xs : List A) (i : ℕ) (d : A) → i < length xs → get_or xs i d ≡ get_or xs i (get_or xs i d)
-same_item xs i d lt = same_Some _ _ (sym (slice_get-get_or xs i d lt) ∙ slice_get-get_or xs i (get_or xs i d) lt)
+use Rattle.cjc_check_index.proofs.ImportedLaws.Loops.{or_false}
+use Rattle.cjc_check_index.proofs.ImportedLaws.Edges.{and_true}
+use Rattle.cjc_capread.proofs.BytesBools.{and_false, bool_either}
 
 -- ---- methods
 
@@ -24,32 +22,20 @@ abbrev pub is_asked : (start : ℕ → Bool) → (token offset : ℕ) → Method
 is_asked start token offset m = (m.token == token) && (is_static m.flags || is_constructor m.flags)
     && (m.offset == offset) && start offset
 
-or_none : (a : Bool) → (a || false) ≡ a
-or_none true = refl
-or_none false = refl
-
-and_none : (a : Bool) → (a && false) ≡ false
-and_none true = refl
-and_none false = refl
-
-and_true : (a : Bool) → (a && true) ≡ a
-and_true true = refl
-and_true false = refl
-
 in_front : (t : Bool) (p : MethodDescriptor → Bool) (ms : List MethodDescriptor) → list_any (λ m. p m && t) ms
     ≡ (t && list_any p ms)
 in_front true p [] = refl
 in_front false p [] = refl
 in_front true p (m ∷ ms) = ap (λ (b : Bool). b || list_any (λ x. p x && true) ms) (and_true (p m))
     ∙ ap (λ (b : Bool). p m || b) (in_front true p ms)
-in_front false p (m ∷ ms) = ap (λ (b : Bool). b || list_any (λ x. p x && false) ms) (and_none (p m))
+in_front false p (m ∷ ms) = ap (λ (b : Bool). b || list_any (λ x. p x && false) ms) (and_false (p m))
     ∙ in_front false p ms
 
 pub marks_all : (start : ℕ → Bool) (n offset i : ℕ) (ms : List MethodDescriptor) (mark : Bool) → length ms ≤ i
     → (mark || list_any (is_asked start n offset) (drop i ms)) ≡ list_any (is_asked start n offset) ms
     → mark ≡ (start offset && has_start ms n offset)
 marks_all start n offset i ms mark le so_far =
-    sym (or_none mark) ∙ sym (ap (λ (ys : List MethodDescriptor). mark || list_any (is_asked start n offset) ys)
+    sym (or_false mark) ∙ sym (ap (λ (ys : List MethodDescriptor). mark || list_any (is_asked start n offset) ys)
     (drop_all i ms le)) ∙ so_far
     ∙ in_front (start offset) (λ m. (m.token == n) && (is_static m.flags || is_constructor m.flags)
     && (m.offset == offset)) ms
@@ -66,7 +52,7 @@ here_is : (at : ℕ) (ds : List ClassDescriptor) (n offset : ℕ) (all : List Cl
     ≡ find (λ d. (d.token == n) && is_inside d.this_class offset) ds
 here_is at [] n offset all h = refl
 here_is at (d ∷ ds) n offset all h =
-    either ((d.token == n) && is_inside d.this_class offset)
+    bool_either ((d.token == n) && is_inside d.this_class offset)
     (λ yes. let e : at + 0 ≡ at = omega arith in rw yes (sym (ap (slice_get all) e) ∙ sym (h 0)))
     (λ no. rw no (here_is (at + 1) ds n offset all (λ k. h (suc k) ∙ (let e : at + suc k ≡ at + 1 + k = omega arith
     in ap (slice_get all) e))))

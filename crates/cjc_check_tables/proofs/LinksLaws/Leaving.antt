@@ -6,23 +6,24 @@ use Rattle.std.specs.List.Sorted.{IsBinarySearchResult}
 use Rattle.std.specs.Ordering.{nat_cmp}
 use Rattle.std.proofs.lemmas.Bool.{cases_lt}
 use Rattle.std.proofs.lemmas.Bool.Decides.{nat_tests}
-use Rattle.std.proofs.lemmas.List.{get_or_append_left, take_all, take_more, reverse-append, get_or-map, length-map}
+use Rattle.std.proofs.lemmas.List.{get_or_append_left, take_all, take_more, reverse-append}
 use Rattle.std.proofs.lemmas.List.Sorted.{searched}
 use Rattle.std.proofs.Math.Seq.{get_or-append_seam}
 use Rattle.cjc_capread.specs.declared.tree.ClassEntry.{ClassEntry}
 use Rattle.cjc_capread.specs.declared.tree.ClassInfo.{ClassInfo}
 use Rattle.cjc_capread.specs.declared.tree.ClassRef.{ClassRef}
 use Rattle.cjc_capread.specs.declared.tree.ClassRef.TheVariants.{Inside, Outside}
-use Rattle.cjc_check_rules.specs.Spots.{Placed, placed, starts}
+use Rattle.cjc_check_rules.specs.Spots.{Placed, starts}
 use Rattle.cjc_check_rules.specs.Classes.{classes_at, first_class}
 use Rattle.cjc_check_rules.specs.Complete.{class_size}
 use Rattle.cjc_check_rules.specs.Tables.{leaves}
 use Rattle.cjc_check_tables.specs.Links.Leaving.{IsLeaving, leaves_among}
+use Rattle.cjc_check_tables.proofs.MembersLaws.Search.{rise, begin, count, item_is, length-placed}
 use Rattle.cjc_check_rules.proofs.Starts.{starts_rise}
 
 -- ---- one class more
 
-step : (ps : List (Placed ClassEntry)) (n : ℕ) (d : Placed ClassEntry) → n < length ps → reverse (take (suc n) ps)
+pub step : (ps : List (Placed ClassEntry)) (n : ℕ) (d : Placed ClassEntry) → n < length ps → reverse (take (suc n) ps)
     ≡ get_or ps n d ∷ reverse (take n ps)
 step ps n d lt = ap (λ (k : ℕ). reverse (take k ps)) (sym (add-one n))
     ∙ ap (λ (qs : List (Placed ClassEntry)). reverse qs) (take_more ps n d lt)
@@ -72,31 +73,6 @@ outside [] import class = refl
 outside (p ∷ ps) import class = outside ps import class
 
 -- ---- by where classes begin
-
-at_least : {A : Type 0} (size : A → ℕ) (from : ℕ) (xs : List A) (k d : ℕ) → k < length (starts size from xs)
-    → from ≤ get_or (starts size from xs) k d
-unfolding placed
-at_least size from [] k d lt = absurd (omega (arith, lt))
-at_least size from (x ∷ xs) zero d lt = omega arith
-at_least size from (x ∷ xs) (suc k) d lt = let h = at_least size (from + size x) xs k d (omega (arith, lt))
-    in omega (arith, h)
-
-rise : {A : Type 0} (size : A → ℕ) (some : (x : A) → 0 < size x) (from : ℕ) (xs : List A) (i j d : ℕ) → i < j
-    → j < length (starts size from xs) → get_or (starts size from xs) i d < get_or (starts size from xs) j d
-unfolding placed
-rise size some from [] i j d lt le = absurd (omega (arith, le))
-rise size some from (x ∷ xs) i zero d lt le = absurd (omega (arith, lt))
-rise size some from (x ∷ xs) zero (suc j) d lt le = let h = at_least size (from + size x) xs j d (omega (arith, le))
-    in let s = some x in omega (arith, h, s)
-rise size some from (x ∷ xs) (suc i) (suc j) d lt le = rise size some (from + size x) xs i j d (omega (arith, lt))
-    (omega (arith, le))
-
-begin : (info : ClassInfo) (k : ℕ) (d : Placed ClassEntry) → k < length (classes_at info)
-    → get_or (starts class_size (first_class info) info.classes) k 0 ≡ (get_or (classes_at info) k d).at
-begin info k d lt = get_or-map (λ (p : Placed ClassEntry). p.at) (classes_at info) k d 0 lt
-
-count : (info : ClassInfo) → length (starts class_size (first_class info) info.classes) ≡ length (classes_at info)
-count info = length-map (classes_at info) (λ (p : Placed ClassEntry). p.at)
 
 pub found_leaves : (info : ClassInfo) (kept : List ℕ) (n j o : ℕ) (d : Placed ClassEntry)
     → kept ≡ starts class_size (first_class info) info.classes → n ≤ length (classes_at info) → j < n
@@ -150,38 +126,7 @@ none_leaves info kept n j o d e le is =
       | inr more ↦ (let r = h.2 k more (omega (arith, l, under, le)) in grind (arith, nat_tests, c, r))
     ])
 
--- ---- a default, which nothing rests on
-
-pub no_class : Placed ClassEntry
-no_class = record {
-  at = 0;
-  item = record {
-    flags = 0;
-    superclass = Inside 0;
-    declared_instance_size = 0;
-    first_reference_token = 0;
-    reference_count = 0;
-    public_base = 0;
-    package_base = 0;
-    public_methods = [];
-    package_methods = [];
-    interfaces = [];
-  };
-}
-
 -- ---- the classes of which it is kept
-
-pub item_is : {A : Type 0} (size : A → ℕ) (from : ℕ) (xs : List A) (i : ℕ) (d : Placed A) (x : A) → i < length xs
-    → x ≡ get_or xs i x → (get_or (placed size from xs) i d).item ≡ x
-unfolding placed
-item_is size from [] i d x lt is = absurd (omega (arith, lt))
-item_is size from (y ∷ xs) zero d x lt is = sym is
-item_is size from (y ∷ xs) (suc i) d x lt is = item_is size (from + size y) xs i d x (omega (arith, lt)) is
-
-pub length-placed : {A : Type 0} (size : A → ℕ) (from : ℕ) (xs : List A) → length (placed size from xs) ≡ length xs
-unfolding placed
-length-placed size from [] = refl
-length-placed size from (x ∷ xs) = let h = length-placed size (from + size x) xs in omega (arith, h)
 
 pub leaves_all : (info : ClassInfo) (table : List Bool) (class : ClassRef) → length table ≡ length info.classes
     → leaves_among info (length table) class ≡ leaves (reverse (classes_at info)) class

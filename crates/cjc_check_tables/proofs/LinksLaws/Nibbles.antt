@@ -7,7 +7,8 @@ use Rattle.cjc_check_rules.specs.declared.spot.ComponentPlace.{ComponentPlace}
 use Rattle.cjc_check_rules.specs.Spots.{earlier, first}
 use Rattle.cjc_check_rules.specs.ClassRefs.{in_nibbles}
 use Rattle.cjc_check_tables.specs.Links.Nibbles.{names_class, nibble_width, in_front}
-use Rattle.cjc_check_rules.proofs.Firsts.{either, earlier_none, earlier_assoc, first_append}
+use Rattle.cjc_check_rules.proofs.Firsts.{earlier_none, earlier_assoc, first_append}
+use Rattle.cjc_capread.proofs.BytesBools.{bool_either}
 
 -- the first part, and those behind it
 part : (test : ClassRef → Bool) (at i : ℕ) (xs : List ℕ) → 5 ≤ length xs
@@ -19,7 +20,7 @@ part test at i (n ∷ []) le = absurd (omega (arith, le))
 part test at i (n ∷ a ∷ []) le = absurd (omega (arith, le))
 part test at i (n ∷ a ∷ b ∷ []) le = absurd (omega (arith, le))
 part test at i (n ∷ a ∷ b ∷ c ∷ []) le = absurd (omega (arith, le))
-part test at i (n ∷ a ∷ b ∷ c ∷ d ∷ xs) le = either (names_class n) (λ is. rw is refl) (λ is. rw is refl)
+part test at i (n ∷ a ∷ b ∷ c ∷ d ∷ xs) le = bool_either (names_class n) (λ is. rw is refl) (λ is. rw is refl)
 
 pub nibbles_more : (test : ClassRef → Bool) (at i : ℕ) (xs rest : List ℕ) (next : ℕ) (best found total :
     Option ComponentPlace)
@@ -57,4 +58,4 @@ nibbles_all test at i xs best total le so_far =
     sym (earlier_none best) ∙ ap (λ (spots : List ComponentPlace). earlier best (first spots)) (sym e) ∙ so_far
 
 pub width_le : (nibble : ℕ) → nibble_width nibble ≤ 5
-width_le nibble = either (names_class nibble) (λ is. rw is (omega arith)) (λ is. rw is (omega arith))
+width_le nibble = bool_either (names_class nibble) (λ is. rw is (omega arith)) (λ is. rw is (omega arith))

@@ -1,6 +1,6 @@
 -- Whether a class has a virtual method, by the classes before it.
 use Rattle.std.proofs.Common.{◌≡◌, ℕ, zero, suc, ◌+◌, ◌<◌, ◌≤◌, ◌==◌, Bool, true, false, List, [], ◌∷◌, ◌++◌, length}
-use Rattle.std.proofs.Common.{get_or, take, map, refl, sym, ap, ◌∙◌, subst, inl, inr, arith, add-one, Ok, Err}
+use Rattle.std.proofs.Common.{get_or, take, map, refl, sym, ap, ◌∙◌, subst, inl, inr, arith, Ok, Err}
 use Rattle.std.proofs.Common.{length-append}
 use Rattle.std.specs.Prelude.{if◌then◌else◌, reverse}
 use Rattle.std.specs.List.{range_with_len}
@@ -8,7 +8,7 @@ use Rattle.std.specs.List.Sorted.{IsBinarySearchResult}
 use Rattle.std.proofs.lemmas.List.FromFn.{map-range_with_len_more}
 use Rattle.std.specs.Ordering.{nat_cmp}
 use Rattle.std.proofs.lemmas.Bool.{cases_lt}
-use Rattle.std.proofs.lemmas.List.{get_or_append_left, get_or_default, take_all, take_more, reverse-append}
+use Rattle.std.proofs.lemmas.List.{get_or_append_left, get_or_default, take_all}
 use Rattle.std.proofs.Math.Seq.{get_or-append_seam}
 use Rattle.cjc_capread.specs.declared.tree.ClassEntry.{ClassEntry}
 use Rattle.cjc_capread.specs.declared.tree.ClassInfo.{ClassInfo}
@@ -23,14 +23,9 @@ use Rattle.cjc_check_index.specs.Imported.Tokens.{all_tokens}
 use Rattle.cjc_check_index.proofs.ImportedLaws.Answers.{token_at}
 use Rattle.cjc_check_tables.specs.Members.Working.Above.{AreAbove, class_answer, has_among}
 use Rattle.cjc_check_tables.proofs.MembersLaws.Search.{found_class, no_class_at, no_class, item_is, length-classes_at}
+use Rattle.cjc_check_tables.proofs.LinksLaws.Leaving.{step}
 
 -- ---- one class more
-
-step : (ps : List (Placed ClassEntry)) (n : ℕ) (d : Placed ClassEntry) → n < length ps → reverse (take (suc n) ps)
-    ≡ get_or ps n d ∷ reverse (take n ps)
-step ps n d lt = ap (λ (k : ℕ). reverse (take k ps)) (sym (add-one n))
-    ∙ ap (λ (qs : List (Placed ClassEntry)). reverse qs) (take_more ps n d lt)
-    ∙ reverse-append (take n ps) (get_or ps n d ∷ [])
 
 module _ (exports : List ExportTree) (t : ℕ) where
   passed : (ps : List (Placed ClassEntry)) (n o : ℕ) (d : Placed ClassEntry) → n < length ps → (o == (get_or ps n d).at)

@@ -12,19 +12,13 @@ use Rattle.cjc_capread.specs.declared.tree.FieldPlace.{FieldPlace}
 use Rattle.cjc_capread.specs.declared.tree.FieldPlace.TheVariants.{Static, Instance}
 use Rattle.cjc_check_rules.specs.Members.{is_cell_at, is_instance}
 use Rattle.cjc_check_tables.specs.Members.Working.Fields.{has_place, same_place}
-
-or_false : (b : Bool) → (b || false) ≡ b
-or_false true = refl
-or_false false = refl
+use Rattle.cjc_check_index.proofs.ImportedLaws.Loops.{or_false}
+use Rattle.cjc_capread.proofs.BytesBools.{or_assoc}
 
 regroup : (s c rest : Bool) → (cond s true c || rest) ≡ (c || (s || rest))
 regroup true true rest = refl
 regroup true false rest = refl
 regroup false c rest = refl
-
-or_assoc : (a b c : Bool) → ((a || b) || c) ≡ (a || (b || c))
-or_assoc true b c = refl
-or_assoc false b c = refl
 
 pub fields_more : (i : ℕ) (d : FieldDescriptor) (fields : List FieldDescriptor) (place : FieldPlace) (old new total :
     Bool) → i < length fields → new ≡ cond (same_place (get_or fields i d).place place) true old

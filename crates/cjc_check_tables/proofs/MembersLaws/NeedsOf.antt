@@ -9,8 +9,8 @@ use Rattle.cjc_capread.specs.declared.tree.ClassDescriptor.{ClassDescriptor}
 use Rattle.cjc_capread.specs.declared.tree.MethodDescriptor.{MethodDescriptor}
 use Rattle.cjc_capread.specs.ClassRefs.{is_inside}
 use Rattle.cjc_check_rules.specs.Tables.{holds_tokens}
-use Rattle.cjc_check_rules.proofs.Firsts.{either}
 use Rattle.cjc_check_tables.specs.Members.Working.Needs.{greater, need_of, need_of_method, need_of_methods}
+use Rattle.cjc_capread.proofs.BytesBools.{bool_either}
 
 -- ---- the greater of two
 
@@ -18,14 +18,14 @@ pub greater_none : (a : ℕ) → greater a 0 ≡ a
 greater_none a = let f : nat_lt a 0 ≡ false = grind (arith, nat_tests) in ap (λ b. if b then 0 else a) f
 
 pub none_greater : (a : ℕ) → greater 0 a ≡ a
-none_greater a = either (nat_lt 0 a) (λ t. ap (λ b. if b then a else 0) t) (λ f. let z : 0 ≡ a = grind (
+none_greater a = bool_either (nat_lt 0 a) (λ t. ap (λ b. if b then a else 0) t) (λ f. let z : 0 ≡ a = grind (
   arith,
   nat_tests,
   f,
 ) in ap (λ b. if b then a else 0) f ∙ z)
 
 greater_high : (a b : ℕ) → a ≤ b → greater a b ≡ b
-greater_high a b le = either (nat_lt a b)
+greater_high a b le = bool_either (nat_lt a b)
     (λ t. ap (λ x. if x then b else a) t)
     (λ f. let e : a ≡ b = grind (arith, nat_tests, f, le) in ap (λ x. if x then b else a) f ∙ e)
 
@@ -33,10 +33,10 @@ greater_low : (a b : ℕ) → b ≤ a → greater a b ≡ a
 greater_low a b le = let f : nat_lt a b ≡ false = grind (arith, nat_tests, le) in ap (λ x. if x then b else a) f
 
 pub greater_assoc : (a b c : ℕ) → greater (greater a b) c ≡ greater a (greater b c)
-greater_assoc a b c = either (nat_le a b)
+greater_assoc a b c = bool_either (nat_le a b)
     (λ ab.
     let le : a ≤ b = grind (arith, nat_tests, ab) in
-    ap (λ n. greater n c) (greater_high a b le) ∙ either (nat_le b c)
+    ap (λ n. greater n c) (greater_high a b le) ∙ bool_either (nat_le b c)
     (λ bc.
     let h : b ≤ c = grind (arith, nat_tests, bc) in
     greater_high b c h ∙ sym (greater_high a c (omega (arith, le, h))) ∙ ap (greater a) (sym (greater_high b c h)))
@@ -45,7 +45,7 @@ greater_assoc a b c = either (nat_le a b)
     greater_low b c h ∙ sym (greater_high a b le) ∙ ap (greater a) (sym (greater_low b c h))))
     (λ ab.
     let le : b ≤ a = grind (arith, nat_tests, ab) in
-    ap (λ n. greater n c) (greater_low a b le) ∙ either (nat_le b c)
+    ap (λ n. greater n c) (greater_low a b le) ∙ bool_either (nat_le b c)
     (λ bc.
     let h : b ≤ c = grind (arith, nat_tests, bc) in
     ap (greater a) (sym (greater_high b c h)))
@@ -90,7 +90,7 @@ classes_all i ds o done total le so_far = sym (greater_none done)
 pub need_put : (a b : Option ℕ) (offset x need most : ℕ) (c : Option ℕ) → most ≡ greater (unwrap_or c 0) need
     → (offset ≡ x → c ≡ a) → b ≡ cond (nat_eq offset x) (Some most) a
     → unwrap_or b 0 ≡ greater (unwrap_or a 0) (if offset == x then need else 0)
-need_put a b offset x need most c m same e = either (offset == x)
+need_put a b offset x need most c m same e = bool_either (offset == x)
     (λ t.
     let is : offset ≡ x = grind (arith, nat_tests, t) in
     ap (λ (o : Option ℕ). unwrap_or o 0) (e ∙ ap (λ k. cond k (Some most) a) t) ∙ m
@@ -103,14 +103,14 @@ need_put a b offset x need most c m same e = either (offset == x)
 -- ---- long enough
 
 both_le : (a b count : ℕ) → nat_le (greater a b) count ≡ (nat_le a count && nat_le b count)
-both_le a b count = either (nat_lt a b)
+both_le a b count = bool_either (nat_lt a b)
     (λ t.
-    ap (λ k. nat_le (if k then b else a) count) t ∙ either (nat_le b count)
+    ap (λ k. nat_le (if k then b else a) count) t ∙ bool_either (nat_le b count)
     (λ le. let l : nat_le a count ≡ true = grind (arith, nat_tests, t, le) in le ∙ sym (ap (λ k. k && nat_le b count) l
     ∙ le))
     (λ gt. gt ∙ sym (ap (λ k. nat_le a count && k) gt ∙ and_false (nat_le a count))))
     (λ f.
-    ap (λ k. nat_le (if k then b else a) count) f ∙ either (nat_le a count)
+    ap (λ k. nat_le (if k then b else a) count) f ∙ bool_either (nat_le a count)
     (λ le. let l : nat_le b count ≡ true = grind (arith, nat_tests, f, le) in le ∙ sym (ap (λ k. k && nat_le b count) le
     ∙ l))
     (λ gt. gt ∙ sym (ap (λ k. k && nat_le b count) gt)))
@@ -121,7 +121,7 @@ both_le a b count = either (nat_lt a b)
 
 one_holds : (m : MethodDescriptor) (count : ℕ) → (m.token == 0xFF || nat_lt m.token count) ≡ nat_le (need_of_method m)
     count
-one_holds m count = either (m.token == 0xFF)
+one_holds m count = bool_either (m.token == 0xFF)
     (λ t. let z : nat_le 0 count ≡ true = grind (arith, nat_tests) in ap (λ b. b || nat_lt m.token count) t
     ∙ sym (ap (λ b. nat_le (if b then 0 else m.token + 1) count) t ∙ z))
     (λ f.
@@ -129,7 +129,7 @@ one_holds m count = either (m.token == 0xFF)
     ap (λ b. b || nat_lt m.token count) f ∙ s ∙ sym (ap (λ b. nat_le (if b then 0 else m.token + 1) count) f))
   where
     less : (a b : ℕ) → nat_lt a b ≡ nat_le (a + 1) b
-    less a b = either (nat_lt a b)
+    less a b = bool_either (nat_lt a b)
         (λ t. let u : nat_le (a + 1) b ≡ true = grind (arith, nat_tests, t) in t ∙ sym u)
         (λ t. let u : nat_le (a + 1) b ≡ false = grind (arith, nat_tests, t) in t ∙ sym u)
 
@@ -143,7 +143,7 @@ all_hold (m ∷ ms) count =
 
 one_class : (d : ClassDescriptor) (o count : ℕ) → (not (is_inside d.this_class o) || holds_tokens count d)
     ≡ nat_le (if is_inside d.this_class o then need_of_methods d.methods else 0) count
-one_class d o count = either (is_inside d.this_class o)
+one_class d o count = bool_either (is_inside d.this_class o)
     (λ t. ap (λ b. not b || holds_tokens count d) t ∙ all_hold d.methods count
     ∙ sym (ap (λ b. nat_le (if b then need_of_methods d.methods else 0) count) t))
     (λ f.

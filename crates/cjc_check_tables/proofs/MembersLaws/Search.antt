@@ -1,5 +1,5 @@
 -- Where a class of the package stands, by a search over the starts of all.
-use Rattle.std.proofs.Common.{◌≡◌, ℕ, zero, suc, ◌+◌, ◌<◌, ◌≤◌, ◌==◌, Bool, true, false, List, [], ◌∷◌, length, get_or}
+use Rattle.std.proofs.Common.{◌≡◌, ℕ, zero, suc, ◌+◌, ◌<◌, ◌==◌, Bool, true, false, List, [], ◌∷◌, length, get_or}
 use Rattle.std.proofs.Common.{refl, sym, ap, ◌∙◌, subst, inl, inr, arith, Ok, Err, Some, None}
 use Rattle.std.specs.Prelude.{if◌then◌else◌, option_map}
 use Rattle.std.specs.List.{find}
@@ -15,33 +15,25 @@ use Rattle.cjc_capread.specs.declared.tree.ClassRef.TheVariants.{Inside}
 use Rattle.cjc_check_rules.specs.Spots.{Placed, item_at, placed, starts}
 use Rattle.cjc_check_rules.specs.Classes.{classes_at, first_class}
 use Rattle.cjc_check_rules.specs.Complete.{class_size}
-use Rattle.cjc_check_rules.proofs.Starts.{starts_rise}
+use Rattle.cjc_check_rules.proofs.Starts.{starts_rise, above}
 
 -- ---- starts rise
 
-at_least : {A : Type 0} (size : A → ℕ) (from : ℕ) (xs : List A) (k d : ℕ) → k < length (starts size from xs)
-    → from ≤ get_or (starts size from xs) k d
-unfolding placed
-at_least size from [] k d lt = absurd (omega (arith, lt))
-at_least size from (x ∷ xs) zero d lt = omega arith
-at_least size from (x ∷ xs) (suc k) d lt = let h = at_least size (from + size x) xs k d (omega (arith, lt))
-    in omega (arith, h)
-
-rise : {A : Type 0} (size : A → ℕ) (some : (x : A) → 0 < size x) (from : ℕ) (xs : List A) (i j d : ℕ) → i < j
+pub rise : {A : Type 0} (size : A → ℕ) (some : (x : A) → 0 < size x) (from : ℕ) (xs : List A) (i j d : ℕ) → i < j
     → j < length (starts size from xs) → get_or (starts size from xs) i d < get_or (starts size from xs) j d
 unfolding placed
 rise size some from [] i j d lt le = absurd (omega (arith, le))
 rise size some from (x ∷ xs) i zero d lt le = absurd (omega (arith, lt))
-rise size some from (x ∷ xs) zero (suc j) d lt le = let h = at_least size (from + size x) xs j d (omega (arith, le))
+rise size some from (x ∷ xs) zero (suc j) d lt le = let h = above size (from + size x) xs j d (omega (arith, le))
     in let s = some x in omega (arith, h, s)
 rise size some from (x ∷ xs) (suc i) (suc j) d lt le = rise size some (from + size x) xs i j d (omega (arith, lt))
     (omega (arith, le))
 
-begin : (info : ClassInfo) (k : ℕ) (d : Placed ClassEntry) → k < length (classes_at info)
+pub begin : (info : ClassInfo) (k : ℕ) (d : Placed ClassEntry) → k < length (classes_at info)
     → get_or (starts class_size (first_class info) info.classes) k 0 ≡ (get_or (classes_at info) k d).at
 begin info k d lt = get_or-map (λ (p : Placed ClassEntry). p.at) (classes_at info) k d 0 lt
 
-count : (info : ClassInfo) → length (starts class_size (first_class info) info.classes) ≡ length (classes_at info)
+pub count : (info : ClassInfo) → length (starts class_size (first_class info) info.classes) ≡ length (classes_at info)
 count info = length-map (classes_at info) (λ (p : Placed ClassEntry). p.at)
 
 -- ---- what a search answers
@@ -124,7 +116,7 @@ item_is size from [] i d x lt is = absurd (omega (arith, lt))
 item_is size from (y ∷ xs) zero d x lt is = sym is
 item_is size from (y ∷ xs) (suc i) d x lt is = item_is size (from + size y) xs i d x (omega (arith, lt)) is
 
-length-placed : {A : Type 0} (size : A → ℕ) (from : ℕ) (xs : List A) → length (placed size from xs) ≡ length xs
+pub length-placed : {A : Type 0} (size : A → ℕ) (from : ℕ) (xs : List A) → length (placed size from xs) ≡ length xs
 unfolding placed
 length-placed size from [] = refl
 length-placed size from (x ∷ xs) = let h = length-placed size (from + size x) xs in omega (arith, h)

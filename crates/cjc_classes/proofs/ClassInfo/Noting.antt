@@ -1,15 +1,15 @@
 -- Class_refs that are noted one by one.
-use Rattle.std.proofs.Common.{◌≡◌, ℕ, zero, suc, ◌+◌, ◌<◌, ◌≤◌, cond, refl, sym, ap, ◌∙◌, arith, Bool, true, false}
-use Rattle.std.proofs.Common.{List, [], ◌∷◌, length, get_or, drop, add-one}
+use Rattle.std.proofs.Common.{◌≡◌, ℕ, ◌+◌, ◌<◌, ◌≤◌, cond, refl, sym, ap, ◌∙◌, Bool, true, false}
+use Rattle.std.proofs.Common.{List, length, get_or, drop}
 use Rattle.std.specs.Prelude.{if◌then◌else◌, Option, Some, None, option_map}
 use Rattle.std.specs.Str.{bytes_eq}
-use Rattle.std.proofs.Math.Seq.{drop-cons}
 use Rattle.cjc_capread.specs.declared.tree.ClassRef.{ClassRef}
 use Rattle.cjc_capread.specs.declared.tree.ClassRef.TheVariants.{Inside, Outside}
 use Rattle.cjc_components.specs.CardSemantics.Machine.Classes.{Class, External, or_else}
 use Rattle.cjc_components.specs.Names.{ref_to}
-use Rattle.cjc_world.proofs.Settled.{bytes-true}
 use Rattle.cjc_classes.specs.ClassInfo.Infos.{end_of, spot_in}
+use Rattle.cjc_bytes.proofs.Gets.{drop_next, drop_past}
+use Rattle.cjc_bytes.proofs.Lists.{bytes_true}
 
 pub else_none : {A : Type 0} (o : Option A) → or_else o None ≡ o
 else_none None = refl
@@ -26,7 +26,7 @@ noted_some f name old new e x = by (bytes_eq name x) refl
     has (Some r) other h = refl
 
     by : (b : Bool) → bytes_eq name x ≡ b → f x ≡ or_else (f x) (cond b (Some new) None)
-    by true h = has (f x) (Some new) (ap f (sym (bytes-true name x h)) ∙ e)
+    by true h = has (f x) (Some new) (ap f (sym (bytes_true name x h)) ∙ e)
     by false h = sym (else_none (f x))
 
 pub noted_none : (f g : List ℕ → Option ClassRef) (name : List ℕ) (new : ClassRef) → f name ≡ None
@@ -35,7 +35,7 @@ pub noted_none : (f g : List ℕ → Option ClassRef) (name : List ℕ) (new : C
 noted_none f g name new e put x = put x ∙ by (bytes_eq name x) refl
   where
     by : (b : Bool) → bytes_eq name x ≡ b → cond b (Some new) (f x) ≡ or_else (f x) (cond b (Some new) None)
-    by true h = sym (ap (λ (o : Option ClassRef). or_else o (Some new)) (ap f (sym (bytes-true name x h)) ∙ e))
+    by true h = sym (ap (λ (o : Option ClassRef). or_else o (Some new)) (ap f (sym (bytes_true name x h)) ∙ e))
     by false h = sym (else_none (f x))
 
 -- ---- the next of several
@@ -63,37 +63,26 @@ else_file None file (Some token) rest = refl
 
 -- ---- what is left of a list
 
-pub here : {A : Type 0} (xs : List A) (k : ℕ) (x : A) → k < length xs → x ≡ get_or xs k x
-    → drop k xs ≡ x ∷ drop (k + 1) xs
-here xs k x lt is = drop-cons xs k x lt ∙ ap (λ y. y ∷ drop (suc k) xs) (sym is)
-    ∙ ap (λ n. x ∷ drop n xs) (sym (add-one k))
-
-pub past : {A : Type 0} (xs : List A) (k : ℕ) → length xs ≤ k → drop k xs ≡ []
-past [] zero le = refl
-past [] (suc k) le = refl
-past (x ∷ xs) zero le = absurd (omega arith)
-past (x ∷ xs) (suc k) le = past xs k (omega arith)
-
 module _ {A : Type 0} (named : A → List ℕ → Bool) (size : A → ℕ) where
   pub spot_here : (at : ℕ) (xs : List A) (k : ℕ) (x : A) → k < length xs → x ≡ get_or xs k x → (name : List ℕ)
       → spot_in named size at (drop k xs) name ≡ (if named x name then Some at
       else spot_in named size (at + size x) (drop (k + 1) xs) name)
   unfolding spot_in
-  spot_here at xs k x lt is name = ap (λ (ys : List A). spot_in named size at ys name) (here xs k x lt is)
+  spot_here at xs k x lt is name = ap (λ (ys : List A). spot_in named size at ys name) (drop_next xs k x lt is)
 
   pub spot_past : (at : ℕ) (xs : List A) (k : ℕ) → length xs ≤ k → (name : List ℕ)
       → spot_in named size at (drop k xs) name ≡ None
   unfolding spot_in
-  spot_past at xs k le name = ap (λ (ys : List A). spot_in named size at ys name) (past xs k le)
+  spot_past at xs k le name = ap (λ (ys : List A). spot_in named size at ys name) (drop_past xs k le)
 
   pub end_here : (at : ℕ) (xs : List A) (k : ℕ) (x : A) → k < length xs → x ≡ get_or xs k x → end_of size at (drop k xs)
       ≡ end_of size (at + size x) (drop (k + 1) xs)
   unfolding end_of
-  end_here at xs k x lt is = ap (end_of size at) (here xs k x lt is)
+  end_here at xs k x lt is = ap (end_of size at) (drop_next xs k x lt is)
 
   pub end_past : (at : ℕ) (xs : List A) (k : ℕ) → length xs ≤ k → end_of size at (drop k xs) ≡ at
   unfolding end_of
-  end_past at xs k le = ap (end_of size at) (past xs k le)
+  end_past at xs k le = ap (end_of size at) (drop_past xs k le)
 
   -- one more is noted
   pub spot_more : (f g : List ℕ → Option ClassRef) (at : ℕ) (xs : List A) (k : ℕ) (x : A) → k < length xs

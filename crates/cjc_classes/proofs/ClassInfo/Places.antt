@@ -1,11 +1,11 @@
 -- Places of classes, and rows that grow by what stands at each place.
-use Rattle.std.proofs.Common.{◌≡◌, ℕ, zero, suc, ◌+◌, ◌<◌, ◌≤◌, ◌∙◌, sym, ap, arith, List, [], ◌∷◌, ◌++◌, length}
+use Rattle.std.proofs.Common.{◌≡◌, ℕ, ◌+◌, ◌<◌, ◌≤◌, ◌∙◌, sym, ap, List, [], ◌∷◌, ◌++◌, length}
 use Rattle.std.proofs.Common.{get_or, drop, map, refl, add-one, append_assoc, append-nil, length-append}
 use Rattle.std.specs.Prelude.{count_by, is_some, slice_get, option_to_list, Option, Some, None, cond}
 use Rattle.std.proofs.lemmas.List.Sums.{sum_by-cons}
 use Rattle.cjc_world.specs.Classes.{Class}
 use Rattle.cjc_world.specs.Working.Places.{at_places}
-use Rattle.cjc_classes.proofs.ClassInfo.Noting.{here, past}
+use Rattle.cjc_bytes.proofs.Gets.{drop_next, drop_past, drop_suc, drop_behind}
 
 pub length_at_places : (w : List Class) (ps : List ℕ) → length (at_places w ps)
     ≡ count_by (λ p. is_some (slice_get w p)) ps
@@ -23,22 +23,6 @@ length_at_places w (p ∷ ps) =
 
 -- ---- a row with one more item for each item of a list
 
-at : {A : Type 0} (xs : List A) (k : ℕ) (x : A) → slice_get xs k ≡ Some x → drop k xs ≡ x ∷ drop (suc k) xs
-at [] k x e = cc
-at (y ∷ ys) zero x e = let same : y ≡ x = cc in ap (λ z. z ∷ ys) same
-at (y ∷ ys) (suc k) x e = at ys k x e
-
-pub get_past : {A : Type 0} (xs : List A) (k : ℕ) → length xs ≤ k → slice_get xs k ≡ None
-get_past [] k le = refl
-get_past (y ∷ ys) zero le = absurd (omega arith)
-get_past (y ∷ ys) (suc k) le = get_past ys k (omega arith)
-
-none_at : {A : Type 0} (xs : List A) (k : ℕ) → slice_get xs k ≡ None → drop k xs ≡ []
-none_at [] zero e = refl
-none_at [] (suc k) e = refl
-none_at (y ∷ ys) zero e = cc
-none_at (y ∷ ys) (suc k) e = none_at ys k e
-
 module _ {A B : Type 0} (f : A → B) (xs : List A) (k : ℕ) (row all : List B) where
   pub row-next : (x : A) (new : List B) → slice_get xs k ≡ Some x → new ≡ row ++ f x ∷ [] → row ++ map f (drop k xs)
       ≡ all → new ++ map f (drop (k + 1) xs) ≡ all
@@ -46,11 +30,11 @@ module _ {A B : Type 0} (f : A → B) (xs : List A) (k : ℕ) (row all : List B)
       ap (λ (r : List B). r ++ map f (drop (k + 1) xs)) more
       ∙ append_assoc row (f x ∷ []) (map f (drop (k + 1) xs))
       ∙ ap (λ n. row ++ f x ∷ map f (drop n xs)) (add-one k)
-      ∙ ap (λ (ys : List A). row ++ map f ys) (sym (at xs k x e))
+      ∙ ap (λ (ys : List A). row ++ map f ys) (sym (drop_suc xs k x e))
       ∙ inv
 
   pub row-end : slice_get xs k ≡ None → row ++ map f (drop k xs) ≡ all → row ≡ all
-  row-end e inv = sym (append-nil row) ∙ ap (λ (ys : List A). row ++ map f ys) (sym (none_at xs k e)) ∙ inv
+  row-end e inv = sym (append-nil row) ∙ ap (λ (ys : List A). row ++ map f ys) (sym (drop_behind xs k e)) ∙ inv
 
 -- ---- a row with the pieces of each item of a list
 
@@ -62,11 +46,11 @@ module _ {X Y : Type 0} (pieces : List X → List Y) (one : X → List Y) (none 
       ap (λ (r : List Y). r ++ pieces (drop (k + 1) xs)) put
       ∙ append_assoc row (one x) (pieces (drop (k + 1) xs))
       ∙ ap (λ (ys : List Y). row ++ ys) (sym (more x (drop (k + 1) xs)))
-      ∙ ap (λ (ys : List X). row ++ pieces ys) (sym (here xs k x lt is))
+      ∙ ap (λ (ys : List X). row ++ pieces ys) (sym (drop_next xs k x lt is))
       ∙ inv
 
   pub pieces-end : (xs : List X) (k : ℕ) (row all : List Y) → length xs ≤ k → row ++ pieces (drop k xs) ≡ all
       → row ≡ all
   pieces-end xs k row all le inv =
       sym (append-nil row) ∙ ap (λ (ys : List Y). row ++ ys) (sym none) ∙ ap (λ (ys : List X). row
-      ++ pieces ys) (sym (past xs k le)) ∙ inv
+      ++ pieces ys) (sym (drop_past xs k le)) ∙ inv

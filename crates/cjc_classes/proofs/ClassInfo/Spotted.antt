@@ -31,6 +31,7 @@ use Rattle.cjc_classes.specs.declared.class_info.refs.ClassRefs.{ClassRefs}
 use Rattle.cjc_classes.specs.ClassInfo.Refs.{AreRefs, ref_in, ref_of}
 use Rattle.cjc_classes.specs.ClassInfo.Infos.{bytes_at, bytes_of, end_of, interface_bytes, is_named, map_bytes}
 use Rattle.cjc_classes.specs.ClassInfo.Infos.{number_named, spot_in, table_bytes, table_named}
+use Rattle.cjc_bytes.proofs.Numbers.{none_behind}
 
 -- ---- classes and what is written for them, one beside the other
 
@@ -70,9 +71,6 @@ at_name-append (s ∷ ss) ts (c ∷ cs) ds x e =
     by true = refl
     by false = refl
 
-plus_none : (n : ℕ) → n ≡ n + 0
-plus_none n = omega arith
-
 plus_more : (e a b c s t : ℕ) → e ≡ a + b + s → t ≡ c + s → b ≡ c → e ≡ a + t
 plus_more e a b c s t p q r = omega arith
 
@@ -100,7 +98,7 @@ module _ {A B : Type 0} (size : B → ℕ) (entry : Class → B) (named : A → 
   pub end_at : (items : List A) (cs : List Class) → Beside items cs → (at : ℕ) → end_of bytes at items
       ≡ at + sum_by size (map entry cs)
   unfolding end_of
-  end_at [] [] b at = plus_none at
+  end_at [] [] b at = none_behind at
   end_at [] (c ∷ cs) b at = absurd b
   end_at (a ∷ items) [] b at = absurd b
   end_at (a ∷ items) (c ∷ cs) b at =

@@ -29,10 +29,7 @@ use Rattle.cjc_classes.specs.declared.class_info.refs.ClassRefs.{ClassRefs}
 use Rattle.cjc_classes.specs.ClassInfo.Refs.{AreRefs, ref_of}
 use Rattle.cjc_classes.specs.ClassInfo.Entries.{AreOffsets, entries_by, entry_by, entry_by_offset, entry_where}
 use Rattle.cjc_classes.specs.ClassInfo.Entries.{interface_entries, offset_in, with_numbers}
-
-map_same : {A B : Type 0} (f g : A → B) → ((x : A) → f x ≡ g x) → (xs : List A) → map f xs ≡ map g xs
-map_same f g e [] = refl
-map_same f g e (x ∷ xs) = ap (λ y. y ∷ map f xs) (e x) ∙ ap (λ ys. g x ∷ ys) (map_same f g e xs)
+use Rattle.cjc_bytes.proofs.Lists.{map_same}
 
 -- ---- pieces of rows
 

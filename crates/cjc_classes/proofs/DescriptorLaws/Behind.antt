@@ -1,9 +1,9 @@
 -- Cells that are put one behind the other.
-use Rattle.std.proofs.Common.{◌≡◌, ℕ, ◌+◌, ◌<◌, ◌≤◌, Bool, true, false, List, [], ◌∷◌, ◌++◌, length, get_or, take, drop}
+use Rattle.std.proofs.Common.{◌≡◌, ℕ, ◌+◌, ◌<◌, ◌≤◌, Bool, true, false, List, [], ◌∷◌, ◌++◌, length, get_or, drop}
 use Rattle.std.proofs.Common.{map, refl, sym, ap, ◌∙◌, append-nil, Option, Some, None}
 use Rattle.std.specs.Prelude.{if◌then◌else◌, unwrap_or}
 use Rattle.std.specs.Map.{lookup}
-use Rattle.std.proofs.lemmas.List.{drop_more, drop_all, map-append, take_more}
+use Rattle.std.proofs.lemmas.List.{drop_more, drop_all}
 use Rattle.cjc_bytes.specs.declared.fault.MemberId.{MemberId}
 use Rattle.cjc_components.specs.NCode.PoolOrder.{same_member}
 use Rattle.cjc_components.specs.Statics.{offset_from, size_of_field}
@@ -79,13 +79,3 @@ all_behind a b c d e xs ys zs ws none start h1 h2 h3 h4 f =
     ∙ h1 (ys ++ (zs ++ ws)) f
     ∙ ap (λ es. unwrap_or (lookup (same_member f) es) (offset_from a.end (xs ++ (ys ++ (zs ++ ws))) f)) none
     ∙ ap (λ n. offset_from n (xs ++ (ys ++ (zs ++ ws))) f) start
-
--- one row more of rows that are mapped
-pub rows_next : {A B : Type 0} (f : A → B) (rows : List B) (xs : List A) (i : ℕ) (x : A) (row : B) → i < length xs
-    → x ≡ get_or xs i x → row ≡ f x → rows ≡ map f (take i xs)
-    → rows ++ row ∷ [] ≡ map f (take (i + 1) xs)
-rows_next f rows xs i x row lt is r so_far =
-    ap (λ rs. rs ++ row ∷ []) so_far
-    ∙ ap (λ y. map f (take i xs) ++ y ∷ []) (r ∙ ap f is)
-    ∙ sym (map-append f (take i xs) (get_or xs i x ∷ []))
-    ∙ ap (map f) (sym (take_more xs i x lt))

@@ -6,6 +6,7 @@ use Rattle.std.proofs.lemmas.List.{length-map}
 use Rattle.std.proofs.lemmas.Option.{slice_get-map}
 use Rattle.cjc_bytes.specs.AccessFlags.{is_interface}
 use Rattle.cjc_bytes.specs.declared.fault.MemberId.{MemberId}
+use Rattle.cjc_bytes.proofs.Bools.{both_front, both_back}
 use Rattle.cjc_world.specs.ClassFile.declared.tree.ClassTree.{ClassTree}
 use Rattle.cjc_world.specs.ClassFile.declared.tree.MethodTree.{MethodTree}
 use Rattle.cjc_world.specs.Added.{added, added_at, added_to, named_by}
@@ -66,14 +67,6 @@ not_called s (x ∷ ms) e = by (not_called s ms) (is_called s.name s.desc x) (po
     by rest true o f g = cc
     by rest false None f g = rest f
     by rest false (Some j) f g = cc
-
-first_of : (a b : Bool) → (a && b) ≡ true → a ≡ true
-first_of true b e = refl
-first_of false b e = cc
-
-second_of : (a b : Bool) → (a && b) ≡ true → b ≡ true
-second_of true b e = e
-second_of false b e = cc
 
 module _ (files : Files) (n : ℕ) (t : ClassTree) (there : slice_get files.classes n ≡ Some t) (name desc : List ℕ) where
   abbrev c : Class
@@ -162,9 +155,10 @@ module _ (files : Files) (n : ℕ) (t : ClassTree) (there : slice_get files.clas
       (called name desc) (Some u)
   shown_own applets i u plain e kept =
       let r = position-at (λ m. is_shown m && is_called name desc m) c.methods i e in
-      let signed = same-true (signature_of r.0) s (second_of (is_shown r.0) (is_called name desc r.0) r.2) in
+      let signed = same-true (signature_of r.0) s (both_back (is_shown r.0) (is_called name desc r.0) r.2) in
       ap (shown_token (line_at (all_classes files) c)) (sym signed)
-      ∙ sym (shown_kept files applets n t there plain i r.0 r.1 (first_of (is_shown r.0) (is_called name desc r.0) r.2))
+      ∙ sym (shown_kept files applets n t there plain i r.0 r.1 (both_front (is_shown r.0)
+      (is_called name desc r.0) r.2))
       ∙ ap (token_of_member (assigned applets files)) (sym (behind_fields i))
       ∙ kept
 

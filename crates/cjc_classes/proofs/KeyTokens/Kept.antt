@@ -5,6 +5,7 @@ use Rattle.std.specs.Prelude.{slice_get, option_map, option_and_then, if◌then�
 use Rattle.std.proofs.lemmas.List.{length-map}
 use Rattle.std.proofs.lemmas.Option.{slice_get-map}
 use Rattle.cjc_bytes.specs.AccessFlags.{is_interface}
+use Rattle.cjc_bytes.proofs.Gets.{in_front, get_behind}
 use Rattle.cjc_world.specs.ClassFile.declared.tree.ClassTree.{ClassTree}
 use Rattle.cjc_world.specs.ClassFile.declared.tree.FieldTree.{FieldTree}
 use Rattle.cjc_world.specs.Files.{Files}
@@ -20,8 +21,6 @@ use Rattle.cjc_tokens.specs.Methods.{with_high_bit}
 use Rattle.cjc_tokens.specs.Slots.{Slots, hidden_slots, shown_token, token}
 use Rattle.cjc_tokens.specs.Tokens.{OfClass, assigned, classes_from, joined, method_tokens, of_class, one_more}
 use Rattle.cjc_tokens.specs.Tokens.{token_of_member}
-use Rattle.cjc_tokens.proofs.Held.{at_front}
-use Rattle.cjc_components.proofs.VTableSlotNames.{get-behind}
 
 class_row : (w : List Class) (applets : Bool) (b m : ℕ) (cs : List ClassTree) (n : ℕ) (c : ClassTree)
     → slice_get cs n ≡ Some c → (a : ℕ) × (slice_get (classes_from w applets b m cs) n
@@ -37,13 +36,13 @@ class_row w applets b m (x ∷ cs) (suc n) c e =
     let s : m + 1 + n ≡ m + suc n = omega arith in
     (r.0, r.1 ∙ ap (λ k. Some (of_class w applets r.0 k c)) s)
 
-fields_long : (exported : Bool) (fs : List FieldTree) (i : ℕ) (rest : List FieldTree)
+pub fields_long : (exported : Bool) (fs : List FieldTree) (i : ℕ) (rest : List FieldTree)
     → length (field_tokens exported fs i rest) ≡ length rest
 unfolding field_tokens
 fields_long exported fs i [] = refl
 fields_long exported fs i (f ∷ rest) = ap suc (fields_long exported fs (i + 1) rest)
 
-method_row : (exported : Bool) (shown : Signature → Option ℕ) (hidden : Slots) (ms : List Member) (i : ℕ)
+pub method_row : (exported : Bool) (shown : Signature → Option ℕ) (hidden : Slots) (ms : List Member) (i : ℕ)
     (rest : List Member) (k : ℕ)
     (m : Member) → slice_get rest k ≡ Some m
     → slice_get (class_method_tokens exported shown hidden ms i rest) k ≡ Some (class_method_token exported shown hidden
@@ -60,7 +59,7 @@ method_row exported shown hidden ms i (x ∷ rest) (suc k) m e =
     method_row exported shown hidden ms (i + 1) rest k m e
     ∙ ap (λ j. Some (class_method_token exported shown hidden ms j m)) s
 
-rows_long : (exported : Bool) (shown : Signature → Option ℕ) (hidden : Slots) (ms : List Member) (i : ℕ)
+pub rows_long : (exported : Bool) (shown : Signature → Option ℕ) (hidden : Slots) (ms : List Member) (i : ℕ)
     (rest : List Member)
     → length (class_method_tokens exported shown hidden ms i rest) ≡ length rest
 unfolding class_method_tokens
@@ -99,9 +98,9 @@ module _ (files : Files) (applets : Bool) (n : ℕ) (t : ClassTree) (there : sli
       let member : slice_get (field_tokens ex t.fields 0 t.fields ++ method_tokens w ex c) (length c.fields + k)
       ≡ Some (class_method_token ex shown_ones hidden_ones c.methods (0 + k) m) =
       ap (λ j. slice_get (field_tokens ex t.fields 0 t.fields ++ method_tokens w ex c) (j + k)) fields
-      ∙ get-behind (field_tokens ex t.fields 0 t.fields) (method_tokens w ex c) k
+      ∙ get_behind (field_tokens ex t.fields 0 t.fields) (method_tokens w ex c) k
       ∙ ap (λ xs. slice_get xs k) methods
-      ∙ at_front (class_method_tokens ex shown_ones hidden_ones c.methods 0 c.methods)
+      ∙ in_front (class_method_tokens ex shown_ones hidden_ones c.methods 0 c.methods)
       (map (λ m. shown_ones (signature_of m)) (added w c)) k _ own in (
         ex,
         ap (λ (o : Option OfClass). option_and_then (λ (x : OfClass). joined
@@ -156,9 +155,9 @@ module _ (files : Files) (applets : Bool) (n : ℕ) (t : ClassTree) (there : sli
       let member : slice_get (fs ++ method_tokens w ex c) (length c.fields + length c.methods + k)
       ≡ Some (shown_ones (signature_of m)) =
       ap (slice_get (fs ++ method_tokens w ex c)) place
-      ∙ get-behind fs (method_tokens w ex c) (length own + k)
+      ∙ get_behind fs (method_tokens w ex c) (length own + k)
       ∙ ap (λ xs. slice_get xs (length own + k)) methods
-      ∙ get-behind own more k
+      ∙ get_behind own more k
       ∙ slice_get-map (λ m. shown_ones (signature_of m)) (added w c) k
       ∙ ap (option_map (λ m. shown_ones (signature_of m))) at in
       ap (λ (o : Option OfClass). option_and_then (λ (x : OfClass). joined

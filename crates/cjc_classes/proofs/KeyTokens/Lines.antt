@@ -3,6 +3,7 @@ use Rattle.std.proofs.Common.{◌≡◌, ◌∙◌, ℕ, zero, suc, Bool, true, 
 use Rattle.std.proofs.Common.{Option, Some, None, set}
 use Rattle.std.specs.Prelude.{◌||◌, option_map, if◌then◌else◌, position, slice_get}
 use Rattle.std.proofs.lemmas.Option.{slice_get-map}
+use Rattle.std.proofs.lemmas.Bool.{or_parts}
 use Rattle.cjc_world.specs.Classes.{Class, Member}
 use Rattle.cjc_world.specs.declared.found.Found.{Found}
 use Rattle.cjc_world.specs.Lookup.{or_else}
@@ -97,10 +98,6 @@ holding-set [] k u s e f = refl
 holding-set (slot ∷ all) zero u s e f = ap (λ b. b ∷ holding s all) (e ∙ sym f)
 holding-set (slot ∷ all) (suc k) u s e f = ap (λ q. holds slot s ∷ q) (holding-set all k u s e f)
 
-neither : (a b : Bool) → (a || b) ≡ false → (a ≡ false) × (b ≡ false)
-neither true b e = cc
-neither false b e = (refl, e)
-
 -- Methods of other signatures take no slot at which a class of the package has the method.
 holding-taken : (listed : Signature → Option ℕ) (methods : List (Option Found)) (ss : List Signature) (all : Slots)
     (s : Signature) → ((k : ℕ) → is_slot_of (slice_get all k) s ≡ true → is_of_package (slice_get methods k) ≡ true)
@@ -113,7 +110,7 @@ holding-taken listed methods (u ∷ ss) all s keep none =
     ∙ one (listed u)
   where
     apart : (same u s ≡ false) × (has ss s ≡ false)
-    apart = neither (same u s) (has ss s) none
+    apart = or_parts (same u s) (has ss s) none
 
     one : (o : Option ℕ) → holding s (with_taken o methods u all) ≡ holding s all
     one None = refl
@@ -133,8 +130,8 @@ holding-taken listed methods (u ∷ ss) all s keep none =
 slot_front : (a : Slots) (xs : List Signature) (s : Signature) (t : ℕ) → has xs s ≡ false
     → is_slot_of (slice_get (a ++ map Some xs) t) s ≡ is_slot_of (slice_get a t) s
 slot_front [] [] s t e = refl
-slot_front [] (x ∷ xs) s zero e = (neither (same x s) (has xs s) e).0
-slot_front [] (x ∷ xs) s (suc t) e = slot_front [] xs s t (neither (same x s) (has xs s) e).1
+slot_front [] (x ∷ xs) s zero e = (or_parts (same x s) (has xs s) e).0
+slot_front [] (x ∷ xs) s (suc t) e = slot_front [] xs s t (or_parts (same x s) (has xs s) e).1
 slot_front (slot ∷ a) xs s zero e = refl
 slot_front (slot ∷ a) xs s (suc t) e = slot_front a xs s t e
 

@@ -1,11 +1,12 @@
 -- Type descriptors that are put one behind the other.
-use Rattle.std.proofs.Common.{◌≡◌, ℕ, suc, ◌+◌, ◌<◌, ◌≤◌, Bool, true, false, List, [], ◌∷◌, ◌++◌, map, append_assoc}
-use Rattle.std.proofs.Common.{refl, sym, ap, ◌∙◌, length, get_or, drop, drop-cons, add-one}
+use Rattle.std.proofs.Common.{◌≡◌, ℕ, ◌+◌, ◌<◌, ◌≤◌, Bool, true, false, List, [], ◌∷◌, ◌++◌, map, append_assoc}
+use Rattle.std.proofs.Common.{refl, sym, ap, ◌∙◌, length, get_or, drop}
 use Rattle.std.specs.List.{flat_map}
 use Rattle.std.specs.Str.{bytes_eq}
 use Rattle.std.proofs.lemmas.List.{drop_all, map-append}
 use Rattle.std.proofs.lemmas.List.Concat.{flat_map-cons, flat_map-append}
 use Rattle.cjc_bytes.specs.declared.fault.MemberId.{MemberId}
+use Rattle.cjc_bytes.proofs.Gets.{get_step}
 use Rattle.cjc_capread.specs.declared.tree.ClassRef.{ClassRef}
 use Rattle.cjc_world.specs.ClassFile.declared.tree.ClassTree.{ClassTree}
 use Rattle.cjc_components.specs.ClassOrder.Supers.Working.Walk.{with_all}
@@ -15,19 +16,13 @@ use Rattle.cjc_classes.specs.TypeInfo.Working.Nibbles.{nibbles_in}
 use Rattle.cjc_classes.specs.TypeInfo.Working.Descs.{all_nibbles, desc_of_added, desc_of_method, descs_in}
 use Rattle.cjc_classes.specs.TypeInfo.Working.Descs.{nibbles_of_each}
 
--- an item of a list that is mapped and joined
-step : {A : Type 0} {B : Type 0} (f : A → List B) (list : List A) (i : ℕ) (d : A) → i < length list
-    → flat_map f (drop i list) ≡ f (get_or list i d) ++ flat_map f (drop (i + 1) list)
-step f list i d lt = rw add-one (ap (flat_map f) (drop-cons list i d lt)
-    ∙ flat_map-cons f (get_or list i d) (drop (suc i) list))
-
 pub walk_next : {A : Type 0} (f : A → List (List ℕ)) (ks : List (List ℕ)) (list : List A) (i : ℕ) (d : A)
     (total : List (List ℕ)) → i < length list
     → with_all ks (flat_map f (drop i list)) ≡ total → with_all (with_all ks (f (get_or list i d)))
     (flat_map f (drop (i + 1) list)) ≡ total
 walk_next f ks list i d total lt so_far =
     sym (all_append ks (f (get_or list i d)) (flat_map f (drop (i + 1) list)))
-    ∙ (ap (with_all ks) (sym (step f list i d lt)) ∙ so_far)
+    ∙ (ap (with_all ks) (sym (get_step f list i d lt)) ∙ so_far)
 
 pub walk_end : {A : Type 0} (f : A → List (List ℕ)) (ks : List (List ℕ)) (list : List A) (i : ℕ) (total : List (List ℕ))
     → length list ≤ i

@@ -70,7 +70,7 @@ fn superinterfaces(
 }
 
 /// The info of an interface.
-pub(crate) fn interface_entry(
+pub fn interface_entry(
     alloc: Global,
     world: &World<'_>,
     refs: &ClassRefs,
@@ -153,8 +153,8 @@ fn implemented(
     Ok(ImplementedInterface { interface, index })
 }
 
-/// The interfaces that a class implements.
-fn implemented_interfaces(
+/// The interfaces that a class implements, with the tokens of their methods in it.
+pub fn implemented_interfaces(
     alloc: Global,
     refs: &ClassRefs,
     maps: &[InterfaceMap],

@@ -16,7 +16,7 @@ const NONE: u8 = 0xFF;
 
 /// What an info says of the instance fields that a class declares.
 #[derive(Clone, Copy)]
-pub(crate) struct FieldCells {
+pub struct FieldCells {
     /// Of all of them.
     pub size: u8,
     /// The token of the first reference field, 0xFF where there is none.
@@ -116,7 +116,7 @@ fn first_reference_token(fields: &[FieldTree]) -> Result<u8, NoMemory>
 }
 
 /// What an info says of the instance fields that a class declares.
-pub(crate) fn field_cells(fields: &[FieldTree]) -> Result<FieldCells, NoMemory>
+pub fn field_cells(fields: &[FieldTree]) -> Result<FieldCells, NoMemory>
     ensures size { IfOk result (λ f. f.size ≡ instance_cells fields.now) }
     ensures first { IfOk result (λ f. f.first_reference ≡ first_reference_token fields.now) }
     ensures count { IfOk result (λ f. f.reference_count ≡ reference_count fields.now) }

@@ -54,11 +54,7 @@ fn flags_of(interface: bool, shareable: bool) -> u8
 }
 
 /// The flags of the info of a class.
-pub(crate) fn info_flags(
-    alloc: Global,
-    world: &World<'_>,
-    class: Known<'_, '_>,
-) -> Result<u8, NoMemory>
+pub fn info_flags(alloc: Global, world: &World<'_>, class: Known<'_, '_>) -> Result<u8, NoMemory>
     ensures { IfOk result (λ f. f ≡ info_flags (all_classes world.now) (class_of class.entry)) }
 {
     let shareable = is_shareable(alloc, world, class)?;

@@ -46,7 +46,7 @@ fn number_of(file: usize) -> Result<u8, NoMemory>
 }
 
 /// Notes the classes of the export files, each by the first that has it.
-pub(crate) fn note_files(
+pub fn note_files(
     alloc: Global,
     refs: &mut ClassRefs,
     exports: &[ExportTree],

@@ -19,7 +19,7 @@ pub struct ClassRefs {
 
 impl ClassRefs {
     /// No names. Takes no memory.
-    pub(crate) fn new(alloc: Global) -> ClassRefs
+    pub fn new(alloc: Global) -> ClassRefs
         ensures { (x : List ℕ) → ref_in result x ≡ None }
     {
         ClassRefs {
@@ -56,12 +56,7 @@ impl ClassRefs {
     }
 
     /// Notes the class_ref of a name, where none is noted.
-    pub(crate) fn note(
-        &mut self,
-        alloc: Global,
-        name: &[u8],
-        class: ClassRef,
-    ) -> Result<(), NoMemory>
+    pub fn note(&mut self, alloc: Global, name: &[u8], class: ClassRef) -> Result<(), NoMemory>
         ensures { OnOk result ((x : List ℕ) → ref_in self.new x ≡ or_else (ref_in self.old x)
             (cond (bytes_eq name.now x) (Some class) None)) }
     {

@@ -17,7 +17,7 @@ use cjc_world::{Known, World};
 use std::alloc::Global;
 
 /// Notes the class of a number, which begins at an offset.
-fn note_class(
+pub fn note_class(
     alloc: Global,
     classes: &[ClassTree<'_>],
     refs: &mut ClassRefs,

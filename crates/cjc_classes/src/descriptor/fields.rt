@@ -20,7 +20,7 @@ use cjc_world::export_file::may_be_constant;
 use std::alloc::Global;
 
 /// A static final field of a number with a number as ConstantValue.
-fn is_constant(field: &FieldTree) -> bool
+pub fn is_constant(field: &FieldTree) -> bool
     ensures { result ≡ is_constant field.now }
 {
     may_be_constant(field.flags, field.desc.items()) && field.constant.is_some()

@@ -21,7 +21,7 @@ fn flag_where(flags: u16, flag: u16, written: u8) -> u8
 }
 
 /// Those of a class.
-pub(crate) fn class_flags(flags: u16) -> u8
+pub fn class_flags(flags: u16) -> u8
     ensures { result ≡ class_flags flags }
 {
     flag_where(flags, ACC_PUBLIC, 0x01)
@@ -31,7 +31,7 @@ pub(crate) fn class_flags(flags: u16) -> u8
 }
 
 /// Those of a field.
-pub(crate) fn field_flags(flags: u16) -> u8
+pub fn field_flags(flags: u16) -> u8
     ensures written { result ≡ field_flags flags }
     ensures within { result ≤ 0x1F }
 {
@@ -51,7 +51,7 @@ fn constructor_flag(name: &[u8]) -> u8
 }
 
 /// Those of a method.
-pub(crate) fn method_flags(flags: u16, name: &[u8]) -> u8
+pub fn method_flags(flags: u16, name: &[u8]) -> u8
     ensures { result ≡ field_flags flags + flag_where flags acc_abstract 0x40 + (if is_constructor name.now then 0x80
         else 0) }
 {

@@ -116,11 +116,7 @@ fn nibbles_of_parts<'a>(alloc: Global, refs: &ClassRefs, desc: &Desc<'a>) -> Res
 
 /// The nibbles of what a descriptor says.
 #[tactic(auto, using(crate::proofs::TypeInfo::Parts::nibbles_of_none, crate::proofs::TypeInfo::Parts::nibbles_of_some))]
-pub(crate) fn nibbles_in<'a>(
-    alloc: Global,
-    refs: &ClassRefs,
-    desc: &'a [u8],
-) -> Result<Bytes, NoMemory>
+pub fn nibbles_in<'a>(alloc: Global, refs: &ClassRefs, desc: &'a [u8]) -> Result<Bytes, NoMemory>
     ensures { IfOk result (λ nibbles. nibbles ≡ nibbles_in (ref_of refs.now) desc.now) }
 {
     match parsed(desc)? {

@@ -30,7 +30,7 @@ pub enum Sort<'a> {
 }
 
 /// The parts of a descriptor, or nothing where the bytes are none.
-pub(crate) fn parsed(desc: &[u8]) -> Result<Option<Desc<'_>>, NoMemory>
+pub fn parsed(desc: &[u8]) -> Result<Option<Desc<'_>>, NoMemory>
     ensures { IfOk result (λ parts. parts ≡ desc_of desc.now) }
 {
     if desc.len() >= 1 << 32 {
@@ -73,7 +73,7 @@ fn reference_to(name: &[u8]) -> Result<Sort<'_>, NoMemory>
 }
 
 /// A type by its kind and its class.
-pub(crate) fn sort_by(kind: Kind, name: &[u8]) -> Result<Sort<'_>, NoMemory>
+pub fn sort_by(kind: Kind, name: &[u8]) -> Result<Sort<'_>, NoMemory>
     ensures { IfOk result (λ sort. sort_meant sort ≡ sort_by kind name.now) }
 {
     match kind {
@@ -88,7 +88,7 @@ pub(crate) fn sort_by(kind: Kind, name: &[u8]) -> Result<Sort<'_>, NoMemory>
 }
 
 /// The type of the result; of a field's descriptor its type.
-pub(crate) fn result_sort<'a>(desc: &Desc<'a>) -> Result<Sort<'a>, NoMemory>
+pub fn result_sort<'a>(desc: &Desc<'a>) -> Result<Sort<'a>, NoMemory>
     ensures { IfOk result (λ sort. sort_meant sort ≡ sort_of desc.now.result) }
 {
     let (kind, class) = desc.result_type();

@@ -20,8 +20,7 @@ use Rattle.cjc_judge.specs.declared.judged.Judged.{Judged}
 use Rattle.cjc_judge.specs.Rules.{AreWorld, IsFirstFault, IsFirstOf, IsFirstRefused, OnLevels, files_spelt, has_applets}
 use Rattle.cjc_judge.specs.Rules.{of_group, of_world, on_first, on_second, settings_of, world_files}
 use Rattle.cjc_judge.specs.Spelt.{FileTree, SpellTrees, classes_of, exports_of}
-use Rattle.cjc_judge.proofs.Firsts.{one_spelling}
-use Rattle.cjc_shape.proofs.JudgedLaws.Selected.{none_among, spells}
+use Rattle.cjc_judge.proofs.Firsts.{one_spelling, all_spell}
 use Rattle.cjc_judge.specs.List.Listed.{ListTree}
 use Rattle.cjc_pairing.specs.Components.Paired.Pairs.{pair_breaks}
 use Rattle.cjc_shape.proofs.PreparedLaws.Limited as limited
@@ -34,6 +33,8 @@ use Rattle.cjc_judge.specs.World.declared.image.StaticImage.{StaticImage}
 use Rattle.cjc_cmd_card.specs.Report.Runs.{AnyBreaks, BreaksPair}
 use Rattle.cjc_cmd_card.specs.Report.Working.{IsPairFault}
 use Rattle.cjc_cmd_card.proofs.ReportLaws.Once.{SentencesHold, ready_unbroken}
+use Rattle.cjc_judge.proofs.BytesPlain.{the_same}
+use Rattle.cjc_judge.proofs.BytesBrokenRules.{no_breaks}
 
 -- ---- a package
 
@@ -48,7 +49,7 @@ module _ (input : Input) (name : List ℕ) (ready : Ready) (is : IsReady input n
   trees = is.judged.read.trees
 
   pub spelt : SpellTrees list.lines input.files trees
-  spelt = spells list.lines input.files trees is.judged.read.spelt
+  spelt = all_spell list.lines input.files trees is.judged.read.spelt
 
   pub world_is : judged.world ≡ files_spelt list trees
   world_is = is.judged.world ∙ ap (λ cs. world_files list cs judged.world.exports) is.judged.read.classes
@@ -60,7 +61,7 @@ module _ (input : Input) (name : List ℕ) (ready : Ready) (is : IsReady input n
   are_world : AreWorld list input.files trees
   are_world = (
     spelt,
-    none_among (breaks list.name (files_spelt list trees)) (λ b among. is.judged.unbroken b
+    no_breaks (breaks list.name (files_spelt list trees)) (λ b among. is.judged.unbroken b
         (of_world (trees, spelt, among))),
   )
 
@@ -82,7 +83,7 @@ module _ (input : Input) (name : List ℕ) (ready : Ready) (is : IsReady input n
   unlimited =
       let none : check_breaks list.name (files_spelt list trees) (all_codes (classes_of trees)) (settings_of list)
       ≡ [] =
-      none_among (check_breaks list.name (files_spelt list trees) (all_codes (classes_of trees)) (settings_of list))
+      no_breaks (check_breaks list.name (files_spelt list trees) (all_codes (classes_of trees)) (settings_of list))
       (λ b among. is.judged.unbroken b (of_group (2, groups.Limits, refl, (trees, are_world, among)))) in
       ap (λ w. check_breaks list.name w judged.codes (settings_of list)) world_is
       ∙ ap (λ cs. check_breaks list.name (files_spelt list trees) cs (settings_of list)) codes_are ∙ none
@@ -96,15 +97,12 @@ module _ (input : Input) (name : List ℕ) (ready : Ready) (is : IsReady input n
   pub has_tokens : token_breaks (has_applets list) judged.world ≡ []
   has_tokens =
       let none : tested_breaks (has_applets list) (files_spelt list trees) ≡ [] =
-      none_among (tested_breaks (has_applets list) (files_spelt list trees)) (λ b among. is.judged.unbroken b
+      no_breaks (tested_breaks (has_applets list) (files_spelt list trees)) (λ b among. is.judged.unbroken b
       (of_group (3, groups.Tokens, refl, (trees, are_world, among)))) in
       limited.has_tokens list.name judged.world judged.codes (settings_of list) unlimited
       (ap (tested_breaks (has_applets list)) world_is ∙ none)
 
 -- ---- 719
-
-same_some : {A : Type 0} (a b : A) → Some a ≡ Some b → a ≡ b
-same_some a b e = cc
 
 -- what two breaks of 719 are broken of is the same
 pub one_pair : (input : Input) (a b : Break) (p : BreaksPair input a) (q : BreaksPair input b)
@@ -117,8 +115,8 @@ one_pair input a b p q =
     subst (λ ts. IsImage (files_spelt list ts) (all_codes (classes_of ts)) p.image) trees p.is_image in
     let image : p.image ≡ q.image = one-image (files_spelt list q.trees) (all_codes (classes_of q.trees)) p.image
     q.image there q.is_image in
-    let cap : p.cap ≡ q.cap = same_some p.cap q.cap (sym p.cap_is ∙ q.cap_is) in
-    let whole : p.whole ≡ q.whole = same_some p.whole q.whole (sym p.whole_is ∙ ap complete cap ∙ q.whole_is) in
+    let cap : p.cap ≡ q.cap = the_same p.cap q.cap (sym p.cap_is ∙ q.cap_is) in
+    let whole : p.whole ≡ q.whole = the_same p.whole q.whole (sym p.whole_is ∙ ap complete cap ∙ q.whole_is) in
     λ i. pair_breaks (files_spelt list (trees i)) (image i) (whole i)
 
 module _ (hold : SentencesHold) (input : Input) (name : List ℕ) (ready : Ready) (is : IsReady input name ready)
@@ -156,8 +154,8 @@ module _ (hold : SentencesHold) (input : Input) (name : List ℕ) (ready : Ready
       subst (λ cs. IsImage ready.judged.world cs p.image) codes
       (subst (λ w. IsImage w (all_codes (classes_of p.trees)) p.image) world p.is_image) in
       let one : p.image ≡ image = one-image ready.judged.world ready.judged.codes p.image image there is_image in
-      let cap : p.cap ≡ ready.cap = same_some p.cap ready.cap (sym p.cap_is ∙ is.cap) in
-      let same : p.whole ≡ whole = same_some p.whole whole (sym p.whole_is ∙ ap complete cap ∙ whole_is) in
+      let cap : p.cap ≡ ready.cap = the_same p.cap ready.cap (sym p.cap_is ∙ is.cap) in
+      let same : p.whole ≡ whole = the_same p.whole whole (sym p.whole_is ∙ ap complete cap ∙ whole_is) in
       let lists : pair_breaks (files_spelt list p.trees) p.image p.whole ≡ pair_breaks ready.judged.world image whole =
       λ i. pair_breaks (world i) (one i) (same i) in
       subst (Among b) lists p.broken

@@ -17,19 +17,16 @@ use Rattle.cjc_cmd_check.specs.Folder.Breaks.{break_in, component_breaks, compon
 use Rattle.cjc_cmd_check.specs.Folder.Reads.{read_component}
 use Rattle.cjc_judge.specs.Rules.{Breach}
 use Rattle.cjc_judge.specs.Spelt.{exports_of}
-use Rattle.cjc_judge.proofs.Firsts.{file_or_later, file_rule, one_spelling}
+use Rattle.cjc_judge.proofs.Firsts.{file_or_later, file_rule, one_spelling, all_spell}
 use Rattle.cjc_judge.proofs.OneRefusal.{one_refusal}
-use Rattle.cjc_shape.proofs.JudgedLaws.Selected.{spells}
 use Rattle.cjc_judge.specs.List.Listed.{ListTree}
 use Rattle.cjc_cmd_jvm.specs.Running.Ready.{BreaksScript}
 use Rattle.cjc_card.specs.CheckRules.Consistent.{Consistent, Unbroken}
+use Rattle.cjc_judge.proofs.BytesBrokenRules.{none_among}
 
 -- where components are consistent no sentence is broken
 abbrev pub SentencesHold : Type 0
 SentencesHold = (cap : CapTree) (exports : List ExportTree) → Consistent cap exports → Unbroken cap exports
-
-none : {P : Type 0} (b : Break) → Among b [] → P
-none b among = elim among [ ]
 
 -- ---- nothing is broken of what is ready
 
@@ -39,17 +36,17 @@ module _ (hold : SentencesHold) (input : Input) (name : List ℕ) (ready : Ready
       let list = input.list in
       let judged = ready.judged in
       let world = judged.world in
-      let mine = spells list.lines input.files is.judged.read.trees is.judged.read.spelt in
+      let mine = all_spell list.lines input.files is.judged.read.trees is.judged.read.spelt in
       let same = one_spelling list.lines input.files trees is.judged.read.trees spelt mine in
       let exports : exports_of trees ≡ world.exports = ap exports_of same ∙ sym is.judged.read.exports in
       let there : Among b (sentence_breaks (Some ready.cap) world.exports) =
       subst (λ es. Among b (sentence_breaks (Some ready.cap) es)) exports
       (subst (λ o. Among b (sentence_breaks o (exports_of trees))) is.cap among) in
-      none b (subst (Among b) (hold ready.cap world.exports is.consistent) there)
+      none_among b (subst (Among b) (hold ready.cap world.exports is.consistent) there)
 
   pub ready_unbroken : (b : Break) → Breaks input name b → ⊥
   ready_unbroken b (of_package h) = is.judged.unbroken b h
-  ready_unbroken b (of_parts among) = none b (subst (Among b) is.unbroken among)
+  ready_unbroken b (of_parts among) = none_among b (subst (Among b) is.unbroken among)
   ready_unbroken b (of_script (r, e, same)) = let both = sym is.script ∙ e in cc
   ready_unbroken b (of_sentences h) = no_sentence b h
 
@@ -64,16 +61,16 @@ two_scripts name text a b (r, e, is) (s, f, js) =
 -- 106 is of the first hundred
 in_part : (tag : ℕ) {A : Type 0} (r : Result A ℕ) (b : Break) → Among b (break_in 106 (component_place tag) r)
     → (b.rank.rule ≡ 106) × (b.rank.family ≡ 1)
-in_part tag (Ok tree) b among = none b among
+in_part tag (Ok tree) b among = none_among b among
 in_part tag (Err k) b foremost = (refl, refl)
-in_part tag (Err k) b (after more) = none b more
+in_part tag (Err k) b (after more) = none_among b more
 
 in_parts : (tags : List ℕ) (files : List (List ℕ)) (b : Break) → Among b (component_breaks tags files)
     → (b.rank.rule ≡ 106) × (b.rank.family ≡ 1)
 unfolding component_breaks
-in_parts [] [] b among = none b among
-in_parts [] (x ∷ files) b among = none b among
-in_parts (tag ∷ tags) [] b among = none b among
+in_parts [] [] b among = none_among b among
+in_parts [] (x ∷ files) b among = none_among b among
+in_parts (tag ∷ tags) [] b among = none_among b among
 in_parts (tag ∷ tags) (x ∷ files) b among =
     elim (among_either b (break_in 106 (component_place tag) (read_component tag x)) (component_breaks tags files)
     among) [

@@ -14,16 +14,14 @@ use Rattle.cjc_card.specs.CheckRules.Consistent.{break_at}
 use Rattle.cjc_card.specs.CheckRules.declared.spot.ComponentPlace.{ComponentPlace}
 use Rattle.cjc_cmd_card.specs.Report.Runs.{AnyBreaks, BreaksPair, Runs}
 use Rattle.cjc_cmd_card.proofs.ReportLaws.Free.{of_pair, one_pair}
-
-none : {P : Type 0} (b : Break) → Among b [] → P
-none b among = elim among [ ]
+use Rattle.cjc_judge.proofs.BytesBrokenRules.{none_among}
 
 one_head : (spots : List ComponentPlace) (a b : Break) → Among a (map (break_at 719) (head_of spots))
     → Among b (map (break_at 719) (head_of spots)) → a ≡ b
-one_head [] a b h g = none a h
+one_head [] a b h g = none_among a h
 one_head (s ∷ spots) a b foremost foremost = refl
-one_head (s ∷ spots) a b foremost (after g) = none b g
-one_head (s ∷ spots) a b (after h) g = none a h
+one_head (s ∷ spots) a b foremost (after g) = none_among b g
+one_head (s ∷ spots) a b (after h) g = none_among a h
 
 one_of_pair : (input : Input) (a b : Break) → BreaksPair input a → BreaksPair input b → a.rank ≡ b.rank
     → a.refusal ≡ b.refusal
@@ -47,4 +45,4 @@ never_both hold n script input todo r run f = by f.first.breaks
         let report = run.is_report in
         let among = of_pair hold input script run.ready run.is_ready report.image report.is_image report.whole
         report.whole_is f.broken p in
-        none f.broken (subst (Among f.broken) (ap (map (break_at 719)) report.paired) among)
+        none_among f.broken (subst (Among f.broken) (ap (map (break_at 719)) report.paired) among)

@@ -17,7 +17,7 @@ use Rattle.cjc_judge.specs.Rules.{Breach, BreaksFile, IsFirstRefused, IsFirstFau
 use Rattle.cjc_judge.specs.Spelt.{FileTree, IsRead, SpellTrees, exports_of}
 use Rattle.cjc_judge.specs.declared.judged.Judged.{Judged}
 use Rattle.cjc_judge.proofs.Early.{fault_from}
-use Rattle.cjc_judge.proofs.Firsts.{all_spell, none_among, one_spelling}
+use Rattle.cjc_judge.proofs.Firsts.{all_spell, one_spelling}
 use Rattle.cjc_judge.specs.List.Listed.{answer}
 use Rattle.cjc_cmd_jvm.specs.Running.Ready.{script_break, BreaksScript}
 use Rattle.cjc_cmd_jvm.specs.ScriptText.Scripted.{ScriptTree, scripted}
@@ -27,6 +27,7 @@ use Rattle.cjc_cmd_card.specs.Running.Reads.{IsInput}
 use Rattle.cjc_cmd_card.specs.Running.Ready.{BreaksSentence, Breaks, of_package, of_parts, of_script, of_sentences}
 use Rattle.cjc_cmd_card.specs.Running.Ready.{tested}
 use Rattle.cjc_cmd_card.proofs.RunningLaws.Ranks.{package_rank, script_rank, sentence_rank}
+use Rattle.cjc_judge.proofs.BytesBrokenRules.{no_among}
 
 -- the first of a list as that of those in it
 listed_fault : (bs : List Break) (e : Fault) → IsFirstRefusal bs e → IsFirstFault (λ b. Among b bs) e
@@ -154,7 +155,7 @@ module _ (input : Input) (name : List ℕ) (is : IsInput input)
 
   module _ (unbroken : part_breaks input.parts ≡ []) where
     no_parts : {P : Type 0} (b : Break) → Among b (part_breaks input.parts) → P
-    no_parts b among = absurd (none_among b (subst (Among b) unbroken among))
+    no_parts b among = absurd (no_among b (subst (Among b) unbroken among))
 
     -- the script, where moreover no component breaks its format
     pub script_stops : (e : Fault) → IsUnlessNoMemory (Err e) (answer (scripted name input.script))

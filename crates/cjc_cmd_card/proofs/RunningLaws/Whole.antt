@@ -1,7 +1,7 @@
 -- Components that were read and are consistent are all there, Applet and Export aside.
 use Rattle.std.proofs.Common.{◌≡◌, ℕ, zero, suc, ◌+◌, ◌*◌, ◌/◌, ◌^◌, ◌<◌, ◌==◌, Bool, true, false, List, [], ◌∷◌, ◌++◌}
 use Rattle.std.proofs.Common.{length, get_or, refl, sym, ap, subst, ◌∙◌, arith, Option, Some, None, Result, Ok, Err}
-use Rattle.std.specs.Prelude.{if◌then◌else◌, ◌&&◌, ◌||◌, not}
+use Rattle.std.specs.Prelude.{◌||◌, not}
 use Rattle.cjc_judge.specs.Bytes.Format.{Format, Spells, repeated, u2}
 use Rattle.cjc_judge.proofs.BytesLaws.{file_ok}
 use Rattle.cjc_cmd_check.specs.CapRead.Component.{component, info}
@@ -28,6 +28,7 @@ use Rattle.cjc_card.specs.CheckRules.Consistent.{Consistent, is_true}
 use Rattle.cjc_card.specs.CheckRules.Listed.{directory_spots, may_be_absent, size_agrees, size_spots}
 use Rattle.cjc_card.specs.CheckRules.Spots.{beside, unless}
 use Rattle.cjc_card.specs.CheckRules.declared.spot.ComponentPlace.{ComponentPlace}
+use Rattle.cjc_judge.proofs.BytesBools.{by_if, both_front, both_back}
 
 -- ---- Directory has twelve sizes
 
@@ -54,10 +55,6 @@ twelve_read bytes d read =
     ap (λ (x : Directory). length x.component_sizes) (sym same) ∙ twelve_spelt _ spelt.5.5.0 spelt.5.5.1 spelt.5.5.4
 
 -- ---- other components are put beside Directory
-
-by_if : {A : Type 0} (P : A → Type 0) (b : Bool) (x y : A) → P x → P y → P (if b then x else y)
-by_if P true x y p q = p
-by_if P false x y p q = q
 
 component_beside : (cap : CapTree) (tag : ℕ) (x : Component) → (with_component cap tag x).directory ≡ cap.directory
 component_beside cap tag x =
@@ -101,14 +98,6 @@ twelve_sizes p cap e = twelve_of (read_component 1 p.header) (read_component 2 p
 
 -- ---- sizes that agree
 
-left_and : (a b : Bool) → (a && b) ≡ true → a ≡ true
-left_and true b e = refl
-left_and false b e = absurd cc
-
-right_and : (a b : Bool) → (a && b) ≡ true → b ≡ true
-right_and true b e = e
-right_and false b e = absurd cc
-
 empty_where_true : (spots : List ComponentPlace) → is_true spots ≡ true → spots ≡ []
 empty_where_true [] e = refl
 empty_where_true (s ∷ spots) e = absurd cc
@@ -136,7 +125,7 @@ size_at (suc k) at (t ∷ told) (o ∷ own) e lt lo =
 
 needed : (tag told own : ℕ) → may_be_absent tag ≡ false → size_agrees tag told own ≡ true → not (own == 0) ≡ true
 needed tag told own e h =
-    subst (λ (b : Bool). (b || not (own == 0)) ≡ true) e (right_and (told == own) (may_be_absent tag || not (own == 0))
+    subst (λ (b : Bool). (b || not (own == 0)) ≡ true) e (both_back (told == own) (may_be_absent tag || not (own == 0))
     h)
 
 present : {A : Type 0} (size : A → ℕ) (o : Option A) → not (size_of size o == 0) ≡ true → (x : A) × (o ≡ Some x)
@@ -154,7 +143,7 @@ pub record IsWhole (cap : CapTree) : Type 0 where
 module _ (cap : CapTree) (exports : List ExportTree) (twelve : length cap.directory.component_sizes ≡ 12)
     (consistent : Consistent cap exports) where
   no_spots : directory_spots cap ≡ []
-  no_spots = empty_where_true (directory_spots cap) (left_and (is_true (directory_spots cap)) _ consistent)
+  no_spots = empty_where_true (directory_spots cap) (both_front (is_true (directory_spots cap)) _ consistent)
 
   sizes_agree : beside (λ (t : ℕ). 2) size_spots 0 cap.directory.component_sizes (size_items cap) ≡ []
   sizes_agree = (apart _ _ (apart _ _ (apart _ _ no_spots).0).0).0

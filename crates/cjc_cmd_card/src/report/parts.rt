@@ -7,9 +7,9 @@ ghost use Rattle.cjc_card.specs.ExportFile.declared.tree.ExportTree.{ExportTree 
 ghost use Rattle.cjc_card.specs.CheckIndex.Lookup.Parts.{complete_of};
 ghost use Rattle.cjc_pairing.specs.Components.Paired.Naming.{exported_in};
 
+use cjc_card::card_frame::parts::CellName;
 use cjc_card::check_index::lookup::Parts;
 use cjc_cmd_check::capread::{Export, ExportedClass};
-use cjc_pairing::card_frame::parts::CellName;
 use cjc_pairing::card_link::{ClassNames, Part};
 
 // The classes that Export lists; none where it is absent.

@@ -13,18 +13,18 @@ ghost use Rattle.cjc_card.specs.CheckRules.Complete.{AreSmall, class_info_size, 
 
 use crate::report::parts::part_of;
 use crate::running::{Input, Ready};
+use cjc_card::card_frame::parts::CellName;
 use cjc_card::check_index::lookup::{Parts, parts_of};
 use cjc_card::export_file::ExportTree;
 use cjc_card::group::Group;
 use cjc_card::runs::run;
+use cjc_card::script::{Report, Script};
 use cjc_judge::bytes::{Fault, NoMemory};
 use cjc_judge::list::List;
 use cjc_judge::world::StaticImage;
 use cjc_judge::{image_of, tokens_of};
-use cjc_pairing::card_frame::parts::CellName;
 use cjc_pairing::card_link::ClassNames;
 use cjc_pairing::card_names::{cell_names, class_names};
-use cjc_pairing::script::{Report, Script};
 use cjc_pairing::test_pair;
 use std::alloc::Global;
 

@@ -15,13 +15,13 @@ ghost use Rattle.cjc_cmd_card.specs.Running.Ready.{Breaks, IsReady, tested};
 
 use crate::running::input::Input;
 use cjc_card::export_file::ExportTree;
+use cjc_card::script::Script;
 use cjc_cmd_check::capread::CapTree;
 use cjc_cmd_check::check::{Checked, check};
 use cjc_cmd_check::folder::{cap_of, parts_between};
 use cjc_cmd_jvm::script_text::read;
 use cjc_judge::bytes::{Fault, Row};
 use cjc_judge::{Group, Judged, files_first, judge, test_files};
-use cjc_pairing::script::Script;
 use std::alloc::Global;
 
 /// A package that breaks no rule of the first three hundreds, of limits and of tokens, components that are

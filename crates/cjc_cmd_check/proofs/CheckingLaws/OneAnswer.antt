@@ -3,9 +3,11 @@ use Rattle.std.proofs.Common.{◌≡◌, inl, inr, ℕ, ◌+◌, ◌<◌, ◌^�
 use Rattle.std.proofs.Common.{Option, Some, None, Result, Ok, Err, Bool, true, false, map}
 use Rattle.std.specs.Prelude.{flat_map, if◌then◌else◌}
 use Rattle.cjc_bytes.specs.Breaks.{Break, Among, foremost, after, IsFirst, broken_at}
-use Rattle.cjc_bytes.specs.Order.{FilePlace, Rank, AreUpTo, NotAfter, numbers}
+use Rattle.cjc_bytes.specs.Order.{FilePlace, Rank, numbers}
 use Rattle.cjc_bytes.specs.declared.fault.Refusal.{Refusal}
 use Rattle.cjc_bytes.proofs.Firsts.{among_either}
+use Rattle.cjc_bytes.proofs.BrokenRules.{none_among}
+use Rattle.cjc_bytes.proofs.Lists.{same_rank}
 use Rattle.cjc_capread.specs.declared.tree.CapTree.{CapTree}
 use Rattle.cjc_shelf.specs.declared.command.status.Todo.{Todo}
 use Rattle.cjc_check.specs.ExportFile.declared.tree.ExportTree.{ExportTree}
@@ -19,37 +21,6 @@ use Rattle.cjc_check.specs.CheckRules.declared.spot.ComponentPlace.{ComponentPla
 use Rattle.cjc_cmd_check.specs.Check.{Checks, check_breaks, sentence_breaks}
 
 -- ---- ranks
-
-pub none : {P : Type 0} (b : Break) → Among b [] → P
-none b among = elim among [ ]
-
-one_head : (x y : ℕ) (xs ys : List ℕ) → AreUpTo (x ∷ xs) (y ∷ ys) → AreUpTo (y ∷ ys) (x ∷ xs) → (x ≡ y) × AreUpTo xs ys
-    × AreUpTo ys xs
-one_head x y xs ys (inl lt) (inl gt) = absurd (omega (arith, lt, gt))
-one_head x y xs ys (inl lt) (inr (e, more)) = absurd (omega (arith, lt, e))
-one_head x y xs ys (inr (e, more)) (inl lt) = absurd (omega (arith, lt, e))
-one_head x y xs ys (inr (e, more)) (inr (f, back)) = (e, more, back)
-
--- what stands neither before nor after is at the same place
-pub same_rank : (a b : Rank) → NotAfter a b → NotAfter b a → a ≡ b
-same_rank a b h g =
-    let one = one_head a.family b.family (a.file ∷ a.class ∷ a.member ∷ a.offset ∷ a.rule ∷ []) (b.file ∷ b.class
-    ∷ b.member ∷ b.offset ∷ b.rule ∷ []) h g in
-    let two = one_head a.file b.file (a.class ∷ a.member ∷ a.offset ∷ a.rule ∷ []) (b.class ∷ b.member ∷ b.offset
-    ∷ b.rule ∷ []) one.1 one.2 in
-    let three = one_head a.class b.class (a.member ∷ a.offset ∷ a.rule ∷ []) (b.member ∷ b.offset ∷ b.rule ∷ []) two.1
-    two.2 in
-    let four = one_head a.member b.member (a.offset ∷ a.rule ∷ []) (b.offset ∷ b.rule ∷ []) three.1 three.2 in
-    let five = one_head a.offset b.offset (a.rule ∷ []) (b.rule ∷ []) four.1 four.2 in
-    let six = one_head a.rule b.rule [] [] five.1 five.2 in
-    λ i. record {
-      family = one.0 i;
-      file = two.0 i;
-      class = three.0 i;
-      member = four.0 i;
-      offset = five.0 i;
-      rule = six.0 i;
-    }
 
 -- breaks of one rank have one refusal
 abbrev pub HaveOneRefusal : List Break → Type 0
@@ -68,7 +39,7 @@ same_break (x ∷ bs) o a b foremost (after more) e = let h = o.1 b more in let 
 same_break (x ∷ bs) o a b (after more) foremost e = let h = o.1 a more in let f = ap (λ (r : Rank). r.file) e
     in absurd (omega (arith, h.1, f))
 same_break (x ∷ bs) o a b (after more) (after others) e = same_break bs o.2 a b more others e
-same_break [] o a b among other e = none a among
+same_break [] o a b among other e = none_among a among
 
 exports_one : (f : Folder) → HaveOneRefusal (export_breaks (export_places 0 f.list.lines) f.exports)
 exports_one f a b h g e = ap (λ (x : Break). x.refusal) (same_break _ (exports_ordered f.list.lines f.exports) a b h g
@@ -96,16 +67,16 @@ of_components b c h g e =
 
 in_file : (tag : ℕ) {A : Type 0} (r : Result A ℕ) (b : Break) → Among b (break_in 106 (component_place tag) r)
     → OfComponent b
-in_file tag (Ok tree) b among = none b among
+in_file tag (Ok tree) b among = none_among b among
 in_file tag (Err k) b foremost = record { tag = tag; place = k; rule = 106; is = refl }
-in_file tag (Err k) b (after more) = none b more
+in_file tag (Err k) b (after more) = none_among b more
 
 pub in_components : (tags : List ℕ) (files : List (List ℕ)) (b : Break) → Among b (component_breaks tags files)
     → OfComponent b
 unfolding component_breaks
-in_components [] [] b among = none b among
-in_components [] (x ∷ files) b among = none b among
-in_components (tag ∷ tags) [] b among = none b among
+in_components [] [] b among = none_among b among
+in_components [] (x ∷ files) b among = none_among b among
+in_components (tag ∷ tags) [] b among = none_among b among
 in_components (tag ∷ tags) (x ∷ files) b among =
     elim (among_either b (break_in 106 (component_place tag) (read_component tag x)) (component_breaks tags files)
     among) [
@@ -117,17 +88,17 @@ in_components (tag ∷ tags) (x ∷ files) b among =
 
 in_spots : (number : ℕ) (spots : List ComponentPlace) (b : Break) → Among b (map (break_at number) spots)
     → OfComponent b
-in_spots number [] b among = none b among
+in_spots number [] b among = none_among b among
 in_spots number (s ∷ spots) b foremost = record { tag = s.component; place = s.offset; rule = number; is = refl }
 in_spots number (s ∷ spots) b (after more) = in_spots number spots b more
 
 in_sentence : (needed : Bool) (number : ℕ) (spots : List ComponentPlace) (b : Break)
     → Among b (if needed then map (break_at number) spots else []) → OfComponent b
 in_sentence true number spots b among = in_spots number spots b among
-in_sentence false number spots b among = none b among
+in_sentence false number spots b among = none_among b among
 
 in_sentences : (ss : List Sentence) (b : Break) → Among b (flat_map breaks_of ss) → OfComponent b
-in_sentences [] b among = none b among
+in_sentences [] b among = none_among b among
 in_sentences (s ∷ ss) b among = elim (among_either b (breaks_of s) (flat_map breaks_of ss) among) [
   | inl here ↦ in_sentence s.needed s.number s.spots b here
   | inr later ↦ in_sentences ss b later
@@ -135,7 +106,7 @@ in_sentences (s ∷ ss) b among = elim (among_either b (breaks_of s) (flat_map b
 
 pub in_cap : (cap : Option CapTree) (exports : List ExportTree) (b : Break) → Among b (sentence_breaks cap exports)
     → OfComponent b
-in_cap None exports b among = none b among
+in_cap None exports b among = none_among b among
 in_cap (Some cap) exports b among = in_sentences (sentences cap exports) b among
 
 -- ---- the whole
@@ -155,4 +126,4 @@ pub one_refusal : (f : Folder) (r s : Refusal) → Checks f (Err r) → Checks f
 one_refusal f r s h g = h.2 ∙ firsts_agree (check_breaks f) (all_one f) h.0 g.0 h.1 g.1 ∙ sym g.2
 
 pub never_both : (f : Folder) (todo : Todo) (r : Refusal) → Checks f (Ok todo) → Checks f (Err r) → ⊥
-never_both f todo r h g = none g.0 (subst (Among g.0) h.0 g.1.among)
+never_both f todo r h g = none_among g.0 (subst (Among g.0) h.0 g.1.among)

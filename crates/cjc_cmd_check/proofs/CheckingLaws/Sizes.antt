@@ -2,7 +2,7 @@
 use Rattle.std.proofs.Common.{◌≡◌, ℕ, zero, suc, ◌+◌, ◌-◌, ◌*◌, ◌/◌, ◌%◌, ◌^◌, ◌<◌, ◌≤◌, ◌==◌, Bool, true, false, List}
 use Rattle.std.proofs.Common.{[], ◌∷◌, ◌++◌, length, refl, sym, ap, subst, ◌∙◌, arith, All, Option, Some, None, Result}
 use Rattle.std.proofs.Common.{Ok, Err, length-append}
-use Rattle.std.specs.Prelude.{if◌then◌else◌, nat_lt, sum_by}
+use Rattle.std.specs.Prelude.{nat_lt, sum_by}
 use Rattle.std.specs.List.{flat_map}
 use Rattle.std.specs.Int.{Width, w8, w16, w32, byte_len, from_be_bytes}
 use Rattle.std.proofs.lemmas.List.Sums.{sum_by-cons, sum_by-append}
@@ -10,6 +10,7 @@ use Rattle.cjc_bytes.specs.AccessFlags.{is_static}
 use Rattle.cjc_bytes.specs.Format.{Format, number, run, here, looked_up, gives, followed_by, Spells, FileSpells}
 use Rattle.cjc_bytes.specs.Format.{repeated, before, where_true, u1, u2, raw}
 use Rattle.cjc_bytes.proofs.Laws.{file_ok}
+use Rattle.cjc_bytes.proofs.Bools.{by_if}
 use Rattle.cjc_capread.specs.Parts.{bytes1, bytes2, items1, bytes_before, class_ref, static_ref, static_rest}
 use Rattle.cjc_capread.specs.Header.{header}
 use Rattle.cjc_capread.specs.Directory.{directory}
@@ -358,10 +359,6 @@ with_static at f v bytes h =
     let total = t.total in
     let s = of_static_ref t.from t.x t.front t.one in
     omega (arith, total, s)
-
-by_if : {A : Type 0} (P : A → Type 0) (b : Bool) (x y : A) → P x → P y → P (if b then x else y)
-by_if P true x y p q = p
-by_if P false x y p q = q
 
 -- Three bytes stand behind each tag.
 abbrev AllThree : {T : Type 0} → (T → Format PoolEntry) → Option T → Type 0

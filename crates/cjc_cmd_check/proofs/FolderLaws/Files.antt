@@ -262,7 +262,7 @@ with_step : (cap : CapTree) (tag : ℕ) (tags : List ℕ) (bytes : List ℕ) (fi
 unfolding with_components
 with_step cap tag tags bytes files = refl
 
-component_step : (tag : ℕ) (tags : List ℕ) (bytes : List ℕ) (files : List (List ℕ))
+pub component_step : (tag : ℕ) (tags : List ℕ) (bytes : List ℕ) (files : List (List ℕ))
     → component_breaks (tag ∷ tags) (bytes ∷ files) ≡ break_in 106 (component_place tag) (read_component tag bytes)
     ++ component_breaks tags files
 unfolding component_breaks

@@ -21,7 +21,7 @@ use Rattle.cjc_cmd_check.specs.declared.folder.folder.Parts.{Parts}
 use Rattle.cjc_cmd_check.specs.Folder.Reads.{export_places, has_size, read_component, tags_in, tags_of, tags_with_size}
 use Rattle.cjc_cmd_check.specs.Folder.Working.Heads.{IsForemost}
 use Rattle.cjc_cmd_check.proofs.FolderLaws.Along.{passed, kept_place}
-use Rattle.cjc_cmd_check.proofs.FolderLaws.Files.{IsOther, tags_within}
+use Rattle.cjc_cmd_check.proofs.FolderLaws.Files.{IsOther, tags_within, component_step}
 
 -- ---- lists in the order of refusals
 
@@ -197,12 +197,6 @@ tags_ascend bytes = of (read_component 2 bytes)
     of (Ok (components.Export x)) = tt
     of (Ok (components.Descriptor x)) = tt
     of (Err e) = tt
-
-component_step : (tag : ℕ) (tags : List ℕ) (bytes : List ℕ) (files : List (List ℕ))
-    → component_breaks (tag ∷ tags) (bytes ∷ files) ≡ break_in 106 (component_place tag) (read_component tag bytes)
-    ++ component_breaks tags files
-unfolding component_breaks
-component_step tag tags bytes files = refl
 
 no_tags : (files : List (List ℕ)) → component_breaks [] files ≡ []
 unfolding component_breaks

@@ -2,6 +2,7 @@
 use Rattle.std.proofs.Common.{◌≡◌, ℕ, zero, suc, refl, sym, ap, subst, ◌∙◌, Bool, true, false, List, [], ◌∷◌, ◌++◌}
 use Rattle.std.proofs.Common.{length, inl, inr, ⊎_elim}
 use Rattle.std.specs.Prelude.{◌⊎◌, ◌||◌, not, Option, Some, None, if◌then◌else◌, map, slice_get}
+use Rattle.std.proofs.lemmas.Bool.{or_right}
 use Rattle.cjc_world.specs.declared.found.Found.{Found}
 use Rattle.cjc_world.specs.Classes.{Class, Member}
 use Rattle.cjc_world.specs.Lookup.{first, or_else}
@@ -17,10 +18,11 @@ use Rattle.cjc_tokens.proofs.Facts.{chosen-none, chosen-some, got-at, got-none, 
 use Rattle.cjc_tokens.proofs.Facts.{own-some}
 use Rattle.cjc_tokens.proofs.Facts.{same-refl}
 use Rattle.cjc_tokens.proofs.Held.{at_either, new-offered, token-slot}
-use Rattle.cjc_cmd_compat.proofs.SubclassesLaws.Slots.{AreAlike, AreAlikeAt, alike-append, apart, both_ways, either}
+use Rattle.cjc_cmd_compat.proofs.SubclassesLaws.Slots.{AreAlike, AreAlikeAt, alike-append, both_ways}
 use Rattle.cjc_cmd_compat.proofs.SubclassesLaws.Slots.{longer}
-use Rattle.cjc_cmd_compat.proofs.SubclassesLaws.Slots.{neither, new_in-alike, or_right, slot-is, taken-alike, taken-at}
+use Rattle.cjc_cmd_compat.proofs.SubclassesLaws.Slots.{neither, new_in-alike, slot-is, taken-alike, taken-at}
 use Rattle.cjc_cmd_compat.proofs.SubclassesLaws.Slots.{taken-length, taken-only, token-alike}
+use Rattle.cjc_compat.proofs.BytesBools.{true_or_false, clash}
 
 -- what the classes of the package on a line declare, public or protected, or get
 abbrev pub names : Line → Signature → Bool
@@ -91,7 +93,7 @@ declared_meant c given above n u here e = by (has (signatures is_shown c.methods
         on : (o : Option Found) → got given u c ≡ o → is_of_package (Some (or_else (got given u c)
             (implementing above u)))
             ≡ true
-        on None g = apart (has (map signature_of given) u) f (has-got_none given u c g)
+        on None g = clash (has (map signature_of given) u) f (has-got_none given u c g)
         on (Some x) g =
             let at = got-at given u c x g in
             ap (λ o. is_of_package (Some (or_else o (implementing above u)))) g
@@ -216,7 +218,7 @@ module _ (Q : Signature → Type 0) (c : Class) (given : List Member) (old new :
           onwards (neither (is_slot_of (slice_get (slots old) t) u) (is_slot_of (slice_get (slots new) t) u)
           (holder-other (names old) (slice_get (slots old) t) u o n)
           (holder-other (names old) (slice_get (slots new) t) u p n))
-      by false f = on (either (is_slot_of (slice_get (slots old) t) u)) (either (is_slot_of (slice_get
+      by false f = on (true_or_false (is_slot_of (slice_get (slots old) t) u)) (true_or_false (is_slot_of (slice_get
           (slots new) t) u))
         where
           on : (is_slot_of (slice_get (slots old) t) u ≡ true) ⊎ (is_slot_of (slice_get (slots old) t) u ≡ false)
@@ -247,7 +249,7 @@ module _ (Q : Signature → Type 0) (c : Class) (given : List Member) (old new :
       (λ e. let at = a.only_too u k.0 m t (not-taken-too u n t e) in absurd (let no = sym k.1 ∙ at in cc))
 
   new_here : new_in taken' ss ≡ new_in taken ss
-  new_here = new_in-alike taken taken' ss taken-count (λ u h. on u h (either (names old u)))
+  new_here = new_in-alike taken taken' ss taken-count (λ u h. on u h (true_or_false (names old u)))
     where
       on : (u : Signature) → has ss u ≡ true → (names old u ≡ true) ⊎ (names old u ≡ false) → AreAlike u taken taken'
       on u h (inl n) = taken-above u n
@@ -274,7 +276,7 @@ module _ (Q : Signature → Type 0) (c : Class) (given : List Member) (old new :
       taken-count h)
 
   any-alike : (u : Signature) → (has ss u || (has gs u || names old u)) ≡ true → AreAlike u taken taken'
-  any-alike u e = on (either (names old u)) (either (has ss u)) (either (has gs u))
+  any-alike u e = on (true_or_false (names old u)) (true_or_false (has ss u)) (true_or_false (has gs u))
     where
       none : (x y z : Bool) → x ≡ false → y ≡ false → z ≡ false → (x || (y || z)) ≡ true → false ≡ true
       none false false false p q r h = h
@@ -324,7 +326,7 @@ module _ (Q : Signature → Type 0) (c : Class) (given : List Member) (old new :
       → is_slot_of (slice_get (front ++ map Some (new_in front ts)) t) u ≡ true
       → is_slot_of (slice_get front t) u ≡ true
   old-slot front ts u t n e = ⊎_elim (λ h. ap (λ o. is_slot_of o u) h ∙ same-refl u)
-      (λ h. apart (has ts u) (new-offered front ts u h) n)
+      (λ h. clash (has ts u) (new-offered front ts u h) n)
       (at_either front (new_in front ts) t u (slot-is (slice_get (front ++ map Some (new_in front ts)) t) u e))
 
   old-only : (u : Signature) → (has ss u || (has gs u || names old u)) ≡ false → (t : ℕ)
@@ -354,7 +356,7 @@ module _ (Q : Signature → Type 0) (c : Class) (given : List Member) (old new :
   with-class here = record {
     count = ap length slots-is-too ∙ all-count ∙ sym (ap length slots-is);
     told = a.told;
-    known = λ u e. on u (either (has ss u)) (either (has gs u)) e;
+    known = λ u e. on u (true_or_false (has ss u)) (true_or_false (has gs u)) e;
     meant = λ u. declared_meant c given old (names old u) u here (a.meant u);
     meant_too = λ u. declared_meant c given new (names old u) u here (a.meant_too u);
     own = λ u e t. ap (λ l. is_slot_of (slice_get l t) u) slots-is-too ∙ all-alike u e t

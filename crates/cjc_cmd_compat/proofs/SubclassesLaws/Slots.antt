@@ -1,7 +1,8 @@
 -- Slots and tokens of a class in two worlds that agree on what the package declares.
 use Rattle.std.proofs.Common.{◌≡◌, ℕ, zero, suc, refl, sym, ap, subst, ◌∙◌, arith, Bool, true, false, List, [], ◌∷◌}
-use Rattle.std.proofs.Common.{◌++◌, length, inl, inr, length-append, length-set}
-use Rattle.std.specs.Prelude.{◌⊎◌, ◌||◌, Option, Some, None, if◌then◌else◌, option_map, set, slice_get}
+use Rattle.std.proofs.Common.{◌++◌, length, length-append, length-set}
+use Rattle.std.specs.Prelude.{◌||◌, Option, Some, None, if◌then◌else◌, option_map, set, slice_get}
+use Rattle.std.proofs.lemmas.Bool.{or_right}
 use Rattle.cjc_world.specs.declared.found.Found.{Found}
 use Rattle.cjc_tokens.specs.Members.{Signature, has, same}
 use Rattle.cjc_tokens.specs.Slots.{Slots, has_slot, holds, is_of_package}
@@ -10,20 +11,9 @@ use Rattle.cjc_tokens.specs.Slots.{token, with_all_taken}
 use Rattle.cjc_tokens.specs.Slots.{with_taken}
 use Rattle.cjc_tokens.proofs.Facts.{same-refl, same-true}
 use Rattle.cjc_tokens.proofs.Held.{token-cons}
+use Rattle.cjc_compat.proofs.BytesBools.{clash}
 
 -- ---- tests
-
-pub or_right : (a b : Bool) → b ≡ true → (a || b) ≡ true
-or_right true b e = refl
-or_right false b e = e
-
-pub either : (b : Bool) → (b ≡ true) ⊎ (b ≡ false)
-either true = inl refl
-either false = inr refl
-
-pub apart : {A : Type 0} (b : Bool) → b ≡ true → b ≡ false → A
-apart true e f = absurd cc
-apart false e f = absurd cc
 
 pub both_ways : (a b : Bool) → (a ≡ true → b ≡ true) → (b ≡ true → a ≡ true) → b ≡ a
 both_ways true b f g = f refl
@@ -82,7 +72,7 @@ set-alike u s (x ∷ old) (y ∷ new) (suc k) e = set-alike u s old new k (short
 set-only : (u s : Signature) (all : Slots) (k t : ℕ) → same s u ≡ false
     → is_slot_of (slice_get (set all k (Some s)) t) u ≡ true → is_slot_of (slice_get all t) u ≡ true
 set-only u s [] k t n e = e
-set-only u s (x ∷ all) zero zero n e = apart (same s u) e n
+set-only u s (x ∷ all) zero zero n e = clash (same s u) e n
 set-only u s (x ∷ all) zero (suc t) n e = e
 set-only u s (x ∷ all) (suc k) zero n e = e
 set-only u s (x ∷ all) (suc k) (suc t) n e = set-only u s all k t n e

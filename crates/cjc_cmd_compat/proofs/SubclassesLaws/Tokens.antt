@@ -5,6 +5,7 @@ use Rattle.std.proofs.Common.{◌∷◌, ◌++◌, length}
 use Rattle.std.specs.Prelude.{◌&&◌, ◌||◌, not, Option, Some, None, if◌then◌else◌, map, option_and_then, option_map}
 use Rattle.std.specs.Prelude.{count_by, slice_get, take}
 use Rattle.std.proofs.lemmas.List.{length-map}
+use Rattle.std.proofs.lemmas.Bool.{or_right}
 use Rattle.cjc_compat.specs.Bytes.AccessFlags.{is_interface}
 use Rattle.cjc_world.specs.ClassFile.declared.tree.ClassTree.{ClassTree}
 use Rattle.cjc_world.specs.ClassFile.declared.tree.FieldTree.{FieldTree}
@@ -28,29 +29,11 @@ use Rattle.cjc_cmd_compat.specs.Subclasses.{Declares, KeepsTokens, method_token,
 use Rattle.cjc_cmd_compat.proofs.SubclassesLaws.Lines.{AreLines, hidden-alike, names, shown-alike}
 use Rattle.cjc_cmd_compat.proofs.SubclassesLaws.Listings.{line-alike}
 use Rattle.cjc_cmd_compat.proofs.SubclassesLaws.Members.{AreGiven}
-use Rattle.cjc_cmd_compat.proofs.SubclassesLaws.Slots.{or_right}
 use Rattle.cjc_cmd_compat.proofs.SubclassesLaws.Trees.{added-same}
 use Rattle.cjc_cmd_compat.proofs.SubclassesLaws.Worlds.{at-has}
+use Rattle.cjc_compat.proofs.BytesGets.{in_front, get_behind, item_there}
 
 -- ---- what stands at a place
-
-at-behind : {A : Type 0} (xs ys : List A) (k : ℕ) → slice_get (xs ++ ys) (length xs + k) ≡ slice_get ys k
-at-behind [] ys k = let start : 0 + k ≡ k = omega arith in ap (slice_get ys) start
-at-behind (x ∷ xs) ys k =
-    let next : suc (length xs) + k ≡ suc (length xs + k) = omega arith in
-    ap (slice_get (x ∷ (xs ++ ys))) next ∙ at-behind xs ys k
-
-at-before : {A : Type 0} (xs ys : List A) (k : ℕ) (x : A) → slice_get xs k ≡ Some x
-    → slice_get (xs ++ ys) k ≡ Some x
-at-before [] ys k x e = absurd cc
-at-before (y ∷ xs) ys zero x e = e
-at-before (y ∷ xs) ys (suc k) x e = at-before xs ys k x e
-
-at-map : {A B : Type 0} (f : A → B) (xs : List A) (k : ℕ) (x : A) → slice_get xs k ≡ Some x
-    → slice_get (map f xs) k ≡ Some (f x)
-at-map f [] k x e = absurd cc
-at-map f (y ∷ xs) zero x e = let is : y ≡ x = cc in ap (λ z. Some (f z)) is
-at-map f (y ∷ xs) (suc k) x e = at-map f xs k x e
 
 fields-length : (exported : Bool) (fs : List FieldTree) (i : ℕ) (rest : List FieldTree)
     → length (field_tokens exported fs i rest) ≡ length rest
@@ -112,7 +95,7 @@ method-at applets files n c place e =
           ∙ ap (λ j. joined (slice_get (field_tokens exported c.fields 0 c.fields ++ method_tokens w exported
           (declared n
           c)) (j + place))) count
-          ∙ ap joined (at-behind (field_tokens exported c.fields 0 c.fields) (method_tokens w exported (declared n c))
+          ∙ ap joined (get_behind (field_tokens exported c.fields 0 c.fields) (method_tokens w exported (declared n c))
           place),
     )
 
@@ -207,7 +190,7 @@ module _ (files : Files) (place : ℕ) (old new : ExportTree) (g : AreGiven file
       (hidden_slots (line_at u k)) k.methods (0 + i) m)
   own-at u exported i m e =
       ap (λ l. slice_get l i) (tokens-are u exported)
-      ∙ at-before (class_method_tokens exported (shown_token (line_at u k)) (hidden_slots (line_at u k)) k.methods 0
+      ∙ in_front (class_method_tokens exported (shown_token (line_at u k)) (hidden_slots (line_at u k)) k.methods 0
       k.methods) (map (λ m. shown_token (line_at u k) (signature_of m)) (added u k)) i (class_method_token exported
       (shown_token (line_at u k)) (hidden_slots (line_at u k)) k.methods (0 + i) m)
       (methods-at exported (shown_token (line_at u k)) (hidden_slots (line_at u k)) k.methods 0 k.methods i m e)
@@ -223,8 +206,8 @@ module _ (files : Files) (place : ℕ) (old new : ExportTree) (g : AreGiven file
       (line_at u k)) k.methods 0 k.methods ∙ length-map c.methods method_of_class) in
       ap (λ l. slice_get l (length c.methods + i)) (tokens-are u exported)
       ∙ ap (λ j. slice_get (own ++ map (λ m. shown_token (line_at u k) (signature_of m)) (added u k)) (j + i)) count
-      ∙ at-behind own (map (λ m. shown_token (line_at u k) (signature_of m)) (added u k)) i
-      ∙ at-map (λ m. shown_token (line_at u k) (signature_of m)) (added u k) i m e
+      ∙ get_behind own (map (λ m. shown_token (line_at u k) (signature_of m)) (added u k)) i
+      ∙ item_there (λ m. shown_token (line_at u k) (signature_of m)) (added u k) i m e
 
   own_kept : (i : ℕ) (m : Member) → slice_get k.methods i ≡ Some m → is_virtual m ≡ true
       → method_token applets (with_export files place new) n c i ≡ method_token applets files n c i

@@ -1,7 +1,6 @@
 -- What stands above a class in two worlds, in one of which a new version of an export file stands in the place of the
 -- old one, and what a class gets from its interfaces there.
 use Rattle.std.proofs.Common.{◌≡◌, ℕ, refl, sym, ap, subst, ◌∙◌, Bool, true, false, List, [], ◌∷◌, ◌++◌, inl, inr}
-use Rattle.std.proofs.Common.{append_assoc}
 use Rattle.std.specs.Prelude.{◌⊎◌, ◌||◌, ◌&&◌, not, Option, Some, None, if◌then◌else◌, map}
 use Rattle.std.specs.List.{list_any}
 use Rattle.std.specs.Str.{bytes_eq}
@@ -29,11 +28,13 @@ use Rattle.cjc_tokens.specs.Lines.{Declared, Imported, line_in}
 use Rattle.cjc_tokens.specs.Slots.{first_answer, listed_token, or_next, told_by, told_in}
 use Rattle.cjc_tokens.proofs.Facts.{same-true}
 use Rattle.cjc_tokens.proofs.Supers.{class_at-number}
+use Rattle.cjc_tokens.proofs.Asked.{methods_of-append}
 use Rattle.cjc_cmd_compat.specs.Subclasses.{Declares, by_interface, with_export}
 use Rattle.cjc_cmd_compat.proofs.SubclassesLaws.Members.{AreGiven, ArePair, named-kept, none-kept, one_class}
 use Rattle.cjc_cmd_compat.proofs.SubclassesLaws.Members.{two_classes}
 use Rattle.cjc_cmd_compat.proofs.SubclassesLaws.Slots.{both_ways}
 use Rattle.cjc_cmd_compat.proofs.SubclassesLaws.Worlds.{any-got, any-of, named-has, none-listed, ruled-class}
+use Rattle.cjc_compat.proofs.BytesBools.{bool_four}
 
 -- ---- trees
 
@@ -49,13 +50,6 @@ pub data AreTrees (files : Files) (old : ExportTree) (w v : List Class) : (liste
       → s ≡ supertypes w c.supers → AreTrees files old w v false c.is_imported s t
       → AreTrees files old w v true c.is_imported i j → AreTrees files old w v listed abroad k l
       → AreTrees files old w v listed abroad (Known c s i k) (Known d t j l)
-
-four : (a b c d : Bool) → (a || b || c || d) ≡ false → (a ≡ false) × (b ≡ false) × (c ≡ false) × (d ≡ false)
-four false false false false e = (refl, refl, refl, refl)
-four true b c d e = absurd cc
-four false true c d e = absurd cc
-four false false true d e = absurd cc
-four false false false true e = absurd cc
 
 pair-supers : (files : Files) (old : ExportTree) (c d : Class) → ArePair files old c d → (d.supers ≡ c.supers)
     × (d.interfaces ≡ c.interfaces)
@@ -83,7 +77,7 @@ module _ (files : Files) (place : ℕ) (old new : ExportTree) (g : AreGiven file
       → (is_interface b.flags ≡ false) × (c.is_imported ≡ true → b.is_imported ≡ true)
   unfolding lists_wrong
   row-supers x y c b e l f =
-      let k = four (list_any (λ z. is_interface_of (class_named w z)) c.supers)
+      let k = bool_four (list_any (λ z. is_interface_of (class_named w z)) c.supers)
       (list_any (λ z. is_class_of (class_named w z)) c.interfaces) (is_interface c.flags
       && list_any (λ z. not (bytes_eq z object)) c.supers) (c.is_imported
       && (list_any (λ z. is_of_class_file (class_named w z)) c.supers
@@ -107,7 +101,7 @@ module _ (files : Files) (place : ℕ) (old new : ExportTree) (g : AreGiven file
       → class_named w y ≡ Some b → (is_interface b.flags ≡ true) × (c.is_imported ≡ true → b.is_imported ≡ true)
   unfolding lists_wrong
   row-interfaces x y c b e l f =
-      let k = four (list_any (λ z. is_interface_of (class_named w z)) c.supers)
+      let k = bool_four (list_any (λ z. is_interface_of (class_named w z)) c.supers)
       (list_any (λ z. is_class_of (class_named w z)) c.interfaces) (is_interface c.flags
       && list_any (λ z. not (bytes_eq z object)) c.supers) (c.is_imported
       && (list_any (λ z. is_of_class_file (class_named w z)) c.supers
@@ -180,12 +174,6 @@ module _ (files : Files) (place : ℕ) (old new : ExportTree) (g : AreGiven file
       c.interfaces)) r.2
 
 -- ---- the methods of interfaces
-
-methods_of-append : (a b : List Class) → methods_of (a ++ b) ≡ methods_of a ++ methods_of b
-unfolding methods_of
-methods_of-append [] b = refl
-methods_of-append (c ∷ a) b = ap (λ q. own_methods c ++ q) (methods_of-append a b)
-    ∙ sym (append_assoc (own_methods c) (methods_of a) (methods_of b))
 
 -- the methods of some interfaces in turn
 abbrev asked : List Interface → List Member
@@ -361,7 +349,7 @@ unfolding has_open first_answer
 not-above s End e = refl
 not-above s (Unknown x next) e = not-above s next e
 not-above s (Known c t i next) e =
-    let k = four (declares_open s.name s.desc c) (has_open s.name s.desc t) (takes_added c && is_one_of
+    let k = bool_four (declares_open s.name s.desc c) (has_open s.name s.desc t) (takes_added c && is_one_of
     (asked_by t i) s.name
     s.desc) (has_open s.name s.desc next) e in
     let up = not-above s t k.1 in
@@ -376,7 +364,7 @@ unfolding has_open first_answer
 not-listed w s End e = refl
 not-listed w s (Unknown x next) e = refl
 not-listed w s (Known c t i next) e =
-    let k = four (declares_open s.name s.desc c) (has_open s.name s.desc t) (takes_added c && is_one_of
+    let k = bool_four (declares_open s.name s.desc c) (has_open s.name s.desc t) (takes_added c && is_one_of
     (asked_by t i) s.name
     s.desc) (has_open s.name s.desc next) e in
     by c.is_imported (ap (λ o. or_next o (first_answer (told_in s) (upwards t))) (not-told s c k.0) ∙ not-above s t k.1)

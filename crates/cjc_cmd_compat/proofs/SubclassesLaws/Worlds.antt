@@ -29,12 +29,12 @@ use Rattle.cjc_world.specs.Rules.{is_twice, lists_missing, lists_wrong, member_r
 use Rattle.cjc_world.specs.Rules.{told, when}
 use Rattle.cjc_world.specs.Working.Numbers.{AreListed, IsListed}
 use Rattle.cjc_world.proofs.Counted.{all-listed}
-use Rattle.cjc_world.proofs.Settled.{bytes-refl}
-use Rattle.cjc_world.proofs.Unbroken.{nil_back, nil_front, nil_of_map, not_when}
+use Rattle.cjc_world.proofs.Unbroken.{nil_of_map, not_when}
 use Rattle.cjc_world.proofs.UpwardLaws.Lines.{has-back, has-cons, has-either, has-front}
 use Rattle.cjc_tokens.specs.Members.{signature_of}
 use Rattle.cjc_compat.proofs.Keeping.{IsKept}
 use Rattle.cjc_tokens.proofs.Facts.{position-cons}
+use Rattle.cjc_compat.proofs.BytesLists.{name_is, none_left, none_right}
 
 -- ---- what stands in a list
 
@@ -116,10 +116,10 @@ module _ (file : FileKey) (name : List ℕ) (place : ℕ) (w : List Class) (c : 
       let at = λ (rule : ℕ). at_member file name place c.name (members_before false c + i + 1)
       (told false x.name x.desc)
       rule in
-      let here = nil_of_map at (member_rules w c c.methods i x.name x.desc) (nil_front (map at
+      let here = nil_of_map at (member_rules w c c.methods i x.name x.desc) (none_left (map at
       (member_rules w c c.methods
       i x.name x.desc)) (members_from file name place w c false (i + 1) ms) e) in
-      let twice = not_when (is_twice c.methods i x.name x.desc) 202 (nil_front (when
+      let twice = not_when (is_twice c.methods i x.name x.desc) 202 (none_left (when
       (is_twice c.methods i x.name x.desc)
       202) (when (not c.is_imported && is_desc_missing w x.desc) 203) here) in
       let stay : i + 0 ≡ i = omega arith in
@@ -129,7 +129,7 @@ module _ (file : FileKey) (name : List ℕ) (place : ℕ) (w : List Class) (c : 
       let at = λ (rule : ℕ). at_member file name place c.name (members_before false c + i + 1)
       (told false x.name x.desc)
       rule in
-      let rest = members-once (i + 1) ms k m (nil_back (map at (member_rules w c c.methods i x.name x.desc))
+      let rest = members-once (i + 1) ms k m (none_right (map at (member_rules w c c.methods i x.name x.desc))
       (members_from file name place w c false (i + 1) ms) e) is in
       let next : i + suc k ≡ i + 1 + k = omega arith in
       ap (λ j. is_twice c.methods j m.name m.desc) next ∙ rest
@@ -147,16 +147,16 @@ ruled p file name k w c e =
     let M = members_from file name k w c false 0 c.methods in
     let at = λ (rule : ℕ). at_class file name k c.name rule in
     let R = map at (A ++ B ++ D ++ E ++ G) in
-    let all = nil_of_map at (A ++ B ++ D ++ E ++ G) (nil_front R F (nil_front (R ++ F) M e)) in
-    let three = nil_front (A ++ B ++ D) E (nil_front (A ++ B ++ D ++ E) G all) in
+    let all = nil_of_map at (A ++ B ++ D ++ E ++ G) (none_left R F (none_left (R ++ F) M e)) in
+    let three = none_left (A ++ B ++ D) E (none_left (A ++ B ++ D ++ E) G all) in
     record {
-      second = not_when (is_second w c) 202 (nil_back A B (nil_front (A ++ B) D three));
+      second = not_when (is_second w c) 202 (none_right A B (none_left (A ++ B) D three));
       missing = λ here. by c.is_imported (lists_missing w c) (gets_missing w c) here
-          (not_when (not c.is_imported && (lists_missing w c || gets_missing w c)) 203 (nil_back (A ++ B) D three));
-      wrong = not_when (lists_wrong w c) 208 (nil_back (A ++ B ++ D ++ E) G all);
+          (not_when (not c.is_imported && (lists_missing w c || gets_missing w c)) 203 (none_right (A ++ B) D three));
+      wrong = not_when (lists_wrong w c) 208 (none_right (A ++ B ++ D ++ E) G all);
       methods = λ i m is. let start : 0 + i ≡ i = omega arith in sym (ap (λ j. is_twice c.methods j m.name m.desc)
           start)
-          ∙ members-once file name k w c 0 c.methods i m (nil_back (R ++ F) M e) is;
+          ∙ members-once file name k w c 0 c.methods i m (none_right (R ++ F) M e) is;
     }
   where
     by : (i a b : Bool) → i ≡ false → (not i && (a || b)) ≡ false → a ≡ false
@@ -168,11 +168,11 @@ ruled-classes : (p : List ℕ) (file : FileKey) (name : List ℕ) (k : ℕ) (w c
     → classes_breaks p file name k w cs ≡ [] → (c : Class) → Has c cs → IsRuled w c
 unfolding classes_breaks
 ruled-classes p file name k w [] e c h = elim h [ ]
-ruled-classes p file name k w (d ∷ cs) e _ foremost = ruled p file name k w d (nil_front
+ruled-classes p file name k w (d ∷ cs) e _ foremost = ruled p file name k w d (none_left
     (class_breaks p file name k w d)
     (classes_breaks p file name (k + 1) w cs) e)
 ruled-classes p file name k w (d ∷ cs) e c (after h) = ruled-classes p file name (k + 1) w cs
-    (nil_back (class_breaks p file name k w d) (classes_breaks p file name (k + 1) w cs) e) c h
+    (none_right (class_breaks p file name k w d) (classes_breaks p file name (k + 1) w cs) e) c h
 
 module _ (files : Files) (w : List Class) where
   ruled-class_file : (file : FileKey) (name : List ℕ) (number : ℕ) (o : Option ClassTree)
@@ -190,7 +190,7 @@ module _ (files : Files) (w : List Class) where
   ruled-export_file file name n number None e c h = elim h [ ]
   ruled-export_file file name n number (Some t) e c h =
       ruled-classes files.package_name file name 1 w (numbered number t.classes)
-      (nil_back (map (λ rule. at_class file name 0 [] rule) (when (is_second_package files n t) 202))
+      (none_right (map (λ rule. at_class file name 0 [] rule) (when (is_second_package files n t) 202))
       (classes_breaks files.package_name file name 1 w (numbered number t.classes)) e) c h
 
   ruled-lines : (k c e i : ℕ) (lines : List FileLine) → breaks_from files w k c e i lines ≡ [] → (d : Class)
@@ -222,16 +222,16 @@ module _ (files : Files) (w : List Class) where
           let here = class_file_breaks files (keys.Line k) line.name w c (slice_get files.classes c) in
           let rest = breaks_from files w (k + 1) (c + 1) e i lines in
           ⊎_elim
-          (λ g. ruled-class_file (keys.Line k) line.name c (slice_get files.classes c) (nil_front here rest q) d g)
-          (λ g. r (nil_back here rest q) d g)
+          (λ g. ruled-class_file (keys.Line k) line.name c (slice_get files.classes c) (none_left here rest q) d g)
+          (λ g. r (none_right here rest q) d g)
           (has-either d (of_class_file c (slice_get files.classes c)) (classes_from files.classes files.exports (c + 1)
           e i lines) h)
       by false q h r s =
           let here = export_file_breaks files (keys.Line k) line.name w e i (slice_get files.exports e) in
           let rest = breaks_from files w (k + 1) c (e + 1) (i + size (slice_get files.exports e)) lines in
           ⊎_elim
-          (λ g. ruled-export_file (keys.Line k) line.name e i (slice_get files.exports e) (nil_front here rest q) d g)
-          (λ g. s (nil_back here rest q) d g)
+          (λ g. ruled-export_file (keys.Line k) line.name e i (slice_get files.exports e) (none_left here rest q) d g)
+          (λ g. s (none_right here rest q) d g)
           (has-either d (of_export_file i (slice_get files.exports e)) (classes_from files.classes files.exports c
           (e + 1) (i + size (slice_get files.exports e)) lines) h)
 
@@ -243,7 +243,7 @@ module _ (list : List ℕ) (files : Files) (unbroken : breaks list files ≡ [])
 
   pub ruled-class : (c : Class) → Has c w → IsRuled w c
   unfolding breaks all_classes
-  ruled-class c h = ruled-lines files w 0 0 0 0 files.lines (nil_back (map (λ rule. broken_at (list_spot list) rule)
+  ruled-class c h = ruled-lines files w 0 0 0 0 files.lines (none_right (map (λ rule. broken_at (list_spot list) rule)
       (when (not (has_language w files.exports)) 207)) (breaks_from files w 0 0 0 0 files.lines) unbroken) c h
 
 pub named-has : (w : List Class) (x : List ℕ) (c : Class) → class_named w x ≡ Some c → Has c w
@@ -259,7 +259,7 @@ named-has (d ∷ w) x c e = by (bytes_eq d.name x) e (named-has w x c)
 pub has-named : (w : List Class) (c : Class) → Has c w → (d : Class) × (class_named w c.name ≡ Some d)
 unfolding class_named
 has-named [] c h = elim h [ ]
-has-named (d ∷ w) _ foremost = (d, ap (λ b. if b then Some d else class_named w d.name) (bytes-refl d.name))
+has-named (d ∷ w) _ foremost = (d, ap (λ b. if b then Some d else class_named w d.name) (name_is d.name))
 has-named (d ∷ w) c (after h) = by (bytes_eq d.name c.name) (has-named w c h)
   where
     by : (b : Bool) → (e : Class) × (class_named w c.name ≡ Some e) → (e : Class) × ((if b then Some d
@@ -341,7 +341,7 @@ first-place w c r i m e =
     at.1 ∙ ap Some is
   where
     called : (m : Member) → is_called m.name m.desc m ≡ true
-    called m = ap (λ b. b && bytes_eq m.desc m.desc) (bytes-refl m.name) ∙ bytes-refl m.desc
+    called m = ap (λ b. b && bytes_eq m.desc m.desc) (name_is m.name) ∙ name_is m.desc
 
 pub methods-once : (w : List Class) (c : Class) → IsRuled w c → (a b : Member) → Has a c.methods → Has b c.methods
     → signature_of a ≡ signature_of b → a ≡ b

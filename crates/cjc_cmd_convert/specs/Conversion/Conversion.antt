@@ -6,7 +6,7 @@ use Rattle.cjc_shelf.specs.Bytes.declared.fault.Refusal.{Refusal}
 use Rattle.cjc_convert.specs.CapRead.declared.tree.CapTree.{CapTree}
 use Rattle.cjc_convert.specs.Conversion as assembled
 use Rattle.cjc_convert.specs.declared.conversion.Converted.{Converted}
-use Rattle.cjc_theorem.specs.ExportFile.declared.tree.ExportTree.{ExportTree}
+use Rattle.cjc_convert.specs.ExportFile.declared.tree.ExportTree.{ExportTree}
 use Rattle.cjc_theorem.specs.FairExports.Fair as fair
 use Rattle.cjc_convert.specs.List.Listed.{ListTree}
 use Rattle.cjc_convert.specs.Shape.Whole.Conversion as whole

@@ -4,7 +4,6 @@ use Rattle.std.proofs.Common.{◌∙◌, arith, Err}
 use Rattle.std.proofs.lemmas.List.{length-map}
 use Rattle.std.specs.List.{sum_by}
 use Rattle.cjc_shelf.specs.Bytes.Breaks.{Break, foremost}
-use Rattle.cjc_shelf.specs.Bytes.declared.settings.FileLine.{FileLine}
 use Rattle.cjc_shelf.specs.Bytes.declared.fault.Fault.{Fault}
 use Rattle.cjc_shelf.specs.Bytes.declared.fault.Fault.TheVariants as faults
 use Rattle.cjc_jvm.specs.JvmSemantics.ByName.{linked}
@@ -17,10 +16,10 @@ use Rattle.cjc_judge.specs.Bytecode.PackageCodes.{all_codes}
 use Rattle.cjc_judge.specs.Judged.{IsJudged}
 use Rattle.cjc_judge.specs.Rules.{IsFirstFault}
 use Rattle.cjc_judge.specs.Rules.{Breach, of_world, of_group, files_spelt, world_files}
-use Rattle.cjc_judge.specs.Spelt.{FileTree, of_class, of_export, SpellsTree, SpellTrees, classes_of, exports_of}
-use Rattle.cjc_judge.specs.Trees.{FileIs, AllSpelt}
+use Rattle.cjc_judge.specs.Spelt.{FileTree, SpellTrees, classes_of, exports_of}
 use Rattle.cjc_judge.specs.declared.groups.Group.TheVariants as groups
 use Rattle.cjc_judge.specs.declared.judged.Judged.{Judged}
+use Rattle.cjc_judge.proofs.Firsts.{all_spell}
 use Rattle.cjc_script_text.specs.List.Listed.{ListTree}
 use Rattle.cjc_cmd_jvm.specs.Running.Ready.{tested, Breaks}
 use Rattle.cjc_cmd_jvm.specs.declared.running.input.Input.{Input}
@@ -30,17 +29,6 @@ use Rattle.cjc_jvm_link.specs.World.declared.image.StaticImage.{StaticImage}
 use Rattle.cjc_cmd_jvm.specs.Runs.{Runs}
 use Rattle.cjc_jvm_link.specs.World.Files.{Files}
 use Rattle.cjc_jvm_link.specs.World.Rules.{breaks}
-
-spells : (line : FileLine) (bytes : List ℕ) (t : FileTree) → FileIs line bytes t → SpellsTree line bytes t
-spells line bytes (of_class t) p = (p.0, p.1)
-spells line bytes (of_export t) p = (p.0, p.1)
-
-all_spell : (lines : List FileLine) (files : List (List ℕ)) (ts : List FileTree) → AllSpelt lines files ts
-    → SpellTrees lines files ts
-all_spell [] files ts p = p
-all_spell (l ∷ ls) [] ts p = absurd p
-all_spell (l ∷ ls) (b ∷ bs) [] p = absurd p
-all_spell (l ∷ ls) (b ∷ bs) (t ∷ ts) p = (spells l b t p.0, all_spell ls bs ts p.1)
 
 none_of : (bs : List Break) → ((b : Break) → Rattle.cjc_shelf.specs.Bytes.Breaks.Among b bs → ⊥) → bs ≡ []
 none_of [] h = refl

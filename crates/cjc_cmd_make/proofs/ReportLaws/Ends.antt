@@ -16,7 +16,8 @@ use Rattle.cjc_cmd_card.specs.declared.running.input.Input.{Input as ComponentsI
 use Rattle.cjc_cmd_convert.specs.Script.declared.report.Report.{Report}
 use Rattle.cjc_cmd_make.specs.Report.Package.{made_files, script_name}
 use Rattle.cjc_cmd_make.specs.Report.Runs.{IsReportByName, Makes, Refuses, RefusesComponents, RefusesRuns, card_end}
-use Rattle.cjc_cmd_make.specs.Report.Runs.{of_class_files, of_components, of_list, of_package, of_reads, of_rules, of_runs}
+use Rattle.cjc_cmd_make.specs.Report.Runs.{of_class_files, of_components, of_list, of_package, of_reads, of_rules}
+use Rattle.cjc_cmd_make.specs.Report.Runs.{of_runs}
 use Rattle.cjc_cmd_make.specs.Report.Runs.{reads_end, with_made}
 use Rattle.cjc_cmd_make.specs.Report.Working.{IsConversionFault, IsListFault, IsMakeFault, IsReadFault, IsRunsFault}
 use Rattle.cjc_cmd_make.specs.Report.Working.{IsTokenFault, fault_of}

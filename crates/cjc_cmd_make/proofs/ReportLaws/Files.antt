@@ -3,7 +3,6 @@ use Rattle.std.proofs.Common.{◌≡◌, ℕ, ◌+◌, ◌<◌, ◌≤◌, List,
 use Rattle.std.proofs.lemmas.List.{drop_all}
 use Rattle.std.specs.FinMap.{insert}
 use Rattle.cjc_shelf.proofs.CommandLaws.Ahead.{written_files-append}
-use Rattle.cjc_shelf.proofs.CommandLaws.Each.{next_item}
 use Rattle.cjc_shelf.specs.Command.Publish.{written_files}
 use Rattle.cjc_shelf.specs.declared.command.status.File.{File}
 use Rattle.cjc_cmd_make.specs.declared.package.made.Made.{Made}
@@ -12,6 +11,7 @@ use Rattle.cjc_cmd_make.specs.Report.Package.{script_name}
 use Rattle.cjc_cmd_convert.specs.Publication.{named}
 use Rattle.cjc_shelf.specs.Memory.{files_of, with_file}
 use Rattle.cjc_shelf.specs.Shelf.{Files, Shelved}
+use Rattle.cjc_bytes.proofs.Gets.{drop_next}
 
 -- what a shelf tells that got one file more
 pub with_one : (old new : Shelved) (name bytes : List ℕ) → new ≡ with_file name bytes old
@@ -24,7 +24,7 @@ pub files_next : (list : List File) (i : ℕ) (file : File) (s t total : Files) 
     → file ≡ get_or list i file → t ≡ insert s file.name file.bytes
     → written_files (drop i list) s ≡ total → written_files (drop (i + 1) list) t ≡ total
 files_next list i file s t total lt is added so_far = ap (written_files (drop (i + 1) list)) added
-    ∙ sym (ap (λ l. written_files l s) (next_item list i file lt is)) ∙ so_far
+    ∙ sym (ap (λ l. written_files l s) (drop_next list i file lt is)) ∙ so_far
 
 pub files_end : (list : List File) (i : ℕ) (s total : Files) → length list ≤ i → written_files (drop i list) s ≡ total
     → s ≡ total
@@ -38,7 +38,7 @@ pub classes_next : (classes : List (List ℕ)) (i : ℕ) (bytes : List ℕ) (s t
     → written_files (named_classes (i + 1) (drop (i + 1) classes)) t ≡ total
 classes_next classes i bytes s t total lt is added so_far =
     ap (written_files (named_classes (i + 1) (drop (i + 1) classes))) added
-    ∙ sym (ap (λ l. written_files (named_classes i l) s) (next_item classes i bytes lt is)) ∙ so_far
+    ∙ sym (ap (λ l. written_files (named_classes i l) s) (drop_next classes i bytes lt is)) ∙ so_far
 
 pub classes_end : (classes : List (List ℕ)) (i : ℕ) (s total : Files) → length classes ≤ i
     → written_files (named_classes i (drop i classes)) s ≡ total → s ≡ total

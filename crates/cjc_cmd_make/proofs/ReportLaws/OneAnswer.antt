@@ -17,7 +17,8 @@ use Rattle.cjc_cmd_card.specs.CmdJvm.declared.running.input.Input.{Input}
 use Rattle.cjc_cmd_card.specs.ScriptText.Printed.{report_text}
 use Rattle.cjc_cmd_make.specs.Report.Package.{made_files, script_name}
 use Rattle.cjc_cmd_make.specs.Report.Runs.{IsMade, IsReportByName, IsReportByToken, Refuses, RefusesComponents}
-use Rattle.cjc_cmd_make.specs.Report.Runs.{RefusesRuns, card_end, of_class_files, of_components, of_list, of_package, of_reads}
+use Rattle.cjc_cmd_make.specs.Report.Runs.{RefusesRuns, card_end, of_class_files, of_components, of_list, of_package}
+use Rattle.cjc_cmd_make.specs.Report.Runs.{of_reads}
 use Rattle.cjc_cmd_make.specs.Report.Runs.{of_rules, of_runs, reads_end, with_made}
 
 -- a conversion refuses by one rule at one place, or makes one thing, and never both
@@ -121,9 +122,12 @@ module _ (one : IsRefusedOnce) (converted_once : IsConvertedOnce) (never : IsNev
 
   one_of_runs : (input : Input) (made : Conversion) (r s : Refusal) → RefusesRuns files input made r
       → RefusesRuns files input made s → r ≡ s
-  one_of_runs input made r s (of_class_files x) (of_class_files y) = one_refusal_of_runs 1000000 script_name input r s x y
-  one_of_runs input made r s (of_class_files x) (of_components report run y) = absurd (run_unrefused input report r run x)
-  one_of_runs input made r s (of_components report run x) (of_class_files y) = absurd (run_unrefused input report s run y)
+  one_of_runs input made r s (of_class_files x) (of_class_files y) = one_refusal_of_runs 1000000 script_name input r s x
+      y
+  one_of_runs input made r s (of_class_files x) (of_components report run y) = absurd
+      (run_unrefused input report r run x)
+  one_of_runs input made r s (of_components report run x) (of_class_files y) = absurd
+      (run_unrefused input report s run y)
   one_of_runs input made r s (of_components report run x) (of_components other again y) = one_components once never_too
       (with_made files input made) r s x y
 
@@ -151,7 +155,8 @@ module _ (one : IsRefusedOnce) (converted_once : IsConvertedOnce) (never : IsNev
       made.is_converted x)
     where
       by : RefusesRuns files made.input made.made r → ⊥
-      by (of_class_files y) = let summary = made.summary in run_unrefused made.input summary.by_name r summary.is_by_name y
+      by (of_class_files y) = let summary = made.summary in run_unrefused made.input summary.by_name r
+          summary.is_by_name y
       by (of_components report run y) =
           let summary = made.summary in
           never_components once never_too (with_made files made.input made.made) summary.by_token r summary.is_by_token

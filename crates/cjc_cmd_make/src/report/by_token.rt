@@ -13,9 +13,9 @@ ghost use Rattle.cjc_cmd_make.specs.Report.Working.{IsReadFault, IsTokenFault};
 
 use crate::report::ends::fault_of;
 use cjc_bytes::Fault;
-use cjc_check_rules::consistent_where_unbroken;
 use cjc_cmd_card::report::report_of;
 use cjc_cmd_card::running::{Input, gather_input, make_ready};
+use cjc_cmd_convert::check_rules::consistent_where_unbroken;
 use cjc_cmd_convert::script::Report;
 use cjc_shelf::CleanShelf;
 use std::alloc::Global;

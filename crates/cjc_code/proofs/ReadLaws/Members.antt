@@ -1,7 +1,7 @@
 -- What the members of a class that bytes spell are, and the numbers of its pool.
 use Rattle.std.proofs.Common.{◌≡◌, ℕ, zero, suc, ◌<◌, ◌^◌, Bool, true, false, List, Option, Some, None, slice_get}
-use Rattle.std.proofs.Common.{option_and_then, refl, sym, ap, subst, ℤ, IfSome}
-use Rattle.std.specs.Prelude.{nat_lt, ◌==◌, if◌then◌else◌}
+use Rattle.std.proofs.Common.{refl, sym, ap, subst, ℤ, IfSome}
+use Rattle.std.specs.Prelude.{nat_lt, ◌==◌}
 use Rattle.std.specs.Int.{w32, cast_signed}
 use Rattle.std.specs.List.{AllByRecursion}
 use Rattle.std.proofs.Math.Facts.{Fits-bits, sfits_to_z}
@@ -10,7 +10,10 @@ use Rattle.cjc_bytes.specs.Descriptor.{Parts}
 use Rattle.cjc_bytes.specs.Format.{Format, followed_by, gives, ◌>>=◌, Spells, FileSpells, repeated, in_a_row, iterated}
 use Rattle.cjc_bytes.specs.Format.{raw, u2, u4}
 use Rattle.cjc_bytes.specs.Spots.{desc_of}
-use Rattle.cjc_bytes.proofs.Inverse.{InBytes, all_at, inner, given, found_is, u4_is, mapped, number8, number16}
+use Rattle.cjc_bytes.proofs.Inverse.{InBytes, inner, given, found_is, u4_is, number8, number16}
+use Rattle.cjc_bytes.proofs.Gets.{all_at}
+use Rattle.cjc_bytes.proofs.Options.{option_mapped, then_some}
+use Rattle.cjc_bytes.proofs.Bools.{by_if}
 use Rattle.cjc_classfile.specs.declared.tree.ClassTree.{ClassTree}
 use Rattle.cjc_classfile.specs.declared.tree.FieldTree.{FieldTree}
 use Rattle.cjc_classfile.specs.declared.tree.MethodTree.{MethodTree}
@@ -24,16 +27,12 @@ use Rattle.cjc_classfile.specs.Code.{CodeTree}
 use Rattle.cjc_classfile.specs.CodeAttribute.{catch, code, code_content}
 use Rattle.cjc_classfile.specs.Methods.{method_attribute, method_content, method_tree, needs_code}
 use Rattle.cjc_classfile.specs.ClassFile.{back_part, class_file, front_part}
+use Rattle.cjc_classfile.proofs.Fitting.{all_fit}
 use Rattle.cjc_range.specs.Span.{Holds, full}
 use Rattle.cjc_code.specs.ReadLaws.Members.{AreWords, IsDescOf, IsReadClass}
 use Rattle.cjc_code.proofs.ReadLaws.Entries.{EntryFits, PoolFits, fit32, items_are}
 
 -- ---- the pool
-
--- by one of two
-pick : {A : Type 0} (P : A → Type 0) (b : Bool) (x y : A) → P x → P y → P (if b then x else y)
-pick P true x y p q = p
-pick P false x y p q = q
 
 abbrev AllFit : Format Entry → Type 0
 AllFit p = (at : ℕ) (e : Entry) (bytes : List ℕ) → InBytes bytes → Spells p at e bytes → EntryFits e
@@ -66,35 +65,35 @@ number_fits at e bytes ok h =
 tag_fits : (behind n : ℕ) (tag : _) → tag_of behind n ≡ Some tag → AllFit (content tag)
 unfolding content
 tag_fits behind n tag e =
-    (pick (λ o. o ≡ Some tag → AllFit (content tag)) (n == 1) _ _ (λ f. subst (λ t. AllFit (content t))
+    (by_if (λ o. o ≡ Some tag → AllFit (content tag)) (n == 1) _ _ (λ f. subst (λ t. AllFit (content t))
     (same_Some _ tag f) (text_fits))
-    (pick (λ o. o ≡ Some tag → AllFit (content tag)) (n == 3) _ _ (λ f. subst (λ t. AllFit (content t))
+    (by_if (λ o. o ≡ Some tag → AllFit (content tag)) (n == 3) _ _ (λ f. subst (λ t. AllFit (content t))
     (same_Some _ tag f) (number_fits))
-    (pick (λ o. o ≡ Some tag → AllFit (content tag)) (n == 4) _ _ (λ f. subst (λ t. AllFit (content t))
+    (by_if (λ o. o ≡ Some tag → AllFit (content tag)) (n == 4) _ _ (λ f. subst (λ t. AllFit (content t))
     (same_Some _ tag f) (plain _ _ (λ b. tt)))
-    (pick (λ o. o ≡ Some tag → AllFit (content tag)) (n == 5) _ _ (pick (λ o. o ≡ Some tag
+    (by_if (λ o. o ≡ Some tag → AllFit (content tag)) (n == 5) _ _ (by_if (λ o. o ≡ Some tag
     → AllFit (content tag)) (nat_lt 0 behind) _ _ (λ f. subst (λ t. AllFit (content t)) (same_Some _ tag f)
     (plain _ _ (λ b. tt))) (λ f. absurd cc))
-    (pick (λ o. o ≡ Some tag → AllFit (content tag)) (n == 6) _ _ (pick (λ o. o ≡ Some tag
+    (by_if (λ o. o ≡ Some tag → AllFit (content tag)) (n == 6) _ _ (by_if (λ o. o ≡ Some tag
     → AllFit (content tag)) (nat_lt 0 behind) _ _ (λ f. subst (λ t. AllFit (content t)) (same_Some _ tag f)
     (plain _ _ (λ b. tt))) (λ f. absurd cc))
-    (pick (λ o. o ≡ Some tag → AllFit (content tag)) (n == 7) _ _ (λ f. subst (λ t. AllFit (content t))
+    (by_if (λ o. o ≡ Some tag → AllFit (content tag)) (n == 7) _ _ (λ f. subst (λ t. AllFit (content t))
     (same_Some _ tag f) (plain _ _ (λ b. tt)))
-    (pick (λ o. o ≡ Some tag → AllFit (content tag)) (n == 8) _ _ (λ f. subst (λ t. AllFit (content t))
+    (by_if (λ o. o ≡ Some tag → AllFit (content tag)) (n == 8) _ _ (λ f. subst (λ t. AllFit (content t))
     (same_Some _ tag f) (plain _ _ (λ b. tt)))
-    (pick (λ o. o ≡ Some tag → AllFit (content tag)) (n == 9) _ _ (λ f. subst (λ t. AllFit (content t))
+    (by_if (λ o. o ≡ Some tag → AllFit (content tag)) (n == 9) _ _ (λ f. subst (λ t. AllFit (content t))
     (same_Some _ tag f) (plain _ _ (λ b. tt)))
-    (pick (λ o. o ≡ Some tag → AllFit (content tag)) (n == 10) _ _ (λ f. subst (λ t. AllFit (content t))
+    (by_if (λ o. o ≡ Some tag → AllFit (content tag)) (n == 10) _ _ (λ f. subst (λ t. AllFit (content t))
     (same_Some _ tag f) (plain _ _ (λ b. tt)))
-    (pick (λ o. o ≡ Some tag → AllFit (content tag)) (n == 11) _ _ (λ f. subst (λ t. AllFit (content t))
+    (by_if (λ o. o ≡ Some tag → AllFit (content tag)) (n == 11) _ _ (λ f. subst (λ t. AllFit (content t))
     (same_Some _ tag f) (plain _ _ (λ b. tt)))
-    (pick (λ o. o ≡ Some tag → AllFit (content tag)) (n == 12) _ _ (λ f. subst (λ t. AllFit (content t))
+    (by_if (λ o. o ≡ Some tag → AllFit (content tag)) (n == 12) _ _ (λ f. subst (λ t. AllFit (content t))
     (same_Some _ tag f) (plain _ _ (λ b. tt)))
-    (pick (λ o. o ≡ Some tag → AllFit (content tag)) (n == 15) _ _ (λ f. subst (λ t. AllFit (content t))
+    (by_if (λ o. o ≡ Some tag → AllFit (content tag)) (n == 15) _ _ (λ f. subst (λ t. AllFit (content t))
     (same_Some _ tag f) (behind_one _ _ (λ k. plain _ _ (λ b. tt))))
-    (pick (λ o. o ≡ Some tag → AllFit (content tag)) (n == 16) _ _ (λ f. subst (λ t. AllFit (content t))
+    (by_if (λ o. o ≡ Some tag → AllFit (content tag)) (n == 16) _ _ (λ f. subst (λ t. AllFit (content t))
     (same_Some _ tag f) (plain _ _ (λ b. tt)))
-    (pick (λ o. o ≡ Some tag → AllFit (content tag)) (n == 18) _ _ (λ f. subst (λ t. AllFit (content t))
+    (by_if (λ o. o ≡ Some tag → AllFit (content tag)) (n == 18) _ _ (λ f. subst (λ t. AllFit (content t))
     (same_Some _ tag f) (behind_one _ _ (λ k. plain _ _ (λ b. tt))))
     (λ f. absurd cc))))))))))))))) e
 
@@ -128,15 +127,10 @@ pool_fits n at pool bytes ok h =
 
 -- ---- descriptors
 
-found : {A B : Type 0} (f : A → Option B) (o : Option A) (b : B) → option_and_then f o ≡ Some b → (a : A) × (o ≡ Some a)
-    × (f a ≡ Some b)
-found f None b e = absurd cc
-found f (Some a) b e = (a, refl, e)
-
 -- bytes of this kind are a descriptor
 kind_is : (is_method : Bool) (bytes : List ℕ) → Some is_method ≡ desc_kind bytes → IsDescOf is_method bytes
 unfolding desc_kind
-kind_is is_method bytes e = let r = mapped (λ (d : Parts). d.is_method) (desc_of bytes) is_method (sym e)
+kind_is is_method bytes e = let r = option_mapped (λ (d : Parts). d.is_method) (desc_of bytes) is_method (sym e)
     in (r.0, r.1, r.2)
 
 as_desc_is : (is_method : Bool) (e : Entry) (t : List ℕ) → EntryFits e → as_desc_of is_method e ≡ Some t
@@ -165,7 +159,7 @@ module _ (pool : List Entry) (fit : PoolFits pool) where
   unfolding desc_field desc_of_at
   desc_is is_method at t bytes ok h =
       let k = number16 (desc_of_at pool is_method) at t bytes ok h in
-      let f = found (as_desc_of is_method) (slice_get pool k.n) t k.is in
+      let f = then_some (as_desc_of is_method) (slice_get pool k.n) t k.is in
       as_desc_is is_method f.0 t (all_at EntryFits pool k.n f.0 fit f.1) f.2
 
   constant_keeps : (is_constant : Bool) (so_far : Constant) (at : ℕ) (o : Constant) (bytes : List ℕ)
@@ -176,7 +170,7 @@ module _ (pool : List Entry) (fit : PoolFits pool) where
       let length = inner _ _ _ _ _ ok h in
       let value = inner _ _ _ _ _ length.backs length.rest in
       let k = number16 (constant_at pool) _ value.x value.front value.fronts value.one in
-      let f = found constant_of (slice_get pool k.n) value.x k.is in
+      let f = then_some constant_of (slice_get pool k.n) value.x k.is in
       subst ConstantFits (given _ _ _ _ value.rest).0 (constant_is f.0 value.x (all_at EntryFits pool k.n f.0 fit f.1)
       f.2)
   constant_keeps false so_far at o bytes fits ok h =
@@ -306,20 +300,6 @@ module _ (pool : List Entry) (fit : PoolFits pool) where
 
 -- ---- the class
 
-all_so : {A : Type 0} (p : Format A) (P : A → Type 0) → ((at : ℕ) (a : A) (bytes : List ℕ) → InBytes bytes
-    → Spells p at a bytes → P a)
-    → (n at : ℕ) (xs : List A) (bytes : List ℕ) → InBytes bytes → Spells (repeated n p) at xs bytes
-    → AllByRecursion P xs
-unfolding repeated
-all_so p P one zero at xs bytes ok h = subst (AllByRecursion P) (given _ _ _ _ h).0 tt
-all_so p P one (suc n) at xs bytes ok h =
-    let x = inner _ _ _ _ _ ok h in
-    let ys = inner _ _ _ _ _ x.backs x.rest in
-    subst (AllByRecursion P) (given _ _ _ _ ys.rest).0 (
-      one _ x.x x.front x.fronts x.one,
-      all_so p P one n _ ys.x ys.front ys.fronts ys.one,
-    )
-
 -- the class behind its interfaces
 abbrev members_part : ℕ → List Entry → List PoolItem
     → (flags : ℕ) (name superclass : List ℕ) (interfaces : List (List ℕ)) → Format ClassTree
@@ -353,9 +333,10 @@ members_read major pool items flags name superclass interfaces at t bytes fit wo
     let attribute_count = inner _ _ _ _ _ methods.backs methods.rest in
     let free = inner _ _ _ _ _ attribute_count.backs attribute_count.rest in
     subst IsReadClass (given _ _ _ _ free.rest).0 (told fields.x methods.x attribute_count.x
-    (all_so (field_tree pool) (FieldIs pool fit) (field_is pool fit) field_count.x _ fields.x fields.front fields.fronts
+    (all_fit (field_tree pool) (FieldIs pool fit) (field_is pool fit) field_count.x _ fields.x fields.front
+    fields.fronts
     fields.one)
-    (all_so (method_tree pool) (MethodIs pool fit) (method_is pool fit) method_count.x _ methods.x methods.front
+    (all_fit (method_tree pool) (MethodIs pool fit) (method_is pool fit) method_count.x _ methods.x methods.front
     methods.fronts methods.one) words)
   where
     code_there : (o : Option CodeTree) (tree : CodeTree) → o ≡ Some tree → InCode pool fit o → InBytes tree.bytes

@@ -8,6 +8,7 @@ use Rattle.cjc_code.specs.Named.{op_of}
 use Rattle.cjc_code.specs.Table.{Range, ranges, row, row_in}
 use Rattle.cjc_code.specs.ReadLaws.Instructions.{has_opcode}
 use Rattle.cjc_code.proofs.ReadLaws.Chunks.{AllBelow, join}
+use Rattle.cjc_bytes.proofs.Bools.{both_front, both_back}
 
 -- the instruction by this opcode has one of its kind
 abbrev Fits : ℕ → Type 0
@@ -565,14 +566,6 @@ end_below (r ∷ rs) = nat_lt r.last 208 && end_below rs
 pub ends_below : end_below ranges ≡ true
 unfolding end_below
 ends_below = refl
-
-both_front : (a b : Bool) → (a && b) ≡ true → a ≡ true
-both_front true b e = refl
-both_front false b e = absurd cc
-
-both_back : (a b : Bool) → (a && b) ≡ true → b ≡ true
-both_back true b e = e
-both_back false b e = absurd cc
 
 pub unknown_above : (rs : List Range) (m : ℕ) → 208 ≤ m → end_below rs ≡ true → row_in rs m ≡ row_in [] m
 unfolding end_below

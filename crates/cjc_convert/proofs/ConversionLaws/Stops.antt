@@ -19,9 +19,7 @@ use Rattle.cjc_shape_proof.proofs.ShapeDrafts.{narrow_codes}
 use Rattle.cjc_shape_proof.proofs.ShapeOne.{one_package}
 use Rattle.cjc_shape_proof.proofs.ShapeSecond.{both_none, coded_are, fs, is_base, package_is_draft}
 use Rattle.cjc_shape_proof.proofs.ShapeSecond.{words_are}
-
-no_among : (b : Break) → Among b [] → ⊥
-no_among b among = elim among [ ]
+use Rattle.cjc_shape_proof.proofs.BytesBrokenRules.{no_among}
 
 module _ (list : ListTree) (files : List (List ℕ)) where
   -- ---- a rule that the files break

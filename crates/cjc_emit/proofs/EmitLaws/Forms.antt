@@ -1,13 +1,15 @@
 -- The operands of jumps and switches, by what their opcodes mean.
 use Rattle.std.proofs.Common.{◌≡◌, ℕ, zero, suc, ◌<◌, ◌≤◌, refl, sym, ap, subst, ◌∙◌, ⊎_elim, arith, Bool, true, false}
-use Rattle.std.proofs.Common.{List, [], ◌∷◌, length, Option, Some, None}
-use Rattle.std.specs.Prelude.{slice_get, ◌&&◌, if◌then◌else◌}
+use Rattle.std.proofs.Common.{List, [], ◌∷◌, Option, Some, None}
+use Rattle.std.specs.Prelude.{◌&&◌, if◌then◌else◌}
 use Rattle.std.proofs.lemmas.Bool.{cases_lt}
+use Rattle.std.proofs.lemmas.Option.{slice_get_past}
 use Rattle.cjc_capread.specs.Opcodes.{Form, Fields, Table, Lookup, Operand, Byte, Signed1, Signed2, Signed4, Index1}
 use Rattle.cjc_capread.specs.Opcodes.{Index2, form, forms}
 use Rattle.cjc_ncode.specs.CardSemantics.Bytecode.Meanings.{Meaning, Branches, Ranged, Paired, meanings, meaning}
 use Rattle.cjc_ncode.specs.CardSemantics.Bytecode.Meanings.{known_meaning}
 use Rattle.cjc_ncode.specs.Lowering.Laid.{wide_jump}
+use Rattle.cjc_capread.proofs.BytesBools.{and_true}
 
 -- ---- meanings
 
@@ -115,28 +117,18 @@ pairs_fine : all_fine paired_fine 185 ≡ true
 unfolding meaning form forms
 pairs_fine = refl
 
-both : (a b : Bool) → (a && b) ≡ true → (a ≡ true) × (b ≡ true)
-both true true e = (refl, refl)
-both true false e = cc
-both false b e = cc
-
 fine_below : (fine : ℕ → Bool) (n op : ℕ) → all_fine fine n ≡ true → op < n → fine op ≡ true
 fine_below fine zero op e h = absurd (omega arith)
 fine_below fine (suc n) op e h =
-    let p = both (fine n) (all_fine fine n) e in
+    let p = and_true (fine n) (all_fine fine n) e in
     ⊎_elim (λ lt. fine_below fine n op p.1 lt) (λ le. let s : n ≡ op = omega arith in subst (λ k. fine k ≡ true) s p.0)
     (cases_lt op n)
 
-get_past : {A : Type 0} (xs : List A) (k : ℕ) → length xs ≤ k → slice_get xs k ≡ None
-get_past [] k h = refl
-get_past (x ∷ xs) zero h = absurd (omega arith)
-get_past (x ∷ xs) (suc k) h = get_past xs k (omega arith)
-
-nothing_past : (op : ℕ) → 185 ≤ op → meaning op ≡ known_meaning None
+pub nothing_past : (op : ℕ) → 185 ≤ op → meaning op ≡ known_meaning None
 unfolding meaning
-nothing_past op h = ap known_meaning (get_past meanings op h)
+nothing_past op h = ap known_meaning (slice_get_past meanings op h)
 
-below : (test : Meaning → Bool) → test (known_meaning None) ≡ false → (op : ℕ) → test (meaning op) ≡ true → op < 185
+pub below : (test : Meaning → Bool) → test (known_meaning None) ≡ false → (op : ℕ) → test (meaning op) ≡ true → op < 185
 below test off op e = ⊎_elim (λ lt. lt) (λ le. let clash : true ≡ false = sym e ∙ (ap test (nothing_past op le) ∙ off)
     in cc) (cases_lt op 185)
 
@@ -151,7 +143,7 @@ jump_forms op e f =
     ∙ ap (λ b. if b then (if is_branch (meaning (wide_jump op)) then has_one is_signed1 (form op)
     && has_one is_signed2 (form (wide_jump op)) else true) else true) (sym e)
     ∙ g in
-    let p = both _ _ h in
+    let p = and_true _ _ h in
     let one = one_of is_signed1 (form op) p.0 in
     let two = one_of is_signed2 (form (wide_jump op)) p.1 in (
       one.2 ∙ ap (λ k. Some (Fields (k ∷ []))) (the_first one.0 one.1),

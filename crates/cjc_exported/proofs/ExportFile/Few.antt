@@ -16,7 +16,7 @@ use Rattle.cjc_components.specs.Package.{Package, has_applets}
 use Rattle.cjc_components.specs.Exports.{exported_classes}
 use Rattle.cjc_components.specs.ExportFile.{export_class, export_of}
 use Rattle.cjc_exported.proofs.ExportFile.ByNumber.{past}
-use Rattle.cjc_exported.proofs.ExportFile.Piles.{drop-at, drop-behind}
+use Rattle.cjc_export.proofs.BytesGets.{drop_at, drop_behind}
 
 module _ (w : List Class) (applets : Bool) where
   abbrev pub test : Class → Bool
@@ -44,11 +44,11 @@ module _ (w : List Class) (applets : Bool) where
           → length (filter test (of_class_file c o ++ rest)) ≤ count_exported w applets c (drop c trees)
       file None rest at le =
           let none : length (filter test rest) ≤ 0 = subst (λ (xs : List ClassTree). length (filter test rest) ≤
-          count_exported w applets (c + 1) xs) (drop-behind trees (c + 1) (past trees c (c + 1) at (omega arith)))
+          count_exported w applets (c + 1) xs) (drop_behind trees (c + 1) (past trees c (c + 1) at (omega arith)))
           le in
           omega arith
       file (Some t) rest at le = subst (λ (xs : List ClassTree). length (filter test (declared c t ∷ rest)) ≤
-          count_exported w applets c xs) (sym (drop-at trees c t at)) (one (is_exported w applets (declared c t)) le)
+          count_exported w applets c xs) (sym (drop_at trees c t at)) (one (is_exported w applets (declared c t)) le)
         where
           one : (b : Bool) → length (filter test rest) ≤ count_exported w applets (c + 1) (drop (c + 1) trees)
               → length (if b then declared c t ∷ filter test rest else filter test rest) ≤ one_more b

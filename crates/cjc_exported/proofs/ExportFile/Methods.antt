@@ -1,10 +1,10 @@
 -- The methods of a class as the code lends them.
 use Rattle.std.proofs.Common.{◌≡◌, ℕ, zero, suc, ◌+◌, ◌-◌, ◌≤◌, refl, sym, ap, ◌∙◌, arith, ◌<◌, Bool, true, false, List}
-use Rattle.std.proofs.Common.{[], ◌∷◌, ◌++◌, drop, length, map}
+use Rattle.std.proofs.Common.{[], ◌∷◌, drop, length, map}
 use Rattle.std.specs.Prelude.{Option, Some, None, if◌then◌else◌, filter, is_some, nat_le, position, slice_get}
 use Rattle.std.specs.Prelude.{option_map, unwrap_or, ◌||◌}
 use Rattle.std.proofs.Math.ListN.{drop_of_length-le}
-use Rattle.std.proofs.lemmas.Option.{slice_get_past, slice_get-map}
+use Rattle.std.proofs.lemmas.Option.{slice_get-map}
 use Rattle.cjc_world.specs.ClassFile.declared.tree.ClassTree.{ClassTree}
 use Rattle.cjc_export.specs.Bytes.AccessFlags.{is_interface}
 use Rattle.cjc_world.specs.Files.{Files}
@@ -32,6 +32,7 @@ use Rattle.cjc_exported.specs.ExportFile.Working.Sources.{AreSources, IsNumbered
 use Rattle.cjc_exported.specs.ExportFile.Working.Sources.{world_in}
 use Rattle.cjc_exported.specs.declared.export_file.source.Source.{Source}
 use Rattle.cjc_exported.proofs.ExportFile.ByNumber.{of-number}
+use Rattle.cjc_export.proofs.BytesGets.{get_back}
 
 -- ---- the class of a number
 
@@ -48,30 +49,19 @@ given-behind n [] k = refl
 given-behind n (m ∷ ms) zero = refl
 given-behind n (m ∷ ms) (suc k) = given-behind n ms k
 
-behind : {A : Type 0} (xs ys : List A) (k : ℕ) → length xs ≤ k → slice_get (xs ++ ys) k ≡ slice_get ys (k - length xs)
-behind [] ys k le = let z : k ≡ k - 0 = omega arith in ap (slice_get ys) z
-behind (x ∷ xs) ys zero le = absurd (omega arith)
-behind (x ∷ xs) ys (suc k) le = let z : k - length xs ≡ suc k - suc (length xs) = omega arith
-    in behind xs ys k (omega arith) ∙ ap (slice_get ys) z
-
 -- the method at a place behind a class's own
 pub given-place : (w : List Class) (c : Class) (place : ℕ) → length c.methods ≤ place
     → unwrap_or (option_map given (slice_get (map (named_by c.name) (added w c)) (place - length c.methods))) no_member
     ≡ bare (unwrap_or (slice_get (methods_with_added w c) place) no_member)
 given-place w c place le =
     given-behind c.name (added w c) (place - length c.methods)
-    ∙ ap (λ o. bare (unwrap_or o no_member)) (sym (behind c.methods (map as_added (added w c)) place le))
+    ∙ ap (λ o. bare (unwrap_or o no_member)) (sym (get_back c.methods (map as_added (added w c)) place le))
 
 pub given-added : (p : Package) (c : Class) (n : List ℕ) (i : ℕ) (ms : List Member)
     → given_from p c i (map (named_by n) ms) ≡ added_from p c i ms
 given-added p c n i [] = refl
 given-added p c n i (m ∷ ms) = ap (λ q. method_entry (member_token p (Some (member_at c i))) (as_added m)
     ∷ q) (given-added p c n (i + 1) ms)
-
--- an imported class has none
-pub added-imported : (w : List Class) (c : Class) → c.is_imported ≡ true → added w c ≡ []
-unfolding added
-added-imported w c e = grind arith
 
 pub added-declared : (files : Files) (c : Class) → class_at (all_classes files) false c.number ≡ Some c
     → added_at files c.number ≡ map (named_by c.name) (added (all_classes files) c)
@@ -122,11 +112,6 @@ public-methods files applets c there =
     ap public_in (r.1 ∙ ap (λ q. Some (of_class (all_classes files) applets r.0 q t.0)) m)
     ∙ ap (λ (q : Class). if is_interface q.flags then interface_row (all_classes files) q
     else row (line_at (all_classes files) q)) (sym t.2)
-
--- a class of a number past the class files
-pub added-past : (files : Files) (n : ℕ) → length files.classes ≤ n → added_at files n ≡ []
-unfolding added_at
-added-past files n le = ap (added_to (all_classes files) n) (slice_get_past files.classes n le)
 
 -- ---- the code's classes by their numbers
 

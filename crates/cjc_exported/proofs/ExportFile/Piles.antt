@@ -1,26 +1,7 @@
 -- Lists that are put one behind the other while a walk goes over another list.
-use Rattle.std.proofs.Common.{◌≡◌, ℕ, zero, suc, ◌+◌, ◌≤◌, Bool, true, false, refl, sym, ap, ◌∙◌, arith, List, [], ◌∷◌}
-use Rattle.std.proofs.Common.{◌++◌, append_assoc, append-nil, length, map, drop, add-one}
-use Rattle.std.specs.Prelude.{Some, None, slice_get, filter, if◌then◌else◌, ◌&&◌}
-use Rattle.std.proofs.Math.Seq.{drop-cons}
-use Rattle.std.proofs.Math.ListN.{drop_of_length-le}
-use Rattle.std.proofs.lemmas.Option.{slice_get_within, get_or_from_slice_get}
-
--- what a walk still has in front of it
-pub drop-at : {A : Type 0} (xs : List A) (k : ℕ) (x : A) → slice_get xs k ≡ Some x → drop k xs ≡ x ∷ drop (k + 1) xs
-drop-at xs k x e =
-    drop-cons xs k x (slice_get_within xs k x e)
-    ∙ ap (λ y. y ∷ drop (suc k) xs) (get_or_from_slice_get xs k x x e)
-    ∙ ap (λ n. x ∷ drop n xs) (sym (add-one k))
-
-pub drop-behind : {A : Type 0} (xs : List A) (k : ℕ) → slice_get xs k ≡ None → drop k xs ≡ []
-drop-behind [] k e = drop_of_length-le [] (omega arith)
-drop-behind (x ∷ xs) k e = drop_of_length-le (x ∷ xs) (by (x ∷ xs) k e x)
-  where
-    by : {A : Type 0} (ys : List A) (k : ℕ) → slice_get ys k ≡ None → A → length ys ≤ k
-    by [] k e x = omega arith
-    by (y ∷ ys) zero e x = cc
-    by (y ∷ ys) (suc k) e x = let r = by ys k e x in omega arith
+use Rattle.std.proofs.Common.{◌≡◌, Bool, true, false, refl, sym, ap, ◌∙◌, List, [], ◌∷◌}
+use Rattle.std.proofs.Common.{◌++◌, append_assoc, append-nil, map}
+use Rattle.std.specs.Prelude.{filter, if◌then◌else◌, ◌&&◌}
 
 -- One step: what it puts stands behind the rest.
 pub piled : {A : Type 0} (new out step rest total : List A) → new ≡ out ++ step → out ++ (step ++ rest) ≡ total

@@ -18,7 +18,7 @@ use Rattle.cjc_components.specs.Exports.{exported_classes}
 use Rattle.cjc_components.specs.ExportFile.{export_class, export_of}
 use Rattle.cjc_exported.proofs.ExportFile.ByNumber.{past}
 use Rattle.cjc_exported.proofs.ExportFile.Few.{export-left, fewer, test}
-use Rattle.cjc_exported.proofs.ExportFile.Piles.{drop-at, drop-behind}
+use Rattle.cjc_export.proofs.BytesGets.{drop_at, drop_behind}
 
 -- the token that is kept for a class of this number
 abbrev kept : List OfClass → ℕ → Option ℕ
@@ -61,11 +61,11 @@ module _ (w : List Class) (applets : Bool) where
       file None is more at =
           let few : length (filter (test w applets) rest) ≤ 0 =
           subst (λ (xs : List ClassTree). length (filter (test w applets) rest) ≤ count_exported w applets (c + 1)
-          xs) (drop-behind trees (c + 1) (past trees c (c + 1) is (omega arith))) (fewer w applets trees exports
+          xs) (drop_behind trees (c + 1) (past trees c (c + 1) is (omega arith))) (fewer w applets trees exports
           (c + 1) e i lines) in
           let lt = slice_get_within (filter (test w applets) rest) k d at in
           absurd (omega (arith, few, lt))
-      file (Some t) is more at = subst (λ (xs : List ClassTree). IsKept b c xs d (b + k)) (sym (drop-at trees c t is))
+      file (Some t) is more at = subst (λ (xs : List ClassTree). IsKept b c xs d (b + k)) (sym (drop_at trees c t is))
           (one (is_exported w applets (declared c t)) refl k at)
         where
           one : (q : Bool) → is_exported w applets (declared c t) ≡ q → (k : ℕ)

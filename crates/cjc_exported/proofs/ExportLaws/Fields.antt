@@ -19,13 +19,13 @@ use Rattle.cjc_tokens.specs.Fields.{field_token, instance_cells, instance_token,
 use Rattle.cjc_tokens.specs.Fields.{is_open_static}
 use Rattle.cjc_tokens.specs.Members.{is_exposed}
 use Rattle.cjc_tokens.specs.Rules.{HasFewCells}
-use Rattle.cjc_tokens.proofs.Held.{at_front}
 use Rattle.cjc_components.specs.Package.{Package}
 use Rattle.cjc_components.specs.ExportFile.{field_entry, fields_from}
 use Rattle.cjc_components.specs.Names.{member_token}
 use Rattle.cjc_exported.specs.Exportable.{FieldIsRead, IsExportable}
 use Rattle.cjc_exported.proofs.ExportLaws.Own.{IsOwn}
 use Rattle.cjc_exported.proofs.ExportLaws.Tokens.{counted, few_statics, field_has, low_instance, other_instance}
+use Rattle.cjc_export.proofs.BytesGets.{in_front}
 
 -- ---- a field's token by its kind
 
@@ -269,7 +269,7 @@ module _ (p : Package) (h : IsExportable p) (c : Class) (own : IsOwn p c) where
       by false e =
           ap (λ a. a && true) (none_in (takes f.flags (member_token p (Some (member_at c (length pre))))) 0 pre
           (λ j g gat gx. (let z : 0 + j ≡ j = omega arith in
-          let there : slice_get fs j ≡ Some g = ap (λ xs. slice_get xs j) (sym same) ∙ at_front pre (f ∷ rest) j g gat
+          let there : slice_get fs j ≡ Some g = ap (λ xs. slice_get xs j) (sym same) ∙ in_front pre (f ∷ rest) j g gat
           in
           ap (λ n. takes f.flags (member_token p (Some (member_at c (length pre)))) (field_entry p c n g)) z
           ∙ entry_takes j (length pre) g f (slice_get_within pre j g gat) there at gx x e)))

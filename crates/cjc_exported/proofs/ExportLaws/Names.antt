@@ -9,7 +9,6 @@ use Rattle.cjc_export.specs.declared.tree.ExportClass.{ExportClass}
 use Rattle.cjc_export.specs.ExportFile.{class_token, name_taken, new_name, token_taken}
 use Rattle.cjc_world.specs.Classes.{Class, class_at, class_named, is_at}
 use Rattle.cjc_world.specs.Rules.{is_other, is_second, same_place}
-use Rattle.cjc_world.proofs.Settled.{bytes-true, bytes-refl}
 use Rattle.cjc_tokens.specs.Tokens.{token_of_class}
 use Rattle.cjc_components.specs.Package.{Package, tokens, world}
 use Rattle.cjc_components.specs.Exports.{exported_classes}
@@ -17,6 +16,7 @@ use Rattle.cjc_components.specs.ExportFile.{export_class, export_of}
 use Rattle.cjc_exported.specs.Exportable.{IsExportable}
 use Rattle.cjc_exported.proofs.ExportLaws.Each.{none_before}
 use Rattle.cjc_exported.proofs.ExportLaws.Own.{own_class}
+use Rattle.cjc_export.proofs.BytesLists.{name_is, bytes_true}
 
 -- the class of the package that an exported one is
 pub exported_one : (p : Package) (k : ℕ) (e : ExportClass) → (let t = export_of p in slice_get t.classes k ≡ Some e)
@@ -42,7 +42,7 @@ some_named (x ∷ w) n c e = by (is_at false n x) (bytes_eq x.name c.name) refl 
         × ((if b then Some x else class_named w c.name) ≡ Some d)
     by a true f e rest = (x, refl)
     by true false f e rest = let same : x ≡ c = cc in let yes' : bytes_eq x.name c.name ≡ true =
-        ap (λ (y : Class). bytes_eq x.name y.name) (sym same) ∙ bytes-refl x.name in cc
+        ap (λ (y : Class). bytes_eq x.name y.name) (sym same) ∙ name_is x.name in cc
     by false false f e rest = rest e
 
 first_number : (w : List Class) (c d : Class) → is_second w c ≡ false → class_named w c.name ≡ Some d
@@ -94,7 +94,7 @@ module _ (p : Package) (h : IsExportable p) (places : (k : ℕ) (e : ExportClass
       → (let t = export_of p in new_name (take k t.classes) e.name ≡ Some e.name)
   own_name k e at = let t = export_of p in
       let none : name_taken (take k t.classes) e.name ≡ false = none_before (λ d. bytes_eq d.name e.name) t.classes k
-      (λ j d lt there. apart (bytes_eq d.name e.name) (λ is. one_place j k d e lt there at (bytes-true d.name e.name
+      (λ j d lt there. apart (bytes_eq d.name e.name) (λ is. one_place j k d e lt there at (bytes_true d.name e.name
       is))) in
       ap (λ b. if b then None else Some e.name) none
     where

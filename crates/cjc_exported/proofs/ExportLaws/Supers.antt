@@ -5,7 +5,6 @@ use Rattle.std.specs.Prelude.{◌||◌, slice_get, if◌then◌else◌}
 use Rattle.std.specs.List.{AllByRecursion, flat_map, list_any}
 use Rattle.std.specs.Str.{bytes_eq}
 use Rattle.std.proofs.lemmas.List.{length-map, map-append}
-use Rattle.std.proofs.lemmas.Slice.Eq.{bytes_eq-Decides}
 use Rattle.indexmap.specs.IndexSet.{insert_all, insert_key}
 use Rattle.cjc_export.specs.declared.tree.ExportClass.{ExportClass}
 use Rattle.cjc_export.specs.declared.tree.ExportTree.{ExportTree}
@@ -15,16 +14,14 @@ use Rattle.cjc_export.specs.Written.{class_needs, class_tree_needs, constants, f
 use Rattle.cjc_export.proofs.Numbering.{Has, all_back, all_front, all_in}
 use Rattle.cjc_export.proofs.Worth.{total, worth_at_most}
 use Rattle.cjc_components.specs.ClassOrder.Supers.Supers.{each_once}
+use Rattle.cjc_export.proofs.BytesLists.{bytes_sym}
 
 -- ---- names of their own
-
-same_name : (x y : List ℕ) → bytes_eq x y ≡ true → bytes_eq y x ≡ true
-same_name x y e = (bytes_eq-Decides y x).1 (sym ((bytes_eq-Decides x y).0 e))
 
 not_seen : (seen : List (List ℕ)) (x : List ℕ) → is_one_of seen x ≡ false → list_any (same (class x)) (map class seen)
     ≡ false
 not_seen [] x e = refl
-not_seen (y ∷ seen) x e = by (bytes_eq y x) (bytes_eq x y) (λ f. same_name x y f) refl e (not_seen seen x)
+not_seen (y ∷ seen) x e = by (bytes_eq y x) (bytes_eq x y) (λ f. bytes_sym x y f) refl e (not_seen seen x)
   where
     by : (a b : Bool) → (bytes_eq x y ≡ true → bytes_eq y x ≡ true) → bytes_eq y x ≡ a → (a || is_one_of seen x) ≡ false
         → (is_one_of seen x ≡ false → list_any (same (class x)) (map class seen) ≡ false)

@@ -5,7 +5,7 @@ use Rattle.std.specs.Prelude.{if◌then◌else◌}
 use Rattle.std.specs.List.{AllByRecursion}
 use Rattle.cjc_export.proofs.Rooted.{root_texts}
 use Rattle.cjc_export.specs.Supers.{is_one_of}
-use Rattle.cjc_export.specs.Writable.{ClassFits, EachAfter, IsText}
+use Rattle.cjc_export.specs.Writable.{ClassFits, IsText}
 use Rattle.cjc_world.specs.Classes.{Class, class_named}
 use Rattle.cjc_world.specs.Supertypes.{Supertypes, End, Unknown, Known, supertypes_within, in_a_row, supertypes}
 use Rattle.cjc_world.specs.Supertypes.{known_as}
@@ -13,17 +13,14 @@ use Rattle.cjc_world.specs.Interfaces.{Interface, gathered, is_among, where_list
 use Rattle.cjc_world.specs.Interfaces as worlds
 use Rattle.cjc_components.specs.ClassOrder.Supers.Supers.{each_once, interfaces, name_of, names_upwards, superclasses}
 use Rattle.cjc_components.specs.Subset.Members.{imports}
-use Rattle.cjc_components.proofs.VTableFiled.{Has, IsFiled, at_front, behind, filed, get-has, has-get, in_class_file}
+use Rattle.cjc_components.proofs.VTableFiled.{IsFiled, filed, get-has, has-get, in_class_file}
 use Rattle.cjc_components.proofs.VTableFiled.{in_export_file, of-imports}
 use Rattle.cjc_components.specs.Package.{Package, world}
 use Rattle.cjc_exported.specs.Exportable.{IsExportable}
 use Rattle.cjc_exported.proofs.ExportLaws.Each.{all_mapped}
 use Rattle.cjc_exported.proofs.ExportLaws.Own.{IsOwn}
-
-pub all_both : {A : Type 0} (P : A → Type 0) (xs ys : List A) → AllByRecursion P xs → AllByRecursion P ys
-    → AllByRecursion P (xs ++ ys)
-all_both P [] ys p q = q
-all_both P (x ∷ xs) ys p q = (p.0, all_both P xs ys p.1 q)
+use Rattle.cjc_components.proofs.VTableRead.{each-after}
+use Rattle.cjc_export.proofs.BytesQuantified.{all_both}
 
 -- ---- what a class lists
 
@@ -31,12 +28,6 @@ pub record ListsTexts (c : Class) : Type 0 where
   pub name : IsText c.name
   pub supers : AllByRecursion IsText c.supers
   pub interfaces : AllByRecursion IsText c.interfaces
-
-has_each : {A : Type 0} (P : List A → A → Type 0) (before xs : List A) (x : A) → EachAfter P before xs → Has x xs
-    → (b : List A) × P b x
-has_each P before [] x h i = elim i [ ]
-has_each P before (y ∷ xs) x h at_front = (before, h.0)
-has_each P before (y ∷ xs) x h (behind i) = has_each P (before ++ y ∷ []) xs x h.1 i
 
 pub lists_texts : (p : Package) → IsExportable p → (x : List ℕ) (c : Class) → class_named (world p) x ≡ Some c
     → ListsTexts c
@@ -53,7 +44,7 @@ lists_texts p h x c e = by c (filed p.files x c e)
         let (t, of_file, of_tree) = of-imports d files.exports (get-has d (imports files.exports) n is) in
         let (k, place) = has-get t files.exports of_file in
         let fits = h.exports k t place in
-        let (before, one) = has_each ClassFits [] t.classes d fits.classes of_tree in
+        let (before, one) = each-after ClassFits [] t.classes d fits.classes of_tree in
         record {
           name = one.name;
           supers = subst (AllByRecursion IsText) (sym one.supers) (root_texts d.name d.listed one.listed);

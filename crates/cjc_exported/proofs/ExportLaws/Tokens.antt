@@ -13,16 +13,16 @@ use Rattle.cjc_world.specs.ClassFile.declared.tree.FieldTree.{FieldTree}
 use Rattle.cjc_world.specs.Classes.{Class, declared}
 use Rattle.cjc_world.specs.Exported.{is_exported}
 use Rattle.cjc_world.specs.Lookup.{member_at}
-use Rattle.cjc_world.proofs.Unbroken.{nil_back, nil_front}
 use Rattle.cjc_tokens.specs.Fields.{cells, cells_of, field_token, field_tokens, group, instance_cells, instance_token}
 use Rattle.cjc_tokens.specs.Fields.{is_instance, is_open_static}
 use Rattle.cjc_tokens.specs.Tokens.{OfClass, assigned, classes_from, joined, method_tokens, of_class, one_more}
 use Rattle.cjc_tokens.specs.Rules.{at_class, breaks_from, breaks_where, has_high_token, token_breaks}
-use Rattle.cjc_tokens.proofs.Held.{at_front}
-use Rattle.cjc_tokens.proofs.Sums.{some_cells}
+use Rattle.cjc_tokens.proofs.Sums.{some_cells, cells-cons}
 use Rattle.cjc_components.specs.Package.{Package, has_applets, world}
 use Rattle.cjc_components.specs.Names.{member_token}
 use Rattle.cjc_exported.proofs.ExportLaws.Own.{IsOwn}
+use Rattle.cjc_export.proofs.BytesLists.{none_left, none_right}
+use Rattle.cjc_export.proofs.BytesGets.{in_front}
 
 -- ---- where a token stands
 
@@ -70,7 +70,7 @@ field_has p c own k f at =
     let exported : is_exported w applets (declared (0 + n) t) ≡ true = ap (λ j. is_exported w applets (declared j t)) z
     ∙ ap (is_exported w applets) (sym own.is) ∙ own.exported in
     let front = field_row (is_exported w applets (declared (0 + n) t)) t.fields 0 t.fields k f at in
-    let member = at_front (field_tokens (is_exported w applets (declared (0 + n) t)) t.fields 0 t.fields)
+    let member = in_front (field_tokens (is_exported w applets (declared (0 + n) t)) t.fields 0 t.fields)
     (method_tokens w (is_exported w applets (declared (0 + n) t)) (declared (0 + n) t)) k _ front in
     ap (λ (d : Class). member_token p (Some (member_at d k))) own.is
     ∙ ap (λ (o : Option OfClass). unwrap_or (option_and_then (λ (x : OfClass). joined (slice_get x.members k)) o) 0xFF)
@@ -109,7 +109,7 @@ high_at w applets lines m (x ∷ cs) zero c none e =
     let same : x ≡ c = cc in
     let z : m ≡ m + 0 = omega arith in
     let b = at_class (file_of lines m) x.name in
-    let here = nil_front (breaks_where (has_high_token w (is_exported w applets (declared m x)) m x) b)
+    let here = none_left (breaks_where (has_high_token w (is_exported w applets (declared m x)) m x) b)
     (breaks_from w applets lines (m + 1) cs) none in
     sym (ap (λ (t : ClassTree). has_high_token w (is_exported w applets (declared m t)) m t) same
     ∙ ap (λ k. has_high_token w (is_exported w applets (declared k c)) k c) z)
@@ -121,7 +121,7 @@ high_at w applets lines m (x ∷ cs) zero c none e =
 high_at w applets lines m (x ∷ cs) (suc n) c none e =
     let s : m + 1 + n ≡ m + suc n = omega arith in
     let b = at_class (file_of lines m) x.name in
-    let rest = nil_back (breaks_where (has_high_token w (is_exported w applets (declared m x)) m x) b)
+    let rest = none_right (breaks_where (has_high_token w (is_exported w applets (declared m x)) m x) b)
     (breaks_from w applets lines (m + 1) cs) none in
     sym (ap (λ k. has_high_token w (is_exported w applets (declared k c)) k c) s) ∙ high_at w applets lines (m + 1) cs n
     c rest e
@@ -157,15 +157,11 @@ few_statics p c own none = let t = own.tree in few (nat_lt 255 (count_by is_open
 
 -- ---- instance fields
 
-cells_cons : (q : FieldTree → Bool) (f : FieldTree) (fs : List FieldTree) → cells_of q (f ∷ fs) ≡ (if q f then cells f
-    else 0) + cells_of q fs
-cells_cons q f fs = sum_by-cons (λ g. if q g then cells g else 0) f fs
-
 -- what passes one test passes another
 fewer : (a d : FieldTree → Bool) (fs : List FieldTree) → ((f : FieldTree) → a f ≡ true → d f ≡ true)
     → cells_of a fs ≤ cells_of d fs
 fewer a d [] h = omega arith
-fewer a d (f ∷ fs) h = by (a f) (d f) (h f) (cells_cons a f fs) (cells_cons d f fs) (fewer a d fs h)
+fewer a d (f ∷ fs) h = by (a f) (d f) (h f) (cells-cons a f fs) (cells-cons d f fs) (fewer a d fs h)
   where
     by : (x y : Bool) → (x ≡ true → y ≡ true) → cells_of a (f ∷ fs) ≡ (if x then cells f else 0) + cells_of a fs
         → cells_of d (f ∷ fs) ≡ (if y then cells f else 0) + cells_of d fs → cells_of a fs ≤ cells_of d fs
@@ -182,7 +178,7 @@ among a b d [] i f apart first second e is = cc
 among a b d (g ∷ fs) zero f apart first second e is =
     let same : g ≡ f = cc in
     let yes' : b g ≡ true = ap b same ∙ is in
-    by (a g) (d g) (λ t. (let n = apart g t in cc)) (second g yes') (cells_cons a g fs) (cells_cons d g fs)
+    by (a g) (d g) (λ t. (let n = apart g t in cc)) (second g yes') (cells-cons a g fs) (cells-cons d g fs)
     (fewer a d fs first) (ap cells same)
   where
     by : (x y : Bool) → (x ≡ true → ⊥) → y ≡ true → cells_of a (g ∷ fs) ≡ (if x then cells g else 0) + cells_of a fs
@@ -193,8 +189,8 @@ among a b d (g ∷ fs) zero f apart first second e is =
     by false true isnt k e h r s = omega (arith, e, h, r, s)
     by false false isnt k e h r s = cc
 among a b d (g ∷ fs) (suc i) f apart first second e is =
-    by (a g) (b g) (d g) (apart g) (first g) (second g) (cells_cons a g fs) (cells_cons b g (take i fs))
-    (cells_cons d g fs) (among a b d fs i f apart first second e is)
+    by (a g) (b g) (d g) (apart g) (first g) (second g) (cells-cons a g fs) (cells-cons b g (take i fs))
+    (cells-cons d g fs) (among a b d fs i f apart first second e is)
   where
     by : (x y z : Bool) → (x ≡ true → y ≡ false) → (x ≡ true → z ≡ true) → (y ≡ true → z ≡ true)
         → cells_of a (g ∷ fs) ≡ (if x then cells g else 0) + cells_of a fs → cells_of b (g ∷ take i fs)
@@ -218,12 +214,12 @@ before b (g ∷ fs) zero (suc j) f lt e is =
     let same : g ≡ f = cc in
     let one : (if b g then cells g else 0) ≡ cells f = ap (λ t. if t then cells g else 0) (ap b same ∙ is)
     ∙ ap cells same in
-    let all = cells_cons b g (take j fs) in
+    let all = cells-cons b g (take j fs) in
     omega (arith, one, all)
 before b (g ∷ fs) (suc i) (suc j) f lt e is =
     let rest = before b fs i j f (omega (arith, lt)) e is in
-    let x = cells_cons b g (take i fs) in
-    let y = cells_cons b g (take j fs) in
+    let x = cells-cons b g (take i fs) in
+    let y = cells-cons b g (take j fs) in
     omega (arith, rest, x, y)
 
 some_cell : (f : FieldTree) → 1 ≤ cells f

@@ -1,8 +1,6 @@
 -- The first place at which a rule is broken.
 use Rattle.std.proofs.Common.{◌≡◌, ◌⊎◌, ◌≤◌, ◌<◌, ◌+◌, ℕ, zero, suc, List, [], ◌∷◌, drop, slice_get, Option, Some, None}
 use Rattle.std.proofs.Common.{refl, sym, ◌∙◌, ap, subst, add-zero, zero-add, arith, ℤ}
-use Rattle.std.proofs.lemmas.List.{drop_more}
-use Rattle.std.proofs.lemmas.Option.{slice_get_within, get_or_from_slice_get}
 use Rattle.cjc_fixpoint.specs.Bytes.declared.fault.MemberId.{MemberId}
 use Rattle.cjc_types.specs.Bytecode.declared.insn.JInsn.{JInsn}
 use Rattle.cjc_types.specs.declared.state.State.{State}
@@ -10,13 +8,14 @@ use Rattle.cjc_types.specs.declared.table.TypeTable.{TypeTable}
 use Rattle.cjc_types.specs.Flow.{Body}
 use Rattle.cjc_types.specs.Search.{cells_of}
 use Rattle.cjc_types.specs.Tables.{rows_of}
-use Rattle.cjc_types.proofs.Firsts.{is_first}
 use Rattle.cjc_intervals.specs.Frames.{RangeState, spans_of}
 use Rattle.cjc_intervals.specs.Tables.{Breach, FirstBreach, Passes}
 use Rattle.cjc_flow.specs.declared.tests.passing.Found.{Found}
 use Rattle.cjc_flow.specs.Tables.{ranges_of}
 use Rattle.cjc_flow.specs.Tests.Working.Search.{lowest_rule, row_rule, or_later, first_from}
 use Rattle.cjc_flow.proofs.TestsLaws.Lowest.{IsLowest, Broken, lowest_is}
+use Rattle.cjc_fixpoint.proofs.BytesGets.{drop_at}
+use Rattle.cjc_fixpoint.proofs.BytesNumbers.{is_first}
 
 module _ (b : Body) where
   -- the lowest rule that is broken at this place
@@ -245,10 +244,6 @@ module _ (b : Body) where
 
 -- ---- the loop
 
-drop_is : {X : Type 0} (xs : List X) (k : ℕ) (x : X) → slice_get xs k ≡ Some x → drop k xs ≡ x ∷ drop (k + 1) xs
-drop_is {X} xs k x is = drop_more xs k x (slice_get_within xs k x is)
-    ∙ ap (λ (y : X). y ∷ drop (k + 1) xs) (get_or_from_slice_get xs k x x is)
-
 module _ (b : Body) (insns : List JInsn) (types : List (Option State)) (ranges : List (Option RangeState)) (k : ℕ)
     (insn : JInsn) (t : Option State) (x : Option RangeState) (is : slice_get insns k ≡ Some insn)
     (is_t : slice_get types k ≡ Some t) (is_x : slice_get ranges k ≡ Some x) (total : Option Found)
@@ -256,11 +251,11 @@ module _ (b : Body) (insns : List JInsn) (types : List (Option State)) (ranges :
   opened : or_later (row_rule b insn t x) k (first_from b (k + 1) (drop (k + 1) insns) (drop (k + 1) types)
       (drop (k + 1) ranges)) ≡ total
   opened =
-      sym (ap (λ (is : List JInsn). first_from b k is (drop k types) (drop k ranges)) (drop_is insns k insn is)
+      sym (ap (λ (is : List JInsn). first_from b k is (drop k types) (drop k ranges)) (drop_at insns k insn is)
       ∙ ap (λ (ts : List (Option State)). first_from b k (insn ∷ drop (k + 1) insns) ts (drop k ranges))
-      (drop_is types k t is_t)
+      (drop_at types k t is_t)
       ∙ ap (λ (xs : List (Option RangeState)). first_from b k (insn ∷ drop (k + 1) insns) (t ∷ drop (k + 1) types) xs)
-      (drop_is ranges k x is_x))
+      (drop_at ranges k x is_x))
       ∙ so_far
 
   pub found_later : row_rule b insn t x ≡ None → first_from b (k + 1) (drop (k + 1) insns) (drop (k + 1) types)

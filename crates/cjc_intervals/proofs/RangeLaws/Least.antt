@@ -8,6 +8,8 @@ use Rattle.std.proofs.lemmas.Bool.{leb-true, leb-false, ltb-true, ltb-false}
 use Rattle.cjc_fixpoint.specs.declared.flow.Edge.{Edge}
 use Rattle.cjc_fixpoint.specs.Dataflow.{Dataflow, IsLawful, StaysWithin}
 use Rattle.cjc_fixpoint.specs.Tables.{Covers, HasRow, IsBelow, IsClosed, IsLeastClosed}
+use Rattle.cjc_bytes.proofs.Gets.{get_below, get_inside}
+use Rattle.cjc_bytes.proofs.Plain.{same_some}
 
 -- ---- lists
 
@@ -34,23 +36,6 @@ set_either zero zero y z (x ∷ xs) e = inr (refl, cc)
 set_either zero (suc j) y z (x ∷ xs) e = inl e
 set_either (suc i) zero y z (x ∷ xs) e = inl e
 set_either (suc i) (suc j) y z (x ∷ xs) e = ⊎_elim (λ a. inl a) (λ b. inr (ap suc b.0, b.1)) (set_either i j y z xs e)
-
-within : {A : Type 0} (xs : List A) (i : ℕ) (x : A) → slice_get xs i ≡ Some x → i < length xs
-within [] i x e = absurd cc
-within (y ∷ xs) zero x e = omega arith
-within (y ∷ xs) (suc i) x e = let lt = within xs i x e in omega (arith, lt)
-
-there : {A : Type 0} (xs : List A) (i : ℕ) → i < length xs → (x : A) × (slice_get xs i ≡ Some x)
-there [] i lt = absurd (omega (arith, lt))
-there (y ∷ xs) zero lt = (y, refl)
-there (y ∷ xs) (suc i) lt = there xs i (omega (arith, lt))
-
-same_some : {A : Type 0} {x y : A} → Some x ≡ Some y → x ≡ y
-same_some e = cc
-
-is_false : (b : Bool) → not b ≡ true → b ≡ false
-is_false true e = absurd cc
-is_false false e = refl
 
 module _ {State : Type 0} (flow : Dataflow State) (places : ℕ) (lawful : IsLawful flow) (stays : StaysWithin flow
     places) where
@@ -292,7 +277,7 @@ module _ {State : Type 0} (flow : Dataflow State) (places : ℕ) (lawful : IsLaw
   )
   demand_own rows v e (by_step k x row c) =
       let own = v.own k x row in
-      let lt = within rows k (Some x) row in
+      let lt = get_below rows k (Some x) row in
       let sized = v.sized in
       (lawful.own_edges k x own e c, stays k x (omega (arith, lt, sized)) own e c)
 
@@ -300,7 +285,7 @@ module _ {State : Type 0} (flow : Dataflow State) (places : ℕ) (lawful : IsLaw
       → flow.Own (raised (row_at rows i) x)
   raised_own rows v i x own lt =
       let sized = v.sized in
-      let r = there rows i (omega (arith, lt, sized)) in
+      let r = get_inside rows i (omega (arith, lt, sized)) in
       subst (λ o. flow.Own (raised o x)) (sym (row_there rows i r.0 r.1)) (by r.0 r.1)
     where
       by : (o : Option State) → slice_get rows i ≡ Some o → flow.Own (raised o x)
@@ -333,7 +318,7 @@ module _ {State : Type 0} (flow : Dataflow State) (places : ℕ) (lawful : IsLaw
           let mine = demand_own rows v e demanded in
           let lt = mine.1 in
           let sized = v.sized in
-          let r = there rows e.to (omega (arith, lt, sized)) in
+          let r = get_inside rows e.to (omega (arith, lt, sized)) in
           subst (λ o. Covers flow others e.to (raised o e.state)) (sym (row_there rows e.to r.0 r.1)) (by r.0 r.1)
         where
           by : (o : Option State) → slice_get rows e.to ≡ Some o → Covers flow others e.to (raised o e.state)
@@ -356,7 +341,7 @@ module _ {State : Type 0} (flow : Dataflow State) (places : ℕ) (lawful : IsLaw
   put_higher rows v e lt open_one =
       let sized = v.sized in
       let inside : e.to < length rows = omega (arith, lt, sized) in
-      let r = there rows e.to inside in
+      let r = get_inside rows e.to inside in
       let at = row_there rows e.to r.0 r.1 in
       let more = by r.0 (sym (ap (λ o. is_covered o e.state) r.1) ∙ open_one) in
       let here : size (row_at rows e.to) < suc (flow.rank (raised (row_at rows e.to) e.state)) =

@@ -10,8 +10,8 @@ use Rattle.std.proofs.lemmas.Slice.Eq.{bytes_eq-Decides}
 use Rattle.cjc_bytes.specs.AccessFlags.{is_static, is_final}
 use Rattle.cjc_bytes.specs.Spots.{after, bad_at, desc_of, parts_of, types_from}
 use Rattle.cjc_narrow.specs.JvmSemantics.OnePackage.{constant_at, constant_in, exported_constant}
-use Rattle.cjc_classfile.specs.declared.tree.ClassTree.{ClassTree}
-use Rattle.cjc_classfile.specs.declared.tree.FieldTree.{FieldTree}
+use Rattle.cjc_code.specs.ClassFile.declared.tree.ClassTree.{ClassTree}
+use Rattle.cjc_code.specs.ClassFile.declared.tree.FieldTree.{FieldTree}
 use Rattle.cjc_world.specs.ExportFile.Members.{is_constant_type, may_be_constant}
 use Rattle.cjc_world.specs.ExportFile.declared.tree.ExportClass.{ExportClass}
 use Rattle.cjc_world.specs.ExportFile.declared.tree.ExportField.{ExportField}
@@ -138,7 +138,7 @@ in_export k c z m has e = by (slice_get c.fields k) (sym (slice_get-map field_of
     by (Some f) h e = let same : field_of_export f ≡ m = cc in ap (λ (x : Member). is_constant_type x.desc) (sym same)
         ∙ if_constant f.flags f.desc f.constant z e
 
-imports_flat : (ts : List ExportTree) → imports ts ≡ flat_map (λ t. t.classes) ts
+pub imports_flat : (ts : List ExportTree) → imports ts ≡ flat_map (λ t. t.classes) ts
 imports_flat [] = refl
 imports_flat (t ∷ ts) = ap (λ cs. t.classes ++ cs) (imports_flat ts)
 

@@ -3,18 +3,18 @@ use Rattle.std.proofs.Common.{◌≡◌, ℕ, suc, refl, sym, ap, ◌∙◌, sub
 use Rattle.std.proofs.Common.{arith}
 use Rattle.std.specs.Prelude.{slice_get}
 use Rattle.std.specs.List.{AllZip}
-use Rattle.std.proofs.lemmas.Int.{ints}
 use Rattle.std.proofs.lemmas.Option.{slice_get_within, slice_get-get_or}
 use Rattle.cjc_bytes.specs.declared.fault.MemberId.{MemberId}
 use Rattle.cjc_flow.specs.Fixpoint.Dataflow.{Dataflow}
 use Rattle.cjc_flow.specs.Fixpoint.Tables.{HasRow, IsLeastClosed}
 use Rattle.cjc_code.specs.Range.Span.{Span, Within}
-use Rattle.cjc_code.proofs.RangeSpans.{span_same}
 use Rattle.cjc_flow.specs.Types.declared.state.State.{State}
 use Rattle.cjc_flow.specs.Types.Flow.{Body}
 use Rattle.cjc_flow.specs.Intervals.Flow.{range_flow}
 use Rattle.cjc_flow.specs.Intervals.Frames.{StackOf, Cells, Clash, IsStackBelow, RangeState, spans, states}
 use Rattle.cjc_flow.specs.Intervals.Tables.{IsLeastRanges}
+use Rattle.cjc_code.proofs.RangeOrder.{within_both}
+use Rattle.cjc_code.proofs.RangeRounding.{spans_same}
 
 -- ---- of any flow in whose order no two states are below one another
 
@@ -65,20 +65,12 @@ module _ {State : Type 0} (flow : Dataflow State) (places : ℕ) (same : (x y : 
 
 -- ---- of intervals
 
-same_span : (s t : Span) → Within s t → Within t s → s ≡ t
-same_span s t h k =
-    let a = h.low in
-    let b = k.low in
-    let c = h.high in
-    let d = k.high in
-    span_same s.low t.low s.high t.high (omega (arith, ints, a, b)) (omega (arith, ints, c, d))
-
 same_spans : (xs ys : List Span) → AllZip Within xs ys → AllZip Within ys xs → xs ≡ ys
 same_spans [] [] h k = refl
 same_spans [] (y ∷ ys) h k = absurd h
 same_spans (x ∷ xs) [] h k = absurd h
 same_spans (x ∷ xs) (y ∷ ys) h k =
-    let first : x ≡ y = same_span x y h.0 k.0 in
+    let first : x ≡ y = within_both x y h.0 k.0 in
     let rest : xs ≡ ys = same_spans xs ys h.1 k.1 in
     cc
 

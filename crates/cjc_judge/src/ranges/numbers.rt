@@ -2,9 +2,9 @@
 
 ghost use Rattle.std.specs.Prelude.{◌≡◌, Some, IfOk, IfSome};
 ghost use Rattle.cjc_bytes.specs.declared.breaks.BrokenAt.{BrokenAt as Broken};
-ghost use Rattle.cjc_classfile.specs.Code.{CodeTree};
-ghost use Rattle.cjc_classfile.specs.declared.tree.ClassTree.{ClassTree as ClassFile};
-ghost use Rattle.cjc_classfile.specs.declared.tree.MethodTree.{MethodTree as ClassMethod};
+ghost use Rattle.cjc_code.specs.ClassFile.Code.{CodeTree};
+ghost use Rattle.cjc_code.specs.ClassFile.declared.tree.ClassTree.{ClassTree as ClassFile};
+ghost use Rattle.cjc_code.specs.ClassFile.declared.tree.MethodTree.{MethodTree as ClassMethod};
 ghost use Rattle.cjc_world.specs.Classes.{all_classes};
 ghost use Rattle.cjc_flow.specs.Types.Flow.{body_of};
 ghost use Rattle.cjc_flow.specs.Types.Tables.{IsMethodOf, IsOfPackage, IsTypeTable, rows_of};

@@ -1,13 +1,10 @@
 -- Lists of unlike lengths, and types by their places.
-use Rattle.std.proofs.Common.{◌≡◌, ℕ, suc, List, [], ◌∷◌, length, Bool, true, false, refl, ap, ◌∙◌}
+use Rattle.std.proofs.Common.{◌≡◌, ℕ, suc, List, [], ◌∷◌, length, Bool, false, refl, ap, ◌∙◌}
 use Rattle.std.specs.Prelude.{◌≢◌, ◌&&◌}
 use Rattle.cjc_script.specs.declared.value.Value.{Value}
 use Rattle.cjc_script.specs.Sorts.{Sort, Shape, fits, all_fit}
 use Rattle.cjc_jvm_semantics.specs.Machine.{is_of_sort, are_of_sorts}
-
-and_false : (t : Bool) → (t && false) ≡ false
-and_false true = refl
-and_false false = refl
+use Rattle.cjc_script.proofs.BytesBools.{and_false}
 
 -- fewer values than types, or more
 pub all_fit-unlike : (is_of : ℕ → Shape (List ℕ) → Bool) (sorts : List Sort) (values : List Value)

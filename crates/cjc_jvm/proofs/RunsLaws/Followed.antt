@@ -1,6 +1,6 @@
 -- An instruction that has followed its row, as the machine goes on from it.
 use Rattle.std.proofs.Common.{◌≡◌, ℕ, ◌+◌, ◌<◌, ◌≤◌, List, ◌∷◌, length, refl, sym, ap, subst, ◌∙◌, arith}
-use Rattle.std.specs.Prelude.{IfOk, OnOk, Option, Some, Result, Ok, Err, slice_get}
+use Rattle.std.specs.Prelude.{Option, Some, slice_get}
 use Rattle.cjc_jvm_semantics.specs.Bytecode.declared.insn.JInsn.{JInsn}
 use Rattle.cjc_jvm_semantics.specs.CardSemantics.Bytecode.Runs.{Move, On}
 use Rattle.cjc_jvm_semantics.specs.Linked.{Linked}
@@ -60,11 +60,6 @@ pub fetched : (l : Linked) (f : Frame) (outer : List Frame) (s : State) (i : JIn
     (next : Move State) → Some i ≡ o → after_effect l (effect l f.method f.at f.locals s.store i.op f.stack) f outer s
     ≡ next → after_fetch l o f outer s ≡ next
 fetched l f outer s i o next found e = ap (λ x. after_fetch l x f outer s) (sym found) ∙ e
-
--- of a result that is there, both
-pub both : {T E : Type 0} (r : Result T E) (P : T → Type 0) (Q : Type 0) → IfOk r P → OnOk r Q → IfOk r (λ x. P x × Q)
-both (Ok x) P Q p q = (p, q)
-both (Err e) P Q p q = p
 
 -- as many arrays and objects as there were, or one more, beside those that acts may make
 as_many : (m n : ℕ) (store store' : Store) → store' ≡ store → length store'.heap + m + n ≤ length store.heap + m + n

@@ -46,11 +46,6 @@ got_suc [] k x h = absurd (cc h)
 got_suc (y ∷ ys) zero x h = let e : x ≡ y = cc h in ap (λ z. z ∷ []) (sym e)
 got_suc (y ∷ ys) (suc k) x h = ap (λ r. y ∷ r) (got_suc ys k x h)
 
--- an item that is there
-pub got_more : {X : Type 0} (xs : List X) (k : ℕ) (x : X) → Some x ≡ slice_get xs k → take (k + 1) xs ≡ take k xs
-    ++ x ∷ []
-got_more xs k x h = ap (λ n. take n xs) (add-one k) ∙ got_suc xs k x h
-
 -- no item is there
 pub past : {X : Type 0} (xs : List X) (k : ℕ) → None ≡ slice_get xs k → length xs ≤ k
 past [] k h = omega arith

@@ -15,9 +15,9 @@ ghost use Rattle.cjc_jvm.specs.Acts.Meant.{sort_meant};
 
 use crate::acts::fitting::fits;
 use crate::acts::sort::{Sort, element_sort, zero_of};
-use cjc_jvm_semantics::bytes::NoMemory;
 use cjc_jvm_step::heap::{ArrayKind, Heap, HeapObject, TypeName};
 use cjc_jvm_step::step::{LookUps, Shape, array_kind, class_within};
+use cjc_script::bytes::NoMemory;
 use cjc_script::{Act, Value};
 use std::alloc::Global;
 

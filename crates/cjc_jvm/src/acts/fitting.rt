@@ -10,11 +10,11 @@ ghost use Rattle.cjc_jvm_step.specs.Step.Names.{shape_meant};
 ghost use Rattle.cjc_jvm.specs.Acts.Meant.{sort_meant};
 
 use crate::acts::sort::Sort;
-use cjc_jvm_semantics::bytes::NoMemory;
 use cjc_jvm_step::frame::is_kind;
 use cjc_jvm_step::heap::Heap;
 use cjc_jvm_step::step::{LookUps, Shape, array_of};
 use cjc_script::Value;
+use cjc_script::bytes::NoMemory;
 use std::alloc::Global;
 
 // Whether a type is of a shape, as a script asks.

@@ -5,7 +5,7 @@ ghost use Rattle.cjc_script.specs.Sorts.{sort_of, signature_of, result_by};
 ghost use Rattle.cjc_jvm.specs.Acts.Meant.{sort_meant};
 
 use crate::acts::sort::{Sort, sort_at};
-use cjc_jvm_semantics::bytes::{Desc, Kind, NoMemory, Row};
+use cjc_script::bytes::{Desc, Kind, NoMemory, Row};
 use std::alloc::Global;
 use std::marker::Model;
 

@@ -10,10 +10,10 @@ ghost use Rattle.cjc_jvm.specs.Runs.Starts.{Starts};
 
 use crate::acts::{all_fit, perform, signature_of};
 use crate::turns::Machine;
-use cjc_jvm_semantics::bytes::{MemberId, NoMemory};
 use cjc_jvm_step::frame::{Activation, Method};
 use cjc_jvm_step::heap::Heap;
 use cjc_jvm_step::step::LookUps;
+use cjc_script::bytes::{MemberId, NoMemory};
 use cjc_script::{Entry, Outcome, Value};
 use std::alloc::Global;
 

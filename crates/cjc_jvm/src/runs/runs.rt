@@ -11,10 +11,10 @@ use crate::runs::entries::{Begun, begin};
 use crate::runs::reports::report;
 use crate::runs::steps::step;
 use crate::turns::{After, Machine, pop};
-use cjc_jvm_semantics::bytes::{NoMemory, Row};
 use cjc_jvm_step::frame::{Activation, Pile};
 use cjc_jvm_step::heap::Statics;
 use cjc_jvm_step::step::LookUps;
+use cjc_script::bytes::{NoMemory, Row};
 use cjc_script::{Outcome, Report, Script};
 use std::alloc::Global;
 

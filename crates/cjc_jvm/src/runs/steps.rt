@@ -10,11 +10,11 @@ ghost use Rattle.cjc_jvm.specs.States.{Leads, objects_at_most};
 ghost use Rattle.cjc_jvm.specs.Runs.Deeds.{IsInside, after_deed, most_after};
 
 use crate::turns::{After, Machine, class_of};
-use cjc_jvm_semantics::bytes::NoMemory;
-use cjc_jvm_step::bytecode::JOp;
+use cjc_jvm_semantics::bytecode::JOp;
 use cjc_jvm_step::frame::{Activation, Deed};
 use cjc_jvm_step::step::{LookUps, act};
 use cjc_script::Outcome;
+use cjc_script::bytes::NoMemory;
 use std::alloc::Global;
 
 // An instruction of a frame, on the heap and the static cells.

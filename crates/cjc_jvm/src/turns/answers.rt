@@ -14,9 +14,9 @@ use crate::acts::{Sort, perform, result_fits};
 use crate::turns::after::After;
 use crate::turns::machine::{Machine, pop};
 use crate::turns::notes::event;
-use cjc_jvm_semantics::bytes::{MemberId, NoMemory};
 use cjc_jvm_step::frame::Activation;
 use cjc_jvm_step::step::LookUps;
+use cjc_script::bytes::{MemberId, NoMemory};
 use cjc_script::{Answer, Note, Outcome, Reply, Value};
 use std::alloc::Global;
 

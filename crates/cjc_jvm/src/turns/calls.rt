@@ -15,9 +15,9 @@ use crate::turns::after::After;
 use crate::turns::machine::Machine;
 use crate::turns::notes::copy_of;
 use crate::turns::throws::class_of;
-use cjc_jvm_semantics::bytes::{MemberId, NoMemory, Row};
 use cjc_jvm_step::frame::{Activation, Caller, Exception};
 use cjc_jvm_step::step::{Call, Callee, LookUps};
+use cjc_script::bytes::{MemberId, NoMemory, Row};
 use cjc_script::{Outcome, Value};
 use std::alloc::Global;
 

@@ -11,11 +11,11 @@ ghost use Rattle.cjc_jvm.specs.States.{Leads, handled, objects_at_most};
 use crate::turns::after::After;
 use crate::turns::machine::{Machine, pop};
 use crate::turns::notes::thrown;
-use cjc_jvm_semantics::bytes::{Bytes, NoMemory, Row};
-use cjc_jvm_step::classfile::Catch;
+use cjc_jvm_semantics::classfile::Catch;
 use cjc_jvm_step::frame::{Activation, Caller, Exception, Pile};
 use cjc_jvm_step::heap::HeapObject;
 use cjc_jvm_step::step::LookUps;
+use cjc_script::bytes::{Bytes, NoMemory, Row};
 use cjc_script::{Note, Outcome};
 use std::alloc::Global;
 

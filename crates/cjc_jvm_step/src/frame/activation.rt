@@ -10,8 +10,8 @@ ghost use Rattle.cjc_jvm_semantics.specs.Effects.{place};
 
 use crate::frame::method::Method;
 use crate::frame::pile::Pile;
-use cjc_jvm_semantics::bytes::NoMemory;
 use cjc_script::Value;
+use cjc_script::bytes::NoMemory;
 use std::marker::Model;
 
 /// A frame: the method, which has fewer than 2^32 instructions, the place of the one that is next or under way,

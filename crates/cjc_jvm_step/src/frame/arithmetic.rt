@@ -10,9 +10,9 @@ use crate::frame::activation::Activation;
 use crate::frame::calculation::{Calculation, calculate};
 use crate::frame::deed::{Deed, Exception};
 use crate::frame::number::{byte_of, negation_of, short_of};
-use cjc_jvm_semantics::bytes::NoMemory;
-use cjc_jvm_semantics::lower_bytecode::jvm;
+use cjc_jvm_semantics::bytecode::jvm;
 use cjc_script::Value;
+use cjc_script::bytes::NoMemory;
 
 impl<'a> Activation<'a> {
     // An instruction of two numbers.

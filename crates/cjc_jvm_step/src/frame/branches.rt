@@ -9,7 +9,7 @@ ghost use Rattle.cjc_jvm_step.specs.Frame.Deeds.{Follows};
 use crate::frame::activation::{Activation, is_kind};
 use crate::frame::deed::Deed;
 use crate::frame::number::relation;
-use cjc_jvm_semantics::lower_bytecode::{JCase, jvm};
+use cjc_jvm_semantics::bytecode::{JCase, jvm};
 use cjc_script::Value;
 
 /// Whether two references are the same.

@@ -8,7 +8,7 @@ use crate::frame::number::{
     and_of, difference_of, left_shift_of, or_of, product_of, quotient_of, remainder_of,
     right_shift_of, sum_of, unsigned_shift_of, xor_of,
 };
-use cjc_jvm_semantics::lower_bytecode::jvm;
+use cjc_jvm_semantics::bytecode::jvm;
 
 /// What an instruction of two numbers gives of them.
 #[derive(Clone, Copy)]

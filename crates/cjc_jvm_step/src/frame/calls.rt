@@ -10,9 +10,9 @@ ghost use Rattle.cjc_jvm_semantics.specs.Machine.{holder_of, offset, room, frame
 use crate::frame::activation::Activation;
 use crate::frame::method::Method;
 use crate::frame::pile::Pile;
-use cjc_jvm_semantics::bytes::NoMemory;
-use cjc_jvm_semantics::lower_bytecode::JInsn;
+use cjc_jvm_semantics::bytecode::JInsn;
 use cjc_script::Value;
+use cjc_script::bytes::NoMemory;
 use std::alloc::Global;
 use std::marker::Model;
 

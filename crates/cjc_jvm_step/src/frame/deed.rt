@@ -1,8 +1,8 @@
 //! What an instruction by name leaves to others, beside what it has changed in its frame: go on, raise, throw,
 //! call or return. Whoever runs instructions does it.
 
-use cjc_jvm_semantics::bytes::MemberId;
 use cjc_script::Value;
+use cjc_script::bytes::MemberId;
 
 /// An exception of the machine's own.
 #[derive(Clone, Copy)]

@@ -8,8 +8,8 @@ ghost use Rattle.cjc_jvm_step.specs.Frame.Deeds.{Follows};
 use crate::frame::activation::{Activation, is_kind};
 use crate::frame::deed::Deed;
 use crate::frame::number::sum_of;
-use cjc_jvm_semantics::bytes::NoMemory;
 use cjc_script::Value;
+use cjc_script::bytes::NoMemory;
 
 impl<'a> Activation<'a> {
     /// What a local holds, if it is set.

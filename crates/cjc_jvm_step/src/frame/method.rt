@@ -4,8 +4,8 @@
 ghost use Rattle.std.specs.Prelude.{◌≡◌, ◌<◌, ◌^◌, length};
 ghost use Rattle.cjc_jvm_semantics.specs.Effects.{place};
 
-use cjc_jvm_semantics::lower_bytecode::JInsn;
-use cjc_jvm_semantics::lower_classfile::Catch;
+use cjc_jvm_semantics::bytecode::JInsn;
+use cjc_jvm_semantics::classfile::Catch;
 use std::marker::Model;
 
 /// A method of a class file.

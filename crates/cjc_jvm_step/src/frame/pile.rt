@@ -4,7 +4,7 @@
 ghost use Rattle.std.specs.Prelude.{◌≡◌, ◌≤◌, [], ◌∷◌, ◌++◌, length, take, drop, reverse, slice_get, IfSome, IfNone};
 ghost use Rattle.std.specs.Prelude.{OnOk};
 
-use cjc_jvm_semantics::bytes::NoMemory;
+use cjc_script::bytes::NoMemory;
 use std::alloc::Global;
 use std::marker::Model;
 

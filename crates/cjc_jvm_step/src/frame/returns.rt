@@ -7,7 +7,7 @@ ghost use Rattle.cjc_jvm_step.specs.Frame.Deeds.{Follows};
 
 use crate::frame::activation::{Activation, is_kind};
 use crate::frame::deed::{Deed, Exception};
-use cjc_jvm_semantics::lower_bytecode::jvm;
+use cjc_jvm_semantics::bytecode::jvm;
 use cjc_script::Value;
 
 impl<'a> Activation<'a> {

@@ -6,9 +6,9 @@ ghost use Rattle.cjc_jvm_step.specs.Frame.Deeds.{Follows};
 
 use crate::frame::activation::Activation;
 use crate::frame::deed::Deed;
-use cjc_jvm_semantics::bytes::NoMemory;
-use cjc_jvm_semantics::lower_bytecode::jvm;
+use cjc_jvm_semantics::bytecode::jvm;
 use cjc_script::Value;
+use cjc_script::bytes::NoMemory;
 
 impl<'a> Activation<'a> {
     // Operands leave.

@@ -17,8 +17,8 @@ use crate::frame::Exception;
 use crate::heap::halt::Halt;
 use crate::heap::kind::{ArrayKind, Moves, serves};
 use crate::heap::object::HeapObject;
-use cjc_jvm_semantics::bytes::{MemberId, NoMemory};
 use cjc_script::Value;
+use cjc_script::bytes::{MemberId, NoMemory};
 use std::alloc::Global;
 use std::marker::Model;
 

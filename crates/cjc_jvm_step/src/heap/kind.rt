@@ -7,7 +7,7 @@ ghost use Rattle.cjc_script.specs.Sorts.{shape_named, array_by, array_name};
 ghost use Rattle.cjc_jvm_semantics.specs.Effects.{serves};
 ghost use Rattle.cjc_jvm_step.specs.Heap.Kinds.{effect_moves, elements_of, shape_of, is_class_and_end};
 
-use cjc_jvm_semantics::bytes::Desc;
+use cjc_script::bytes::Desc;
 
 /// The numbers of an array.
 #[derive(Clone, Copy)]

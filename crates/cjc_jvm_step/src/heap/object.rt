@@ -18,7 +18,7 @@ ghost use Rattle.cjc_jvm_step.specs.Heap.Parts.{AreSound, thing_by};
 use crate::frame::is_same_kind;
 use crate::heap::kind::ArrayKind;
 use crate::heap::type_name::TypeName;
-use cjc_jvm_semantics::bytes::{MemberId, NoMemory};
+use cjc_script::bytes::{MemberId, NoMemory};
 use cjc_script::{FieldValue, Value};
 use std::alloc::Global;
 use std::marker::Model;

@@ -7,7 +7,7 @@ ghost use Rattle.cjc_jvm_semantics.specs.OnePackage.{of_class};
 ghost use Rattle.cjc_jvm_step.specs.Heap.Objects.{fields_after_put, fields_with};
 
 use crate::heap::object::{fresh_values, put_value, value_at};
-use cjc_jvm_semantics::bytes::{MemberId, NoMemory};
+use cjc_script::bytes::{MemberId, NoMemory};
 use cjc_script::{FieldValue, Value};
 use std::alloc::Global;
 use std::marker::Model;

@@ -3,7 +3,7 @@
 
 ghost use Rattle.std.specs.Prelude.{◌≡◌};
 
-use cjc_jvm_semantics::bytes::Bytes;
+use cjc_script::bytes::Bytes;
 use std::marker::Model;
 
 #[derive(Drop)]

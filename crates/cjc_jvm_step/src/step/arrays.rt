@@ -9,9 +9,9 @@ use crate::frame::number::byte_of;
 use crate::frame::{Activation, Deed};
 use crate::heap::{Heap, Moves};
 use crate::step::deeds::deed_of;
-use cjc_jvm_semantics::bytes::NoMemory;
-use cjc_jvm_semantics::lower_bytecode::jvm;
+use cjc_jvm_semantics::bytecode::jvm;
 use cjc_script::Value;
+use cjc_script::bytes::NoMemory;
 
 // What a load gives of an element.
 fn load_of(moves: Moves, value: Value) -> Value

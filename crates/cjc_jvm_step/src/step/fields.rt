@@ -13,7 +13,7 @@ use crate::frame::{Activation, Deed};
 use crate::heap::Heap;
 use crate::step::deeds::deed_of;
 use crate::step::lookups::{LookUps, ResolvedField};
-use cjc_jvm_semantics::bytes::{MemberId, NoMemory};
+use cjc_script::bytes::{MemberId, NoMemory};
 
 // getfield, by the class that declares the field.
 fn get_field_of<'a>(

@@ -15,9 +15,9 @@ use crate::step::objects::{new_numbers, new_of};
 use crate::step::statics::act_on_static;
 use crate::step::stores::array_store;
 use crate::step::types::{check_cast, instance_of, new_references};
-use cjc_jvm_semantics::bytes::NoMemory;
-use cjc_jvm_semantics::lower_bytecode::JOp;
+use cjc_jvm_semantics::bytecode::JOp;
 use cjc_script::Value;
+use cjc_script::bytes::NoMemory;
 use std::alloc::Global;
 
 /// One instruction of a frame, whose place it is.

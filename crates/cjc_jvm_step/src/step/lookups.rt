@@ -7,8 +7,8 @@ ghost use Rattle.cjc_jvm_step.specs.Step.Names.{field_of, callee_of, selection_o
 
 use crate::frame::Method;
 use crate::heap::Heap;
-use cjc_jvm_semantics::bytes::{MemberId, NoMemory};
 use cjc_script::FieldValue;
+use cjc_script::bytes::{MemberId, NoMemory};
 use std::alloc::Global;
 
 /// A field that code names, by the class that declares it.

@@ -15,7 +15,7 @@ ghost use Rattle.cjc_jvm_step.specs.Step.Rows.{FollowsBy};
 use crate::frame::{Activation, Deed, Exception};
 use crate::heap::{ArrayKind, Element, Heap, HeapObject, TypeName};
 use crate::step::lookups::LookUps;
-use cjc_jvm_semantics::bytes::NoMemory;
+use cjc_script::bytes::NoMemory;
 use cjc_script::{FieldValue, Value};
 use std::alloc::Global;
 

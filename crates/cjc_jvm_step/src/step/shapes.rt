@@ -7,7 +7,7 @@ ghost use Rattle.cjc_jvm_step.specs.Heap.Kinds.{shape_of, class_within};
 ghost use Rattle.cjc_jvm_step.specs.Step.Names.{shape_meant};
 
 use crate::heap::{ArrayKind, Element, kind_of};
-use cjc_jvm_semantics::bytes::{Bytes, NoMemory};
+use cjc_script::bytes::{Bytes, NoMemory};
 use std::alloc::Global;
 
 // More bytes than the names of any file have.

@@ -14,8 +14,8 @@ ghost use Rattle.cjc_jvm_step.specs.Step.Rows.{FollowsIn, store_of};
 use crate::frame::{Activation, Deed};
 use crate::heap::Statics;
 use crate::step::lookups::{LookUps, ResolvedField};
-use cjc_jvm_semantics::bytes::{MemberId, NoMemory};
 use cjc_script::Value;
+use cjc_script::bytes::{MemberId, NoMemory};
 
 // getstatic of a cell, by the class that declares its field.
 fn get_cell<'a>(

@@ -16,7 +16,7 @@ use crate::step::deeds::deed_of;
 use crate::step::lookups::LookUps;
 use crate::step::shapes::class_within;
 use crate::step::types::is_of;
-use cjc_jvm_semantics::lower_bytecode::jvm;
+use cjc_jvm_semantics::bytecode::jvm;
 use cjc_script::Value;
 
 // What an element keeps of a number.

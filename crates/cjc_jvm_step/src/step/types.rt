@@ -13,8 +13,8 @@ use crate::heap::{Heap, TypeName};
 use crate::step::lookups::LookUps;
 use crate::step::objects::new_array;
 use crate::step::shapes::{Shape, array_kind, array_of, shape_named};
-use cjc_jvm_semantics::bytes::NoMemory;
 use cjc_script::Value;
+use cjc_script::bytes::NoMemory;
 use std::alloc::Global;
 
 // Whether a name is that of a type whose class is there.

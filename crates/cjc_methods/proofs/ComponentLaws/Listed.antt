@@ -1,19 +1,12 @@
 -- Places and their distances, one after the other.
 use Rattle.std.proofs.Common.{◌≡◌, ℕ, suc, ◌+◌, ◌-◌, ◌/◌, ◌%◌, ◌<◌, ◌≤◌, List, [], ◌∷◌, ◌++◌, length, get_or, drop}
-use Rattle.std.proofs.Common.{replicate, refl, sym, ap, ◌∙◌, arith, append_assoc, append-nil}
-use Rattle.std.proofs.lemmas.List.{drop_all, drop_more}
-use Rattle.std.proofs.lemmas.Option.{same_Some, slice_get-get_or}
+use Rattle.std.proofs.Common.{refl, sym, ap, ◌∙◌, arith, append_assoc, append-nil}
+use Rattle.std.proofs.lemmas.List.{drop_all}
 use Rattle.cjc_ncode.specs.CapRead.declared.tree.Handler.{Handler}
 use Rattle.cjc_components.specs.CheckRules.Locations.{catch_places, distance, distances}
 use Rattle.cjc_methods.specs.Component.Working.Parts.{catch_place}
-
--- at the item of a number and behind it
-pub at_item : {A : Type 0} (i : ℕ) (x : A) (xs : List A) → i < length xs → x ≡ get_or xs i x
-    → drop i xs ≡ x ∷ drop (i + 1) xs
-at_item {A} i x xs lt is = drop_more xs i x lt ∙ ap (λ (y : A). y ∷ drop (i + 1) xs) (sym is)
-
-pub same_item : {A : Type 0} (xs : List A) (i : ℕ) (d : A) → i < length xs → get_or xs i d ≡ get_or xs i (get_or xs i d)
-same_item xs i d lt = same_Some _ _ (sym (slice_get-get_or xs i d lt) ∙ slice_get-get_or xs i (get_or xs i d) lt)
+use Rattle.cjc_bytes.proofs.Gets.{at_item}
+use Rattle.cjc_bytes.proofs.Numbers.{number_full}
 
 -- ---- catch indices
 
@@ -34,14 +27,11 @@ catch_all at i hs done total le so_far =
 
 -- ---- distances
 
-full : (k n : ℕ) → k ≡ suc n → replicate {A = ℕ} k 255 ≡ 255 ∷ replicate n 255
-full k n e = ap (λ m. replicate {A = ℕ} m 255) e
-
 distance_more : (n : ℕ) → 255 ≤ n → distance n ≡ 255 ∷ distance (n - 255)
 distance_more n le =
     let q : n / 255 ≡ suc ((n - 255) / 255) = omega arith in
     let r : n % 255 ≡ (n - 255) % 255 = omega arith in
-    rw (full (n / 255) ((n - 255) / 255) q, r) refl
+    rw (number_full (n / 255) ((n - 255) / 255) q, r) refl
 
 pub distance_last : (n : ℕ) → n < 255 → distance n ≡ n ∷ []
 distance_last n lt =

@@ -4,7 +4,7 @@ use Rattle.std.proofs.Common.{◌∷◌, ◌++◌, length, get_or, drop, append_
 use Rattle.std.specs.Prelude.{map, slice_get, position, unwrap_or, Option, Some, None, if◌then◌else◌, ◌==◌}
 use Rattle.std.specs.List.{flat_map}
 use Rattle.std.proofs.lemmas.List.{drop_all}
-use Rattle.std.proofs.lemmas.Option.{get_or_from_slice_get, slice_get-get_or, slice_get_read}
+use Rattle.std.proofs.lemmas.Option.{slice_get-get_or, slice_get_read}
 use Rattle.std.proofs.lemmas.List.Concat.{flat_map-cons}
 use Rattle.cjc_ncode.specs.CapRead.declared.opcode.OpInfo.{OpInfo}
 use Rattle.cjc_ncode.specs.CapRead.declared.tree.Handler.{Handler}
@@ -43,20 +43,10 @@ use Rattle.cjc_methods.specs.Layouts.Laid.{AreLaid, laid_method, laid_methods}
 use Rattle.cjc_methods.proofs.LayoutsLaws.Kept.{there}
 use Rattle.cjc_methods.specs.Component.Emittable.{AreEmittable}
 use Rattle.cjc_methods.specs.Component.Working.Parts.{IsIndexed, flagged}
+use Rattle.cjc_methods.proofs.LayoutsLaws.Standing.{header_long}
+use Rattle.cjc_bytes.proofs.Gets.{drop_at}
 
 -- ---- headers
-
-as_long : (bytes : List ℕ) → length (with_abstract bytes) ≡ length bytes
-as_long [] = refl
-as_long (b ∷ bytes) = refl
-
-pub header_long : (m : LaidMethod) → length (header_of m) ≡ length (header_bytes m.code)
-header_long m = by m.is_abstract
-  where
-    by : (b : Bool) → length (if b then with_abstract (header_bytes m.code) else header_bytes m.code)
-        ≡ length (header_bytes m.code)
-    by true = as_long (header_bytes m.code)
-    by false = refl
 
 -- a header has a first byte
 flagged_front : (b : Bool) (code : NMethod) (rest : List ℕ) → flagged b (header_bytes code ++ rest)
@@ -160,12 +150,6 @@ placed_there at (x ∷ ms) zero m o e f = let g : x ≡ m = cc in let h : at ≡
     ∙ ap (λ y. Some (placed_at y m)) h
 placed_there at (x ∷ ms) (suc k) m o e f = placed_there (at + _) ms k m o e f
 
-pub drop_there : {A : Type 0} (xs : List A) (k : ℕ) (x : A) → slice_get xs k ≡ Some x → drop k xs ≡ x ∷ drop (k + 1) xs
-drop_there [] k x e = cc
-drop_there (y ∷ xs) zero x e = let g : y ≡ x = cc in ap (λ z. z ∷ xs) g
-drop_there {A} (y ∷ xs) (suc k) x e = let s : suc k + 1 ≡ suc (k + 1) = omega arith in drop_there xs k x e
-    ∙ ap (λ n. x ∷ drop n (y ∷ xs)) (sym s)
-
 pub length_placed : (at : ℕ) (ms : List LaidMethod) → length (placed_from at ms) ≡ length ms
 length_placed at [] = refl
 length_placed at (m ∷ ms) = ap suc (length_placed (at + _) ms)
@@ -178,7 +162,7 @@ more {A} {B} F part cons xs k x done next total there n so_far =
     ap (λ ys. ys ++ F (drop (k + 1) xs)) n
     ∙ append_assoc done (part x) (F (drop (k + 1) xs))
     ∙ ap (λ ys. done ++ ys) (sym (cons x (drop (k + 1) xs)))
-    ∙ ap (λ (ys : List A). done ++ F ys) (sym (drop_there xs k x there))
+    ∙ ap (λ (ys : List A). done ++ F ys) (sym (drop_at xs k x there))
     ∙ so_far
 
 pub last : {A B : Type 0} (F : List A → List B) → F [] ≡ [] → (xs : List A) (k : ℕ) (done total : List B)
@@ -231,9 +215,6 @@ read_one {A} xs ys k x e lt is = ap (λ (zs : List A). slice_get zs k) (sym e) �
 pub read_by : {A : Type 0} (xs ys : List A) (k : ℕ) (d : A) → xs ≡ ys → k < length xs
     → slice_get ys k ≡ Some (get_or xs k d)
 read_by {A} xs ys k d e lt = ap (λ (zs : List A). slice_get zs k) (sym e) ∙ slice_get-get_or xs k d lt
-
-pub any_default : {A : Type 0} (xs : List A) (k : ℕ) (d x : A) → k < length xs → get_or xs k d ≡ get_or xs k x
-any_default xs k d x lt = sym (get_or_from_slice_get xs k (get_or xs k d) x (slice_get-get_or xs k d lt))
 
 pub as_many_laid : (ms : Methods) (cs : List NMethod) (ls : List Laid) (k : ℕ) → AreLaid ms → cs ≡ ms.codes
     → ls ≡ ms.laid → k < length cs → k < length ls

@@ -82,10 +82,6 @@ same_at f g xs ys k x y e p q =
     ∙ ap (option_map g) q in
     let i : Some (f x) ≡ Some (g y) = h in cc
 
-item_there : {A B : Type 0} (f : A → B) (xs : List A) (k : ℕ) (x : A) → slice_get xs k ≡ Some x → slice_get (map f xs) k
-    ≡ Some (f x)
-item_there f xs k x e = slice_get-map f xs k ∙ ap (option_map f) e
-
 -- ---- a package
 
 module _ (list : ListTree) (files : Files) (insns : List MethodCode) (image : StaticImage) (is_image : IsImage files

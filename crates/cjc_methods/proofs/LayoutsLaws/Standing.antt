@@ -1,9 +1,8 @@
 -- Where methods stand, by their codes and layouts.
 use Rattle.std.proofs.Common.{◌≡◌, ℕ, suc, ◌+◌, ◌*◌, ◌≤◌, ◌<◌, refl, sym, ap, ◌∙◌, arith, Bool, true, false, List, []}
 use Rattle.std.proofs.Common.{◌∷◌, ◌++◌, length, get_or, drop, append_assoc, append-nil}
-use Rattle.std.proofs.lemmas.List.{drop_all, drop_more}
-use Rattle.std.proofs.lemmas.Option.{get_or_from_slice_get, slice_get-get_or}
-use Rattle.std.specs.Prelude.{map, sum_by, slice_get, Some, if◌then◌else◌, Result, Ok, Err, IfOk}
+use Rattle.std.proofs.lemmas.List.{drop_all}
+use Rattle.std.specs.Prelude.{map, sum_by, slice_get, Some, if◌then◌else◌}
 use Rattle.std.proofs.lemmas.List.Sums.{sum_by-cons}
 use Rattle.cjc_ncode.specs.declared.narrow.NCatch.{NCatch}
 use Rattle.cjc_ncode.specs.declared.narrow.NMethod.{NMethod}
@@ -18,6 +17,7 @@ use Rattle.cjc_methods.specs.declared.layouts.laid.Laid.{Laid}
 use Rattle.cjc_methods.specs.declared.layouts.laid.Methods.{Methods}
 use Rattle.cjc_methods.specs.Layouts.Laid.{AreLaid, laid_method, laid_methods, with_layouts}
 use Rattle.cjc_methods.specs.Layouts.Working.Offsets.{offsets_from, size_of}
+use Rattle.cjc_bytes.proofs.Gets.{at_item}
 use Rattle.cjc_methods.specs.Layouts.Working.Offsets as kept
 
 -- each has its layout
@@ -52,11 +52,11 @@ first_is m laid = ap (λ n. 1 + 8 * n) (sym (all_handlers m.codes m.laid laid.co
 
 -- ---- offsets
 
-as_long : (bytes : List ℕ) → length (with_abstract bytes) ≡ length bytes
+pub as_long : (bytes : List ℕ) → length (with_abstract bytes) ≡ length bytes
 as_long [] = refl
 as_long (b ∷ bytes) = refl
 
-header_long : (m : LaidMethod) → length (header_of m) ≡ length (header_bytes m.code)
+pub header_long : (m : LaidMethod) → length (header_of m) ≡ length (header_bytes m.code)
 header_long m = by m.is_abstract
   where
     by : (b : Bool) → length (if b then with_abstract (header_bytes m.code) else header_bytes m.code)
@@ -84,11 +84,6 @@ all_offsets m laid = sym (offsets_are (first_method (laid_methods m)) m.codes m.
 
 -- ---- one after the other
 
--- an item that is read is the first from its place on
-pub at_item : {A : Type 0} (i : ℕ) (x : A) (xs : List A) → i < length xs → x ≡ get_or xs i x
-    → drop i xs ≡ x ∷ drop (i + 1) xs
-at_item {A} i x xs lt is = drop_more xs i x lt ∙ ap (λ (y : A). y ∷ drop (i + 1) xs) (sym is)
-
 pub offsets_more : (k at next : ℕ) (cs : List NMethod) (ls : List Laid) (c : NMethod) (l : Laid) (row total : List ℕ)
     → k < length cs → k < length ls → c ≡ get_or cs k c → l ≡ get_or ls k l → next ≡ at + size_of c l
     → row ++ offsets_from at (drop k cs) (drop k ls) ≡ total → (row ++ at ∷ []) ++ offsets_from next (drop (k + 1) cs)
@@ -111,12 +106,3 @@ pub offsets_long : (at : ℕ) (cs : List NMethod) (ls : List Laid) → length ls
 offsets_long at [] ls e = refl
 offsets_long at (c ∷ cs) [] e = absurd (omega (arith, e))
 offsets_long at (c ∷ cs) (l ∷ ls) e = ap suc (offsets_long (at + size_of c l) cs ls (omega (arith, e)))
-
-pub ok_more : {A E : Type 0} {P Q : A → Type 0} → ((x : A) → P x → Q x) → (r : Result A E) → IfOk r P → IfOk r Q
-ok_more f (Ok x) p = f x p
-ok_more f (Err e) p = tt
-
--- an item that is read is read by any default
-pub read_twice : {A : Type 0} (xs : List A) (i : ℕ) (d : A) → i < length xs
-    → get_or xs i d ≡ get_or xs i (get_or xs i d)
-read_twice xs i d lt = sym (get_or_from_slice_get xs i (get_or xs i d) (get_or xs i d) (slice_get-get_or xs i d lt))

@@ -1,5 +1,5 @@
 -- The rules that methods break, one after the other.
-use Rattle.std.proofs.Common.{◌≡◌, ℕ, zero, suc, ◌+◌, ◌≤◌, ◌<◌, refl, sym, ap, subst, ◌∙◌, arith, Bool, true, false}
+use Rattle.std.proofs.Common.{◌≡◌, ℕ, zero, suc, ◌+◌, ◌≤◌, ◌<◌, refl, sym, ap, subst, ◌∙◌, arith, false}
 use Rattle.std.proofs.Common.{nat_lt, List, [], ◌∷◌, ◌++◌, length, get_or, take, add-zero}
 use Rattle.std.specs.Prelude.{map, slice_get, All, Option, Some, None, Result, Ok, Err, OnOk, ◌||◌}
 use Rattle.std.specs.List.{flat_map}
@@ -9,6 +9,8 @@ use Rattle.std.proofs.lemmas.List.Concat.{flat_map-cons}
 use Rattle.std.proofs.lemmas.Option.{slice_get_read}
 use Rattle.std.proofs.lemmas.List.Elements.{All-head, All-tail}
 use Rattle.cjc_bytes.specs.Breaks.{Break, RulePlace, at, each_from, list_spot}
+use Rattle.cjc_bytes.proofs.Lists.{empty_both, none_left}
+use Rattle.cjc_bytes.proofs.BrokenRules.{not_broken}
 use Rattle.cjc_world.specs.declared.found.Found.{Found}
 use Rattle.cjc_world.specs.Classes.{Class, all_classes, class_at}
 use Rattle.cjc_world.specs.Files.{Files}
@@ -64,17 +66,6 @@ those_of_package p members narrow e f =
     ∙ ap (λ xs. slice_get xs j) (sym e))
 
 -- ---- where none is broken
-
-empty_both : {A : Type 0} (xs ys : List A) → xs ++ ys ≡ [] → (xs ≡ []) × (ys ≡ [])
-empty_both [] ys e = (refl, e)
-empty_both (x ∷ xs) ys e = cc
-
-pub empty_left : {A : Type 0} (xs ys : List A) → xs ++ ys ≡ [] → xs ≡ []
-empty_left xs ys e = (empty_both xs ys e).0
-
-not_broken : (b : Bool) (s : RulePlace) (rule : ℕ) → at b s rule ≡ [] → b ≡ false
-not_broken true s rule e = cc
-not_broken false s rule e = refl
 
 not_overtaken : (place : ℕ → RulePlace) (o : Option ℕ) → order_breaks place o ≡ [] → o ≡ None
 not_overtaken place None e = refl
@@ -176,7 +167,7 @@ pub fine_where : (files : Files) (members : List Found) (codes : List NMethod) (
 fine_where files members codes more own count e =
     fine_all files (some_package files) (own_files files) members 0 members codes (λ j. ap (slice_get members)
     (let z : 0 + j ≡ j = omega arith in z)) own count
-    (empty_left (each_from (code_breaks (some_package files) members) 0 codes) more e)
+    (none_left (each_from (code_breaks (some_package files) members) 0 codes) more e)
 
 pub forms_are : (list : List ℕ) (files : Files) (members : List Found) (narrow : List NMethod) (exported : ℕ)
     (p : Package) → IsTold list files members narrow exported p

@@ -7,12 +7,14 @@ use Rattle.std.proofs.lemmas.List.Quantifiers.{position-Some}
 use Rattle.std.proofs.lemmas.List.Concat.{flat_map-cons}
 use Rattle.std.proofs.lemmas.List.Folds.{list_any-append}
 use Rattle.std.proofs.lemmas.Option.{slice_get-get_or}
+use Rattle.std.proofs.lemmas.Bool.{or_right}
 use Rattle.cjc_ncode.specs.declared.narrow.NMethod.{NMethod}
 use Rattle.cjc_ncode.specs.declared.narrow.PoolKey.{PoolKey}
 use Rattle.cjc_ncode.specs.declared.narrow.PoolKey.TheVariants as keys
 use Rattle.cjc_ncode.specs.PoolOrder.{any_exception, has_catch_type, is_field, method_keys, once, pool_order, same_key}
 use Rattle.cjc_narrow.specs.Keys.Index.{index_of}
 use Rattle.cjc_narrow.specs.Keys.Working.Same.{same_key-Decides}
+use Rattle.cjc_jvm_semantics.proofs.WorldWalked.{or-assoc}
 
 pub key_at : (ks : List PoolKey) (key : PoolKey) (i : ℕ) → index_of ks key ≡ Some i → slice_get ks i ≡ Some key
 key_at ks key i e =
@@ -26,10 +28,6 @@ or_swap true true c = refl
 or_swap true false c = refl
 or_swap false true c = refl
 or_swap false false c = refl
-
-grouped : (a b c : Bool) → (a || (b || c)) ≡ ((a || b) || c)
-grouped true b c = refl
-grouped false b c = refl
 
 or_in : (a b : Bool) → (a ≡ true → b ≡ true) → (a || b) ≡ b
 or_in true b h = sym (h refl)
@@ -60,9 +58,9 @@ any_once q seen (k ∷ rest) = by (any_once q seen rest) (any_once q (k ∷ seen
         ap (λ b. list_any (same_key q) seen || list_any (same_key q) (if b then once seen rest
         else k ∷ once (k ∷ seen) rest)) e
         ∙ (or_swap (list_any (same_key q) seen) (same_key q k) (list_any (same_key q) (once (k ∷ seen) rest))
-        ∙ (grouped (same_key q k) (list_any (same_key q) seen) (list_any (same_key q) (once (k ∷ seen) rest))
+        ∙ (or-assoc (same_key q k) (list_any (same_key q) seen) (list_any (same_key q) (once (k ∷ seen) rest))
         ∙ (new
-        ∙ (sym (grouped (same_key q k) (list_any (same_key q) seen) (list_any (same_key q) rest))
+        ∙ (sym (or-assoc (same_key q k) (list_any (same_key q) seen) (list_any (same_key q) rest))
         ∙ or_swap (same_key q k) (list_any (same_key q) seen) (list_any (same_key q) rest)))))
 
 -- those of a kind and the others are all
@@ -84,7 +82,7 @@ any_split q (x ∷ xs) = by (any_split q xs) (is_field x) refl
         ap (λ b. list_any (same_key q) (cond b (x ∷ filter is_field xs) (filter is_field xs))
         || list_any (same_key q) (cond (not b) (x ∷ filter (λ k. not (is_field k)) xs)
         (filter (λ k. not (is_field k)) xs))) e
-        ∙ (sym (grouped (same_key q x) (list_any (same_key q) (filter is_field xs)) (list_any (same_key q)
+        ∙ (sym (or-assoc (same_key q x) (list_any (same_key q) (filter is_field xs)) (list_any (same_key q)
         (filter (λ k. not (is_field k)) xs)))
         ∙ ap (λ b. same_key q x || b) split)
     by split false e =
@@ -94,10 +92,6 @@ any_split q (x ∷ xs) = by (any_split q xs) (is_field x) refl
         ∙ (swapped (same_key q x) (list_any (same_key q) (filter is_field xs)) (list_any (same_key q)
         (filter (λ k. not (is_field k)) xs))
         ∙ ap (λ b. same_key q x || b) split)
-
-last_true : (a b : Bool) → b ≡ true → (a || b) ≡ true
-last_true true b e = refl
-last_true false b e = e
 
 among_pool : (methods : List NMethod) (key : PoolKey) → list_any (same_key key) (flat_map method_keys methods) ≡ true
     → list_any (same_key key) (pool_order methods) ≡ true
@@ -109,8 +103,8 @@ among_pool methods key h =
     let rest : list_any (same_key key) (first ++ fields ++ others) ≡ true =
     list_any-append (same_key key) (first ++ fields) others
     ∙ (ap (λ b. b || list_any (same_key key) others) (list_any-append (same_key key) first fields)
-    ∙ (sym (grouped (list_any (same_key key) first) (list_any (same_key key) fields) (list_any (same_key key) others))
-    ∙ last_true (list_any (same_key key) first) (list_any (same_key key) fields || list_any (same_key key) others)
+    ∙ (sym (or-assoc (list_any (same_key key) first) (list_any (same_key key) fields) (list_any (same_key key) others))
+    ∙ or_right (list_any (same_key key) first) (list_any (same_key key) fields || list_any (same_key key) others)
     (any_split key seen ∙ h))) in
     any_once key [] (first ++ fields ++ others) ∙ rest
 

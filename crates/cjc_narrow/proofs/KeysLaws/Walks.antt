@@ -1,6 +1,6 @@
 -- Keys that are added one after the other, and the order that two walks give.
-use Rattle.std.proofs.Common.{◌≡◌, ℕ, suc, ◌+◌, ◌<◌, ◌≤◌, List, [], ◌∷◌, ◌++◌, refl, sym, ap, ◌∙◌, length, get_or, drop}
-use Rattle.std.proofs.Common.{drop-cons, add-one, Bool, true, false, ◌||◌, append_assoc, append-nil}
+use Rattle.std.proofs.Common.{◌≡◌, ℕ, ◌+◌, ◌<◌, ◌≤◌, List, [], ◌∷◌, ◌++◌, refl, sym, ap, ◌∙◌, length, get_or, drop}
+use Rattle.std.proofs.Common.{Bool, true, false, ◌||◌, append_assoc, append-nil}
 use Rattle.std.specs.Prelude.{if◌then◌else◌, filter, not}
 use Rattle.std.specs.List.{flat_map, list_any}
 use Rattle.std.proofs.lemmas.List.{drop_all}
@@ -15,17 +15,12 @@ use Rattle.cjc_ncode.specs.declared.narrow.PoolKey.{PoolKey}
 use Rattle.cjc_ncode.specs.PoolOrder.{any_exception, class_key, insn_keys, is_field, method_keys, once, pool_order}
 use Rattle.cjc_ncode.specs.PoolOrder.{same_key}
 use Rattle.cjc_narrow.specs.Keys.Working.Walk.{catch_keys, is_wanted, wanted}
+use Rattle.cjc_bytes.proofs.Gets.{get_step}
 
 pub all-append : (ks xs ys : List PoolKey) → insert_all same_key ks (xs ++ ys)
     ≡ insert_all same_key (insert_all same_key ks xs) ys
 all-append ks [] ys = refl
 all-append ks (x ∷ xs) ys = all-append (insert_key same_key ks x) xs ys
-
--- an item of a list that is mapped and joined
-step : {A : Type 0} {B : Type 0} (f : A → List B) (list : List A) (i : ℕ) (d : A) → i < length list
-    → flat_map f (drop i list) ≡ f (get_or list i d) ++ flat_map f (drop (i + 1) list)
-step f list i d lt = rw add-one (ap (flat_map f) (drop-cons list i d lt)
-    ∙ flat_map-cons f (get_or list i d) (drop (suc i) list))
 
 pub walk_next : {A : Type 0} (f : A → List PoolKey) (ks : List PoolKey) (list : List A) (i : ℕ) (d : A)
     (total : List PoolKey) → i < length list
@@ -33,7 +28,7 @@ pub walk_next : {A : Type 0} (f : A → List PoolKey) (ks : List PoolKey) (list 
     → insert_all same_key (insert_all same_key ks (f (get_or list i d))) (flat_map f (drop (i + 1) list)) ≡ total
 walk_next f ks list i d total lt so_far =
     sym (all-append ks (f (get_or list i d)) (flat_map f (drop (i + 1) list)))
-    ∙ (ap (insert_all same_key ks) (sym (step f list i d lt)) ∙ so_far)
+    ∙ (ap (insert_all same_key ks) (sym (get_step f list i d lt)) ∙ so_far)
 
 pub walk_end : {A : Type 0} (f : A → List PoolKey) (ks : List PoolKey) (list : List A) (i : ℕ) (total : List PoolKey)
     → length list ≤ i

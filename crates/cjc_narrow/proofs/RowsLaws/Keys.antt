@@ -23,14 +23,14 @@ switch_names_nothing : (op other : ℕ) (low : ℤ) (cases : List NCase) → fla
 switch_names_nothing op other low [] = refl
 switch_names_nothing op other low (c ∷ cases) = refl
 
-switch_size : (op other other' : ℕ) (low low' : ℤ) (cases others : List NCase) → length cases ≡ length others
+pub switch_size : (op other other' : ℕ) (low low' : ℤ) (cases others : List NCase) → length cases ≡ length others
     → length (switched op other low cases) ≡ length (switched op other' low' others)
 switch_size op other other' low low' [] [] e = refl
 switch_size op other other' low low' (c ∷ cases) (d ∷ others) e = refl
 switch_size op other other' low low' [] (d ∷ others) e = cc
 switch_size op other other' low low' (c ∷ cases) [] e = cc
 
-table_size : (f g : ℕ → ℕ) (low : ℤ) (targets : List ℕ) → length (table_cases f low targets)
+pub table_size : (f g : ℕ → ℕ) (low : ℤ) (targets : List ℕ) → length (table_cases f low targets)
     ≡ length (table_cases g low targets)
 table_size f g low [] = refl
 table_size f g low (t ∷ targets) = by (is_word low) (table_size f g (low +ℤ pos 1) targets)
@@ -43,7 +43,7 @@ table_size f g low (t ∷ targets) = by (is_word low) (table_size f g (low +ℤ 
     by true e = ap suc e
     by false e = e
 
-pair_size : (f g : ℕ → ℕ) (cases : List JCase) → length (map (pair_case f) cases) ≡ length (map (pair_case g) cases)
+pub pair_size : (f g : ℕ → ℕ) (cases : List JCase) → length (map (pair_case f) cases) ≡ length (map (pair_case g) cases)
 pair_size f g [] = refl
 pair_size f g (c ∷ cases) = ap suc (pair_size f g cases)
 

@@ -8,9 +8,9 @@ use Rattle.cjc_ncode.specs.Bytecode.declared.insn.JOp.{JOp}
 use Rattle.cjc_ncode.specs.declared.narrow.NInsn.{NInsn}
 use Rattle.cjc_ncode.specs.Written.{Resolution, reached, sources, written}
 use Rattle.cjc_narrow.specs.Written.Rows.{rows_by}
-use Rattle.cjc_narrow.proofs.WrittenLaws.Lists.{from_index}
 use Rattle.cjc_narrow.proofs.WrittenLaws.Order.{same_length}
 use Rattle.cjc_narrow.specs.Select.Working.Code.{code_by, source_if, written_if}
+use Rattle.cjc_bytes.proofs.Gets.{from_index}
 
 module _ (r : Resolution) (insns : List JInsn) (flags : List Bool) where
   -- ---- instructions

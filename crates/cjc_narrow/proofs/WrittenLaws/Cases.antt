@@ -10,13 +10,10 @@ use Rattle.cjc_ncode.specs.Bytecode.declared.insn.JCase.{JCase}
 use Rattle.cjc_ncode.specs.declared.narrow.NCase.{NCase}
 use Rattle.cjc_ncode.specs.Written.{pair_case, pair_cases, switched, table_cases}
 use Rattle.cjc_narrow.specs.Written.Working.Switches.{any_word, case_if, next_value}
-use Rattle.cjc_narrow.proofs.WrittenLaws.Lists.{from_index}
+use Rattle.cjc_bytes.proofs.Bools.{and_false}
+use Rattle.cjc_bytes.proofs.Gets.{from_index}
 
 -- ---- above all words
-
-and_false : (a : Bool) → (a && false) ≡ false
-and_false true = refl
-and_false false = refl
 
 no_word : (value : ℤ) → int_le value (pos 32767) ≡ false → is_word value ≡ false
 no_word value e = ap (λ b. int_le (negsuc 32767) value && b) e ∙ and_false (int_le (negsuc 32767) value)

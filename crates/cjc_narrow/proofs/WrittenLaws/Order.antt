@@ -8,6 +8,7 @@ use Rattle.std.proofs.lemmas.Option.{slice_get-get_or}
 use Rattle.std.proofs.lemmas.List.{drop_all}
 use Rattle.cjc_bytes.specs.declared.fault.MemberId.{MemberId}
 use Rattle.cjc_bytes.specs.Descriptor.{Part}
+use Rattle.cjc_bytes.proofs.Gets.{from_index}
 use Rattle.cjc_ncode.specs.Script.Sorts.{sort_of}
 use Rattle.cjc_ncode.specs.CardSemantics.Bytecode.Arguments.{width, widths}
 use Rattle.cjc_ncode.specs.ClassFile.declared.tree.Catch.{Catch}
@@ -21,7 +22,6 @@ use Rattle.cjc_narrow.specs.Written.Operands.{IsAscending}
 use Rattle.cjc_narrow.specs.Written.Rows.{rows_by}
 use Rattle.cjc_narrow.specs.Written.Labels.{place_of}
 use Rattle.cjc_narrow.specs.Written.Working.Places.{as_named, catch_if, count, count_if, starts, widest_if}
-use Rattle.cjc_narrow.proofs.WrittenLaws.Lists.{from_index}
 use Rattle.cjc_narrow.proofs.WrittenLaws.Cases.{table_length, pair_length}
 
 -- ---- starts

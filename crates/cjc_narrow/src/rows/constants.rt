@@ -7,7 +7,7 @@ ghost use Rattle.cjc_jvm_semantics.specs.OnePackage.{constant_at, constant_in, e
 ghost use Rattle.cjc_narrow.specs.Rows.Resolved.{constant_named};
 
 use cjc_bytes::MemberId;
-use cjc_jvm_semantics::lower_world::{Found, World};
+use cjc_jvm_semantics::world::{Found, World};
 use cjc_ncode::classfile::ClassTree;
 use cjc_ncode::export_file::{ExportClass, ExportTree, may_be_constant};
 

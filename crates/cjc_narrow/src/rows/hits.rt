@@ -9,7 +9,7 @@ ghost use Rattle.cjc_narrow.specs.Rows.Resolved.{field_found, method_found};
 ghost use Rattle.cjc_narrow.specs.Rows.Working.Hits.{hit_of};
 
 use cjc_bytes::MemberId;
-use cjc_jvm_semantics::lower_world::{Known, World};
+use cjc_jvm_semantics::world::{Known, World};
 
 /// A field or method that is found.
 #[derive(Clone, Copy)]

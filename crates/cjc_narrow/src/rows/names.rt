@@ -9,7 +9,7 @@ ghost use Rattle.cjc_narrow.specs.Rows.Working.Hits.{hit_of};
 
 use crate::rows::hits::{self, ResolvedMember};
 use cjc_bytes::{Bytes, MemberId, NoMemory, is_private};
-use cjc_jvm_semantics::lower_world::World;
+use cjc_jvm_semantics::world::World;
 use cjc_ncode::PoolKey;
 use std::alloc::Global;
 

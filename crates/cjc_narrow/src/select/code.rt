@@ -14,7 +14,7 @@ use crate::select::names::{Names, put_call, put_field, put_static};
 use crate::written::{Places, put_plain};
 use cjc_bytes::{NoMemory, Row};
 use cjc_ncode::NInsn;
-use cjc_ncode::lower_bytecode::{JInsn, JOp};
+use cjc_ncode::bytecode::{JInsn, JOp};
 use std::alloc::Global;
 
 /// Puts what is written for an instruction at the end.

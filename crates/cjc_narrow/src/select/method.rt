@@ -16,10 +16,10 @@ use crate::select::code::put_all;
 use crate::select::names::Names;
 use crate::written::{Places, catches_at, widest_sum, words_by};
 use cjc_bytes::{NoMemory, Row, is_static};
-use cjc_jvm_semantics::lower_world::World;
+use cjc_jvm_semantics::world::World;
 use cjc_ncode::NMethod;
+use cjc_ncode::bytecode::JInsn;
 use cjc_ncode::classfile::{ClassTree, Code, MethodTree};
-use cjc_ncode::lower_bytecode::JInsn;
 use std::alloc::Global;
 
 /// How many words a method with these flags and this descriptor takes, its receiver counted.

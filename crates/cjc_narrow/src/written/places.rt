@@ -12,7 +12,7 @@ ghost use Rattle.cjc_narrow.specs.Written.Working.Places.{count, count_if, start
 use crate::written::switches::{has_pair, has_word};
 use crate::written::type_tests::tested;
 use cjc_bytes::{NoMemory, Row};
-use cjc_ncode::lower_bytecode::{JInsn, JOp, jvm};
+use cjc_ncode::bytecode::{JInsn, JOp, jvm};
 use std::alloc::Global;
 use std::marker::Model;
 

@@ -17,8 +17,8 @@ use crate::written::places::Places;
 use crate::written::switches::{put_lookup, put_table};
 use crate::written::type_tests::put_test;
 use cjc_bytes::{Bytes, NoMemory, Row};
+use cjc_ncode::bytecode::{JOp, jvm};
 use cjc_ncode::capread::card;
-use cjc_ncode::lower_bytecode::{JOp, jvm};
 use cjc_ncode::{NInsn, PoolKey};
 use std::alloc::Global;
 

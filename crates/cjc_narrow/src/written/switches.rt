@@ -10,8 +10,8 @@ ghost use Rattle.cjc_narrow.specs.Written.Labels.{place_of};
 
 use crate::written::places::Places;
 use cjc_bytes::{NoMemory, Row};
+use cjc_ncode::bytecode::JCase;
 use cjc_ncode::capread::card;
-use cjc_ncode::lower_bytecode::JCase;
 use cjc_ncode::{NCase, NInsn};
 use std::alloc::Global;
 

@@ -7,7 +7,7 @@ ghost use Rattle.cjc_narrow.specs.Written.Working.Places.{widest_if};
 
 use crate::written::places::sum;
 use cjc_bytes::NoMemory;
-use cjc_ncode::lower_bytecode::{JInsn, JOp, jvm};
+use cjc_ncode::bytecode::{JInsn, JOp, jvm};
 
 /// The size of a switch with so many cases.
 fn switch_size(head: u32, case: u32, cases: usize) -> Result<u32, NoMemory>

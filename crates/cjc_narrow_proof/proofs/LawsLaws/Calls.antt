@@ -5,6 +5,7 @@ use Rattle.std.specs.Prelude.{slice_get, if◌then◌else◌}
 use Rattle.cjc_bytes.specs.AccessFlags.{is_private, is_static}
 use Rattle.cjc_bytes.specs.declared.fault.MemberId.{MemberId}
 use Rattle.cjc_bytes.specs.declared.settings.Settings.{Settings}
+use Rattle.cjc_bytes.proofs.Bools.{bool_four, bool_middle}
 use Rattle.cjc_code.specs.ClassFile.declared.tree.ClassTree.{ClassTree}
 use Rattle.cjc_code.specs.declared.insn.JOp.TheVariants as jop
 use Rattle.cjc_code.specs.declared.method_code.MethodCode.{MethodCode}
@@ -130,21 +131,9 @@ same_hit w f h e = by (class_at w f.imported f.class) e
     by None e = absurd cc
     by (Some c) e = go c (slice_get c.methods (f.member - length c.fields)) e
 
-four : (a b c d : Bool) → (a || b || c || d) ≡ false → (a ≡ false) × (b ≡ false) × (c ≡ false) × (d ≡ false)
-four false false false false e = (refl, refl, refl, refl)
-four true b c d e = absurd cc
-four false true c d e = absurd cc
-four false false true d e = absurd cc
-four false false false true e = absurd cc
-
-middle : (a b c : Bool) → (a || b || c) ≡ false → b ≡ false
-middle a false c e = refl
-middle true true c e = cc
-middle false true c e = cc
-
 call_fits : (op : ℕ) (name : List ℕ) (flags : ℕ) → is_unfit_call op name flags ≡ false → CallFits op name flags
 call_fits op name flags e =
-    let h = four (is_other_kind (op == 184) flags) (((op == 182) || (op == 185)) && is_private flags)
+    let h = bool_four (is_other_kind (op == 184) flags) (((op == 182) || (op == 185)) && is_private flags)
     (subset.is_initialiser name) (not (op == 183) && subset.is_constructor name) e in
     record {
       no_initialiser = h.2;
@@ -189,5 +178,5 @@ called_fits list files codes settings is class op id at f h found e =
     let fine = (op_there list files codes settings is class (jop.Call op id) at).2 in
     let named = ap (hit w false) found ∙ same_hit w f h e in
     let fit = ap (is_unfit_method w class op id) (sym named) ∙ fine in
-    call_fits op id.name h.flags (middle (is_hidden w class id (tested_as h)) (is_unfit_call op id.name h.flags)
+    call_fits op id.name h.flags (bool_middle (is_hidden w class id (tested_as h)) (is_unfit_call op id.name h.flags)
     (is_unfit_class w class op id (tested_as h)) fit)

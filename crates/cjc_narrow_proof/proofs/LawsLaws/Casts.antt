@@ -7,6 +7,8 @@ use Rattle.cjc_bytes.specs.Descriptor.{IsDescriptor, IsType, Parts, array, base,
 use Rattle.cjc_bytes.specs.Spots.{desc_of, part_of}
 use Rattle.cjc_bytes.proofs.DescriptorTypes.{desc_read, desc_spelt}
 use Rattle.cjc_bytes.specs.declared.settings.Settings.{Settings}
+use Rattle.cjc_bytes.proofs.Gets.{all_but_last}
+use Rattle.cjc_bytes.proofs.Bools.{or_left, or_right}
 use Rattle.cjc_code.specs.ClassFile.declared.tree.ClassTree.{ClassTree}
 use Rattle.cjc_code.specs.declared.insn.JOp.TheVariants as jop
 use Rattle.cjc_code.specs.declared.method_code.MethodCode.{MethodCode}
@@ -21,7 +23,7 @@ use Rattle.cjc_script.specs.Sorts.{shape_named}
 use Rattle.cjc_subset.specs.Members.{is_descriptor}
 use Rattle.cjc_subset.specs.Names.{is_name_missing, names_missing}
 use Rattle.cjc_subset.specs.Types.{is_unsupported_element, is_unsupported_name, names_unsupported}
-use Rattle.cjc_narrow_proof.proofs.TablesLaws.Spelt.{all_but_last, class_read}
+use Rattle.cjc_narrow_proof.proofs.TablesLaws.Spelt.{class_read}
 use Rattle.cjc_world.specs.Classes.{Class, all_classes}
 use Rattle.cjc_world.specs.Files.{Files}
 use Rattle.cjc_world.specs.Rules.{is_element_missing, is_missing, is_type_missing}
@@ -29,14 +31,6 @@ use Rattle.cjc_world.specs.Rules.{is_element_missing, is_missing, is_type_missin
 -- the type is read, and what it names is there
 abbrev pub IsReadType : List Class → List ℕ → Type 0
 IsReadType w name = (kind : Shape (List ℕ)) × (shape_named name ≡ Some kind) × IsThere w kind
-
-or_left : (a b : Bool) → (a || b) ≡ false → a ≡ false
-or_left true b e = cc
-or_left false b e = refl
-
-or_right : (a b : Bool) → (a || b) ≡ false → b ≡ false
-or_right true b e = cc
-or_right false b e = e
 
 module _ (w : List Class) where
   element_there : {p : _} (bytes : List ℕ) → IsType p bytes → is_unsupported_element bytes ≡ false

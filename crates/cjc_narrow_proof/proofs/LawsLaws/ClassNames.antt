@@ -6,6 +6,8 @@ use Rattle.std.specs.List.{list_all}
 use Rattle.std.specs.Str.{bytes_eq}
 use Rattle.std.proofs.lemmas.Bool.{eqb-true}
 use Rattle.cjc_bytes.specs.Descriptor.{IsClassName, IsName, inside, is_name_byte, last, more, simple}
+use Rattle.cjc_bytes.proofs.Lists.{bytes_true}
+use Rattle.cjc_bytes.proofs.Bools.{both_front, both_back}
 use Rattle.cjc_vtable.specs.ClassOrder.Classes.Numbers.{class_count}
 use Rattle.cjc_code.specs.ClassFile.declared.tree.ClassTree.{ClassTree}
 use Rattle.cjc_narrow_proof.specs.Laws.Unbroken.{AreSpelt}
@@ -15,8 +17,6 @@ use Rattle.cjc_world.specs.Classes.{Class, all_classes, class_named}
 use Rattle.cjc_world.specs.Files.{Files}
 use Rattle.cjc_world.specs.Rules.{breaks, is_of_package, is_part, is_part_byte, is_slash_part}
 use Rattle.cjc_world.proofs.Cycles.{class_named-name}
-use Rattle.cjc_world.proofs.Settled.{bytes-true}
-use Rattle.cjc_world.proofs.Trees.{all-front, all-back}
 
 -- a byte of a part of the package's names is one of a name: the four that are none are no such byte
 part_byte : (b : ℕ) → is_part_byte b ≡ true → is_name_byte b ≡ true
@@ -43,13 +43,13 @@ part_byte b e = dot (b == 46) refl
     dot false f = semicolon (b == 59) refl
 
 part_name : (b : ℕ) (bs : List ℕ) → list_all is_part_byte (b ∷ bs) ≡ true → IsName (b ∷ bs)
-part_name b [] e = last (part_byte b (all-front (is_part_byte b) true e))
-part_name b (c ∷ bs) e = more (part_byte b (all-front (is_part_byte b) (list_all is_part_byte (c ∷ bs)) e))
-    (part_name c bs (all-back (is_part_byte b) (list_all is_part_byte (c ∷ bs)) e))
+part_name b [] e = last (part_byte b (both_front (is_part_byte b) true e))
+part_name b (c ∷ bs) e = more (part_byte b (both_front (is_part_byte b) (list_all is_part_byte (c ∷ bs)) e))
+    (part_name c bs (both_back (is_part_byte b) (list_all is_part_byte (c ∷ bs)) e))
 
 part_of_name : (bs : List ℕ) → is_part bs ≡ true → IsName bs
 part_of_name [] e = absurd cc
-part_of_name (b ∷ bs) e = part_name b bs (all-back (not (length (b ∷ bs) == 0)) (list_all is_part_byte (b ∷ bs)) e)
+part_of_name (b ∷ bs) e = part_name b bs (both_back (not (length (b ∷ bs) == 0)) (list_all is_part_byte (b ∷ bs)) e)
 
 -- a name of a class, a slash and a name
 within : {front : List ℕ} (part : List ℕ) → IsClassName front → IsName part → IsClassName (front ++ 47 ∷ part)
@@ -62,9 +62,9 @@ behind : (package_name rest : List ℕ) → IsClassName package_name → is_slas
     → IsClassName (package_name ++ rest)
 behind p [] n e = absurd cc
 behind p (b ∷ bs) n e =
-    let same = eqb-true b 47 (all-front (b == 47) (is_part bs) e) in
+    let same = eqb-true b 47 (both_front (b == 47) (is_part bs) e) in
     subst (λ k. IsClassName (p ++ k ∷ bs)) (sym same)
-    (within bs n (part_of_name bs (all-back (b == 47) (is_part bs) e)))
+    (within bs n (part_of_name bs (both_back (b == 47) (is_part bs) e)))
 
 pub class_name_of : (package_name name : List ℕ) → IsClassName package_name → is_of_package package_name name ≡ true
     → IsClassName name
@@ -72,9 +72,9 @@ unfolding is_of_package
 class_name_of p name n e =
     let front = take (length p) name in
     let back = drop (length p) name in
-    let same : front ≡ p = bytes-true front p (all-front (bytes_eq front p) (is_slash_part back) e) in
+    let same : front ≡ p = bytes_true front p (both_front (bytes_eq front p) (is_slash_part back) e) in
     let whole : p ++ back ≡ name = ap (λ xs. xs ++ back) (sym same) ∙ take-append-drop (length p) name in
-    subst IsClassName whole (behind p back n (all-back (bytes_eq front p) (is_slash_part back) e))
+    subst IsClassName whole (behind p back n (both_back (bytes_eq front p) (is_slash_part back) e))
 
 module _ (files : Files) (list : List ℕ) (listed : length files.classes ≤ class_count files.lines)
     (unbroken : breaks list files ≡ []) (spelt : AreSpelt files) where

@@ -1,17 +1,19 @@
 -- What the handlers of a method that breaks no rule of names catch.
-use Rattle.std.proofs.Common.{◌≡◌, ℕ, refl, sym, ap, ◌∙◌, Bool, true, false, List, [], ◌++◌}
-use Rattle.std.specs.Prelude.{◌||◌, Option, Some, None, slice_get}
+use Rattle.std.proofs.Common.{◌≡◌, ℕ, refl, sym, ap, ◌∙◌, false, List, [], ◌++◌}
+use Rattle.std.specs.Prelude.{Option, Some, None, slice_get}
 use Rattle.std.specs.List.{Contains}
 use Rattle.std.proofs.lemmas.Option.{slice_get-get_or}
 use Rattle.cjc_bytes.specs.Breaks.{Break, at, each_from}
 use Rattle.cjc_bytes.specs.Order.{FilePlace, file_of}
+use Rattle.cjc_bytes.proofs.BrokenRules.{not_broken, each_at}
+use Rattle.cjc_bytes.proofs.Lists.{none_left, none_right}
+use Rattle.cjc_bytes.proofs.Bools.{or_right}
 use Rattle.cjc_code.specs.ClassFile.Code.{CodeTree}
 use Rattle.cjc_code.specs.ClassFile.declared.tree.Catch.{Catch}
 use Rattle.cjc_code.specs.ClassFile.declared.tree.ClassTree.{ClassTree}
 use Rattle.cjc_code.specs.ClassFile.declared.tree.MethodTree.{MethodTree}
 use Rattle.cjc_code.specs.declared.insn.JInsn.{JInsn}
 use Rattle.cjc_code.specs.declared.method_code.MethodCode.{MethodCode}
-use Rattle.cjc_narrow_proof.proofs.SelectedLaws.Limits.{each_at, none_left, none_right, not_broken}
 use Rattle.cjc_subset.specs.Members.{is_array}
 use Rattle.cjc_subset.specs.Names.{catch_breaks, catches_missing, catches_of, code_breaks, insn_breaks, method_breaks}
 use Rattle.cjc_subset.specs.Names.{name_breaks, names_missing, names_other_kind, names_unfit, names_unfound}
@@ -20,10 +22,6 @@ use Rattle.cjc_types.specs.Tables.{IsMethodOf}
 use Rattle.cjc_world.specs.Classes.{Class, all_classes, class_named}
 use Rattle.cjc_world.specs.Files.{Files}
 use Rattle.cjc_world.specs.Rules.{is_missing, is_none_of}
-
-or_right : (a b : Bool) → (a || b) ≡ false → b ≡ false
-or_right true b e = cc
-or_right false b e = e
 
 -- a class that is not missing is there
 pub class_there : (w : List Class) (name : List ℕ) → is_missing w name ≡ false → (c : Class)

@@ -11,6 +11,7 @@ use Rattle.cjc_bytes.specs.declared.fault.MemberId.{MemberId}
 use Rattle.cjc_bytes.specs.declared.order.FileKey.{FileKey}
 use Rattle.cjc_bytes.specs.declared.order.FileKey.TheVariants as keys
 use Rattle.cjc_bytes.specs.declared.settings.FileLine.{FileLine}
+use Rattle.cjc_bytes.proofs.Lists.{name_is, none_left, none_right}
 use Rattle.cjc_code.specs.ClassFile.declared.tree.ClassTree.{ClassTree}
 use Rattle.cjc_code.specs.ClassFile.declared.tree.MethodTree.{MethodTree}
 use Rattle.cjc_vtable.specs.ClassOrder.Classes.Numbers.{class_count}
@@ -19,7 +20,7 @@ use Rattle.cjc_narrow.specs.Rows.Package.{flags_of}
 use Rattle.cjc_narrow.specs.Rows.Resolved.{method_found}
 use Rattle.cjc_vtable.proofs.TokensFacts.{position-cons}
 use Rattle.cjc_vtable.proofs.Filed.{at-number}
-use Rattle.cjc_vtable.proofs.Numbers.{class_count-cons, own_listed}
+use Rattle.cjc_vtable.proofs.Numbers.{own_listed}
 use Rattle.cjc_world.specs.declared.found.Found.{Found}
 use Rattle.cjc_world.specs.Classes.{Class, Member, all_classes, class_at, class_named, declared, is_at, method_of_class}
 use Rattle.cjc_world.specs.Classes.{size}
@@ -32,9 +33,9 @@ use Rattle.cjc_world.specs.Rules.{class_rules, export_file_breaks, gets_missing,
 use Rattle.cjc_world.specs.Rules.{is_earlier, is_of_package, is_other, is_own_super, is_second, is_twice, lists_missing}
 use Rattle.cjc_world.specs.Rules.{lists_wrong, member_rules, members, members_before, members_from, same_place, told}
 use Rattle.cjc_world.specs.Rules.{when}
-use Rattle.cjc_world.proofs.Settled.{bytes-refl}
-use Rattle.cjc_world.proofs.Unbroken.{nil_back, nil_front, nil_of_map, not_when, unbroken_is_acyclic}
+use Rattle.cjc_world.proofs.Unbroken.{nil_of_map, not_when, unbroken_is_acyclic}
 use Rattle.cjc_world.proofs.Upwards.{line_goes_up}
+use Rattle.cjc_vtable.proofs.ClassOrderStanding.{class_count-cons}
 
 -- ---- what is broken at a class file
 
@@ -78,15 +79,15 @@ clean_from files w k c e i (line ∷ lines) n t is p le lt =
             let here = class_file_breaks files (keys.Line k) line.name w c (slice_get files.classes c) in
             let rest = breaks_from files w (k + 1) (c + 1) e i lines in
             clean_file files w (keys.Line k) line.name n t is (subst (λ m. class_file_breaks files (keys.Line k)
-            line.name w m (slice_get files.classes m) ≡ []) (eqb-true c n f) (nil_front here rest q))
+            line.name w m (slice_get files.classes m) ≡ []) (eqb-true c n f) (none_left here rest q))
         go false f =
             let here = class_file_breaks files (keys.Line k) line.name w c (slice_get files.classes c) in
             let rest = breaks_from files w (k + 1) (c + 1) e i lines in
-            r (nil_back here rest q) (let ne = eqb-false c n f in omega (arith, ne)) (omega arith)
+            r (none_right here rest q) (let ne = eqb-false c n f in omega (arith, ne)) (omega arith)
     by false q h r s =
         let here = export_file_breaks files (keys.Line k) line.name w e i (slice_get files.exports e) in
         let rest = breaks_from files w (k + 1) c (e + 1) (i + size (slice_get files.exports e)) lines in
-        s (nil_back here rest q) (omega arith)
+        s (none_right here rest q) (omega arith)
 
 -- ---- what is broken at a class, and at its methods
 
@@ -110,14 +111,14 @@ module _ (file : FileKey) (file_name : List ℕ) (w : List Class) (c : Class) (f
       let same : x ≡ m = cc in
       let at = λ (rule : ℕ). at_member file file_name 1 c.name (members_before field c + i + 1)
       (told field x.name x.desc) rule in
-      let here : of_member i x ≡ [] = nil_of_map at (of_member i x) (nil_front (map at (of_member i x))
+      let here : of_member i x ≡ [] = nil_of_map at (of_member i x) (none_left (map at (of_member i x))
       (members_from file file_name 1 w c field (i + 1) ms) e) in
       let place : i + 0 ≡ i = omega arith in
       ap (λ j. of_member j m) place ∙ ap (of_member i) (sym same) ∙ here
   clean_members i (x ∷ ms) (suc k) m e is =
       let at = λ (rule : ℕ). at_member file file_name 1 c.name (members_before field c + i + 1)
       (told field x.name x.desc) rule in
-      let rest = clean_members (i + 1) ms k m (nil_back (map at (of_member i x)) (members_from file file_name 1 w c
+      let rest = clean_members (i + 1) ms k m (none_right (map at (of_member i x)) (members_from file file_name 1 w c
       field (i + 1) ms) e) is in
       let place : i + suc k ≡ i + 1 + k = omega arith in
       ap (λ j. of_member j m) place ∙ rest
@@ -137,21 +138,21 @@ keeps_own files w n c (file, file_name, e) =
     let R = map at (A ++ B ++ D ++ E ++ G) in
     let F = members_from file file_name 1 w d true 0 d.fields in
     let M = members_from file file_name 1 w d false 0 d.methods in
-    let own = nil_of_map at (A ++ B ++ D ++ E ++ G) (nil_front R F (nil_front (R ++ F) M e)) in
-    let three = nil_front (A ++ B ++ D) E (nil_front (A ++ B ++ D ++ E) G own) in
+    let own = nil_of_map at (A ++ B ++ D ++ E ++ G) (none_left R F (none_left (R ++ F) M e)) in
+    let three = none_left (A ++ B ++ D) E (none_left (A ++ B ++ D ++ E) G own) in
     record {
-      named = is_of (is_of_package p c.name) (not_when (not (is_of_package p c.name)) 201 (nil_front A B (nil_front (A
+      named = is_of (is_of_package p c.name) (not_when (not (is_of_package p c.name)) 201 (none_left A B (none_left (A
           ++ B) D three)));
-      once = not_when (is_second w d) 202 (nil_back A B (nil_front (A ++ B) D three));
+      once = not_when (is_second w d) 202 (none_right A B (none_left (A ++ B) D three));
       there = or_left (lists_missing w d) (gets_missing w d) (not_when (lists_missing w d || gets_missing w d) 203
-          (nil_back (A ++ B) D three));
+          (none_right (A ++ B) D three));
       methods = λ k m is. (let z : 0 + k ≡ k = omega arith in
-          let both = clean_members file file_name w d false 0 d.methods k (method_of_class m) (nil_back (R ++ F) M e)
+          let both = clean_members file file_name w d false 0 d.methods k (method_of_class m) (none_right (R ++ F) M e)
           (slice_get-map method_of_class c.methods k ∙ ap (option_map method_of_class) is) in
           let here = subst (λ j. of_member file file_name w d false j (method_of_class m) ≡ []) z both in (
-            not_when (is_twice d.methods k m.name m.desc) 202 (nil_front (when (is_twice d.methods k m.name m.desc) 202)
+            not_when (is_twice d.methods k m.name m.desc) 202 (none_left (when (is_twice d.methods k m.name m.desc) 202)
                 (when (not false && is_desc_missing w m.desc) 203) here),
-            not_when (is_desc_missing w m.desc) 203 (nil_back (when (is_twice d.methods k m.name m.desc) 202)
+            not_when (is_desc_missing w m.desc) 203 (none_right (when (is_twice d.methods k m.name m.desc) 202)
                 (when (not false && is_desc_missing w m.desc) 203) here),
           ));
     }
@@ -196,7 +197,7 @@ named_where_at (b ∷ w) imp n c e = by (bytes_eq b.name c.name) refl (is_at imp
         → (d : Class) × ((if named then Some b else class_named w c.name) ≡ Some d)
     by true g here f rest = (b, refl)
     by false g true f rest = let is : b ≡ c = cc in let one = ap (λ (v : Class). bytes_eq v.name c.name) is
-        ∙ bytes-refl c.name in cc
+        ∙ name_is c.name in cc
     by false g false f rest = rest f
 
 module _ (files : Files) (list : List ℕ) (listed : length files.classes ≤ class_count files.lines)
@@ -212,7 +213,7 @@ module _ (files : Files) (list : List ℕ) (listed : length files.classes ≤ cl
   unfolding breaks
   own_kept =
       keeps_own files w n c
-      (clean_from files w 0 0 0 0 files.lines n c is_class (nil_back (map (λ rule. broken_at (list_spot list) rule)
+      (clean_from files w 0 0 0 0 files.lines n c is_class (none_right (map (λ rule. broken_at (list_spot list) rule)
       (when (not (has_language w files.exports)) 207)) (breaks_from files w 0 0 0 0 files.lines) unbroken)
       (omega arith) (let lt = within in omega (arith, lt)))
 
@@ -267,7 +268,7 @@ module _ (files : Files) (list : List ℕ) (listed : length files.classes ≤ cl
         k (method_of_class m) there (called m.name m.desc) once)
       where
         called : (name desc : List ℕ) → (bytes_eq name name && bytes_eq desc desc) ≡ true
-        called name desc = ap (λ b. b && bytes_eq desc desc) (bytes-refl name) ∙ bytes-refl desc
+        called name desc = ap (λ b. b && bytes_eq desc desc) (name_is name) ∙ name_is desc
 
     pub found_by_name : find_method w c.name m.name m.desc ≡ Some place
     unfolding find_method first

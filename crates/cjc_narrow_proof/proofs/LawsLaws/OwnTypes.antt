@@ -1,6 +1,6 @@
 -- The descriptors of methods that a package has and calls.
 use Rattle.std.proofs.Common.{◌≡◌, ℕ, ◌<◌, ◌^◌, refl, sym, ap, subst, ◌∙◌, Bool, true, false, List, ◌++◌, length}
-use Rattle.std.specs.Prelude.{not, ◌&&◌, ◌||◌, Some, is_some, slice_get}
+use Rattle.std.specs.Prelude.{not, ◌&&◌, Some, is_some, slice_get}
 use Rattle.std.specs.List.{Contains}
 use Rattle.cjc_bytes.specs.AccessFlags.{is_interface}
 use Rattle.cjc_bytes.specs.Breaks.{Break, RulePlace, at, broken_at, foremost}
@@ -8,6 +8,7 @@ use Rattle.cjc_bytes.specs.Descriptor.{Parts}
 use Rattle.cjc_bytes.specs.Spots.{desc_of}
 use Rattle.cjc_bytes.specs.declared.fault.MemberId.{MemberId}
 use Rattle.cjc_bytes.specs.declared.settings.Settings.{Settings}
+use Rattle.cjc_bytes.proofs.Bools.{or_right}
 use Rattle.cjc_code.specs.ClassFile.Code.{CodeTree}
 use Rattle.cjc_code.specs.ClassFile.declared.tree.ClassTree.{ClassTree}
 use Rattle.cjc_code.specs.ClassFile.declared.tree.MethodTree.{MethodTree}
@@ -29,10 +30,6 @@ use Rattle.cjc_vtable.specs.Kept.{IsUnbroken as HasNone}
 use Rattle.cjc_vtable.proofs.Clean.{unbroken-methods}
 use Rattle.cjc_vtable.proofs.Filed.{get-has}
 use Rattle.cjc_world.specs.Files.{Files}
-
-or_right : (a b : Bool) → (a || b) ≡ false → b ≡ false
-or_right true b e = cc
-or_right false b e = e
 
 module _ (list : List ℕ) (files : Files) (codes : List MethodCode) (settings : Settings) (is : IsUnbroken list files
     codes settings) where

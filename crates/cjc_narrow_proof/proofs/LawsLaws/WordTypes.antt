@@ -10,6 +10,8 @@ use Rattle.cjc_bytes.specs.Spots.{desc_of, part_of}
 use Rattle.cjc_bytes.specs.declared.descriptor.Kind.{Kind}
 use Rattle.cjc_bytes.specs.declared.descriptor.Kind.TheVariants as kinds
 use Rattle.cjc_bytes.proofs.DescriptorTypes.{desc_read, desc_spelt}
+use Rattle.cjc_bytes.proofs.Bools.{or_left, or_right}
+use Rattle.cjc_bytes.proofs.Quantified.{last_false}
 use Rattle.cjc_script.specs.Sorts.{Boolean, Byte, Int, NoValue, Reference, Short, Sort, array_by, reference_to}
 use Rattle.cjc_script.specs.Sorts.{shape_named, sort_by, sort_of}
 use Rattle.cjc_narrow_proof.specs.Selection.Objects.{has_values}
@@ -20,14 +22,6 @@ use Rattle.cjc_subset.specs.Types.{is_int_part, is_other}
 use Rattle.cjc_narrow_proof.specs.Tables.Calls.{IsWordDesc, is_word_result}
 use Rattle.cjc_narrow_proof.proofs.TablesLaws.Spelt.{class_read}
 use Rattle.cjc_types.specs.Types.{no_parts, parts, parts_or_none}
-
-or_left : (a b : Bool) → (a || b) ≡ false → a ≡ false
-or_left true b e = cc
-or_left false b e = refl
-
-or_right : (a b : Bool) → (a || b) ≡ false → b ≡ false
-or_right true b e = cc
-or_right false b e = e
 
 -- ---- by the letter of a type
 
@@ -142,10 +136,6 @@ types_word (next {p = p} {ps = ps} t ts) more f g = (
   types_word ts more (or_right (is_unsupported_part p) (list_any is_unsupported_part (ps ++ more)) f)
       (or_right (is_int_part p) (list_any is_int_part (ps ++ more)) g),
 )
-
-last_false : (P : Part → Bool) (ps : List Part) (r : Part) → list_any P (ps ++ r ∷ []) ≡ false → P r ≡ false
-last_false P [] r e = or_left (P r) false e
-last_false P (p ∷ ps) r e = last_false P ps r (or_right (P p) (list_any P (ps ++ r ∷ [])) e)
 
 word_so : (kind : Kind) (r : Part) → is_word_sort (sort_of r) ≡ true → is_word_result kind (sort_of r) ≡ true
 word_so kinds.Void r h = refl

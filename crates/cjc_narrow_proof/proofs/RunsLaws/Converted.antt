@@ -5,6 +5,7 @@ use Rattle.std.specs.Prelude.{if◌then◌else◌, codes, is_some}
 use Rattle.std.specs.List.{AllByRecursion}
 use Rattle.cjc_bytes.specs.Descriptor.{Part, IsClassName}
 use Rattle.cjc_bytes.specs.declared.fault.MemberId.{MemberId}
+use Rattle.cjc_bytes.proofs.Bools.{and_true}
 use Rattle.cjc_script.specs.declared.value.Value.TheVariants.{Num}
 use Rattle.cjc_script.specs.declared.report.FieldValue.{FieldValue}
 use Rattle.cjc_script.specs.declared.report.Thing.TheVariants as things
@@ -69,11 +70,6 @@ import_of w name other e = go (is_plain_import (class_named w name)) refl e
     go true is e = is
     go false is e = cc
 
-both_of : (a b : Bool) → (a && b) ≡ true → (a ≡ true) × (b ≡ true)
-both_of true true e = (refl, refl)
-both_of true false e = cc
-both_of false b e = cc
-
 same_fault : (fault : Fault) → fault_name (narrow_fault fault) ≡ exception_class fault
 same_fault Arithmetic = refl
 same_fault NullPointer = refl
@@ -130,7 +126,7 @@ module _ (files : Files) (image : StaticImage) (near : List MemberId) (tables : 
   unfolding linked named
   thrown class = record {
     tells = go (is_plain_import (class_named w class)) (is_subtype w class (codes "java/lang/Throwable"));
-    imported = λ may. imported_is w class (both_of (is_plain_import (class_named w class))
+    imported = λ may. imported_is w class (and_true (is_plain_import (class_named w class))
         (is_subtype w class (codes "java/lang/Throwable")) may).0;
   }
     where
@@ -142,7 +138,7 @@ module _ (files : Files) (image : StaticImage) (near : List MemberId) (tables : 
 
   may_be : (class : List ℕ) → may_be_thrown by class ≡ true → is_subtype w class (codes "java/lang/Throwable") ≡ true
   unfolding linked
-  may_be class may = (both_of (is_plain_import (class_named w class)) (is_subtype w class (codes "java/lang/Throwable"))
+  may_be class may = (and_true (is_plain_import (class_named w class)) (is_subtype w class (codes "java/lang/Throwable"))
       may).1
 
   acts_told : ActsAreTold by l

@@ -6,7 +6,7 @@ use Rattle.std.proofs.Common.{negsuc, refl, sym, ap, subst, ◌∙◌, arith, dr
 use Rattle.std.specs.Int.RustNames.{int_lt}
 use Rattle.std.specs.List.{Contains}
 use Rattle.std.specs.Prelude.{if◌then◌else◌}
-use Rattle.std.proofs.lemmas.Bool.{ltb-true}
+use Rattle.std.proofs.lemmas.Bool.{ltb-true, false_from_ne_true}
 use Rattle.std.proofs.lemmas.Int.{ints}
 use Rattle.std.proofs.lemmas.Option.{same_Some, slice_get-map, slice_get_within, get_or_from_slice_get}
 use Rattle.cjc_card_semantics.specs.CapRead.Decode.{IsWithin, negative, positive}
@@ -32,16 +32,9 @@ use Rattle.cjc_world.specs.Files.{Files}
 use Rattle.cjc_narrow.specs.Written.Operands.{CanBeSaid}
 use Rattle.cjc_narrow_proof.specs.Selected.Operands.{CasesAscend, OperandsFit}
 use Rattle.cjc_narrow_proof.proofs.SelectedLaws.Cuts.{cut_row, decoded}
+use Rattle.cjc_bytes.proofs.Bools.{both_front, both_back}
 
 -- ---- matches
-
-both_left : (a b : Bool) → (a && b) ≡ true → a ≡ true
-both_left true b e = refl
-both_left false b e = cc
-
-both_right : (a b : Bool) → (a && b) ≡ true → b ≡ true
-both_right true b e = e
-both_right false b e = cc
 
 lt_onwards : (x y z : ℤ) → int_lt x y ≡ true → int_lt y z ≡ true → int_lt x z ≡ true
 lt_onwards x y z e f = grind (arith, ints)
@@ -52,14 +45,14 @@ above : (at : ℕ) (v offset : ℤ) (zs : List ℤ) → rise (v ∷ offset ∷ z
 above at v offset [] e d (n, lt, is) = absurd (omega (arith, lt))
 above at v offset (w ∷ []) e d (n, lt, is) = absurd (omega (arith, lt))
 above at v offset (w ∷ next ∷ zs) e d (zero, lt, is) = ap (λ (c : JCase). int_lt v c.value) (sym is)
-    ∙ both_left (int_lt v w) (rise (w ∷ next ∷ zs)) e
+    ∙ both_front (int_lt v w) (rise (w ∷ next ∷ zs)) e
 above at v offset (w ∷ next ∷ zs) e d (suc n, lt, is) =
-    lt_onwards v w d.value (both_left (int_lt v w) (rise (w ∷ next ∷ zs)) e)
-    (above at w next zs (both_right (int_lt v w) (rise (w ∷ next ∷ zs)) e) d (n, omega (arith, lt), is))
+    lt_onwards v w d.value (both_front (int_lt v w) (rise (w ∷ next ∷ zs)) e)
+    (above at w next zs (both_back (int_lt v w) (rise (w ∷ next ∷ zs)) e) d (n, omega (arith, lt), is))
 
 later : (v offset : ℤ) (zs : List ℤ) → rise (v ∷ offset ∷ zs) ≡ true → rise zs ≡ true
 later v offset [] e = refl
-later v offset (w ∷ zs) e = both_right (int_lt v w) (rise (w ∷ zs)) e
+later v offset (w ∷ zs) e = both_back (int_lt v w) (rise (w ∷ zs)) e
 
 ascend : (at : ℕ) (zs : List ℤ) → rise zs ≡ true → CasesAscend (cases at zs)
 ascend at [] e = tt
@@ -427,10 +420,6 @@ one_of_all (x ∷ kept) (suc k) i e = let rest = one_of_all kept k i e in omega 
 
 -- ---- a method
 
-is_or_not : (b : Bool) → (b ≡ true → ⊥) → b ≡ false
-is_or_not true h = absurd (h refl)
-is_or_not false h = refl
-
 module _ (files : Files) (code : MethodCode) (class : ClassTree) (method : MethodTree) (tree : CodeTree)
     (is : IsMethodOf files code class method tree) where
   pub operands_fit : (k : ℕ) (i : JInsn) → slice_get code.insns k ≡ Some i → CanBeSaid i.op → widest i.op ≤ 32767
@@ -446,7 +435,8 @@ module _ (files : Files) (code : MethodCode) (class : ClassTree) (method : Metho
               slice_get_within (cut tree.bytes).insns k r f,
               get_or_from_slice_get (cut tree.bytes).insns k r r f,
             ) in
-            let right = is_or_not (has_wrong_values r.family r.numbers) (λ wrong. (decoded files code class method tree
+            let right = false_from_ne_true (has_wrong_values r.family r.numbers) (λ wrong.
+            (decoded files code class method tree
             is).fit r.at (wrong_values r there wrong)) in
             let of_row = cut_row k 0 tree.bytes (cut tree.bytes).insns (cut tree.bytes).stop (is_cut tree.bytes) r f in
             let ordered : InOrder (op_of class.pool r.at r.opcode r.family r.numbers) =

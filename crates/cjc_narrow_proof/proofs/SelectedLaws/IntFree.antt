@@ -3,9 +3,14 @@ use Rattle.std.proofs.Common.{◌≡◌, ℕ, ◌+◌, refl, sym, ap, ◌∙◌,
 use Rattle.std.proofs.Common.{[], ◌∷◌, ◌++◌, slice_get, Option, Some, None}
 use Rattle.std.specs.List.{Contains, list_any}
 use Rattle.std.proofs.lemmas.Option.{slice_get-get_or}
+use Rattle.std.proofs.lemmas.Bool.{or_from}
 use Rattle.cjc_bytes.specs.Breaks.{Break, at, each_from}
 use Rattle.cjc_bytes.specs.Order.{FilePlace, file_of}
 use Rattle.cjc_bytes.specs.declared.settings.Settings.{Settings}
+use Rattle.cjc_bytes.proofs.BrokenRules.{not_broken, each_at}
+use Rattle.cjc_bytes.proofs.Lists.{none_left, none_right}
+use Rattle.cjc_bytes.proofs.Gets.{any_off}
+use Rattle.cjc_bytes.proofs.Bools.{or_left, or_right}
 use Rattle.cjc_code.specs.ClassFile.Code.{CodeTree}
 use Rattle.cjc_code.specs.ClassFile.declared.tree.ClassTree.{ClassTree}
 use Rattle.cjc_code.specs.ClassFile.declared.tree.MethodTree.{MethodTree}
@@ -14,8 +19,7 @@ use Rattle.cjc_code.specs.declared.insn.JOp.{JOp}
 use Rattle.cjc_code.specs.declared.insn.JOp.TheVariants as jop
 use Rattle.cjc_code.specs.declared.method_code.MethodCode.{MethodCode}
 use Rattle.cjc_narrow_proof.specs.Laws.Unbroken.{IsInsnOf}
-use Rattle.cjc_narrow_proof.proofs.SelectedLaws.Limits.{each_at, none_left, none_right, not_broken}
-use Rattle.cjc_subset.proofs.Any.{any_off, none_passes}
+use Rattle.cjc_subset.proofs.Any.{none_passes}
 use Rattle.cjc_subset.specs.Checks.{check_breaks, class_breaks, code_breaks, field_breaks, insn_breaks, list_breaks}
 use Rattle.cjc_subset.specs.Checks.{method_breaks, own_breaks}
 use Rattle.cjc_subset.specs.Ints.{any_works_on_int, code_works_on_int, method_there, method_works_on_int, works_on_int}
@@ -23,18 +27,6 @@ use Rattle.cjc_subset.specs.Places.{of_class, of_method}
 use Rattle.cjc_subset.specs.Types.{is_int_desc, is_int_name, names_int}
 use Rattle.cjc_types.specs.Tables.{IsMethodOf}
 use Rattle.cjc_world.specs.Files.{Files}
-
-or_left : (a b : Bool) → (a || b) ≡ false → a ≡ false
-or_left true b e = cc
-or_left false b e = refl
-
-or_right : (a b : Bool) → (a || b) ≡ false → b ≡ false
-or_right true b e = cc
-or_right false b e = e
-
-or_none : (a b : Bool) → a ≡ false → b ≡ false → (a || b) ≡ false
-or_none true b e f = cc
-or_none false b e f = f
 
 -- ---- what a method without int says
 
@@ -162,7 +154,7 @@ module _ (list : List ℕ) (files : Files) (codes : List MethodCode) (settings :
       by_method : (class : ClassTree) → slice_get files.classes code.class ≡ Some class → (o : Option MethodTree)
           → slice_get class.methods code.method ≡ o → method_works_on_int code.insns o ≡ false
       by_method class e None f = refl
-      by_method class e (Some method) f = or_none (is_int_desc method.desc) (list_any (λ (i : JInsn). works_on_int i.op)
+      by_method class e (Some method) f = or_from (is_int_desc method.desc) (list_any (λ (i : JInsn). works_on_int i.op)
           code.insns) (desc_unnamed code.class code.method class method e f)
           (none_passes (λ (i : JInsn). works_on_int i.op) code.insns (λ k i g. works_names i.op (insn_unnamed n code
           class method there e f k i g)))

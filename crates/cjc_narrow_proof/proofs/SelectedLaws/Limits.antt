@@ -1,10 +1,12 @@
 -- What the rules of a package say of one of its methods where none is broken.
-use Rattle.std.proofs.Common.{◌≡◌, ℕ, zero, suc, ◌+◌, ◌≤◌, refl, sym, ap, ◌∙◌, arith, Bool, true, false}
-use Rattle.std.proofs.Common.{List, [], ◌∷◌, ◌++◌, slice_get, Some}
+use Rattle.std.proofs.Common.{◌≡◌, ℕ, ◌≤◌, sym, ap, ◌∙◌, false}
+use Rattle.std.proofs.Common.{List, [], ◌++◌}
 use Rattle.std.proofs.lemmas.Bool.{ltb-false}
-use Rattle.cjc_bytes.specs.Breaks.{Break, RulePlace, at, each_from}
+use Rattle.cjc_bytes.specs.Breaks.{Break, each_from}
 use Rattle.cjc_bytes.specs.Order.{file_of}
 use Rattle.cjc_bytes.specs.declared.settings.Settings.{Settings}
+use Rattle.cjc_bytes.proofs.BrokenRules.{not_broken, each_at}
+use Rattle.cjc_bytes.proofs.Lists.{none_left, none_right}
 use Rattle.cjc_code.specs.ClassFile.Code.{CodeTree}
 use Rattle.cjc_code.specs.ClassFile.declared.tree.ClassTree.{ClassTree}
 use Rattle.cjc_code.specs.ClassFile.declared.tree.MethodTree.{MethodTree}
@@ -14,39 +16,6 @@ use Rattle.cjc_subset.specs.Checks.{field_breaks, own_breaks}
 use Rattle.cjc_subset.specs.Limits.{has_deep_stack, has_many_locals}
 use Rattle.cjc_types.specs.Tables.{IsMethodOf}
 use Rattle.cjc_world.specs.Files.{Files}
-
--- ---- lists of breaks
-
-pub none_left : {A : Type 0} (xs ys : List A) → xs ++ ys ≡ [] → xs ≡ []
-none_left [] ys e = refl
-none_left (x ∷ xs) ys e = cc
-
-pub none_right : {A : Type 0} (xs ys : List A) → xs ++ ys ≡ [] → ys ≡ []
-none_right [] ys e = e
-none_right (x ∷ xs) ys e = cc
-
-pub not_broken : (b : Bool) (s : RulePlace) (rule : ℕ) → at b s rule ≡ [] → b ≡ false
-not_broken true s rule e = cc
-not_broken false s rule e = refl
-
-each_none : {A : Type 0} (breaks : ℕ → A → List Break) (n k : ℕ) (xs : List A) (x : A) → each_from breaks n xs ≡ []
-    → slice_get xs k ≡ Some x → breaks (n + k) x ≡ []
-unfolding each_from
-each_none breaks n k [] x e is = cc
-each_none breaks n zero (y ∷ xs) x e is =
-    let same : y ≡ x = cc in
-    let here : breaks n y ≡ [] = none_left (breaks n y) (each_from breaks (n + 1) xs) e in
-    let place : n + 0 ≡ n = omega arith in
-    ap (λ m. breaks m x) place ∙ ap (breaks n) (sym same) ∙ here
-each_none breaks n (suc k) (y ∷ xs) x e is =
-    let rest = each_none breaks (n + 1) k xs x (none_right (breaks n y) (each_from breaks (n + 1) xs) e) is in
-    let place : n + suc k ≡ n + 1 + k = omega arith in
-    ap (λ m. breaks m x) place ∙ rest
-
-pub each_at : {A : Type 0} (breaks : ℕ → A → List Break) (k : ℕ) (xs : List A) (x : A) → each_from breaks 0 xs ≡ []
-    → slice_get xs k ≡ Some x → breaks k x ≡ []
-each_at breaks k xs x e is = let place : k ≡ 0 + k = omega arith in ap (λ m. breaks m x) place
-    ∙ each_none breaks 0 k xs x e is
 
 -- ---- one method
 

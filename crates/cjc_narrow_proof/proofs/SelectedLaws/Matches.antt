@@ -16,32 +16,20 @@ use Rattle.cjc_ncode.specs.Lowering.Naming.{Naming}
 use Rattle.cjc_ncode.specs.declared.narrow.NCase.{NCase}
 use Rattle.cjc_ncode.specs.Written.{pair_case, pair_cases, table_cases}
 use Rattle.cjc_narrow_proof.specs.Selected.Operands.{CasesAscend}
+use Rattle.cjc_bytes.proofs.Bools.{both_front, both_back}
+use Rattle.cjc_bytes.proofs.Integers.{above_if}
 
 -- ---- words
-
-le_true : (a b : ℤ) → int_le a b ≡ true → a ≤ℤ b
-le_true a b e = grind (arith, ints)
-
-pub true_le : (a b : ℤ) → a ≤ℤ b → int_le a b ≡ true
-true_le a b h = grind (arith, ints)
 
 pub within_by : (z : ℤ) → negsuc 32767 ≤ℤ z → z ≤ℤ pos 32767 → IsWithin 32768 z
 within_by (pos n) a b = positive (omega (arith, ints))
 within_by (negsuc n) a b = negative (omega (arith, ints))
 
-both_left : (a b : Bool) → (a && b) ≡ true → a ≡ true
-both_left true b e = refl
-both_left false b e = cc
-
-both_right : (a b : Bool) → (a && b) ≡ true → b ≡ true
-both_right true b e = e
-both_right false b e = cc
-
 word_low : (z : ℤ) → is_word z ≡ true → negsuc 32767 ≤ℤ z
-word_low z e = le_true (negsuc 32767) z (both_left (int_le (negsuc 32767) z) (int_le z (pos 32767)) e)
+word_low z e = above_if (negsuc 32767) z (both_front (int_le (negsuc 32767) z) (int_le z (pos 32767)) e)
 
 word_high : (z : ℤ) → is_word z ≡ true → z ≤ℤ pos 32767
-word_high z e = le_true z (pos 32767) (both_right (int_le (negsuc 32767) z) (int_le z (pos 32767)) e)
+word_high z e = above_if z (pos 32767) (both_back (int_le (negsuc 32767) z) (int_le z (pos 32767)) e)
 
 -- ---- a table
 

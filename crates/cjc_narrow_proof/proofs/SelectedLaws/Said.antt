@@ -2,11 +2,13 @@
 use Rattle.std.proofs.Common.{◌≡◌, ℕ, zero, suc, ◌+◌, ◌-◌, ◌*◌, ◌<◌, ◌≤◌, refl, sym, ap, subst, ◌∙◌, arith, Bool, true}
 use Rattle.std.proofs.Common.{false, List, [], ◌∷◌, ◌++◌, length, replicate}
 use Rattle.std.specs.Int.{w16}
-use Rattle.std.specs.Prelude.{FitsSigned, Option, Some, None, ◌&&◌, flat_map, nat_le, slice_get, ◌==◌, if◌then◌else◌, ℤ}
+use Rattle.std.specs.Prelude.{FitsSigned, Option, Some, None, flat_map, nat_le, slice_get, ◌==◌, if◌then◌else◌, ℤ}
 use Rattle.std.specs.Prelude.{pos, negsuc, ◌≤ℤ◌}
 use Rattle.std.proofs.lemmas.Bool.{leb-false, leb-true}
 use Rattle.std.proofs.lemmas.Int.{ints}
 use Rattle.cjc_bytes.specs.declared.fault.MemberId.{MemberId}
+use Rattle.cjc_bytes.proofs.Bools.{both_front}
+use Rattle.cjc_bytes.proofs.Integers.{le_true}
 use Rattle.cjc_script.specs.Sorts.{Sort, Boolean, Byte as ByteSort, Short, Int, Reference, NoValue, Shape, OfClass}
 use Rattle.cjc_script.specs.Sorts.{OfNumbers, OfReferences, Booleans, Bytes, Shorts, Ints, field_sort, shape_named}
 use Rattle.cjc_card_semantics.specs.Bytecode.Meanings.{meaning}
@@ -34,7 +36,7 @@ use Rattle.cjc_ncode.specs.Written.{pushed_word, static_access, static_by, switc
 use Rattle.cjc_narrow_proof.specs.Selected.Operands.{IndexFits, NumbersFit, OperandsFit}
 use Rattle.cjc_narrow_proof.proofs.SelectedLaws.Matches.{AreRow, AreWords, count_is, last_is, last_low, last_of}
 use Rattle.cjc_narrow_proof.proofs.SelectedLaws.Matches.{offsets_fit, pair_words, pairs_ascend, pairs_fit, table_row}
-use Rattle.cjc_narrow_proof.proofs.SelectedLaws.Matches.{true_le, within_by}
+use Rattle.cjc_narrow_proof.proofs.SelectedLaws.Matches.{within_by}
 use Rattle.cjc_narrow_proof.proofs.SelectedLaws.Sizes.{pair_few}
 
 -- ---- opcodes by their forms
@@ -162,14 +164,10 @@ low_within z = by (low_word z) (low_word_fits z)
     by (pos n) f = positive (let h = f.sfits in omega (arith, ints))
     by (negsuc n) f = negative (let h = f.sfits in omega (arith, ints))
 
-and_left : (a b : Bool) → (a && b) ≡ true → a ≡ true
-and_left true b e = refl
-and_left false b e = cc
-
 -- a number of one byte
 byte_within : (z : ℤ) → is_byte z ≡ true → IsWithin 128 z
 byte_within (pos n) e = positive (let le = leb-true n 127 e in omega (arith, le))
-byte_within (negsuc n) e = negative (let le = leb-true n 127 (and_left (nat_le n 127) true e) in omega (arith, le))
+byte_within (negsuc n) e = negative (let le = leb-true n 127 (both_front (nat_le n 127) true e) in omega (arith, le))
 
 -- ---- instructions
 
@@ -386,7 +384,7 @@ module _ (n : Naming) where
             target = target;
           } ∷ cases))) (sym (count_is first (length cases)))
               (offsets_fit n (record { value = first; target = target } ∷ cases));
-          whole = true_le first high above;
+          whole = le_true first high above;
         };
       }
 

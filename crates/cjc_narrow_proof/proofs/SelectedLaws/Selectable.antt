@@ -1,12 +1,13 @@
 -- A method of a package that keeps the rules can be selected.
-use Rattle.std.proofs.Common.{◌≡◌, ℕ, ◌+◌, ◌≤◌, refl, sym, ap, ◌∙◌, arith, Bool, true, false, ◌||◌, nat_lt, List}
+use Rattle.std.proofs.Common.{◌≡◌, ℕ, ◌+◌, ◌≤◌, refl, sym, ap, ◌∙◌, arith, true, false, ◌||◌, nat_lt, List}
 use Rattle.std.proofs.Common.{length, slice_get, Option, Some, None}
 use Rattle.std.specs.Prelude.{is_some, option_map}
-use Rattle.std.proofs.lemmas.Bool.{ltb-false, ltb-true}
+use Rattle.std.proofs.lemmas.Bool.{ltb-false, ltb-true, false_from_ne_true}
 use Rattle.std.proofs.lemmas.List.{length-map}
 use Rattle.std.proofs.lemmas.Option.{slice_get-map}
 use Rattle.cjc_bytes.specs.declared.fault.MemberId.{MemberId}
 use Rattle.cjc_bytes.specs.declared.settings.Settings.{Settings}
+use Rattle.cjc_bytes.proofs.Bools.{or_left, or_right}
 use Rattle.cjc_code.specs.ClassFile.Code.{CodeTree}
 use Rattle.cjc_code.specs.ClassFile.declared.tree.ClassTree.{ClassTree}
 use Rattle.cjc_code.specs.ClassFile.declared.tree.MethodTree.{MethodTree}
@@ -44,18 +45,6 @@ use Rattle.cjc_narrow_proof.proofs.SelectedLaws.IntFree.{insn_free, own_desc}
 use Rattle.cjc_narrow_proof.proofs.SelectedLaws.Limits.{few_locals, low_stack}
 use Rattle.cjc_narrow_proof.proofs.SelectedLaws.Words.{call_short, desc_short, nargs_are, params_counted, words_few}
 
-or_left : (a b : Bool) → (a || b) ≡ false → a ≡ false
-or_left true b e = cc
-or_left false b e = refl
-
-or_right : (a b : Bool) → (a || b) ≡ false → b ≡ false
-or_right true b e = cc
-or_right false b e = e
-
-is_or_not : (b : Bool) → (b ≡ true → ⊥) → b ≡ false
-is_or_not true h = absurd (h refl)
-is_or_not false h = refl
-
 -- ---- operands are on the stack
 
 module _ (w : List Class) (b : Body) (op : JOp) (locals : List Cell) where
@@ -63,7 +52,7 @@ module _ (w : List Class) (b : Body) (op : JOp) (locals : List Cell) where
       → (Breaks w b op (record { stack = s; locals = locals }) 503 → ⊥) → takes op ≤ b.max_stack
   takes_low Clash apart h = absurd (apart (clash locals))
   takes_low (Cells s) apart h =
-      let fine = is_or_not (is_off b op locals s) (λ e. h (off s locals e)) in
+      let fine = false_from_ne_true (is_off b op locals s) (λ e. h (off s locals e)) in
       let front = or_left (nat_lt (length s) (takes op) || nat_lt b.max_stack (length s))
       (nat_lt b.max_stack (length (stack_behind op locals s))) fine in
       let there = ltb-false (length s) (takes op) (or_left (nat_lt (length s) (takes op))
@@ -120,7 +109,8 @@ module _ (files : Files) (code : MethodCode) (class : ClassTree) (method : Metho
       let few = few_locals list files codes settings keeps.unbroken code class method tree is in
       let no_more : (nat_lt tree.max_locals (arguments method) ≡ true → ⊥) =
       λ e. fit 0 (too_many (ltb-true tree.max_locals (arguments method) e)) in
-      let room = ltb-false tree.max_locals (arguments method) (is_or_not (nat_lt tree.max_locals (arguments method))
+      let room = ltb-false tree.max_locals (arguments method) (false_from_ne_true (nat_lt tree.max_locals
+      (arguments method))
       no_more) in
       let words = words_few method.desc (desc_short files code class method tree is bytes spelt)
       (own_desc files code class method tree is keeps.no_int) in

@@ -9,6 +9,7 @@ use Rattle.std.proofs.lemmas.Option.{slice_get_within}
 use Rattle.cjc_types.specs.Fixpoint.Tables.{HasRow}
 use Rattle.cjc_types.specs.Fixpoint.Working.Edges.{contains_head, contains_tail}
 use Rattle.cjc_bytes.specs.declared.fault.MemberId.{MemberId}
+use Rattle.cjc_bytes.proofs.Gets.{get_inside}
 use Rattle.cjc_code.specs.ClassFile.Code.{CodeTree}
 use Rattle.cjc_code.specs.ClassFile.declared.tree.Catch.{Catch}
 use Rattle.cjc_code.specs.ClassFile.declared.tree.ClassTree.{ClassTree}
@@ -33,7 +34,6 @@ use Rattle.cjc_types.proofs.TypeLaws.Standing.{handler_placed, next_there, targe
 use Rattle.cjc_emit.specs.Layout.Handlers.{AllLie}
 use Rattle.cjc_emit.specs.Layout.Layouts.{IsWhole}
 use Rattle.cjc_emit.specs.Layout.Sizes.{AllLead}
-use Rattle.cjc_emit.proofs.LayoutPlaces.{get_inside}
 use Rattle.cjc_narrow_proof.proofs.SelectedLaws.Cuts.{few, stack_opcode}
 use Rattle.cjc_narrow_proof.proofs.SelectedLaws.Places.{all_sizes, between, place_below, place_low, place_up}
 use Rattle.cjc_narrow_proof.proofs.SelectedLaws.Places.{reached_at, reached_from, size, sizes}

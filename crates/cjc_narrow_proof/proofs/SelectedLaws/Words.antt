@@ -1,6 +1,6 @@
 -- How many words descriptors take that don't name int, and how long the descriptors of a class file are.
 use Rattle.std.proofs.Common.{◌≡◌, ℕ, ◌+◌, ◌<◌, ◌≤◌, ◌^◌, refl, sym, ap, subst, ◌∙◌, inl, inr, arith, Bool, true, false}
-use Rattle.std.proofs.Common.{◌&&◌, ◌||◌, List, [], ◌∷◌, ◌++◌, map, length, slice_get, Option, Some, None}
+use Rattle.std.proofs.Common.{◌&&◌, List, [], ◌∷◌, ◌++◌, map, length, slice_get, Option, Some, None}
 use Rattle.std.specs.Prelude.{option_and_then, if◌then◌else◌}
 use Rattle.std.specs.List.{list_any}
 use Rattle.std.proofs.lemmas.Bool.{lt-ltb}
@@ -9,8 +9,10 @@ use Rattle.cjc_bytes.specs.Descriptor.{Part, Parts}
 use Rattle.cjc_bytes.specs.Spots.{desc_of}
 use Rattle.cjc_bytes.specs.declared.fault.MemberId.{MemberId}
 use Rattle.cjc_bytes.specs.declared.descriptor.Kind.{Kind}
+use Rattle.cjc_bytes.proofs.Gets.{all_at}
+use Rattle.cjc_bytes.proofs.Options.{option_mapped}
+use Rattle.cjc_bytes.proofs.Bools.{or_left, or_right}
 use Rattle.cjc_bytes.specs.declared.descriptor.Kind.TheVariants as kinds
-use Rattle.cjc_bytes.proofs.Inverse.{all_at, mapped}
 use Rattle.cjc_code.specs.ClassFile.Code.{CodeTree}
 use Rattle.cjc_code.specs.ClassFile.declared.tree.ClassTree.{ClassTree}
 use Rattle.cjc_code.specs.ClassFile.declared.tree.MethodTree.{MethodTree}
@@ -39,14 +41,6 @@ use Rattle.cjc_narrow_proof.specs.Selected.Keeps.{IsSpelt}
 use Rattle.cjc_narrow_proof.proofs.SelectedLaws.Cuts.{decoded}
 
 -- ---- words
-
-or_left : (a b : Bool) → (a || b) ≡ false → a ≡ false
-or_left true b e = cc
-or_left false b e = refl
-
-or_right : (a b : Bool) → (a || b) ≡ false → b ≡ false
-or_right true b e = cc
-or_right false b e = e
 
 reference_word : (shape : Option (Shape (List ℕ))) → width (reference_to shape) ≡ 1
 reference_word None = refl
@@ -144,7 +138,7 @@ module _ (files : Files) (code : MethodCode) (class : ClassTree) (method : Metho
   op_named ts named place i e =
       let are = (decoded files code class method tree is).insns_are in
       let there = slice_get-map (with_names class.pool) (cut tree.bytes).insns place in
-      let raw = mapped (with_names class.pool) (slice_get (cut tree.bytes).insns place) i (sym there
+      let raw = option_mapped (with_names class.pool) (slice_get (cut tree.bytes).insns place) i (sym there
       ∙ ap (λ (xs : List JInsn). slice_get xs place) (sym are) ∙ e) in
       let m = cut_row place 0 tree.bytes (cut tree.bytes).insns (cut tree.bytes).stop (is_cut tree.bytes) raw.0 raw.1 in
       let named_so = row_named ts m.0 class.pool raw.0.at raw.0.opcode raw.0.numbers (λ x there. named.items _ x there)

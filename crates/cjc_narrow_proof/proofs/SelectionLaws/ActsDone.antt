@@ -6,6 +6,8 @@ use Rattle.std.specs.Prelude.{slice_get, slice_set, option_and_then, if◌then�
 use Rattle.std.proofs.lemmas.Bool.Decides.{nat_tests}
 use Rattle.cjc_bytes.specs.declared.fault.MemberId.{MemberId}
 use Rattle.cjc_bytes.specs.Spots.{desc_of, bad_at, after}
+use Rattle.cjc_bytes.proofs.Gets.{set_length, map_set}
+use Rattle.cjc_bytes.proofs.Lists.{length_mapped}
 use Rattle.cjc_range.specs.Span.{Holds}
 use Rattle.cjc_script.specs.declared.value.Value.{Value}
 use Rattle.cjc_script.specs.declared.value.Value.TheVariants.{Num, Null, Obj}
@@ -17,7 +19,7 @@ use Rattle.cjc_script.specs.Sorts.{Reference, array_name, shape_name, shape_name
 use Rattle.cjc_card_semantics.specs.Bytecode.Effects.{HeapObject, Numbers, References, Object, shape}
 use Rattle.cjc_card_semantics.specs.Bytecode.Machine as narrow
 use Rattle.cjc_card_semantics.specs.Bytecode.Renaming.{option_as}
-use Rattle.cjc_card_semantics.proofs.BytecodeLaws.Natural.{get_map, set_map, map_last, length_as}
+use Rattle.cjc_card_semantics.proofs.BytecodeLaws.Natural.{get_map, map_last}
 use Rattle.cjc_ncode.specs.ByLabel.{Named, by_label}
 use Rattle.cjc_jvm_semantics.specs.Linked.{Linked}
 use Rattle.cjc_jvm_semantics.specs.Machine.{object_fits, is_of, item_sort, array_with, item_put, put_in, heap_after_act}
@@ -26,7 +28,7 @@ use Rattle.cjc_narrow_proof.specs.Selection.Relation.{element_range, ThingFits, 
 use Rattle.cjc_narrow_proof.specs.Selection.Relation.{shown}
 use Rattle.cjc_narrow_proof.specs.Selection.Acts.{SameHeaps, unfit, changed, ActsAlike, ActsAreTold}
 use Rattle.cjc_narrow_proof.proofs.SelectionLaws.Begins.{type_shown}
-use Rattle.cjc_narrow_proof.proofs.SelectionLaws.Items.{all_with, long_with}
+use Rattle.cjc_narrow_proof.proofs.SelectionLaws.Items.{all_with}
 use Rattle.cjc_narrow_proof.proofs.SelectionLaws.Keeps.{grown_keeps, grown_fits, set_keeps, set_fits}
 use Rattle.cjc_narrow_proof.proofs.SelectionLaws.News.{zeros_shown, all_same, zero_held, few_of}
 use Rattle.cjc_narrow_proof.proofs.SelectionLaws.Replies.{held_if}
@@ -84,7 +86,7 @@ module _ (by : Linked) (l : Named) (told : ActsAreTold by l) (heap : Heap) (soun
       → Same (Some (slice_set all k s)) (Some (slice_set heap k new))
   set_same k old new s there type e h =
       subst (λ xs. Same (Some xs) (Some (slice_set heap k new))) (sym (ap (slice_set all k) e
-      ∙ set_map (shown l) heap k new)) (changed (set_keeps heap k old new there type) (set_fits l heap k old new
+      ∙ map_set (shown l) heap k new)) (changed (set_keeps heap k old new there type) (set_fits l heap k old new
       there type sound h))
 
   -- ---- an object of an imported class
@@ -186,7 +188,7 @@ module _ (by : Linked) (l : Named) (told : ActsAreTold by l) (heap : Heap) (soun
   number_put k j e items z there few held =
       subst (λ n. Same (option_map (slice_set all k) (if nat_lt j n && fits (object_fits by all) (element_sort e)
       (Num z) then Some (things.Array (array_name e) (slice_set (map Num items) j (Num z))) else None)) narrow_side)
-      (sym (length_as Num items))
+      (sym (length_mapped Num items))
       (subst (λ b. Same (option_map (slice_set all k) (if nat_lt j (length items) && b
       then Some (things.Array (array_name e) (slice_set (map Num items) j (Num z))) else None)) narrow_side)
       (sym (number_fits (object_fits by all) (narrow.object_fits (by_label l) heap) e z))
@@ -202,10 +204,10 @@ module _ (by : Linked) (l : Named) (told : ActsAreTold by l) (heap : Heap) (soun
           then Some (things.Array (array_name e) (slice_set (map Num items) j (Num z))) else None))
           (narrow.with_array (by_label l) heap k (if a && b then Some (Numbers e (slice_set items j z)) else None))
       go true true fit =
-          let long = long_with items j z in
+          let long = set_length items j z in
           set_same k (Numbers e items) (Numbers e (slice_set items j z)) (things.Array (array_name e)
           (slice_set (map Num items) j (Num z))) there refl (ap (things.Array (array_name e))
-          (set_map Num items j z))
+          (map_set Num items j z))
           (numbers (omega (arith, long, few)) (all_with (Holds (element_range e)) items j z
           (number_held (narrow.object_fits (by_label l) heap) e z fit) held))
       go true false fit = unfit
@@ -291,7 +293,7 @@ module _ (by : Linked) (l : Named) (told : ActsAreTold by l) (heap : Heap) (soun
           (narrow.with_array (by_label l) heap k (if a && b then Some (References class (slice_set items j v))
           else None))
       go true true fit =
-          let long = long_with items j v in
+          let long = set_length items j v in
           set_same k (References class items) (References class (slice_set items j v))
           (things.Array (shape_name (OfReferences class)) (slice_set items j v)) there refl refl
           (references arrays (omega (arith, long, few)) (all_with (CellFits l heap (Reference (OfClass class))) items j

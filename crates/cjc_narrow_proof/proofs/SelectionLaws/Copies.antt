@@ -23,6 +23,7 @@ use Rattle.cjc_narrow_proof.proofs.SelectionLaws.Gets.{heights}
 use Rattle.cjc_narrow_proof.proofs.SelectionLaws.Passed.{Here, nothing, range, refers, unread, here_before, taken}
 use Rattle.cjc_narrow_proof.proofs.SelectionLaws.Passed.{dropped, high_enough, joined, length_both, take_all, drop_all}
 use Rattle.cjc_narrow_proof.proofs.SelectionLaws.Passed.{append_in_turn}
+use Rattle.cjc_bytes.proofs.Gets.{taken_length}
 
 here_fewer : {tops : List Kind} (ks : List Kind) (n : ℕ) → OnBoth tops → n ≤ length tops → Here n (tops ++ ks)
 here_fewer ks zero p h = nothing
@@ -35,11 +36,6 @@ take_few : {A : Type 0} (n : ℕ) (xs ys : List A) → n ≤ length xs → take 
 take_few zero xs ys h = refl
 take_few (suc n) [] ys h = absurd (omega arith)
 take_few (suc n) (x ∷ xs) ys h = ap (λ l. x ∷ l) (take_few n xs ys (omega arith))
-
-take_long : {A : Type 0} (n : ℕ) (xs : List A) → n ≤ length xs → length (take n xs) ≡ n
-take_long zero xs h = refl
-take_long (suc n) [] h = absurd (omega arith)
-take_long (suc n) (x ∷ xs) h = ap suc (take_long n xs (omega arith))
 
 module _ (by : Linked) (l : Named) (r : Resolution) (m : Method) (tops : List Kind) (plain : OnBoth tops) (n : ℕ)
     (few : n ≤ length tops) where
@@ -55,9 +51,9 @@ module _ (by : Linked) (l : Named) (r : Resolution) (m : Method) (tops : List Ki
       let h = heights s in let e = h.by_name in let g = h.narrow in let high = roomy.by_name in let high' = roomy.narrow
       in
       let both = length_both tops ks in let both' = length_both (tops ++ take n tops) ks in let both'' =
-      length_both tops (take n tops) in let part = take_long n tops few in
+      length_both tops (take n tops) in let part = taken_length n tops few in
       let enough = high_enough (here_before ks plain) s in
-      let words_long = take_long n ws (omega arith) in
+      let words_long = taken_length n ws (omega arith) in
       let sum = length_both (take n ws) ws in
       let left : nat_le b (length vs) ≡ true = grind (arith, nat_tests) in
       let left' : nat_le (n + length vs) m.max_stack ≡ true = grind (arith, nat_tests) in

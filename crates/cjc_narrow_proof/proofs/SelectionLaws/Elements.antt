@@ -6,6 +6,7 @@ use Rattle.std.proofs.lemmas.Bool.Decides.{nat_tests}
 use Rattle.std.proofs.lemmas.Int.{ints}
 use Rattle.cjc_bytes.specs.declared.fault.MemberId.{MemberId}
 use Rattle.cjc_bytes.specs.Spots.{desc_of, bad_at, after}
+use Rattle.cjc_bytes.proofs.Gets.{set_length, map_set, item_has}
 use Rattle.cjc_range.specs.Words.{low_word, low_byte}
 use Rattle.cjc_range.proofs.WordsLaws.Words.{low_byte-low_word, low_byte_ends, low_word_ends, low_word_fits}
 use Rattle.cjc_range.proofs.WordsLaws.Words.{low_word_fixed}
@@ -23,7 +24,7 @@ use Rattle.cjc_card_semantics.specs.Bytecode.Meanings.{meaning}
 use Rattle.cjc_card_semantics.specs.Bytecode.Effects.{Letter, Slot, HeapObject, Numbers, References, Object, shape}
 use Rattle.cjc_card_semantics.specs.Bytecode.Effects.{is_element, words_of}
 use Rattle.cjc_card_semantics.specs.Bytecode.Effects as narrow
-use Rattle.cjc_card_semantics.proofs.BytecodeLaws.Natural.{get_map, set_map}
+use Rattle.cjc_card_semantics.proofs.BytecodeLaws.Natural.{get_map}
 use Rattle.cjc_ncode.specs.declared.narrow.NInsn.TheVariants as insns
 use Rattle.cjc_ncode.specs.Written.{Resolution}
 use Rattle.cjc_ncode.specs.ByLabel.{Named, by_label}
@@ -44,7 +45,7 @@ use Rattle.cjc_narrow_proof.proofs.SelectionLaws.Fields.{holds_word, is_word_hel
 use Rattle.cjc_narrow_proof.proofs.SelectionLaws.Gets.{heights}
 use Rattle.cjc_narrow_proof.proofs.SelectionLaws.Puts.{byte_same}
 use Rattle.cjc_narrow_proof.proofs.SelectionLaws.Keeps.{stacks_kept, locals_kept, set_keeps, set_stores}
-use Rattle.cjc_narrow_proof.proofs.SelectionLaws.Items.{item_has, all_with, long_with, item_both}
+use Rattle.cjc_narrow_proof.proofs.SelectionLaws.Items.{all_with, item_both}
 
 -- ---- which arrays of numbers
 
@@ -297,13 +298,13 @@ module _ (by : Linked) (l : Named) (m : Method) (at next : ℕ) (ks ls : List Ki
   item_written k element items n is holds few fits =
       let x = cut moves z in
       let new : HeapObject (List ℕ) MemberId = Numbers element (slice_set items n x) in
-      let long = long_with items n x in
+      let long = set_length items n x in
       let keeps = set_keeps memory.heap k (Numbers element items) new is refl in
       let new_fits : ThingFits l memory.heap new = numbers (omega (arith, long, few))
       (all_with (Holds (element_range element)) items n x holds fits) in
       subst (λ xs. Writes (by_name.with_heap by m at locals store (slice_set store.heap k
       (things.Array (array_name element) xs)) vs) (narrow.Go next ws words (narrow.with_thing memory k new)))
-      (sym (set_map Num items n x))
+      (sym (map_set Num items n x))
       (goes (stacks_kept keeps rest) (locals_kept keeps held) (set_stores l store memory k (Numbers element items) new
       is refl stores new_fits))
 

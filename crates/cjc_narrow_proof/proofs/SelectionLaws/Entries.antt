@@ -4,6 +4,7 @@ use Rattle.std.proofs.Common.{length, drop, ℤ, pos, negsuc}
 use Rattle.std.specs.Prelude.{Option, Some, None, option_map, map, slice_get, ◌&&◌, ◌≤ℤ◌, if◌then◌else◌}
 use Rattle.std.proofs.lemmas.Int.{ints}
 use Rattle.cjc_bytes.specs.declared.fault.MemberId.{MemberId}
+use Rattle.cjc_bytes.proofs.Bools.{and_true}
 use Rattle.cjc_range.proofs.WordsLaws.Words.{low_word_same}
 use Rattle.cjc_range.specs.Span.{span}
 use Rattle.cjc_script.specs.declared.value.Value.{Value}
@@ -39,7 +40,7 @@ use Rattle.cjc_narrow_proof.specs.Selection.Entries.{is_called, is_sent, kinds_o
 use Rattle.cjc_narrow_proof.specs.Selection.Entries.{IsEntry, entry_kinds, IsNoEntry, EntryAgrees, begins, unfit}
 use Rattle.cjc_narrow_proof.proofs.SelectionLaws.Keeps.{made_there}
 use Rattle.cjc_narrow_proof.proofs.SelectionLaws.Begins.{type_shown, frames_begin}
-use Rattle.cjc_narrow_proof.proofs.SelectionLaws.Replies.{acts_both, value_told, both_so, held_if, object_agrees}
+use Rattle.cjc_narrow_proof.proofs.SelectionLaws.Replies.{acts_both, value_told, held_if, object_agrees}
 
 -- ---- arguments
 
@@ -100,7 +101,7 @@ module _ (by : Linked) (l : Named) (heap : Heap) where
   all_given _ (v ∷ args) no_parameter e = cc
   all_given _ [] (a_parameter word asks more) e = cc
   all_given _ (v ∷ args) (a_parameter {type = type} {types = types} word asks more) e =
-      let p = both_so (fits (narrow.object_fits (by_label l) heap) type v)
+      let p = and_true (fits (narrow.object_fits (by_label l) heap) type v)
       (all_fit (narrow.object_fits (by_label l) heap) types args) e in
       let one = given type v word asks p.0 in
       let others = all_given types args more p.1 in

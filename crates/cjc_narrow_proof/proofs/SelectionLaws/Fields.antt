@@ -5,6 +5,8 @@ use Rattle.std.specs.Str.{bytes_eq}
 use Rattle.std.proofs.lemmas.Slice.Eq.{bytes_eq-Decides}
 use Rattle.std.proofs.lemmas.Int.{ints}
 use Rattle.cjc_bytes.specs.declared.fault.MemberId.{MemberId}
+use Rattle.cjc_bytes.proofs.Integers.{le_true}
+use Rattle.cjc_bytes.proofs.Bools.{last_of_three}
 use Rattle.cjc_range.specs.Words.{low_word}
 use Rattle.cjc_range.proofs.WordsLaws.Words.{low_word_same}
 use Rattle.cjc_range.specs.Span.{Span, Holds, byte_range, short_range}
@@ -33,11 +35,6 @@ and_in_turn false b c = refl
 
 pub fields_same : (a b : MemberId) → is_same_field a b ≡ same_member a b
 fields_same a b = and_in_turn (bytes_eq a.class b.class) (bytes_eq a.name b.name) (bytes_eq a.desc b.desc)
-
-last_of_three : (a b c : Bool) → (a && (b && c)) ≡ true → c ≡ true
-last_of_three true true c e = e
-last_of_three true false c e = cc
-last_of_three false b c e = cc
 
 pub desc_told : (a b : MemberId) → same_member a b ≡ true → a.desc ≡ b.desc
 desc_told a b e = (bytes_eq-Decides a.desc b.desc).0 (last_of_three (bytes_eq a.class b.class) (bytes_eq a.name b.name)
@@ -125,13 +122,6 @@ get_means false Short = refl
 get_means false Int = refl
 get_means false (Reference kind) = refl
 get_means false NoValue = refl
-
-le_true : (a b : ℤ) → a ≤ℤ b → int_le a b ≡ true
-le_true a b h = go (int_le a b) refl
-  where
-    go : (c : Bool) → int_le a b ≡ c → c ≡ true
-    go true e = refl
-    go false e = absurd (grind (arith, ints, e, h))
 
 pub is_word_held : (s : Span) (z : ℤ) → negsuc 32767 ≤ℤ s.low → s.high ≤ℤ pos 32767 → Holds s z → is_word z ≡ true
 is_word_held s z low high h =

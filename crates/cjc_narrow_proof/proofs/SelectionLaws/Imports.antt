@@ -1,11 +1,12 @@
 -- A call of an imported method is noted and answered alike.
 use Rattle.std.proofs.Common.{◌≡◌, ℕ, refl, sym, ap, subst, ◌∙◌, Bool, true, false, List, [], ◌∷◌, ◌++◌, length, take}
 use Rattle.std.proofs.Common.{drop, reverse, ℤ}
-use Rattle.std.specs.Prelude.{Option, Some, None, ◌&&◌, if◌then◌else◌, codes}
+use Rattle.std.specs.Prelude.{Option, Some, None, if◌then◌else◌, codes}
 use Rattle.std.specs.Str.{bytes_eq}
 use Rattle.std.proofs.lemmas.Slice.Eq.{bytes_eq-Decides}
 use Rattle.cjc_bytes.specs.declared.fault.MemberId.{MemberId}
 use Rattle.cjc_bytes.specs.Spots.{desc_of, parts_of, bad_at, after, types_from}
+use Rattle.cjc_bytes.proofs.Bools.{last_of_three}
 use Rattle.cjc_script.specs.declared.value.Value.{Value}
 use Rattle.cjc_script.specs.declared.value.Value.TheVariants.{Num, Null, Obj}
 use Rattle.cjc_script.specs.declared.report.Note.TheVariants.{Event}
@@ -63,11 +64,6 @@ words_as_values {types = types} passes short stack = ap (values_of types) (same_
 
 -- ---- java/lang/Object.<init>()V
 
-last_so : (a b c : Bool) → (a && (b && c)) ≡ true → c ≡ true
-last_so true true c e = e
-last_so true false c e = cc
-last_so false b c e = cc
-
 nothing_given : signature_of (codes "()V") ≡ Some (record { params = []; result = None })
 unfolding desc_of parts_of bad_at after types_from
 nothing_given = refl
@@ -76,7 +72,7 @@ no_result_at_once : (event : MemberId) (types : Signature) → signature_of even
     → is_at_once event ≡ true → types.result ≡ None
 no_result_at_once event types has e =
     let desc : event.desc ≡ codes "()V" = (bytes_eq-Decides event.desc (codes "()V")).0
-    (last_so (bytes_eq event.class (codes "java/lang/Object")) (bytes_eq event.name (codes "<init>"))
+    (last_of_three (bytes_eq event.class (codes "java/lang/Object")) (bytes_eq event.name (codes "<init>"))
     (bytes_eq event.desc (codes "()V")) e) in
     let is : Some types ≡ Some (record { params = []; result = None }) = sym has ∙ ap signature_of desc ∙ nothing_given
     in

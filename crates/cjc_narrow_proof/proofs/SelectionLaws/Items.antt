@@ -1,7 +1,7 @@
 -- An index and its low word find the same item of an array, or are outside of it.
-use Rattle.std.proofs.Common.{◌≡◌, ℕ, zero, suc, ◌<◌, ◌≤◌, refl, sym, ap, subst, ◌∙◌, arith, List, [], ◌∷◌, length, All}
+use Rattle.std.proofs.Common.{◌≡◌, ℕ, zero, suc, ◌≤◌, refl, sym, ap, subst, ◌∙◌, arith, List, [], ◌∷◌, length, All}
 use Rattle.std.proofs.Common.{ℤ, pos, negsuc}
-use Rattle.std.specs.Prelude.{Option, Some, None, slice_get, slice_set, slice_index_or}
+use Rattle.std.specs.Prelude.{Option, Some, None, slice_get, slice_set}
 use Rattle.std.proofs.lemmas.Int.{ints}
 use Rattle.cjc_range.specs.Words.{low_word, IsInside}
 use Rattle.cjc_range.proofs.WordsLaws.Words.{low_word_same, index-low_word}
@@ -13,23 +13,9 @@ use Rattle.cjc_card_semantics.specs.Bytecode.Renaming.{option_as}
 use Rattle.cjc_jvm_semantics.specs.Effects as by_name
 use Rattle.cjc_narrow_proof.specs.Selection.Rows.{NEffect}
 use Rattle.cjc_narrow_proof.specs.Selection.Elements.{index_range}
-use Rattle.cjc_narrow_proof.proofs.SelectionLaws.Stores.{get_there}
+use Rattle.cjc_bytes.proofs.Gets.{get_below, get_inside}
 
 -- ---- items
-
-pub low_if : {A : Type 0} (xs : List A) (n : ℕ) (x : A) → slice_get xs n ≡ Some x → n < length xs
-low_if [] n x e = cc
-low_if (y ∷ xs) zero x e = omega arith
-low_if (y ∷ xs) (suc n) x e = let h = low_if xs n x e in omega arith
-
-pub or_same : {A : Type 0} (xs : List A) (n : ℕ) (x d : A) → slice_get xs n ≡ Some x → slice_index_or xs n d ≡ x
-or_same [] n x d e = cc
-or_same (y ∷ xs) zero x d e = let is : y ≡ x = cc in is
-or_same (y ∷ xs) (suc n) x d e = or_same xs n x d e
-
--- what holds of all items holds of one
-pub item_has : {A : Type 0} (P : A → Type 0) (xs : List A) (n : ℕ) (x : A) → All P xs → slice_get xs n ≡ Some x → P x
-item_has P xs n x all e = subst P (or_same xs n x x e) (all n x (low_if xs n x e))
 
 -- and of all with another one of which it holds
 pub all_with : {A : Type 0} (P : A → Type 0) (xs : List A) (n : ℕ) (y : A) → P y → All P xs → All P (slice_set xs n y)
@@ -39,11 +25,6 @@ all_with P (x ∷ xs) zero y p all (suc k) d low = all (suc k) d (omega arith)
 all_with P (x ∷ xs) (suc n) y p all zero d low = all zero d (omega arith)
 all_with P (x ∷ xs) (suc n) y p all (suc k) d low = all_with P xs n y p (λ k d low. all (suc k) d (omega arith)) k d
     (omega arith)
-
-pub long_with : {A : Type 0} (xs : List A) (n : ℕ) (y : A) → length (slice_set xs n y) ≡ length xs
-long_with [] n y = refl
-long_with (x ∷ xs) zero y = refl
-long_with (x ∷ xs) (suc n) y = ap suc (long_with xs n y)
 
 -- ---- indices
 
@@ -57,7 +38,7 @@ out_if xs (pos n) h = by (slice_get xs n) refl
   where
     by : (o : Option _) → slice_get xs n ≡ o → Out xs (pos n)
     by None e = behind e
-    by (Some x) e = absurd (h (low_if xs n x e))
+    by (Some x) e = absurd (h (get_below xs n x e))
 out_if xs (negsuc n) h = below
 
 -- an index and its low word
@@ -72,10 +53,10 @@ indexed xs few (negsuc n) h =
 indexed xs few (pos n) h = by (slice_get xs n) refl
   where
     by : (o : Option _) → slice_get xs n ≡ o → Index xs (pos n) (low_word (pos n))
-    by (Some x) e = let low = low_if xs n x e
+    by (Some x) e = let low = get_below xs n x e
         in subst (Index xs (pos n)) (sym (low_word_same (pos n) (omega (arith, ints)) (omega (arith, ints, few, low))))
         (inside n x e)
-    by None e = outside (behind e) (out_if xs (low_word (pos n)) (λ is. let there = get_there xs n
+    by None e = outside (behind e) (out_if xs (low_word (pos n)) (λ is. let there = get_inside xs n
         ((index-low_word (length xs) (pos n) few h.above h.below).0 is) in let f = there.1 in cc))
 
 -- The same item is found on both sides, or both raise.

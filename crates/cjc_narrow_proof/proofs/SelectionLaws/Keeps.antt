@@ -1,11 +1,12 @@
 -- Where each array and object keeps its type, all that agreed agrees still; and a new one changes nothing before it.
-use Rattle.std.proofs.Common.{◌≡◌, ◌⊎◌, ℕ, zero, suc, refl, ap, subst, ◌∙◌, List, [], ◌∷◌, ◌++◌, length, inl, inr, sym}
+use Rattle.std.proofs.Common.{◌≡◌, ◌⊎◌, ℕ, zero, suc, refl, ap, subst, ◌∙◌, List, [], ◌∷◌, ◌++◌, inl, inr, sym}
 use Rattle.std.specs.Prelude.{Option, Some, slice_get, slice_set}
 use Rattle.cjc_bytes.specs.declared.fault.MemberId.{MemberId}
+use Rattle.cjc_bytes.proofs.Gets.{in_front, map_set}
 use Rattle.cjc_script.specs.declared.value.Value.{Value}
 use Rattle.cjc_script.specs.Sorts.{Sort}
 use Rattle.cjc_card_semantics.specs.Bytecode.Effects.{Slot, HeapObject, shape}
-use Rattle.cjc_card_semantics.proofs.BytecodeLaws.Natural.{map_last, set_map}
+use Rattle.cjc_card_semantics.proofs.BytecodeLaws.Natural.{map_last}
 use Rattle.cjc_ncode.specs.ByLabel.{Named}
 use Rattle.cjc_jvm_semantics.specs.Effects.{Store}
 use Rattle.cjc_narrow_proof.specs.Selection.Relation.{Kind, Heap, NMemory, Agrees, number, null, object, free, Stacks}
@@ -60,15 +61,6 @@ made_there l _ (of_class is fits) = (_, is)
 
 -- ---- a new array or object
 
-get_front : {A : Type 0} (xs ys : List A) (k : ℕ) (x : A) → slice_get xs k ≡ Some x → slice_get (xs ++ ys) k ≡ Some x
-get_front [] ys k x e = cc
-get_front (y ∷ xs) ys zero x e = e
-get_front (y ∷ xs) ys (suc k) x e = get_front xs ys k x e
-
-pub get_last : {A : Type 0} (xs : List A) (x : A) → slice_get (xs ++ x ∷ []) (length xs) ≡ Some x
-get_last [] x = refl
-get_last (y ∷ xs) x = get_last xs x
-
 get_either : {A : Type 0} (xs : List A) (x y : A) (k : ℕ) → slice_get (xs ++ x ∷ []) k ≡ Some y
     → (slice_get xs k ≡ Some y) ⊎ (x ≡ y)
 get_either [] x y zero e = let is : x ≡ y = cc in inr is
@@ -77,7 +69,7 @@ get_either (z ∷ xs) x y zero e = inl e
 get_either (z ∷ xs) x y (suc k) e = get_either xs x y k e
 
 pub grown_keeps : (heap : Heap) (thing : HeapObject (List ℕ) MemberId) → Keeps heap (heap ++ thing ∷ [])
-grown_keeps heap thing k other is = record { thing = other; is = get_front heap (thing ∷ []) k other is; type = refl }
+grown_keeps heap thing k other is = record { thing = other; is = in_front heap (thing ∷ []) k other is; type = refl }
 
 pub grown_fits : (l : Named) (heap : Heap) (thing : HeapObject (List ℕ) MemberId) → HeapFits l heap
     → ThingFits l (heap ++ thing ∷ []) thing → HeapFits l (heap ++ thing ∷ [])
@@ -149,7 +141,7 @@ pub set_stores : (l : Named) (store : Store) (memory : NMemory) (k : ℕ) (old n
     → Stores l (record store { heap = slice_set store.heap k (shown l new) })
     (record memory { heap = slice_set memory.heap k new })
 set_stores l store memory k old new there same stores h = record {
-  heap = ap (λ xs. slice_set xs k (shown l new)) stores.heap ∙ set_map (shown l) memory.heap k new;
+  heap = ap (λ xs. slice_set xs k (shown l new)) stores.heap ∙ map_set (shown l) memory.heap k new;
   statics = stores.statics;
   heap_fits = set_fits l memory.heap k old new there same stores.heap_fits h;
   statics_fit = slots_kept (set_keeps memory.heap k old new there same) l stores.statics_fit;

@@ -1,11 +1,14 @@
 -- New arrays and objects are made alike, and types are asked alike.
-use Rattle.std.proofs.Common.{◌≡◌, ℕ, zero, suc, ◌+◌, ◌≤◌, ◌<◌, refl, sym, ap, subst, ◌∙◌, arith, Bool, true, false}
+use Rattle.std.proofs.Common.{◌≡◌, ℕ, zero, suc, ◌+◌, ◌≤◌, ◌<◌, refl, sym, ap, subst, ◌∙◌, arith, Bool, true}
 use Rattle.std.proofs.Common.{List, [], ◌∷◌, ◌++◌, length, replicate, ℤ, pos, negsuc}
-use Rattle.std.specs.Prelude.{Option, Some, map, option_map, nat_le, nat_lt, slice_index_or, ◌&&◌, if◌then◌else◌}
+use Rattle.std.specs.Prelude.{Option, Some, map, option_map, nat_le, nat_lt, slice_index_or, if◌then◌else◌}
 use Rattle.std.specs.List.{list_all}
 use Rattle.std.proofs.lemmas.Bool.Decides.{nat_tests}
 use Rattle.std.proofs.lemmas.Int.{ints}
 use Rattle.cjc_bytes.specs.declared.fault.MemberId.{MemberId}
+use Rattle.cjc_bytes.proofs.Bools.{and_true}
+use Rattle.cjc_bytes.proofs.Gets.{at_end}
+use Rattle.cjc_bytes.proofs.Numbers.{length_replicated}
 use Rattle.cjc_range.specs.Words.{low_word}
 use Rattle.cjc_range.specs.Span.{Span, Holds, Within, short_range}
 use Rattle.cjc_code.specs.declared.insn.JOp.TheVariants as jop
@@ -36,7 +39,7 @@ use Rattle.cjc_narrow_proof.specs.Selection.Objects.{has_values, is_field, IsMad
 use Rattle.cjc_narrow_proof.proofs.SelectionLaws.Plain.{RowIs, as_written}
 use Rattle.cjc_narrow_proof.proofs.SelectionLaws.Divides.{same_word}
 use Rattle.cjc_narrow_proof.proofs.SelectionLaws.Gets.{heights}
-use Rattle.cjc_narrow_proof.proofs.SelectionLaws.Keeps.{stacks_kept, locals_kept, grown_keeps, get_last, grown_stores}
+use Rattle.cjc_narrow_proof.proofs.SelectionLaws.Keeps.{stacks_kept, locals_kept, grown_keeps, grown_stores}
 
 -- ---- an array or object at the end of both heaps
 
@@ -68,7 +71,7 @@ module _ (by : Linked) (l : Named) (m : Method) (room at next : ℕ) (ks ls : Li
         heap = store.heap ++ shown l thing
             ∷ [];
       })) (narrow.Go next (Obj (length memory.heap) ∷ ws) words after)) (sym here)
-      (goes (cell (object thing (get_last memory.heap thing) passes) (stacks_kept keeps rest)) (locals_kept keeps held)
+      (goes (cell (object thing (at_end memory.heap thing) passes) (stacks_kept keeps rest)) (locals_kept keeps held)
       (grown_stores l store memory thing stores fits)))))
     where
       count : {A B : Type 0} (f : A → B) (xs : List A) → length (map f xs) ≡ length xs
@@ -85,14 +88,10 @@ zero_fits l heap Int e = an_int (record { above = omega (arith, ints); below = o
 zero_fits l heap (Reference kind) e = a_null
 zero_fits l heap NoValue e = cc
 
-both_true : (a b : Bool) → (a && b) ≡ true → (a ≡ true) × (b ≡ true)
-both_true true b e = (refl, e)
-both_true false b e = cc
-
 fresh_fits : (l : Named) (heap : Heap) (fields : List MemberId) → list_all is_field fields ≡ true
     → SlotsFit l heap (map slot_for fields)
 fresh_fits l heap [] e = no_slots
-fresh_fits l heap (f ∷ fields) e = let p = both_true (is_field f) (list_all is_field fields) e
+fresh_fits l heap (f ∷ fields) e = let p = and_true (is_field f) (list_all is_field fields) e
     in slot (zero_fits l heap (field_sort f.desc) p.0) (fresh_fits l heap fields p.1)
 
 fresh_keys : (fields : List MemberId) → keys (map slot_for fields) ≡ fields
@@ -147,12 +146,8 @@ zero_held Bytes = record { above = omega (arith, ints); below = omega (arith, in
 zero_held Shorts = record { above = omega (arith, ints); below = omega (arith, ints) }
 zero_held Ints = record { above = omega (arith, ints); below = omega (arith, ints) }
 
-long_of : {A : Type 0} (n : ℕ) (x : A) → length (replicate n x) ≡ n
-long_of zero x = refl
-long_of (suc n) x = ap suc (long_of n x)
-
 pub few_of : {A : Type 0} (n : ℕ) (x : A) → n ≤ 32767 → length (replicate n x) ≤ 32767
-few_of n x h = let e = long_of n x in omega (arith, e)
+few_of n x h = let e = length_replicated n x in omega (arith, e)
 
 -- so many elements as a number of 16 bits says; a negative one raises
 module _ (by : Linked) (l : Named) (m : Method) (room at next : ℕ) (ks ls : List Kind) (vs ws : List Value)

@@ -1,12 +1,12 @@
 -- Static fields are read and written alike, and fields of objects are written alike.
 use Rattle.std.proofs.Common.{◌≡◌, ℕ, ◌+◌, refl, sym, ap, subst, ◌∙◌, arith, Bool, true, false, List, [], ◌∷◌, length}
-use Rattle.std.proofs.Common.{FitsSigned, ℤ, pos, negsuc}
+use Rattle.std.proofs.Common.{ℤ, pos, negsuc}
 use Rattle.std.specs.Prelude.{Option, Some, None, map, option_and_then, nat_le, nat_lt, slice_get, slice_set, ◌≤ℤ◌}
 use Rattle.std.specs.Prelude.{if◌then◌else◌}
-use Rattle.std.specs.Int.{w8}
 use Rattle.std.proofs.lemmas.Bool.Decides.{nat_tests}
 use Rattle.std.proofs.lemmas.Int.{ints}
 use Rattle.cjc_bytes.specs.declared.fault.MemberId.{MemberId}
+use Rattle.cjc_bytes.proofs.Integers.{by_ends_8}
 use Rattle.cjc_range.specs.Words.{low_byte}
 use Rattle.cjc_range.proofs.WordsLaws.Words.{low_word_same, low_byte_fixed}
 use Rattle.cjc_code.specs.declared.insn.JOp.TheVariants as jop
@@ -47,12 +47,8 @@ use Rattle.cjc_narrow_proof.proofs.SelectionLaws.Keeps.{made_there, stacks_kept,
 
 -- ---- what is put
 
-fits_byte : (z : ℤ) → negsuc 127 ≤ℤ z → z ≤ℤ pos 127 → FitsSigned w8 z
-fits_byte (pos n) a b = record { sfits = omega (arith, ints) }
-fits_byte (negsuc n) a b = record { sfits = omega (arith, ints) }
-
 pub byte_same : (z : ℤ) → negsuc 127 ≤ℤ z → z ≤ℤ pos 127 → low_byte z ≡ z
-byte_same z a b = low_byte_fixed z (fits_byte z a b)
+byte_same z a b = low_byte_fixed z (by_ends_8 z a b)
 
 -- a cell that may be put is the same value on both sides, fits, and is taken as it is
 pub record IsPut (l : Named) (heap : Heap) (sort : Sort) (v w : Value) : Type 0 where

@@ -4,6 +4,7 @@ use Rattle.std.proofs.Common.{length, All, ℤ}
 use Rattle.std.specs.Prelude.{Option, Some, None, nat_le, slice_get, slice_set, if◌then◌else◌}
 use Rattle.std.proofs.lemmas.Bool.Decides.{nat_tests}
 use Rattle.cjc_bytes.specs.declared.fault.MemberId.{MemberId}
+use Rattle.cjc_bytes.proofs.Gets.{set_length, item_has}
 use Rattle.cjc_range.specs.Words.{low_word}
 use Rattle.cjc_range.specs.Span.{Span, Holds, Within}
 use Rattle.cjc_range.proofs.Order.{held_wider}
@@ -36,7 +37,7 @@ use Rattle.cjc_narrow_proof.proofs.SelectionLaws.Plain.{RowIs, as_written}
 use Rattle.cjc_narrow_proof.proofs.SelectionLaws.Begins.{thing_shown, type_shown}
 use Rattle.cjc_narrow_proof.proofs.SelectionLaws.Gets.{heights}
 use Rattle.cjc_narrow_proof.proofs.SelectionLaws.Keeps.{stacks_kept, locals_kept, set_keeps, set_stores}
-use Rattle.cjc_narrow_proof.proofs.SelectionLaws.Items.{item_has, all_with, long_with, item_both}
+use Rattle.cjc_narrow_proof.proofs.SelectionLaws.Items.{all_with, item_both}
 
 as_it_is : (o : Option Value) → o ≡ option_as (λ v. v) o
 as_it_is None = refl
@@ -160,7 +161,7 @@ module _ (by : Linked) (l : Named) (m : Method) (at next : ℕ) (values : Shape 
   unfolding by_label
   item_written k class items n v is fit arrays few fits =
       let new : HeapObject (List ℕ) MemberId = References class (slice_set items n v) in
-      let long = long_with items n v in
+      let long = set_length items n v in
       let keeps = set_keeps memory.heap k (References class items) new is refl in
       let new_fits : ThingFits l memory.heap new = references arrays (omega (arith, long, few))
       (all_with (CellFits l memory.heap (Reference (OfClass class))) items n v fit fits) in

@@ -3,6 +3,7 @@ use Rattle.std.proofs.Common.{◌≡◌, ℕ, ◌+◌, ◌≤◌, refl, sym, ap,
 use Rattle.std.specs.Prelude.{Option, slice_get}
 use Rattle.std.proofs.lemmas.Int.{ints}
 use Rattle.cjc_bytes.specs.declared.fault.MemberId.{MemberId}
+use Rattle.cjc_bytes.proofs.Lists.{length_mapped}
 use Rattle.cjc_range.specs.Words.{low_word}
 use Rattle.cjc_range.specs.Span.{span}
 use Rattle.cjc_code.specs.declared.insn.JOp.TheVariants as jop
@@ -13,7 +14,6 @@ use Rattle.cjc_script.specs.Sorts.{Shape, OfClass}
 use Rattle.cjc_card_semantics.specs.Bytecode.Meanings.{meaning}
 use Rattle.cjc_card_semantics.specs.Bytecode.Effects.{HeapObject, Numbers, References, Object, shape}
 use Rattle.cjc_card_semantics.specs.Bytecode.Effects as narrow
-use Rattle.cjc_card_semantics.proofs.BytecodeLaws.Natural.{length_as}
 use Rattle.cjc_ncode.specs.declared.narrow.NInsn.TheVariants as insns
 use Rattle.cjc_ncode.specs.Written.{Resolution}
 use Rattle.cjc_ncode.specs.ByLabel.{Named, by_label}
@@ -62,7 +62,7 @@ module _ (by : Linked) (l : Named) (m : Method) (at next : ℕ) (ks ls : List Ki
   unfolding by_label
   count_of (Numbers element items) array (numbers few fits) =
       subst (λ n. Counts (by_name.onward by m at locals store (Num (pos n) ∷ vs))
-      (narrow.Go next (Num (low_word (pos (length items))) ∷ ws) words memory)) (sym (length_as Num items))
+      (narrow.Go next (Num (low_word (pos (length items))) ∷ ws) words memory)) (sym (length_mapped Num items))
       (counted (length items) few)
   count_of (References class items) array (references arrays few fits) = counted (length items) few
   count_of (Object class slots) array fits = absurd (array class refl)

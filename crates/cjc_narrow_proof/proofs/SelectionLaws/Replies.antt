@@ -1,9 +1,11 @@
 -- An answer to an imported method is the same on both sides.
 use Rattle.std.proofs.Common.{◌≡◌, ℕ, refl, sym, ap, subst, ◌∙◌, arith, Bool, true, false, List, [], ◌∷◌, ◌++◌, ℤ, pos}
 use Rattle.std.proofs.Common.{negsuc}
-use Rattle.std.specs.Prelude.{Option, Some, None, map, slice_get, ◌&&◌, ◌≤ℤ◌, int_le, if◌then◌else◌}
+use Rattle.std.specs.Prelude.{Option, Some, None, map, slice_get, ◌≤ℤ◌, int_le, if◌then◌else◌}
 use Rattle.std.proofs.lemmas.Int.{ints}
 use Rattle.cjc_bytes.specs.declared.fault.MemberId.{MemberId}
+use Rattle.cjc_bytes.proofs.Bools.{and_true}
+use Rattle.cjc_bytes.proofs.Integers.{above_if}
 use Rattle.cjc_range.proofs.WordsLaws.Words.{low_word_same}
 use Rattle.cjc_range.specs.Span.{span, Holds}
 use Rattle.cjc_script.specs.declared.value.Value.{Value}
@@ -159,15 +161,8 @@ module _ (by : Linked) (l : Named) (heap : Heap) (things : List Thing) (same : t
 
 -- ---- a result that fits agrees
 
-pub both_so : (a b : Bool) → (a && b) ≡ true → (a ≡ true) × (b ≡ true)
-both_so true b e = (refl, e)
-both_so false b e = cc
-
-above_if : (a b : ℤ) → int_le a b ≡ true → a ≤ℤ b
-above_if a b e = grind (arith, ints, e)
-
 pub held_if : (low high z : ℤ) → lies_in low high z ≡ true → Holds (span low high) z
-held_if low high z e = let p = both_so (int_le low z) (int_le z high) e in record {
+held_if low high z e = let p = and_true (int_le low z) (int_le z high) e in record {
   above = above_if low z p.0;
   below = above_if z high p.1;
 }

@@ -30,6 +30,7 @@ use Rattle.cjc_narrow_proof.specs.Selection.Relation.{Stacks, cell, Locals, no_m
 use Rattle.cjc_narrow_proof.specs.Selection.Rows.{Same, RowOnLocals, goes}
 use Rattle.cjc_narrow_proof.proofs.SelectionLaws.Plain.{of_both}
 use Rattle.cjc_narrow_proof.proofs.SelectionLaws.Pushes.{local_at, one_insn}
+use Rattle.cjc_bytes.proofs.Gets.{get_inside}
 
 -- ---- locals
 
@@ -38,11 +39,6 @@ locals_long : {heap : Heap} {ls : List Kind} {vs ws : List (Option Value)} → L
 locals_long no_more = (refl, refl)
 locals_long (local a s) = let r = locals_long s in (ap suc r.0, ap suc r.1)
 locals_long (unused s) = let r = locals_long s in (ap suc r.0, ap suc r.1)
-
-pub get_there : {A : Type 0} (xs : List A) (n : ℕ) → n < length xs → (x : A) × (slice_get xs n ≡ Some x)
-get_there [] n h = absurd (omega arith)
-get_there (x ∷ xs) zero h = (x, refl)
-get_there (x ∷ xs) (suc n) h = get_there xs n (omega arith)
 
 locals_set : {heap : Heap} {ls : List Kind} {vs ws : List (Option Value)} {k : Kind} {v w : Value} (n : ℕ)
     → Locals heap ls vs ws → Agrees heap k v w → Locals heap (slice_set ls n k) (slice_set vs n (Some v))
@@ -105,7 +101,7 @@ module _ (by : Linked) (l : Named) (r : Resolution) (m : Method) (ls : List Kind
   stored_both at next ks k v w vs ws locals words store memory stores held agree rest =
       let long = locals_long held in let e = long.0 in let f = long.1 in
       let left : nat_lt n (length locals) ≡ true = grind (arith, nat_tests) in
-      let old = get_there words n (omega arith) in
+      let old = get_inside words n (omega arith) in
       subst (λ b. Same l ks (slice_set ls n k) (at + 1) next (by_name.only_if b (by_name.with_local by m at locals store
       n v vs)) (narrow.effect_of_result (there (slice_get words n)
       (Calculations.Fine ws (slice_set words n (Some w)))) next memory)) (sym left)
@@ -145,7 +141,7 @@ module _ (by : Linked) (l : Named) (r : Resolution) (m : Method) (ls : List Kind
 
 -- ---- an increase
 
-holds_itself : (z : ℤ) → Holds (span z z) z
+pub holds_itself : (z : ℤ) → Holds (span z z) z
 holds_itself z = record { above = omega (arith, ints); below = omega (arith, ints) }
 
 pub iinc : (by : Linked) (l : Named) (r : Resolution) (m : Method) (ls : List Kind) (n : ℕ) (s : Span) (z : ℤ)

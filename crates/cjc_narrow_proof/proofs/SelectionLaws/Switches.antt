@@ -6,6 +6,7 @@ use Rattle.std.specs.Prelude.{if◌then◌else◌}
 use Rattle.std.specs.List.{Contains}
 use Rattle.std.proofs.lemmas.Bool.Decides.{nat_tests}
 use Rattle.std.proofs.lemmas.Int.{ints}
+use Rattle.std.proofs.lemmas.Option.{get_or_from_slice_get}
 use Rattle.cjc_range.specs.Span.{Span, Holds, Within, short_range}
 use Rattle.cjc_range.proofs.Order.{held_wider}
 use Rattle.cjc_code.specs.declared.insn.JCase.{JCase}
@@ -31,23 +32,11 @@ use Rattle.cjc_narrow_proof.specs.Selection.Relation.{Kind, Range, NMemory, numb
 use Rattle.cjc_narrow_proof.specs.Selection.Jumps.{Jumps, jumps, JumpAgrees}
 use Rattle.cjc_narrow_proof.specs.Selection.Switches.{targets_of, JumpsInTwo, TwoAgree}
 use Rattle.cjc_narrow_proof.proofs.SelectionLaws.Divides.{same_word}
-use Rattle.cjc_narrow_proof.proofs.SelectionLaws.Items.{low_if, or_same}
+use Rattle.cjc_bytes.proofs.Bools.{and_false}
+use Rattle.cjc_bytes.proofs.Gets.{get_below}
+use Rattle.cjc_bytes.proofs.Integers.{le_true, le_false}
 
 -- ---- order
-
-le_yes : (a b : ℤ) → a ≤ℤ b → int_le a b ≡ true
-le_yes a b h = go (int_le a b) refl
-  where
-    go : (c : Bool) → int_le a b ≡ c → c ≡ true
-    go true e = refl
-    go false e = absurd (grind (arith, ints, e, h))
-
-le_no : (a b : ℤ) → b <ℤ a → int_le a b ≡ false
-le_no a b h = go (int_le a b) refl
-  where
-    go : (c : Bool) → int_le a b ≡ c → c ≡ false
-    go false e = refl
-    go true e = absurd (grind (arith, ints, e, h))
 
 -- the order of two numbers
 data Order : ℤ → ℤ → Type 0 where
@@ -66,17 +55,13 @@ ordered a b = go (int_le a b) refl (int_le b a) refl
 -- ---- numbers of 16 bits
 
 word_yes : (z : ℤ) → negsuc 32767 ≤ℤ z → z ≤ℤ pos 32767 → is_word z ≡ true
-word_yes z a b = ap (λ t. t && int_le z (pos 32767)) (le_yes (negsuc 32767) z a) ∙ le_yes z (pos 32767) b
+word_yes z a b = ap (λ t. t && int_le z (pos 32767)) (le_true (negsuc 32767) z a) ∙ le_true z (pos 32767) b
 
 word_low : (z : ℤ) → z <ℤ negsuc 32767 → is_word z ≡ false
-word_low z a = ap (λ t. t && int_le z (pos 32767)) (le_no (negsuc 32767) z a)
-
-both_false : (a : Bool) → (a && false) ≡ false
-both_false true = refl
-both_false false = refl
+word_low z a = ap (λ t. t && int_le z (pos 32767)) (le_false (negsuc 32767) z a)
 
 word_high : (z : ℤ) → pos 32767 <ℤ z → is_word z ≡ false
-word_high z a = ap (λ t. int_le (negsuc 32767) z && t) (le_no z (pos 32767) a) ∙ both_false (int_le (negsuc 32767) z)
+word_high z a = ap (λ t. int_le (negsuc 32767) z && t) (le_false z (pos 32767) a) ∙ and_false (int_le (negsuc 32767) z)
 
 -- a number of 16 bits, one below and one above all of them
 data Where : ℤ → Type 0 where
@@ -111,20 +96,21 @@ module _ (place : ℕ → ℕ) (other : ℕ) (x : ℤ) (small : Holds short_rang
   arm_there : (arm : Arm) (arms : List Arm) → arm.value ≡ x → narrow.arm_of (place other) (arm ∷ arms) x ≡ arm.to
   arm_there arm arms e =
       ap (λ b. if b then (if int_le x arm.value then arm.to else narrow.arm_of (place other) arms x)
-      else narrow.arm_of (place other) arms x) (le_yes arm.value x (omega (arith, ints, e)))
-      ∙ ap (λ b. if b then arm.to else narrow.arm_of (place other) arms x) (le_yes x arm.value (omega (arith, ints, e)))
+      else narrow.arm_of (place other) arms x) (le_true arm.value x (omega (arith, ints, e)))
+      ∙ ap (λ b. if b then arm.to else narrow.arm_of (place other) arms x) (le_true x arm.value (omega
+      (arith, ints, e)))
 
   arm_below : (arm : Arm) (arms : List Arm) → arm.value <ℤ x → narrow.arm_of (place other) (arm ∷ arms) x
       ≡ narrow.arm_of (place other) arms x
   arm_below arm arms h =
       ap (λ b. if b then (if int_le x arm.value then arm.to else narrow.arm_of (place other) arms x)
-      else narrow.arm_of (place other) arms x) (le_yes arm.value x (omega (arith, ints, h)))
-      ∙ ap (λ b. if b then arm.to else narrow.arm_of (place other) arms x) (le_no x arm.value h)
+      else narrow.arm_of (place other) arms x) (le_true arm.value x (omega (arith, ints, h)))
+      ∙ ap (λ b. if b then arm.to else narrow.arm_of (place other) arms x) (le_false x arm.value h)
 
   arm_above : (arm : Arm) (arms : List Arm) → x <ℤ arm.value → narrow.arm_of (place other) (arm ∷ arms) x
       ≡ narrow.arm_of (place other) arms x
   arm_above arm arms h = ap (λ b. if b then (if int_le x arm.value then arm.to else narrow.arm_of (place other) arms x)
-      else narrow.arm_of (place other) arms x) (le_no arm.value x h)
+      else narrow.arm_of (place other) arms x) (le_false arm.value x h)
 
   -- the entry of a number
   none_before : (targets : List ℕ) (z : ℤ) → z <ℤ pos 0 → entry_of other targets z ≡ other
@@ -254,10 +240,10 @@ module _ (place : ℕ → ℕ) (other : ℕ) (x : ℤ) (small : Holds short_rang
           → narrow.arm_of (place other) (map labels.arm_of (pair_cases place (c ∷ cases))) x
           ≡ place (case_of other (c ∷ cases) x)
       by_place next (too_low a) = let bottom = small.above
-          in left_out next (word_low c.value a) (differs (le_yes c.value x (omega (arith, ints, a, bottom)))
-          (le_no x c.value (omega (arith, ints, a, bottom))))
+          in left_out next (word_low c.value a) (differs (le_true c.value x (omega (arith, ints, a, bottom)))
+          (le_false x c.value (omega (arith, ints, a, bottom))))
       by_place next (too_high a) = let top = small.below in left_out next (word_high c.value a) (ap (λ t. t
-          && int_le x c.value) (le_no c.value x (omega (arith, ints, a, top))))
+          && int_le x c.value) (le_false c.value x (omega (arith, ints, a, top))))
       by_place next (a_word a b) = kept_first (word_yes c.value a b)
           ∙ by_value (int_le c.value x) refl (int_le x c.value) refl
         where
@@ -310,13 +296,18 @@ second_jumps op other low (c ∷ cases) e = cc
 
 -- ---- targets
 
-entry_among : (other : ℕ) (targets : List ℕ) (z : ℤ) → Contains (other ∷ targets) (entry_of other targets z)
+pub entry_among : (other : ℕ) (targets : List ℕ) (z : ℤ) → Contains (other ∷ targets) (entry_of other targets z)
 entry_among other targets (negsuc n) = (0, omega arith, refl)
 entry_among other targets (pos n) = by_item (slice_get targets n) refl
   where
     by_item : (o : Option ℕ) → slice_get targets n ≡ o → Contains (other ∷ targets) (or_other other o)
     by_item None e = (0, omega arith, refl)
-    by_item (Some t) e = let low = low_if targets n t e in (suc n, omega (arith, low), or_same targets n t t e)
+    by_item (Some t) e = let low = get_below targets n t e in (
+      suc n,
+      omega
+          (arith, low),
+      get_or_from_slice_get targets n t t e,
+    )
 
 case_among : (other : ℕ) (cases : List JCase) (x : ℤ) → Contains (other ∷ targets_of cases) (case_of other cases x)
 case_among other [] x = (0, omega arith, refl)

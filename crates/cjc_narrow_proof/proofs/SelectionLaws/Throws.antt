@@ -2,6 +2,8 @@
 use Rattle.std.proofs.Common.{◌≡◌, ℕ, refl, sym, ap, subst, ◌∙◌, Bool, true, List, [], ◌∷◌, ◌++◌, length}
 use Rattle.std.specs.Prelude.{Some, slice_get}
 use Rattle.cjc_bytes.specs.declared.fault.MemberId.{MemberId}
+use Rattle.cjc_bytes.proofs.Lists.{length_mapped}
+use Rattle.cjc_bytes.proofs.Gets.{at_end}
 use Rattle.cjc_code.specs.declared.insn.JInsn.{JInsn}
 use Rattle.cjc_script.specs.declared.report.Note.TheVariants.{Thrown}
 use Rattle.cjc_script.specs.declared.report.Thing.TheVariants as things
@@ -10,7 +12,6 @@ use Rattle.cjc_card_semantics.specs.Bytecode.Runs.{Move, On}
 use Rattle.cjc_card_semantics.specs.Bytecode.Effects.{HeapObject, Object, shape, Toss, Raise}
 use Rattle.cjc_card_semantics.specs.Bytecode.Machine.{Next, StuckAt}
 use Rattle.cjc_card_semantics.specs.Bytecode.Machine as narrow
-use Rattle.cjc_card_semantics.proofs.BytecodeLaws.Natural.{length_as}
 use Rattle.cjc_ncode.specs.Written.{Resolution, place_in}
 use Rattle.cjc_ncode.specs.ByLabel.{Named, by_label}
 use Rattle.cjc_jvm_semantics.specs.Linked.{Linked}
@@ -26,7 +27,7 @@ use Rattle.cjc_narrow_proof.specs.Selection.Throws.{nheap, HandleAlike, no_frame
 use Rattle.cjc_narrow_proof.specs.Selection.Throws.{unhandled, Raises, IsRaised}
 use Rattle.cjc_narrow_proof.proofs.SelectionLaws.Begins.{thing_shown, type_shown}
 use Rattle.cjc_narrow_proof.proofs.SelectionLaws.Handlers.{caught}
-use Rattle.cjc_narrow_proof.proofs.SelectionLaws.Keeps.{locals_kept, grown_keeps, get_last, grown_stores}
+use Rattle.cjc_narrow_proof.proofs.SelectionLaws.Keeps.{locals_kept, grown_keeps, grown_stores}
 
 -- a type has one name on both sides
 pub name_same : (l : Named) (kind : Shape (List ℕ)) → narrow.type_name (by_label l) kind ≡ shape_name kind
@@ -99,7 +100,7 @@ module _ (by : Linked) (l : Named) (within : Shape (List ℕ) → Bool) (f : Fra
       (by_label l) (Some class) g others t otherwise)
   raised class imported passing alike otherwise =
       let new : HeapObject (List ℕ) MemberId = Object class [] in
-      let here : length (heap_of s) ≡ length (nheap t) = ap length stores.heap ∙ length_as (shown l) (nheap t) in
+      let here : length (heap_of s) ≡ length (nheap t) = ap length stores.heap ∙ length_mapped (shown l) (nheap t) in
       let after = narrow.with_last (by_label l) new t in
       record {
         stores = subst (λ x. Stores l (let u = with_last x s in u.store) after.memory) (sym (new_shown class))
@@ -109,7 +110,7 @@ module _ (by : Linked) (l : Named) (within : Shape (List ℕ) → Bool) (f : Fra
             (with_last (things.Object class []) s)) (narrow.turn_after_raise (by_label l) (Some class) g others t
             otherwise)) (sym here)
             (unwound by l within (length (nheap t)) new passing (offset f) g.at (with_last (things.Object class []) s)
-            after (get_last (nheap t) new) (f ∷ outer) (g ∷ others) (handle_kept (grown_keeps (nheap t) new)
+            after (at_end (nheap t) new) (f ∷ outer) (g ∷ others) (handle_kept (grown_keeps (nheap t) new)
             alike));
       }
 

@@ -5,6 +5,8 @@ use Rattle.std.specs.Prelude.{◌≢◌, Option, Some, None, option_map, nat_lt,
 use Rattle.std.specs.List.{Contains}
 use Rattle.std.proofs.lemmas.Bool.Decides.{nat_tests}
 use Rattle.cjc_bytes.specs.declared.fault.MemberId.{MemberId}
+use Rattle.cjc_bytes.proofs.Lists.{length_mapped}
+use Rattle.cjc_bytes.proofs.Gets.{at_end}
 use Rattle.cjc_code.specs.declared.insn.JInsn.{JInsn}
 use Rattle.cjc_code.specs.declared.insn.JOp.TheVariants as jop
 use Rattle.cjc_script.specs.declared.value.Value.{Value}
@@ -25,7 +27,6 @@ use Rattle.cjc_card_semantics.specs.Bytecode.Effects as effects
 use Rattle.cjc_card_semantics.specs.Bytecode.Meanings.{meaning}
 use Rattle.cjc_card_semantics.specs.Bytecode.Machine.{Next, StuckAt}
 use Rattle.cjc_card_semantics.specs.Bytecode.Machine as narrow
-use Rattle.cjc_card_semantics.proofs.BytecodeLaws.Natural.{length_as}
 use Rattle.cjc_card_semantics.proofs.BytecodeLaws.Follows.{from_there, agree, agree_through}
 use Rattle.cjc_card_semantics.proofs.BytecodeLaws.Longer.{machine_lawful, run_same}
 use Rattle.cjc_ncode.specs.declared.narrow.NMethod.{NMethod}
@@ -61,7 +62,7 @@ use Rattle.cjc_narrow_proof.specs.Selection.Runs.{Both, onward, over, Rule, does
 use Rattle.cjc_narrow_proof.specs.Selection.Runs.{returns, calls, Begins, into, unfit, IsFine}
 use Rattle.cjc_narrow_proof.specs.Selection.Runs as rules
 use Rattle.cjc_narrow_proof.proofs.SelectionLaws.Begins.{thing_shown, type_shown}
-use Rattle.cjc_narrow_proof.proofs.SelectionLaws.Keeps.{stacks_kept, locals_kept, grown_keeps, get_last, grown_stores}
+use Rattle.cjc_narrow_proof.proofs.SelectionLaws.Keeps.{stacks_kept, locals_kept, grown_keeps, grown_stores}
 use Rattle.cjc_narrow_proof.proofs.SelectionLaws.Paths.{named_step, narrow_step}
 use Rattle.cjc_narrow_proof.proofs.SelectionLaws.Results.{leaves_to, leaves_entry}
 use Rattle.cjc_narrow_proof.proofs.SelectionLaws.Throws.{name_same}
@@ -293,7 +294,7 @@ module _ (by : Linked) (l : Named) (tb : Table) where
     raised_both class imported may otherwise =
         let new : HeapObject (List ℕ) MemberId = Object class [] in
         let stores = same.stores in
-        let here : length (heap_of s) ≡ length (nheap t) = ap length stores.heap ∙ length_as (shown l) (nheap t) in
+        let here : length (heap_of s) ≡ length (nheap t) = ap length stores.heap ∙ length_mapped (shown l) (nheap t) in
         let after = narrow.with_last (by_label l) new t in
         let keeps = grown_keeps (nheap t) new in
         let held : Stores l (let u = with_last (things.Object class []) s in u.store) after.memory =
@@ -302,7 +303,7 @@ module _ (by : Linked) (l : Named) (tb : Table) where
         subst (λ n. Both by l tb (after_throw by (offset f) (f ∷ outer) n class (with_last (things.Object class []) s))
         (narrow.turn_after_raise (by_label l) (Some class) g others t otherwise)) (sym here)
         (thrown_both (length (nheap t)) new may (offset f) g.at (with_last (things.Object class []) s) after
-        (get_last (nheap t) new)
+        (at_end (nheap t) new)
         (record { stores = held; entries = same.entries; answers = same.answers; notes = same.notes }) f g outer others
         (meets_kept keeps meets) (waiting_kept keeps waiting))
 

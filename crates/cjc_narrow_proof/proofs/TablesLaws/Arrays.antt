@@ -10,12 +10,14 @@ use Rattle.cjc_range.proofs.Order.{within_refl}
 use Rattle.cjc_script.specs.Sorts.{Shape, OfClass, OfNumbers, OfReferences, Element, Booleans, Bytes, Shorts, Ints}
 use Rattle.cjc_script.specs.Sorts.{array_name, shape_name}
 use Rattle.cjc_bytes.specs.Descriptor.{IsClassName}
+use Rattle.cjc_bytes.proofs.Gets.{all_but_last}
+use Rattle.cjc_bytes.proofs.Lists.{bytes_true}
+use Rattle.cjc_bytes.proofs.Bools.{or_cases}
 use Rattle.cjc_world.specs.Classes.{Class, class_named}
 use Rattle.cjc_world.specs.Supertypes.{End, known_as, supertypes_within, supertypes, stands}
 use Rattle.cjc_world.proofs.Subtypes.{reaches}
-use Rattle.cjc_narrow_proof.proofs.TablesLaws.Spelt.{class_read, held_spelt, all_but_last}
+use Rattle.cjc_narrow_proof.proofs.TablesLaws.Spelt.{class_read, held_spelt}
 use Rattle.cjc_world.specs.Subtype.{starts, inner, element, array_is, is_subclass, is_element, is_subtype}
-use Rattle.cjc_world.proofs.Settled.{bytes-true}
 use Rattle.cjc_types.specs.declared.cell.Cell.{Cell}
 use Rattle.cjc_types.specs.declared.cell.Cell.TheVariants.{Number, Refs, Unusable}
 use Rattle.cjc_types.specs.Names.{In}
@@ -23,6 +25,7 @@ use Rattle.cjc_types.specs.Types.{held, held_by, with_held, elements}
 use Rattle.cjc_types.specs.Cells.{refs, most_names}
 use Rattle.cjc_types.specs.Working.NameLaws.{insert_new, insert_old}
 use Rattle.cjc_types.specs.Rules.{is_array_by, is_some, all_types}
+use Rattle.cjc_types.proofs.Greater.{member_passes}
 use Rattle.cjc_ncode.specs.ByLabel.{Named}
 use Rattle.cjc_intervals.specs.Values.{boolean_range, is_boolean_array, byte_element_range}
 use Rattle.cjc_narrow_proof.specs.Selection.Relation.{Refers, Wider, more_types, reference_free, IsMadeOf}
@@ -35,7 +38,7 @@ use Rattle.cjc_narrow_proof.specs.Tables.Kinds.{is_one_of, kind_of_cell}
 use Rattle.cjc_narrow_proof.specs.Tables.Analysis.{TypesAreTold}
 use Rattle.cjc_narrow_proof.specs.Tables.Arrays.{ClassesAreNamed}
 use Rattle.cjc_narrow_proof.proofs.TablesLaws.Told.{one_of_in}
-use Rattle.cjc_narrow_proof.proofs.TablesLaws.Values.{all_in, HasName, has_name}
+use Rattle.cjc_narrow_proof.proofs.TablesLaws.Values.{HasName, has_name}
 
 -- a cell of references all of whose types pass
 pub of_types : (passes : List ℕ → Bool) (c : Cell) → all_types passes c ≡ true → (names : List (List ℕ))
@@ -43,10 +46,6 @@ pub of_types : (passes : List ℕ → Bool) (c : Cell) → all_types passes c �
 of_types passes Number e = cc
 of_types passes (Refs names) e = (names, refl, e)
 of_types passes Unusable e = cc
-
-either : (a b : Bool) → (a || b) ≡ true → (a ≡ true) ⊎ (b ≡ true)
-either true b e = inl refl
-either false b e = inr e
 
 -- one letter holds nothing
 one : (c : ℕ) → (c == 91) ≡ false → (c == 76) ≡ false → {bs item : List ℕ} → c ∷ [] ≡ bs → held_by bs ≡ Some item → ⊥
@@ -103,14 +102,14 @@ module _ (w : List Class) where
   spelt : (a : Element) (bs item : List ℕ) → held_by bs ≡ Some item → is_element w (element (array_name a)) bs ≡ true
       → ⊥
   unfolding is_element
-  spelt Booleans bs item e h = ⊎_elim (λ same. one 90 refl refl (bytes-true (90 ∷ []) bs same) e) (λ no. cc)
-      (either (bytes_eq (90 ∷ []) bs) false h)
-  spelt Bytes bs item e h = ⊎_elim (λ same. one 66 refl refl (bytes-true (66 ∷ []) bs same) e) (λ no. cc)
-      (either (bytes_eq (66 ∷ []) bs) false h)
-  spelt Shorts bs item e h = ⊎_elim (λ same. one 83 refl refl (bytes-true (83 ∷ []) bs same) e) (λ no. cc)
-      (either (bytes_eq (83 ∷ []) bs) false h)
-  spelt Ints bs item e h = ⊎_elim (λ same. one 73 refl refl (bytes-true (73 ∷ []) bs same) e) (λ no. cc)
-      (either (bytes_eq (73 ∷ []) bs) false h)
+  spelt Booleans bs item e h = ⊎_elim (λ same. one 90 refl refl (bytes_true (90 ∷ []) bs same) e) (λ no. cc)
+      (or_cases (bytes_eq (90 ∷ []) bs) false h)
+  spelt Bytes bs item e h = ⊎_elim (λ same. one 66 refl refl (bytes_true (66 ∷ []) bs same) e) (λ no. cc)
+      (or_cases (bytes_eq (66 ∷ []) bs) false h)
+  spelt Shorts bs item e h = ⊎_elim (λ same. one 83 refl refl (bytes_true (83 ∷ []) bs same) e) (λ no. cc)
+      (or_cases (bytes_eq (83 ∷ []) bs) false h)
+  spelt Ints bs item e h = ⊎_elim (λ same. one 73 refl refl (bytes_true (73 ∷ []) bs same) e) (λ no. cc)
+      (or_cases (bytes_eq (73 ∷ []) bs) false h)
 
   no_numbers : (a : Element) (name item : List ℕ) → held name ≡ Some item → is_subtype w (array_name a) name ≡ true → ⊥
   unfolding is_subtype
@@ -151,14 +150,14 @@ module _ (w : List Class) where
           two [] r v = cc
           two (c ∷ cs) r v = grind arith
       by_start true false r v e h = ⊎_elim (λ same. (let f : false ≡ true = sym v
-          ∙ ap (starts 76) (sym (bytes-true (76 ∷ word) bs same)) in cc)) (λ no. cc) (either (bytes_eq (76 ∷ word) bs)
+          ∙ ap (starts 76) (sym (bytes_true (76 ∷ word) bs same)) in cc)) (λ no. cc) (or_cases (bytes_eq (76 ∷ word) bs)
           false h)
       by_start false false r v e h = cc
       by_start false true r v e h = ⊎_elim
-          (λ same. (let is : inner bs ≡ class = ap inner (sym (bytes-true (76 ∷ word) bs same)) ∙ all_but_last class
+          (λ same. (let is : inner bs ≡ class = ap inner (sym (bytes_true (76 ∷ word) bs same)) ∙ all_but_last class
           in subst (λ i. is_subclass w class i ≡ true) (sym is ∙ told e) (reaches w class class (inl refl))))
           (λ is. below (told e) is)
-          (either (bytes_eq (76 ∷ word) bs) (is_subclass w (take (length word - 1) word) (inner bs)) h)
+          (or_cases (bytes_eq (76 ∷ word) bs) (is_subclass w (take (length word - 1) word) (inner bs)) h)
         where
           told : Some (inner bs) ≡ Some item → inner bs ≡ item
           told e = cc
@@ -189,7 +188,8 @@ module _ (w : List Class) where
       go : (o : Option Class) → class_named w class ≡ o
           → stands item (known_as (supertypes_within w (length w)) class o End) ≡ true → (class ≡ item)
           ⊎ ((c : Class) × (class_named w class ≡ Some c))
-      go None none h = ⊎_elim (λ same. inl (bytes-true class item same)) (λ no. cc) (either (bytes_eq class item) false
+      go None none h = ⊎_elim (λ same. inl (bytes_true class item same)) (λ no. cc) (or_cases
+          (bytes_eq class item) false
           h)
       go (Some c) is h = inr (c, is)
 
@@ -239,7 +239,8 @@ module _ (w : List Class) (l : Named) (types : TypesAreTold w l) (named : Classe
   pub arrays_only : (names : List (List ℕ)) → list_all (starts 91) names ≡ true → AreArrays l (is_one_of l names)
   arrays_only names all class e made =
       let h = has_name l names (OfClass class) e in
-      no_class w class h.name (is_no_array (named.objects class made)) (all_in (starts 91) names h.name all h.among)
+      no_class w class h.name (is_no_array (named.objects class made)) (member_passes
+      (starts 91) names h.name all h.among)
       (below_name names (OfClass class) h)
 
   -- what is of an array of numbers
@@ -262,13 +263,13 @@ module _ (w : List Class) (l : Named) (types : TypesAreTold w l) (named : Classe
       → (Is : Shape (List ℕ) → Type 0) → ((name : List ℕ) → In name names → passes name ≡ true
       → is_subtype w (shape_name kind) name ≡ true → Is kind) → Is kind
   numbers_of passes names all kind e made Is go = let h = has_name l names kind e
-      in go h.name h.among (all_in passes names h.name all h.among) (below_name names kind h)
+      in go h.name h.among (member_passes passes names h.name all h.among) (below_name names kind h)
 
   is_kind : (b : Element) (letter : ℕ) → array_name b ≡ 91 ∷ letter ∷ [] → (kind : Shape (List ℕ)) → IsMadeOf l kind
       → (name : List ℕ) → is_array_by letter name ≡ true → is_subtype w (shape_name kind) name ≡ true
       → kind ≡ OfNumbers b
   is_kind b letter spelt kind made name is e =
-      let same = bytes-true name (91 ∷ letter ∷ []) is in
+      let same = bytes_true name (91 ∷ letter ∷ []) is in
       of_numbers b kind made (ap (is_subtype w (shape_name kind)) (spelt ∙ sym same) ∙ e)
 
   pub bytes_only : (names : List (List ℕ)) → list_all (λ name. is_array_by 66 name || is_array_by 90 name) names ≡ true
@@ -277,7 +278,7 @@ module _ (w : List Class) (l : Named) (types : TypesAreTold w l) (named : Classe
       made IsBytes (λ name among passes below. ⊎_elim
       (λ is. subst IsBytes (sym (is_kind Bytes 66 refl kind made name is below)) of.bytes)
       (λ is. subst IsBytes (sym (is_kind Booleans 90 refl kind made name is below)) of.booleans)
-      (either (is_array_by 66 name) (is_array_by 90 name) passes))
+      (or_cases (is_array_by 66 name) (is_array_by 90 name) passes))
 
   pub shorts_only : (names : List (List ℕ)) → list_all (is_array_by 83) names ≡ true
       → AreAll l IsShorts (is_one_of l names)
@@ -288,7 +289,7 @@ module _ (w : List Class) (l : Named) (types : TypesAreTold w l) (named : Classe
       → AreAll l IsReferences (is_one_of l names)
   references_only names all kind e made =
       let h = has_name l names kind e in
-      let item = item_of h.name (all_in (λ name. is_some (held name)) names h.name all h.among) in
+      let item = item_of h.name (member_passes (λ name. is_some (held name)) names h.name all h.among) in
       go kind refl made h item
     where
       go : (k : Shape (List ℕ)) → kind ≡ k → IsMadeOf l k → (h : HasName l names kind) → (item : List ℕ)
@@ -319,7 +320,7 @@ module _ (w : List Class) (l : Named) (types : TypesAreTold w l) (named : Classe
       → ItemsPass l (is_one_of l names) (is_one_of l (elements names []))
   items_pass names all class e kind is =
       let h = has_name l names (OfReferences class) e in
-      let item = item_of h.name (all_in (λ name. is_some (held name)) names h.name all h.among) in
+      let item = item_of h.name (member_passes (λ name. is_some (held name)) names h.name all h.among) in
       let below = below_name names (OfReferences class) h in
       let spelt = held_spelt h.name item.0 h.shape h.is_name item.1 in
       let holds = class_read item.0 spelt in
@@ -373,7 +374,7 @@ module _ (w : List Class) (l : Named) (types : TypesAreTold w l) (named : Classe
       (λ is. (let same : OfNumbers Booleans ≡ OfNumbers Bytes = is_kind Bytes 66 refl (OfNumbers Booleans) tt name is
       below in cc))
       (λ is. any_in is_boolean_array names name is among)
-      (either (is_array_by 66 name) (is_array_by 90 name) passes))
+      (or_cases (is_array_by 66 name) (is_array_by 90 name) passes))
     where
       any_in : (p : List ℕ → Bool) (names : List (List ℕ)) (n : List ℕ) → p n ≡ true → In n names
           → list_any p names ≡ true

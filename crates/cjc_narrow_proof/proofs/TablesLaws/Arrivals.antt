@@ -1,10 +1,12 @@
 -- Where an instruction leads, the tables of its method know no more than it leaves.
-use Rattle.std.proofs.Common.{◌≡◌, ◌⊎◌, ◌≤◌, ◌<◌, ◌+◌, ℕ, zero, suc, Bool, true, false, cond, List, [], ◌∷◌, map}
-use Rattle.std.proofs.Common.{length, slice_get, get_or, filter_map, Option, Some, None, option_map, nat_le, All, refl}
+use Rattle.std.proofs.Common.{◌≡◌, ◌⊎◌, ◌≤◌, ◌+◌, ℕ, zero, suc, Bool, true, false, cond, List, [], ◌∷◌, map}
+use Rattle.std.proofs.Common.{length, slice_get, get_or, Option, Some, None, option_map, nat_le, All, refl}
 use Rattle.std.proofs.Common.{sym, ap, subst, ◌∙◌, inl, inr, arith, ℤ}
-use Rattle.std.specs.List.{AllZip, Contains, cons_option}
+use Rattle.std.specs.List.{AllZip, Contains}
 use Rattle.std.proofs.lemmas.List.Elements.{All-nil, All-cons, Contains-append_left, Contains-append_right}
+use Rattle.std.proofs.lemmas.Option.{get_or_from_slice_get}
 use Rattle.cjc_bytes.specs.declared.fault.MemberId.{MemberId}
+use Rattle.cjc_bytes.proofs.Gets.{get_below, get_inside}
 use Rattle.cjc_range.specs.Span.{Span, Within, IsWord, full}
 use Rattle.cjc_range.specs.Landmarks.{round_row}
 use Rattle.cjc_range.proofs.Order.{within_refl, within_trans, word_full}
@@ -13,7 +15,6 @@ use Rattle.cjc_code.specs.ClassFile.declared.tree.Catch.{Catch}
 use Rattle.cjc_code.specs.declared.insn.JInsn.{JInsn}
 use Rattle.cjc_types.specs.Fixpoint.declared.flow.Edge.{Edge}
 use Rattle.cjc_types.specs.Fixpoint.Tables.{HasRow, Covers}
-use Rattle.cjc_types.specs.Fixpoint.Working.Edges.{contains_head, contains_tail, contains_cons}
 use Rattle.cjc_world.specs.Classes.{Class}
 use Rattle.cjc_types.specs.declared.cell.Cell.{Cell}
 use Rattle.cjc_types.specs.declared.cell.Cell.TheVariants.{Number, Refs}
@@ -28,6 +29,7 @@ use Rattle.cjc_types.specs.Steps as typed
 use Rattle.cjc_types.specs.Flow.{Body, place_at, successors, covers, caught_type, type_flow}
 use Rattle.cjc_types.specs.Flow as types
 use Rattle.cjc_types.specs.TypeLaws.Closed.{whole_stack, whole_after}
+use Rattle.cjc_types.proofs.Typed.{contains_mapped, contains_kept}
 use Rattle.cjc_ncode.specs.ByLabel.{Named}
 use Rattle.cjc_intervals.specs.Frames.{StackOf, Cells, Clash, IsStack, IsStackBelow, spans, RangeState, spans_of}
 use Rattle.cjc_intervals.specs.Frames.{states}
@@ -41,49 +43,6 @@ use Rattle.cjc_narrow_proof.specs.Tables.Kinds.{is_one_of, kinds, point_of, poin
 use Rattle.cjc_narrow_proof.specs.Tables.Analysis.{Found, IsSound}
 use Rattle.cjc_narrow_proof.proofs.TablesLaws.Told.{kinds_length, kinds_wider}
 use Rattle.cjc_narrow_proof.proofs.TablesLaws.Typed.{IsTypedRow, typed_row}
-
--- ---- lists
-
-pub get_or_is : {A : Type 0} (xs : List A) (k : ℕ) (x y : A) → slice_get xs k ≡ Some x → get_or xs k y ≡ x
-get_or_is [] k x y e = cc
-get_or_is (z ∷ xs) zero x y e = cc
-get_or_is (z ∷ xs) (suc k) x y e = get_or_is xs k x y e
-
-pub within_list : {A : Type 0} (xs : List A) (k : ℕ) (x : A) → slice_get xs k ≡ Some x → k < length xs
-within_list [] k x e = cc
-within_list (y ∷ xs) zero x e = omega arith
-within_list (y ∷ xs) (suc k) x e = let h = within_list xs k x e in omega (arith, h)
-
-pub at_contains : {A : Type 0} (xs : List A) (k : ℕ) (x : A) → slice_get xs k ≡ Some x → Contains xs x
-at_contains [] k x e = cc
-at_contains {A} (y ∷ xs) zero x e = let same : y ≡ x = cc in subst (λ (z : A). Contains (y ∷ xs) z) same
-    (contains_head y xs)
-at_contains (y ∷ xs) (suc k) x e = contains_tail y xs x (at_contains xs k x e)
-
-pub item_there : {A : Type 0} (xs : List A) (k : ℕ) → k < length xs → (x : A) × (slice_get xs k ≡ Some x)
-item_there [] k h = absurd (omega (arith, h))
-item_there (y ∷ xs) zero h = (y, refl)
-item_there (y ∷ xs) (suc k) h = item_there xs k (omega (arith, h))
-
-each_mapped : {A B : Type 0} (f : A → B) (xs : List A) (x : A) → Contains xs x → Contains (map f xs) (f x)
-each_mapped f [] x (k, lt, e) = absurd (omega arith)
-each_mapped {A} {B} f (y ∷ ys) x is = elim (contains_cons y ys x is) [
-  | inl same ↦ subst (λ (z : A). Contains (f y ∷ map f ys) (f z)) same (contains_head (f y) (map f ys))
-  | inr later ↦ contains_tail (f y) (map f ys) (f x) (each_mapped f ys x later)
-]
-
-pub each_kept : {A B : Type 0} (h : A → Option B) (xs : List A) (x : A) (y : B) → Contains xs x → h x ≡ Some y
-    → Contains (filter_map h xs) y
-each_kept h [] x y (k, lt, e) is = absurd (omega arith)
-each_kept {A} {B} h (z ∷ zs) x y has is = elim (contains_cons z zs x has) [
-  | inl same ↦ subst (λ (o : Option B). Contains (cons_option o (filter_map h zs)) y) (sym (ap h same ∙ is))
-      (contains_head y (filter_map h zs))
-  | inr later ↦ kept (h z) (each_kept h zs x y later is)
-]
-  where
-    kept : (o : Option B) → Contains (filter_map h zs) y → Contains (cons_option o (filter_map h zs)) y
-    kept None rest = rest
-    kept (Some w) rest = contains_tail w (filter_map h zs) y rest
 
 -- ---- intervals where they arrive
 
@@ -148,8 +107,8 @@ module _ (l : Named) (w : List Class) (constant : MemberId → Option ℤ) (f : 
       go : (s : Stack) → t.stack ≡ s → s ≡ stacks.Cells (cells_of s)
       go (stacks.Cells cells) e = refl
       go stacks.Clash e =
-          let insn = item_there (f.body.insns) at (let sized = sound.types.sized
-          in let lt = within_list f.types at (Some t) row in omega (arith, sized, lt)) in
+          let insn = get_inside (f.body.insns) at (let sized = sound.types.sized
+          in let lt = get_below f.types at (Some t) row in omega (arith, sized, lt)) in
           absurd (sound.unbroken at 501 (record {
             insn = insn.0;
             is_insn = insn.1;
@@ -167,7 +126,8 @@ module _ (l : Named) (w : List Class) (constant : MemberId → Option ℤ) (f : 
 
   arrival_is : (to : ℕ) (t : State) (z : RangeState) → HasRow f.types to t → arrival b f.types to z
       ≡ by_types (Some t) (cond (is_target b to) (rounded z) z)
-  arrival_is to t z row = ap (λ o. by_types o (cond (is_target b to) (rounded z) z)) (get_or_is f.types to (Some t) None
+  arrival_is to t z row = ap (λ o. by_types o (cond (is_target b to) (rounded z) z)) (get_or_from_slice_get f.types to
+      (Some t) None
       row)
 
   stack_is : (is : Bool) (t : State) (z : RangeState) → (by_types (Some t) (cond is (rounded z) z)).stack
@@ -222,8 +182,8 @@ module _ (l : Named) (w : List Class) (constant : MemberId → Option ℤ) (f : 
       fits : (to : ℕ) (t : State) → HasRow f.types to t → (s : List Span)
           → length (kinds l (cells_of t.stack) s) ≤ b.max_stack
       fits to t row s =
-          let insn = item_there f.body.insns to (let sized = sound.types.sized
-          in let lt = within_list f.types to (Some t) row in omega (arith, sized, lt)) in
+          let insn = get_inside f.body.insns to (let sized = sound.types.sized
+          in let lt = get_below f.types to (Some t) row in omega (arith, sized, lt)) in
           let typed_here = is_typed to insn.0 t insn.1 row in
           let room = typed_here.room in
           let long = kinds_length l 0 (cells_of t.stack) s in
@@ -267,7 +227,7 @@ module _ (l : Named) (w : List Class) (constant : MemberId → Option ℤ) (f : 
 
     edges_are : (range_flow b constant f.types).edges at x ≡ insn_edges b constant f.types at i t x
     edges_are = ap (λ o. place_edges b constant f.types at o (get_or f.types at None) x) there
-        ∙ ap (λ o. place_edges b constant f.types at (Some i) o x) (get_or_is f.types at (Some t) None row)
+        ∙ ap (λ o. place_edges b constant f.types at (Some i) o x) (get_or_from_slice_get f.types at (Some t) None row)
 
     ranges_lead : (e : Edge RangeState) → Contains (insn_edges b constant f.types at i t x) e
         → Covers (range_flow b constant f.types) f.ranges e.to e.state
@@ -286,7 +246,7 @@ module _ (l : Named) (w : List Class) (constant : MemberId → Option ℤ) (f : 
         ranged).0 in h.own)
         (sound.types.next at t i row there to is)
         (ranges_lead (edge b f.types (after constant i.op cells x) to) (Contains-append_left _ _ _
-        (each_mapped (edge b f.types (after constant i.op cells x)) (successors b.insns at i.op) to is)))
+        (contains_mapped (edge b f.types (after constant i.op cells x)) (successors b.insns at i.op) to is)))
 
     -- So is each handler that covers it.
     pub leads_to_handler : (c : Catch) → Contains b.catches c → covers c i.at ≡ true → (to : ℕ)
@@ -297,6 +257,6 @@ module _ (l : Named) (w : List Class) (constant : MemberId → Option ℤ) (f : 
         (All-cons IsWord full [] word_full (All-nil IsWord)) own_local_numbers
         (sound.types.handled at t i row there c has covered to found)
         (ranges_lead (edge b f.types (caught x) to) (Contains-append_right _ _ _
-        (each_kept (handler_edge b f.types i.at x) b.catches c (edge b f.types (caught x) to) has
+        (contains_kept (handler_edge b f.types i.at x) b.catches c (edge b f.types (caught x) to) has
         (ap (λ is. cond is (option_map (edge b f.types (caught x)) (place_at b.insns c.target)) None) covered
         ∙ ap (option_map (edge b f.types (caught x))) found))))

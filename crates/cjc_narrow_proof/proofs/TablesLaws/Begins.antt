@@ -7,6 +7,7 @@ use Rattle.std.specs.List.{list_all}
 use Rattle.std.proofs.lemmas.List.Elements.{All-nil}
 use Rattle.cjc_bytes.specs.AccessFlags.{is_static}
 use Rattle.cjc_bytes.specs.Descriptor.{Part}
+use Rattle.cjc_bytes.proofs.Gets.{get_inside}
 use Rattle.cjc_range.specs.Span.{Span, IsWord, full}
 use Rattle.cjc_code.specs.declared.insn.JInsn.{JInsn}
 use Rattle.cjc_code.specs.declared.insn.JOp.TheVariants as jop
@@ -38,7 +39,7 @@ use Rattle.cjc_narrow_proof.specs.Tables.Analysis.{Analysis, IsDecoded, IsSound,
 use Rattle.cjc_narrow_proof.specs.Tables.Analysis.{ThrowablesMay, HasRoomToBegin, declared_kinds, table_of}
 use Rattle.cjc_narrow_proof.proofs.TablesLaws.Placed.{first_place}
 use Rattle.cjc_narrow_proof.proofs.TablesLaws.Told.{kinds_same, kinds_length}
-use Rattle.cjc_narrow_proof.proofs.TablesLaws.Arrivals.{item_there, comes_to}
+use Rattle.cjc_narrow_proof.proofs.TablesLaws.Arrivals.{comes_to}
 use Rattle.cjc_narrow_proof.proofs.TablesLaws.Methods.{tb, spot_is, arrives, catches}
 use Rattle.cjc_narrow_proof.proofs.TablesLaws.Values.{passes}
 use Rattle.cjc_narrow_proof.proofs.TablesLaws.Resolved.{of_reference}
@@ -131,7 +132,7 @@ module _ (by : Linked) (l : Named) (w : List Class) (a : Analysis) (m : Method) 
   begins roomy =
       let f = a.found m in
       let b = f.body in
-      let i = item_there b.insns 0 roomy.some in
+      let i = get_inside b.insns 0 roomy.some in
       let here = spot_is by l w a m read decoded sound 0 i.0 i.1 in
       let first = first_place (a.resolution m) b.insns f.types decoded.ascend i.0 i.1 in
       subst (λ ls. Arrives (table_of l a) m 0 (let s = a.narrowed m in s.at) [] ls) (first_locals_are roomy)

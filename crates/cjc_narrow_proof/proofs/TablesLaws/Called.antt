@@ -9,6 +9,7 @@ use Rattle.std.proofs.lemmas.List.{reverse-append, reverse-reverse, take_more}
 use Rattle.cjc_bytes.specs.AccessFlags.{is_static}
 use Rattle.cjc_bytes.specs.Descriptor.{Part}
 use Rattle.cjc_bytes.specs.declared.fault.MemberId.{MemberId}
+use Rattle.cjc_bytes.proofs.Gets.{taken_length}
 use Rattle.cjc_range.specs.Span.{Span, full}
 use Rattle.cjc_code.specs.declared.insn.JOp.{JOp}
 use Rattle.cjc_code.specs.declared.insn.JOp.TheVariants as jop
@@ -49,15 +50,16 @@ use Rattle.cjc_narrow_proof.specs.Tables.Analysis.{declared_kinds, table_of}
 use Rattle.cjc_narrow_proof.specs.Tables.Calls.{IsWordDesc, types_of, count_of, IsReachedBy, IsAsked, IsStaticNamed}
 use Rattle.cjc_narrow_proof.specs.Tables.Calls.{IsObjectNamed, IsSelected, IsCalled}
 use Rattle.cjc_narrow_proof.specs.Tables.Calls as call
-use Rattle.cjc_narrow_proof.proofs.TablesLaws.Told.{kinds_append, taken_length}
+use Rattle.cjc_narrow_proof.proofs.TablesLaws.Told.{kinds_append}
 use Rattle.cjc_narrow_proof.proofs.TablesLaws.Begins.{begins}
 use Rattle.cjc_narrow_proof.proofs.TablesLaws.Resolved.{of_reference, same_long}
 use Rattle.cjc_narrow_proof.proofs.TablesLaws.Passed.{IsPassed, one_passed, passed_for, passes_from, short_from}
 use Rattle.cjc_narrow_proof.proofs.TablesLaws.Passed.{long_from, begins_wider, result_given, word_result}
-use Rattle.cjc_narrow_proof.proofs.TablesLaws.Rows.{lengths_alike, all_wider_itself, all_wider_through, wider_append}
+use Rattle.cjc_narrow_proof.proofs.TablesLaws.Rows.{all_wider_itself, all_wider_through, wider_append}
 use Rattle.cjc_narrow_proof.proofs.TablesLaws.Rows.{first_there, stack_before, rest, roomy_wider, arrives_wider}
 use Rattle.cjc_narrow_proof.proofs.TablesLaws.Rows.{catches_here}
 use Rattle.cjc_narrow_proof.proofs.TablesLaws.Plain.{t, Stands, IsRow, Keeps, typed_here, word, within}
+use Rattle.cjc_narrow_proof.proofs.TablesLaws.Methods.{wider_length}
 
 -- ---- descriptors
 
@@ -108,7 +110,7 @@ module _ (by : Linked) (l : Named) (w : List Class) (a : Analysis) where
       ps = let d = parts desc in d.params
 
       as_long : {ks js : List Kind} → AllWider ks js → length ks ≡ length js
-      as_long h = lengths_alike h
+      as_long h = wider_length h
 
       same_params : (let f = a.found callee in let b = f.body in let d = parts b.desc in d.params) ≡ ps
       same_params = ap (λ n. (let d = parts n in d.params)) reached.desc

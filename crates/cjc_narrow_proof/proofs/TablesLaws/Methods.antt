@@ -15,6 +15,7 @@ use Rattle.cjc_types.specs.declared.state.State.{State}
 use Rattle.cjc_types.specs.Steps.{goes_on, targets}
 use Rattle.cjc_types.specs.Flow.{Body, place_at, next_place, successors, covers, caught_type}
 use Rattle.cjc_types.specs.TypeLaws.Places.{IsPlaceOf}
+use Rattle.cjc_types.proofs.Typed.{contains_kept}
 use Rattle.cjc_intervals.specs.Frames.{RangeState}
 use Rattle.cjc_ncode.specs.declared.narrow.NInsn.{NInsn}
 use Rattle.cjc_ncode.specs.Written.{Resolution, written, place_in, narrow_code}
@@ -32,7 +33,8 @@ use Rattle.cjc_narrow_proof.specs.Tables.Kinds.{is_one_of, kinds}
 use Rattle.cjc_narrow_proof.specs.Tables.Analysis.{Found, Analysis, reached_in, table_of, IsDecoded, IsSound, IsRead}
 use Rattle.cjc_narrow_proof.specs.Tables.Analysis.{CatchesAreTold}
 use Rattle.cjc_narrow_proof.proofs.TablesLaws.Placed.{size, size_fixed, reached_at, stands_at, next_at}
-use Rattle.cjc_narrow_proof.proofs.TablesLaws.Arrivals.{Goes, within_list, item_there, each_kept, leads_to_handler}
+use Rattle.cjc_narrow_proof.proofs.TablesLaws.Arrivals.{Goes, leads_to_handler}
+use Rattle.cjc_bytes.proofs.Gets.{get_below, get_inside}
 
 -- ---- places by name
 
@@ -66,10 +68,6 @@ record IsHandler (by : Linked) (holder : List ℕ) (catches : List Catch) (offse
   pub taken : takes by holder catch.class type ≡ true
   pub leads : catch.target ≡ target
 
-both_so : (a b : Bool) → (a && b) ≡ true → (a ≡ true) × (b ≡ true)
-both_so true b e = (refl, e)
-both_so false b e = cc
-
 later : {by : Linked} {holder : List ℕ} {catches : List Catch} {offset : ℕ} {type : List ℕ} {target : ℕ} (c : Catch)
     → IsHandler by holder catches offset type target → IsHandler by holder (c ∷ catches) offset type target
 later {catches = catches} c h = record {
@@ -100,7 +98,7 @@ found_handler by holder (c ∷ catches) offset type target e = go (nat_le c.star
     go true false is takes_it f more = later c (more f)
     go false q is takes_it f more = later c (more f)
 
-wider_length : {ks js : List Kind} → AllWider ks js → length ks ≡ length js
+pub wider_length : {ks js : List Kind} → AllWider ks js → length ks ≡ length js
 wider_length none_wider = refl
 wider_length (one_wider w more) = ap suc (wider_length more)
 
@@ -165,7 +163,7 @@ module _ (by : Linked) (l : Named) (w : List Class) (a : Analysis) (m : Method) 
       → at + 1 < length b.insns → spot tb m at + length (written r (written_place tb m) i.op) ≡ spot tb m (at + 1)
   next_spot at i t there row low =
       let same : at + 1 ≡ suc at = omega arith in
-      let n = item_there b.insns (suc at) (omega (arith, low)) in
+      let n = get_inside b.insns (suc at) (omega (arith, low)) in
       let sizes = size_fixed r (written_place tb m) (λ o. 0) i.op in
       let here = spot_is at i there in
       let behind = spot_is (suc at) n.0 n.1 in
@@ -192,7 +190,7 @@ module _ (by : Linked) (l : Named) (w : List Class) (a : Analysis) (m : Method) 
       let stands = p.1 in
       let named : place m.insns offset ≡ p.0 = ap (λ insns. place insns offset) read.insns
       ∙ place_found b.insns offset p.0 stands.found in
-      let low = within_list b.insns p.0 stands.insn stands.is_insn in
+      let low = get_below b.insns p.0 stands.insn stands.is_insn in
       omega (arith, named, low)
 
   pub leads : (at : ℕ) (i : JInsn) (offset : ℕ) (ks ls : List Kind) → slice_get b.insns at ≡ Some i
@@ -203,7 +201,7 @@ module _ (by : Linked) (l : Named) (w : List Class) (a : Analysis) (m : Method) 
       let to = p.0 in
       let stands = p.1 in
       let known = goes to (Contains-append_right (next_place (goes_on i.op) (length b.insns) at)
-      (filter_map (place_at b.insns) (targets i.op)) to (each_kept (place_at b.insns) (targets i.op) offset to among
+      (filter_map (place_at b.insns) (targets i.op)) to (contains_kept (place_at b.insns) (targets i.op) offset to among
       stands.found)) in
       at_place offset to stands ks ls known
 

@@ -5,6 +5,7 @@ use Rattle.std.specs.List.{AllZip, AllByRecursion}
 use Rattle.cjc_bytes.specs.Descriptor.{Part}
 use Rattle.cjc_bytes.specs.declared.fault.MemberId.{MemberId}
 use Rattle.cjc_bytes.specs.declared.descriptor.Kind.{Kind as PartKind}
+use Rattle.cjc_bytes.proofs.Gets.{get_below, get_inside}
 use Rattle.cjc_bytes.specs.declared.descriptor.Kind.TheVariants as part_kinds
 use Rattle.cjc_range.specs.Span.{Span, Within, byte_range, short_range}
 use Rattle.cjc_intervals.specs.Values.{boolean_range}
@@ -36,7 +37,6 @@ use Rattle.cjc_narrow_proof.specs.Tables.Analysis.{Analysis, table_of}
 use Rattle.cjc_narrow_proof.specs.Tables.Calls.{is_word_result, types_of, IsReachedBy}
 use Rattle.cjc_narrow_proof.specs.Tables.Package.{IsEntered, IsScripted, IsPackage}
 use Rattle.cjc_narrow_proof.specs.Tables.Package as supported_by
-use Rattle.cjc_narrow_proof.proofs.TablesLaws.Arrivals.{within_list, item_there}
 use Rattle.cjc_narrow_proof.proofs.TablesLaws.Passed.{IsPassed, number, reference, boolean_short, byte_short}
 use Rattle.cjc_narrow_proof.proofs.TablesLaws.Rows.{wider_itself}
 use Rattle.cjc_narrow_proof.proofs.TablesLaws.Called.{signature_is, each_sort, callee_begins, callee_narrowed}
@@ -170,9 +170,9 @@ package_is_fine by l w a is = record {
         let whole = is.methods m at p known in
         let h = point_from l (slice_get (let f = a.found m in f.types) at) (slice_get (let f = a.found m
         in f.ranges) at) p known in
-        let lt = within_list (let f = a.found m in f.types) at (Some h.typed) h.has_types in
+        let lt = get_below (let f = a.found m in f.types) at (Some h.typed) h.has_types in
         let sized = whole.sound.types.sized in
-        let i = item_there (let f = a.found m in let b = f.body in b.insns) at (omega (arith, lt, sized)) in
+        let i = get_inside (let f = a.found m in let b = f.body in b.insns) at (omega (arith, lt, sized)) in
         (i.0, subst (λ insns. slice_get insns at ≡ Some i.0) (sym whole.read.insns) i.1)
 
     begun : (e : Entry) (entries : List Entry) (s : State) (t : NState) → StatesAgree l s t

@@ -1,57 +1,20 @@
 -- Where narrow code has what is written for an instruction, and where it goes on behind it.
 use Rattle.std.proofs.Common.{◌≡◌, ℕ, zero, suc, ◌+◌, ◌<◌, ◌≤◌, refl, sym, ap, ◌∙◌, arith, Bool, true, false, List, []}
-use Rattle.std.proofs.Common.{◌∷◌, ◌++◌, length, ℤ, pos, ◌+ℤ◌}
-use Rattle.std.specs.Prelude.{Option, Some, None, map, filter, flat_map, nat_lt, slice_get, if◌then◌else◌}
+use Rattle.std.proofs.Common.{◌∷◌, ◌++◌, length, pos}
+use Rattle.std.specs.Prelude.{Option, Some, None, filter, flat_map, nat_lt, slice_get, if◌then◌else◌}
 use Rattle.std.proofs.lemmas.Bool.Decides.{nat_tests}
-use Rattle.cjc_code.specs.declared.insn.JCase.{JCase}
 use Rattle.cjc_code.specs.declared.insn.JInsn.{JInsn}
 use Rattle.cjc_code.specs.declared.insn.JOp.{JOp}
 use Rattle.cjc_code.specs.declared.insn.JOp.TheVariants as jop
 use Rattle.cjc_card_semantics.specs.Bytecode.Numbers.{is_word}
-use Rattle.cjc_ncode.specs.declared.narrow.NCase.{NCase}
 use Rattle.cjc_ncode.specs.declared.narrow.NInsn.{NInsn}
-use Rattle.cjc_ncode.specs.Written.{Resolution, written, reached, place_in, switched, table_cases, pair_cases}
-use Rattle.cjc_ncode.specs.Written.{pair_case, low_of}
+use Rattle.cjc_ncode.specs.Written.{Resolution, written, reached, place_in, table_cases, pair_cases}
+use Rattle.cjc_ncode.specs.Written.{low_of}
 use Rattle.cjc_narrow_proof.specs.Tables.Analysis.{Ascend}
-
--- ---- lists
-
-pub get_front : {A : Type 0} (xs ys : List A) (k : ℕ) (x : A) → slice_get xs k ≡ Some x → slice_get (xs ++ ys) k
-    ≡ Some x
-get_front [] ys k x e = cc
-get_front (y ∷ xs) ys zero x e = e
-get_front (y ∷ xs) ys (suc k) x e = get_front xs ys k x e
-
-get_behind : {A : Type 0} (xs ys : List A) (k : ℕ) → slice_get (xs ++ ys) (length xs + k) ≡ slice_get ys k
-get_behind [] ys k = let e : 0 + k ≡ k = omega arith in ap (slice_get ys) e
-get_behind (x ∷ xs) ys k = let e : suc (length xs) + k ≡ suc (length xs + k) = omega arith
-    in ap (slice_get (x ∷ xs ++ ys)) e ∙ get_behind xs ys k
+use Rattle.cjc_bytes.proofs.Gets.{in_front, get_behind}
+use Rattle.cjc_narrow.proofs.RowsLaws.Keys.{switch_size, table_size, pair_size}
 
 -- ---- as much is written wherever targets lie
-
-switch_size : (op other other' : ℕ) (low low' : ℤ) (cases others : List NCase) → length cases ≡ length others
-    → length (switched op other low cases) ≡ length (switched op other' low' others)
-switch_size op other other' low low' [] [] e = refl
-switch_size op other other' low low' (c ∷ cases) (d ∷ others) e = refl
-switch_size op other other' low low' [] (d ∷ others) e = cc
-switch_size op other other' low low' (c ∷ cases) [] e = cc
-
-table_size : (f g : ℕ → ℕ) (low : ℤ) (targets : List ℕ) → length (table_cases f low targets)
-    ≡ length (table_cases g low targets)
-table_size f g low [] = refl
-table_size f g low (t ∷ targets) = by (is_word low) (table_size f g (low +ℤ pos 1) targets)
-  where
-    by : (b : Bool) → length (table_cases f (low +ℤ pos 1) targets) ≡ length (table_cases g (low +ℤ pos 1) targets)
-        → length (if b then record { value = low; target = f t } ∷ table_cases f (low +ℤ pos 1) targets
-        else table_cases f (low +ℤ pos 1) targets)
-        ≡ length (if b then record { value = low; target = g t } ∷ table_cases g (low +ℤ pos 1) targets
-        else table_cases g (low +ℤ pos 1) targets)
-    by true e = ap suc e
-    by false e = e
-
-pair_size : (f g : ℕ → ℕ) (cases : List JCase) → length (map (pair_case f) cases) ≡ length (map (pair_case g) cases)
-pair_size f g [] = refl
-pair_size f g (c ∷ cases) = ap suc (pair_size f g cases)
 
 module _ (r : Resolution) where
   pub size_fixed : (f g : ℕ → ℕ) (op : JOp) → length (written r f op) ≡ length (written r g op)
@@ -178,7 +141,7 @@ module _ {A : Type 0} where
         ≡ x.at = ap (λ y. y.at) (sym same) in omega (arith, lt, e))) in
         let none : place_in r (x ∷ reached insns rows) i.at + j ≡ j = omega arith in
         ap (slice_get (written r p x.op ++ flat_map (λ i. written r p i.op) (reached insns rows))) none
-        ∙ get_front (written r p x.op) (flat_map (λ i. written r p i.op) (reached insns rows)) j insn here
+        ∙ in_front (written r p x.op) (flat_map (λ i. written r p i.op) (reached insns rows)) j insn here
     stands_at p (x ∷ insns) (None ∷ rows) up (suc at) i row e f j insn is =
         stands_at p insns rows (ascend_tail x insns up) at i row e f j insn is
     stands_at p (x ∷ insns) (Some other ∷ rows) up (suc at) i row e f j insn is =

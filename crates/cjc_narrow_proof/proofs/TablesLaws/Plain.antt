@@ -1,7 +1,7 @@
 -- Each instruction that names nothing keeps its rule.
-use Rattle.std.proofs.Common.{◌≡◌, ◌⊎◌, inl, inr, ◌≤◌, ◌<◌, ◌+◌, ℕ, zero, suc, Bool, true, false, not, List, [], ◌∷◌}
-use Rattle.std.proofs.Common.{length, take, slice_get, slice_set, Option, Some, None, map, All, refl, sym, ap, subst}
-use Rattle.std.proofs.Common.{◌∙◌, arith, ℤ, pos, negsuc, ◌-ℤ◌}
+use Rattle.std.proofs.Common.{◌≡◌, ◌⊎◌, inl, inr, ◌≤◌, ◌<◌, ◌+◌, ℕ, zero, suc, Bool, true, false, List, [], ◌∷◌}
+use Rattle.std.proofs.Common.{length, take, slice_get, slice_set, Option, Some, map, All, refl, sym, ap, subst}
+use Rattle.std.proofs.Common.{◌∙◌, arith, ℤ, pos, ◌-ℤ◌}
 use Rattle.std.proofs.lemmas.Int.{ints}
 use Rattle.std.specs.Prelude.{if◌then◌else◌}
 use Rattle.std.specs.List.{Contains}
@@ -29,7 +29,7 @@ use Rattle.cjc_ncode.specs.declared.narrow.NCase.{NCase}
 use Rattle.cjc_ncode.specs.Written.{switched, table_cases, pair_cases, low_of}
 use Rattle.cjc_ncode.specs.ByLabel.{Named}
 use Rattle.cjc_jvm_semantics.specs.Arithmetic.{is_same}
-use Rattle.cjc_jvm_semantics.specs.Effects.{Store, Go, effect, place, case_of, or_other, entry_of}
+use Rattle.cjc_jvm_semantics.specs.Effects.{Store, Go, effect, place, case_of, entry_of}
 use Rattle.cjc_types.specs.Fixpoint.Working.Edges.{contains_head, contains_tail, contains_cons}
 use Rattle.cjc_jvm_semantics.specs.Linked.{Method, Linked}
 use Rattle.cjc_intervals.specs.Frames.{StackOf, Cells, Clash, RangeState, spans_of}
@@ -44,13 +44,14 @@ use Rattle.cjc_narrow_proof.specs.Selection.Jumps.{JumpAgrees}
 use Rattle.cjc_narrow_proof.specs.Selection.Switches.{TwoAgree}
 use Rattle.cjc_narrow_proof.specs.Selection.Tables.{written_place}
 use Rattle.cjc_narrow_proof.proofs.SelectionLaws.Switches.{tableswitch, lookupswitch, empty_table, empty_pairs}
+use Rattle.cjc_narrow_proof.proofs.SelectionLaws.Switches.{entry_among}
 use Rattle.cjc_narrow_proof.specs.Selection.Runs.{Rule}
 use Rattle.cjc_narrow_proof.proofs.SelectionLaws.Plain.{iadd, isub, imul, ishl, iand, ior, ixor, ineg}
 use Rattle.cjc_narrow_proof.proofs.SelectionLaws.Divides.{idiv, irem, ishr, iushr, i2b}
 use Rattle.cjc_narrow_proof.proofs.SelectionLaws.Pushes.{aconst_null, constant, iload, aload}
 use Rattle.cjc_narrow_proof.proofs.SelectionLaws.Copies.{dup, dup_x1, dup_x2, dup2, dup2_x1, dup2_x2}
 use Rattle.cjc_narrow_proof.proofs.SelectionLaws.Drops.{pop, pop2, swap, nop, i2s}
-use Rattle.cjc_narrow_proof.proofs.SelectionLaws.Stores.{istore, astore, iinc}
+use Rattle.cjc_narrow_proof.proofs.SelectionLaws.Stores.{istore, astore, iinc, holds_itself}
 use Rattle.cjc_narrow_proof.proofs.SelectionLaws.Branches.{goto, ifeq, ifne, iflt, ifge, ifgt, ifle, if_icmpeq}
 use Rattle.cjc_narrow_proof.proofs.SelectionLaws.Branches.{if_icmpne, if_icmplt, if_icmpge, if_icmpgt, if_icmple}
 use Rattle.cjc_narrow_proof.proofs.SelectionLaws.Branches.{if_acmpeq, if_acmpne, ifnull, ifnonnull}
@@ -59,11 +60,13 @@ use Rattle.cjc_narrow_proof.specs.Tables.Analysis.{Analysis, IsDecoded, IsSound,
 use Rattle.cjc_narrow_proof.specs.Tables.Supported.{IsPlain}
 use Rattle.cjc_narrow_proof.specs.Tables.Supported as plain
 use Rattle.cjc_narrow_proof.proofs.TablesLaws.Typed.{IsTypedRow}
-use Rattle.cjc_narrow_proof.proofs.TablesLaws.Arrivals.{at_contains, is_typed, own_numbers}
+use Rattle.cjc_narrow_proof.proofs.TablesLaws.Arrivals.{is_typed, own_numbers}
 use Rattle.cjc_narrow_proof.proofs.TablesLaws.Bounded.{lies}
 use Rattle.cjc_narrow_proof.proofs.TablesLaws.Methods.{tb}
 use Rattle.cjc_narrow_proof.proofs.TablesLaws.Told.{kinds_length}
 use Rattle.cjc_narrow_proof.proofs.TablesLaws.Rows.{row_by, on_locals_by, not_written_by, jump_by, jump_only_by, two_by}
+use Rattle.cjc_bytes.proofs.Bools.{not_false}
+use Rattle.cjc_bytes.proofs.Gets.{contained}
 
 -- ---- cells
 
@@ -76,10 +79,6 @@ pub reference_is : (c : Cell) → is_reference c ≡ true → (names : List (Lis
 reference_is Number e = cc
 reference_is (Refs names) e = (names, refl)
 reference_is Unusable e = cc
-
-true_of : (b : Bool) → not b ≡ false → b ≡ true
-true_of true e = refl
-true_of false e = cc
 
 pub one_taken : (cs : List Cell) → 1 ≤ length cs → take 1 cs ≡ typed.operand cs 0 ∷ []
 one_taken [] h = absurd (omega (arith, h))
@@ -120,11 +119,6 @@ local_kind l a (c ∷ cs) s zero h = let e : a ≡ a + 0 = omega arith in ap (λ
 local_kind l a (c ∷ cs) s (suc k) h = let e : suc a + k ≡ a + suc k = omega arith
     in local_kind l (suc a) cs s k (omega (arith, h))
     ∙ ap (λ n. Some (kind_of_cell l (typed.operand cs k) (operand s n))) e
-
-set_length : {A : Type 0} (xs : List A) (k : ℕ) (y : A) → length (slice_set xs k y) ≡ length xs
-set_length [] k y = refl
-set_length (x ∷ xs) zero y = refl
-set_length (x ∷ xs) (suc k) y = ap suc (set_length xs k y)
 
 -- an interval that is put is there, and the others are as before
 put_here : (s : List Span) (k : ℕ) (x : Span) → k < length s → operand (slice_set s k x) k ≡ x
@@ -180,18 +174,7 @@ short_is_word z h = let a = h.above in let b = h.below in record {
   below = omega (arith, ints, b);
 }
 
-pub itself : (z : ℤ) → Holds (span z z) z
-itself z = record { above = omega (arith, ints); below = omega (arith, ints) }
-
 -- ---- targets
-
-entry_among : (other : ℕ) (more : List ℕ) (z : ℤ) → Contains (other ∷ more) (entry_of other more z)
-entry_among other more (negsuc i) = contains_head other more
-entry_among other more (pos i) = go (slice_get more i) refl
-  where
-    go : (o : Option ℕ) → slice_get more i ≡ o → Contains (other ∷ more) (or_other other o)
-    go None e = contains_head other more
-    go (Some target) e = contains_tail other more target (at_contains more i target e)
 
 case_among : (other : ℕ) (cases : List JCase) (z : ℤ) → Contains (other ∷ map (λ c. c.target) cases)
     (case_of other cases z)
@@ -535,7 +518,7 @@ module _ (by : Linked) (l : Named) (w : List Class) (a : Analysis) (m : Method) 
         ranged (λ e. cc) refl _ refl refl refl (aconst_null by l (a.resolution m) m (is_one_of l []))
     keeps _ (plain.number {z = z} inside) there = row_by by l w a m read decoded sound told at offset (jop.Number z) t x
         there row ranged (λ e. cc) refl _ refl refl refl (constant by l (a.resolution m) m z (exactly z)
-        (subst (λ s. Holds s z) (sym (exactly_is z inside)) (itself z)))
+        (subst (λ s. Holds s z) (sym (exactly_is z inside)) (holds_itself z)))
     keeps _ plain.iadd there = row_by by l w a m read decoded sound told at offset (jop.Arith 0x60) t x there row ranged
         (λ e. cc) refl _ refl refl refl (on_two 0x60 refl there _ (iadd by l (a.resolution m) m (operand numbers 1)
         (operand numbers 0)))
@@ -628,13 +611,13 @@ module _ (by : Linked) (l : Named) (w : List Class) (a : Analysis) (m : Method) 
         ∷ cell_at 0 ∷ [])) (taken_two (jop.Stack 0x5F) there refl) (swap by l (a.resolution m) m (cell_at 0) (cell_at 1)
         (on_both l 0 (typed.operand cells 0 ∷ typed.operand cells 1 ∷ []) numbers)))
     keeps _ (plain.iload {k = k}) there =
-        let is = number_is (typed.operand local_cells k) (true_of (is_number (typed.operand local_cells k))
+        let is = number_is (typed.operand local_cells k) (not_false (is_number (typed.operand local_cells k))
         (wrong_local (jop.Load false k) there)) in
         on_locals_by by l w a m read decoded sound told at offset (jop.Load false k) t x there row ranged (λ e. cc) refl
         _ refl refl (iload by l (a.resolution m) m locals k (operand x.locals k) (local_is (jop.Load false k) k
         there refl Number is))
     keeps _ (plain.aload {k = k}) there =
-        let is = reference_is (typed.operand local_cells k) (true_of (is_reference (typed.operand local_cells k))
+        let is = reference_is (typed.operand local_cells k) (not_false (is_reference (typed.operand local_cells k))
         (wrong_local (jop.Load true k) there)) in
         on_locals_by by l w a m read decoded sound told at offset (jop.Load true k) t x there row ranged (λ e. cc) refl
         _ refl refl
@@ -667,7 +650,7 @@ module _ (by : Linked) (l : Named) (w : List Class) (a : Analysis) (m : Method) 
         ls) (sym (locals_set (jop.Store true k) k there refl (Refs top.0) full))
         (astore by l (a.resolution m) m locals k (kinds_low (jop.Store true k) k there refl) (is_one_of l top.0)))))
     keeps _ (plain.iinc {k = k} {z = z} small) there =
-        let is = number_is (typed.operand local_cells k) (true_of (is_number (typed.operand local_cells k))
+        let is = number_is (typed.operand local_cells k) (not_false (is_number (typed.operand local_cells k))
         (wrong_local (jop.Inc k z) there)) in
         on_locals_by by l w a m read decoded sound told at offset (jop.Inc k z) t x there row ranged (λ e. cc) refl _
         refl refl

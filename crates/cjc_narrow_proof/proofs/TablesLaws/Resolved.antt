@@ -44,7 +44,8 @@ use Rattle.cjc_narrow_proof.proofs.TablesLaws.Values.{given_wider, may_put}
 use Rattle.cjc_narrow_proof.proofs.TablesLaws.Rows.{row_by, wider_row_by}
 use Rattle.cjc_narrow_proof.proofs.TablesLaws.Plain.{t, Stands, IsRow, Keeps, typed_here, within, number_at}
 use Rattle.cjc_narrow_proof.proofs.TablesLaws.Plain.{reference_at, one_number, one_reference, taken_one, taken_two}
-use Rattle.cjc_narrow_proof.proofs.TablesLaws.Plain.{exactly_is, itself}
+use Rattle.cjc_narrow_proof.proofs.TablesLaws.Plain.{exactly_is}
+use Rattle.cjc_narrow_proof.proofs.SelectionLaws.Stores.{holds_itself as itself}
 
 pub of_reference : (w : List Class) (class : List ℕ) (c : Cell) → is_of w class c ≡ true → (names : List (List ℕ))
     × (c ≡ Refs names)

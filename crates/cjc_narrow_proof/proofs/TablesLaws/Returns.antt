@@ -1,8 +1,9 @@
 -- Returns keep their rule.
-use Rattle.std.proofs.Common.{◌≡◌, ◌<◌, ◌+◌, ℕ, Bool, true, false, not, List, [], ◌∷◌, ◌++◌, length, take, drop}
+use Rattle.std.proofs.Common.{◌≡◌, ◌<◌, ◌+◌, ℕ, true, List, [], ◌∷◌, ◌++◌, length, take, drop}
 use Rattle.std.proofs.Common.{slice_get, Option, Some, refl, sym, ap, subst, ◌∙◌, arith}
 use Rattle.cjc_bytes.specs.Descriptor.{Part}
 use Rattle.cjc_bytes.specs.declared.descriptor.Kind.{Kind as PartKind}
+use Rattle.cjc_bytes.proofs.Bools.{not_false}
 use Rattle.cjc_bytes.specs.declared.descriptor.Kind.TheVariants as kinds
 use Rattle.cjc_range.specs.Span.{Span, Within}
 use Rattle.cjc_code.specs.declared.insn.JOp.TheVariants as jop
@@ -67,10 +68,6 @@ no_result l p kinds.Other e = cc
 no_result l p kinds.Ref e = cc
 no_result l p kinds.Void e = refl
 
-true_of : (b : Bool) → not b ≡ false → b ≡ true
-true_of true e = refl
-true_of false e = cc
-
 module _ (by : Linked) (l : Named) (w : List Class) (a : Analysis) (m : Method) (read : IsRead a m)
     (decoded : IsDecoded (let f = a.found m in f.body)) (sound : IsSound w (let r = a.resolution m
     in r.constant) (a.found m)) (told : CatchesAreTold by l a m) (types : TypesAreTold w l) (given : IsGiven l a m)
@@ -87,7 +84,7 @@ module _ (by : Linked) (l : Named) (w : List Class) (a : Analysis) (m : Method) 
 
   is_kind : (opcode : ℕ) → StandsHere opcode → returns opcode result.kind ≡ true
   is_kind opcode there = let h = typed_here by l w a m read decoded sound told at offset cells local_cells x ranged row
-      (jop.Return opcode) there in true_of (returns opcode result.kind) h.result
+      (jop.Return opcode) there in not_false (returns opcode result.kind) h.result
 
   is_given : (opcode : ℕ) → StandsHere opcode → 0 < typed.takes (jop.Return opcode)
       → AllWider (kind_of_cell l (typed.operand cells 0) (operand (spans_of x.stack) 0) ∷ []) (a.results m)

@@ -1,5 +1,5 @@
 -- Rows of instructions that name nothing keep their rules, by both tables.
-use Rattle.std.proofs.Common.{◌≡◌, refl, ◌<◌, ◌+◌, ℕ, suc, true, List, [], ◌∷◌, ◌++◌, length, take, drop, slice_get}
+use Rattle.std.proofs.Common.{◌≡◌, ◌<◌, ◌+◌, ℕ, suc, true, List, [], ◌∷◌, ◌++◌, length, take, drop, slice_get}
 use Rattle.std.proofs.Common.{Option, Some, sym, ap, subst, ◌∙◌, arith}
 use Rattle.std.specs.Prelude.{◌≢◌}
 use Rattle.std.specs.List.{Contains}
@@ -41,7 +41,7 @@ use Rattle.cjc_narrow_proof.proofs.TablesLaws.Told.{kinds_length, before_is, beh
 use Rattle.cjc_narrow_proof.proofs.TablesLaws.Arrivals.{is_typed, leads_on}
 use Rattle.cjc_narrow_proof.proofs.TablesLaws.Placed.{size_fixed}
 use Rattle.cjc_narrow_proof.proofs.TablesLaws.Methods.{tb, GoesTo, written_at, arrives, follows, next_spot}
-use Rattle.cjc_narrow_proof.proofs.TablesLaws.Methods.{target_there, leads, catches}
+use Rattle.cjc_narrow_proof.proofs.TablesLaws.Methods.{target_there, leads, catches, wider_length}
 
 -- ---- orders of kinds
 
@@ -72,10 +72,6 @@ wider_through (away p) (away q) = away (wider_through p q)
 pub all_wider_through : {ks js is : List Kind} → AllWider ks js → AllWider js is → AllWider ks is
 all_wider_through none_wider none_wider = none_wider
 all_wider_through (one_wider p ps) (one_wider q qs) = one_wider (wider_through p q) (all_wider_through ps qs)
-
-pub lengths_alike : {ks js : List Kind} → AllWider ks js → length ks ≡ length js
-lengths_alike none_wider = refl
-lengths_alike (one_wider w more) = ap suc (lengths_alike more)
 
 module _ (by : Linked) (l : Named) (w : List Class) (a : Analysis) (m : Method) (read : IsRead a m)
     (decoded : IsDecoded (let f = a.found m in f.body)) (sound : IsSound w (let r = a.resolution m
@@ -335,7 +331,7 @@ module _ (by : Linked) (l : Named) (w : List Class) (a : Analysis) (m : Method) 
       let high = roomy same in
       let by_name = high.by_name in
       let narrow = high.narrow in
-      let sizes = lengths_alike (wider_append wider (all_wider_itself rest)) in
+      let sizes = wider_length (wider_append wider (all_wider_itself rest)) in
       record { by_name = omega (arith, by_name, sizes); narrow = omega (arith, narrow, sizes) }
 
   -- and both go on behind the one instruction that is written

@@ -2,14 +2,15 @@
 use Rattle.std.proofs.Common.{◌≡◌, ◌+◌, ◌-◌, ℕ, Bool, true, false, List, [], ◌∷◌, ◌++◌, length, take, Option, Some}
 use Rattle.std.proofs.Common.{None, refl, sym, ap, subst, ◌∙◌, arith}
 use Rattle.std.specs.Prelude.{if◌then◌else◌, ◌==◌, option_and_then, unwrap_or}
-use Rattle.std.proofs.lemmas.List.{length-append, take_at}
-use Rattle.cjc_bytes.specs.Descriptor.{Part, Parts, plain, base_kind, is_name_byte, IsName, IsClassName, IsType, base}
+use Rattle.cjc_bytes.specs.Descriptor.{Part, Parts, plain, base_kind, IsName, IsClassName, IsType, base}
 use Rattle.cjc_bytes.specs.Descriptor.{object, array, IsDescriptor, field, method}
 use Rattle.cjc_bytes.specs.Descriptor as spelling
 use Rattle.cjc_bytes.specs.Spots.{part_of, desc_of}
 use Rattle.cjc_bytes.specs.declared.descriptor.Kind.{Kind as PartKind}
 use Rattle.cjc_bytes.specs.declared.descriptor.Kind.TheVariants as part_kinds
 use Rattle.cjc_bytes.proofs.DescriptorTypes.{desc_spelt, desc_read}
+use Rattle.cjc_bytes.proofs.Gets.{all_but_last}
+use Rattle.cjc_bytes.proofs.Numbers.{first_byte}
 use Rattle.cjc_script.specs.Sorts.{Shape, OfClass, OfNumbers, OfReferences, Element, Booleans, Bytes, Shorts, Ints}
 use Rattle.cjc_script.specs.Sorts.{array_name, shape_name, shape_named, array_of, array_by}
 use Rattle.cjc_world.specs.Subtype.{starts, inner}
@@ -22,16 +23,6 @@ pub record IsReadAsClass (name : List ℕ) : Type 0 where
   pub class : shape_named name ≡ Some (OfClass name)
   pub array : shape_named (shape_name (OfReferences name)) ≡ Some (OfReferences name)
   pub no_array : starts 91 name ≡ false
-
-first_byte : (b : ℕ) → is_name_byte b ≡ true → (b == 91) ≡ false
-first_byte b e = go (b == 46) (b == 59) (b == 91) (b == 47) refl e
-  where
-    go : (x y z u : Bool) → (b == 91) ≡ z → (if x then false else if y then false else if z then false else if u
-        then false else true) ≡ true → (b == 91) ≡ false
-    go true y z u is e = cc
-    go false true z u is e = cc
-    go false false true u is e = cc
-    go false false false u is e = is
 
 -- it begins with a byte that begins no array
 record BeginsAsName (name : List ℕ) : Type 0 where
@@ -59,11 +50,6 @@ class_begins _ (spelling.inside {front = front} {back = back} h more) =
       is = ap (λ f. f ++ 47 ∷ back) first.is;
       no_array = first.no_array;
     }
-
--- what stands before the last byte
-pub all_but_last : (name : List ℕ) → take (length (name ++ 59 ∷ []) - 1) (name ++ 59 ∷ []) ≡ name
-all_but_last name = let long = length-append name (59 ∷ []) in let less : length name ≡ length (name ++ 59 ∷ []) - 1 =
-    omega (arith, long) in take_at name (59 ∷ []) (length (name ++ 59 ∷ []) - 1) less
 
 array_of_name : (name : List ℕ) → BeginsAsName name → array_of part_kinds.Ref name ≡ Some (OfReferences name)
 array_of_name name h = subst (λ n. array_of part_kinds.Ref n ≡ Some (OfReferences n)) (sym h.is) (ap (λ b. if b

@@ -14,12 +14,10 @@ use Rattle.cjc_intervals.specs.Steps.{operand}
 use Rattle.cjc_narrow_proof.specs.Selection.Relation.{Wider, more_numbers, more_types, number_free, reference_free}
 use Rattle.cjc_narrow_proof.specs.Selection.Relation.{free_free, AllWider, none_wider, one_wider}
 use Rattle.cjc_narrow_proof.specs.Tables.Kinds.{is_named, is_one_of, kind_of_cell, kinds_from, kinds}
+use Rattle.cjc_bytes.proofs.Bools.{or_true}
+use Rattle.cjc_bytes.proofs.Gets.{taken_length}
 
 -- ---- types
-
-or_right : (b : Bool) → (b || true) ≡ true
-or_right true = refl
-or_right false = refl
 
 pub one_of_in : (l : Named) (names : List (List ℕ)) (n : List ℕ) (kind : Shape (List ℕ)) → In n names
     → is_named l n kind ≡ true → is_one_of l names kind ≡ true
@@ -27,7 +25,7 @@ one_of_in l [] n kind h e = absurd h
 one_of_in l (x ∷ names) n kind (inl same) e = ap (λ b. b || is_one_of l names kind) (ap (λ y. is_named l y kind) same
     ∙ e)
 one_of_in l (x ∷ names) n kind (inr later) e = ap (λ b. is_named l x kind || b) (one_of_in l names n kind later e)
-    ∙ or_right (is_named l x kind)
+    ∙ or_true (is_named l x kind)
 
 pub one_of_from : (l : Named) (names : List (List ℕ)) (kind : Shape (List ℕ)) → is_one_of l names kind ≡ true
     → (n : List ℕ) × In n names × (is_named l n kind ≡ true)
@@ -127,11 +125,6 @@ take_drop : {A : Type 0} (n : ℕ) (xs : List A) → take n xs ++ drop n xs ≡ 
 take_drop zero xs = refl
 take_drop (suc n) [] = refl
 take_drop (suc n) (x ∷ xs) = ap (λ ys. x ∷ ys) (take_drop n xs)
-
-pub taken_length : {A : Type 0} (n : ℕ) (xs : List A) → n ≤ length xs → length (take n xs) ≡ n
-taken_length zero xs h = refl
-taken_length (suc n) [] h = absurd (omega (arith, h))
-taken_length (suc n) (x ∷ xs) h = ap suc (taken_length n xs (omega (arith, h)))
 
 -- The cells that are taken stand before those that stay.
 pub before_is : (l : Named) (n : ℕ) (cells : List Cell) (s : List Span) → n ≤ length cells

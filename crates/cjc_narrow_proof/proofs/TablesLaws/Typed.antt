@@ -2,6 +2,7 @@
 use Rattle.std.proofs.Common.{◌≡◌, ℕ, zero, suc, ◌+◌, ◌≤◌, ◌<◌, Bool, true, false, not, ◌&&◌, ◌||◌, nat_lt, List, []}
 use Rattle.std.proofs.Common.{◌∷◌, length, refl, sym, subst, arith}
 use Rattle.std.proofs.lemmas.Bool.Decides.{nat_tests}
+use Rattle.std.proofs.lemmas.Bool.{or_parts, false_from_ne_true}
 use Rattle.cjc_code.specs.declared.insn.JOp.{JOp}
 use Rattle.cjc_world.specs.Classes.{Class}
 use Rattle.cjc_types.specs.declared.cell.Cell.{Cell}
@@ -21,15 +22,6 @@ pub record IsTypedRow (w : List Class) (b : Body) (op : JOp) (t : State) : Type 
   pub room : length (cells_of t.stack) ≤ b.max_stack
   pub room_behind : length (stack_behind op t.locals (cells_of t.stack)) ≤ b.max_stack
 
--- a test that would break a rule is false
-unless : (b : Bool) → (b ≡ true → ⊥) → b ≡ false
-unless true h = absurd (h refl)
-unless false h = refl
-
-neither_of : (a b : Bool) → (a || b) ≡ false → (a ≡ false) × (b ≡ false)
-neither_of true b e = cc
-neither_of false b e = (refl, e)
-
 none_of : (a b c : Bool) → (a || b || c) ≡ false → (a ≡ false) × ((b ≡ false) × (c ≡ false))
 none_of true b c e = absurd cc
 none_of false true c e = absurd cc
@@ -45,12 +37,12 @@ accepted : (w : List Class) (b : Body) (op : JOp) (count k : ℕ) (xs : List Cel
     → (j : ℕ) → j < length xs → k + j < count → accepts w b op (k + j) (operand xs j) ≡ true
 accepted w b op count k [] e j few lt = absurd (omega (arith, few))
 accepted w b op count k (x ∷ xs) e zero few lt =
-    let here = neither_of (nat_lt k count && not (accepts w b op k x)) (has_wrong w b op count (k + 1) xs) e in
+    let here = or_parts (nat_lt k count && not (accepts w b op k x)) (has_wrong w b op count (k + 1) xs) e in
     let low : nat_lt k count ≡ true = grind (arith, nat_tests, lt) in
     let same : k ≡ k + 0 = omega arith in
     subst (λ n. accepts w b op n x ≡ true) same (right_where (nat_lt k count) (accepts w b op k x) here.0 low)
 accepted w b op count k (x ∷ xs) e (suc j) few lt =
-    let here = neither_of (nat_lt k count && not (accepts w b op k x)) (has_wrong w b op count (k + 1) xs) e in
+    let here = or_parts (nat_lt k count && not (accepts w b op k x)) (has_wrong w b op count (k + 1) xs) e in
     let same : k + 1 + j ≡ k + suc j = omega arith in
     subst (λ n. accepts w b op n (operand xs j) ≡ true) same (accepted w b op count (k + 1) xs here.1 j (omega (
       arith,
@@ -64,8 +56,8 @@ typed_row w b op t is unbroken =
     let whole : (rule : ℕ) → Breaks w b op (record { stack = stacks.Cells s; locals = t.locals }) rule
     → ⊥ = λ rule breaks. unbroken rule (subst (λ x. Breaks w b op (record { stack = x; locals = t.locals }) rule)
     (sym is) breaks) in
-    let right = unless (is_wrong w b op t.locals s) (λ e. whole 502 (wrong s t.locals e)) in
-    let fits = unless (is_off b op t.locals s) (λ e. whole 503 (off s t.locals e)) in
+    let right = false_from_ne_true (is_wrong w b op t.locals s) (λ e. whole 502 (wrong s t.locals e)) in
+    let fits = false_from_ne_true (is_off b op t.locals s) (λ e. whole 503 (off s t.locals e)) in
     let first = none_of (has_wrong w b op (takes op) 0 s) (has_wrong_local op t.locals) (is_wrong_return b op) right in
     let second = first.1 in
     let high = none_of (nat_lt (length s) (takes op)) (nat_lt b.max_stack (length s))

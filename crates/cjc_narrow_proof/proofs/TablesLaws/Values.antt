@@ -1,6 +1,6 @@
 -- A cell that is a value of a type is one that a method, a field or a parameter of that type may be given.
-use Rattle.std.proofs.Common.{◌≡◌, ◌⊎◌, ℕ, Bool, true, false, ◌&&◌, ◌||◌, List, [], ◌∷◌, Option, Some, None, refl, sym}
-use Rattle.std.proofs.Common.{ap, subst, ◌∙◌, inl, inr}
+use Rattle.std.proofs.Common.{◌≡◌, ◌⊎◌, ℕ, true, false, ◌||◌, List, [], ◌∷◌, Option, Some, None, refl, sym}
+use Rattle.std.proofs.Common.{ap, subst, ◌∙◌}
 use Rattle.std.specs.Prelude.{if◌then◌else◌, ◌++◌}
 use Rattle.std.specs.List.{list_all}
 use Rattle.cjc_bytes.specs.Descriptor.{Part}
@@ -17,6 +17,7 @@ use Rattle.cjc_types.specs.Names.{In}
 use Rattle.cjc_types.specs.Types.{is_void, cell_of, result_of}
 use Rattle.cjc_range.proofs.Order.{within_refl}
 use Rattle.cjc_types.specs.Rules.{is_number, all_types, is_of, is_value, is_value_of, returns}
+use Rattle.cjc_types.proofs.Greater.{member_passes}
 use Rattle.cjc_ncode.specs.ByLabel.{Named}
 use Rattle.cjc_intervals.specs.Values.{boolean_range, range_of_kind, result_ranges}
 use Rattle.cjc_intervals.specs.Bounds.{IsBoundOf, a_short, a_byte, a_boolean}
@@ -31,20 +32,6 @@ use Rattle.cjc_narrow_proof.specs.Tables.Analysis.{TypesAreTold}
 use Rattle.cjc_narrow_proof.proofs.TablesLaws.Told.{one_of_from}
 
 -- ---- types
-
-pub all_in : (p : List ℕ → Bool) (names : List (List ℕ)) (n : List ℕ) → list_all p names ≡ true → In n names
-    → p n ≡ true
-all_in p [] n e h = absurd h
-all_in p (x ∷ names) n e (inl same) = ap p (sym same) ∙ first (p x) (list_all p names) e
-  where
-    first : (a b : Bool) → (a && b) ≡ true → a ≡ true
-    first true b e = refl
-    first false b e = cc
-all_in p (x ∷ names) n e (inr later) = all_in p names n (rest (p x) (list_all p names) e) later
-  where
-    rest : (a b : Bool) → (a && b) ≡ true → b ≡ true
-    rest true b e = e
-    rest false b e = cc
 
 -- what has one of these names
 pub record HasName (l : Named) (names : List (List ℕ)) (kind : Shape (List ℕ)) : Type 0 where
@@ -80,7 +67,7 @@ module _ (w : List Class) (l : Named) (types : TypesAreTold w l) where
       let h = has_name l names kind e in
       let below : is_subtype w (shape_name kind) h.name ≡ true = sym (types.tells h.name h.shape h.is_name kind)
       ∙ h.is_of in
-      let above = all_in (λ name. is_subtype w name class) names h.name all h.among in
+      let above = member_passes (λ name. is_subtype w name class) names h.name all h.among in
       types.tells class shape named kind ∙ types.through (shape_name kind) h.name class below above
 
   -- ---- values

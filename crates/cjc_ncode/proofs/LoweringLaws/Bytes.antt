@@ -11,11 +11,7 @@ use Rattle.cjc_ncode.specs.declared.narrow.NInsn.{NInsn}
 use Rattle.cjc_ncode.specs.Lowering.Naming.{Naming}
 use Rattle.cjc_ncode.specs.Lowering.Laid.{laid}
 use Rattle.cjc_ncode.specs.Lowering.Placed.{bytes_by, bytes_of, insn_size, bytes_before, code_bytes, IsSpellable}
-
-pub drop_past : (front back : List ℕ) (m : ℕ) → drop (length front + m) (front ++ back) ≡ drop m back
-drop_past [] back m = rw zero-add refl
-drop_past (x ∷ front) back m = let e : suc (length front) + m ≡ suc (length front + m) = omega arith
-    in ap (λ n. drop n (x ∷ (front ++ back))) e ∙ drop_past front back m
+use Rattle.cjc_code.proofs.BytesGets.{get_drop_past}
 
 pub drop_drop : (xs : List ℕ) (n m : ℕ) → drop (n + m) xs ≡ drop m (drop n xs)
 drop_drop xs zero m = ap (λ k. drop k xs) (zero-add m)
@@ -85,7 +81,7 @@ module _ (n : Naming) (to : ℕ → ℕ) where
         r.0,
         ap (λ x. drop (x + m) ((front ++ tail) ++ behind)) (sym long)
             ∙ ap (drop (length front + m)) (append_assoc front tail behind)
-            ∙ drop_past front (tail ++ behind) m
+            ∙ get_drop_past front (tail ++ behind) m
             ∙ r.1
             ∙ ap (λ x. bytes_of (laid n to x w i) ++ r.0) a,
       )

@@ -14,10 +14,11 @@ use Rattle.cjc_ncode.specs.Lowering.Laid.{laid}
 use Rattle.cjc_ncode.specs.Lowering.Handlers.{IsAscending}
 use Rattle.cjc_ncode.specs.Lowering.Placed.{Placed, bytes_of, insn_size, bytes_before, code_bytes, first, offset_of}
 use Rattle.cjc_ncode.specs.Lowering.Placed.{code_of, fetched_on_card, IsLaidOut, Stands}
-use Rattle.cjc_ncode.proofs.LoweringLaws.Places.{get_inside, get_below, size_same, before_next, before_grows}
+use Rattle.cjc_ncode.proofs.LoweringLaws.Places.{size_same, before_next, before_grows}
 use Rattle.cjc_ncode.proofs.LoweringLaws.Places.{before_ascends}
-use Rattle.cjc_ncode.proofs.LoweringLaws.Bytes.{drop_past, bytes_further, spelt_as, length_spelt, code_at}
+use Rattle.cjc_ncode.proofs.LoweringLaws.Bytes.{bytes_further, spelt_as, length_spelt, code_at}
 use Rattle.cjc_ncode.proofs.LoweringLaws.Operations.{operation_laid}
+use Rattle.cjc_code.proofs.BytesGets.{get_below, get_inside, get_drop_past}
 
 module _ (n : Naming) (p : Placed) (whole : IsLaidOut n p) where
   -- labels stand at greater and greater offsets
@@ -44,7 +45,7 @@ module _ (n : Naming) (p : Placed) (whole : IsLaidOut n p) where
               ∙ bytes_further part p.offset (length p.header + m) stands.after_handlers
               ∙ ap (drop (length p.header + m)) stands.bytes
               ∙ ap (drop (length p.header + m)) (append_assoc p.header code stands.behind)
-              ∙ drop_past p.header (code ++ stands.behind) m
+              ∙ get_drop_past p.header (code ++ stands.behind) m
               ∙ r.1,
         )
 

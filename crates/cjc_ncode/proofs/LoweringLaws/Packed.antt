@@ -16,8 +16,9 @@ use Rattle.cjc_ncode.specs.Lowering.Placed.{Placed, bytes_of, insn_size, bytes_b
 use Rattle.cjc_ncode.specs.Lowering.Placed.{method_bytes, IsLaidOut, Stands, HandlersStand}
 use Rattle.cjc_ncode.specs.Lowering.Package.{all_bytes, all_handlers, AreConsecutive, next, IsWhole, HoldsMethods}
 use Rattle.cjc_ncode.proofs.LoweringLaws.Places.{before_grows}
-use Rattle.cjc_ncode.proofs.LoweringLaws.Bytes.{drop_past, AllSized, next_sized}
+use Rattle.cjc_ncode.proofs.LoweringLaws.Bytes.{AllSized, next_sized}
 use Rattle.cjc_ncode.proofs.LoweringLaws.Fetching.{sized, labels_ascend}
+use Rattle.cjc_code.proofs.BytesGets.{get_drop_past}
 
 -- ---- how long code is
 
@@ -176,7 +177,7 @@ module _ (n : Naming) (part : Part) (placed : List Placed) (holds : HoldsMethods
         bytes = ap (λ t. if t then drop (p.offset - methods_begin part) part.method.methods else []) le
             ∙ ap (λ k. drop k part.method.methods) far
             ∙ ap (drop (length r.earlier + 0)) (holds.bytes ∙ r.bytes)
-            ∙ drop_past r.earlier (method_bytes n p ++ r.later) 0;
+            ∙ get_drop_past r.earlier (method_bytes n p ++ r.later) 0;
       }
 
   pub handlers_stand : HandlersStand n p part

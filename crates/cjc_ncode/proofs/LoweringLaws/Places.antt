@@ -12,16 +12,7 @@ use Rattle.cjc_ncode.specs.declared.narrow.NInsn.TheVariants as insns
 use Rattle.cjc_ncode.specs.Lowering.Naming.{Naming}
 use Rattle.cjc_ncode.specs.Lowering.Laid.{laid, switch_as}
 use Rattle.cjc_ncode.specs.Lowering.Placed.{insn_size, bytes_before}
-
-pub get_inside : {A : Type 0} (xs : List A) (k : ℕ) → k < length xs → (x : A) × (slice_get xs k ≡ Some x)
-get_inside [] k h = absurd (omega arith)
-get_inside (x ∷ xs) zero h = (x, refl)
-get_inside (x ∷ xs) (suc k) h = get_inside xs k (omega arith)
-
-pub get_below : {A : Type 0} (xs : List A) (k : ℕ) (x : A) → slice_get xs k ≡ Some x → k < length xs
-get_below [] k x e = cc
-get_below (y ∷ xs) zero x e = omega arith
-get_below (y ∷ xs) (suc k) x e = let r = get_below xs k x e in omega arith
+use Rattle.cjc_code.proofs.BytesGets.{get_inside}
 
 -- ---- sizes
 

@@ -9,13 +9,11 @@ use Rattle.std.proofs.lemmas.Grind.{get_or-set_at}
 use Rattle.std.proofs.lemmas.List.{get_or-set_other, get_or_default, get_or_past, length-set, length-map}
 use Rattle.std.proofs.lemmas.List.Sums.{sum_by-append, sum_by-cons}
 use Rattle.cjc_order.specs.Classes.Queue.{AreSubs, times, with_sub}
+use Rattle.cjc_world.proofs.BytesNumbers.{number_apart}
 
 either : {P : Type 0} (b : Bool) → (b ≡ true → P) → (b ≡ false → P) → P
 either true t f = t refl
 either false t f = f refl
-
-apart : (a b : ℕ) → (a == b) ≡ false → b ≡ a → ⊥
-apart a b is e = let s : (a == b) ≡ true = grind (arith, nat_tests, e) in (cc)
 
 -- one where both numbers are the same
 abbrev one : Bool → ℕ
@@ -45,7 +43,8 @@ one_sub s rows n k j lt =
     ∙ ap (λ x. times k (get_or rows j []) + x) (alone (s == k) (times-cons k s []))
     ∙ ap (λ x. times k (get_or rows j []) + one ((s == k) && x)) (sym t))
     (λ t.
-    let e : get_or (with_sub s rows n) j [] ≡ get_or rows j [] = get_or-set_other rows n j row [] (apart n j t) in
+    let e : get_or (with_sub s rows n) j [] ≡ get_or rows j [] = get_or-set_other rows n j row []
+    (number_apart n j t) in
     ap (λ (xs : List ℕ). times k xs) e
     ∙ (let z : times k (get_or rows j []) ≡ times k (get_or rows j []) + 0 = omega arith in z)
     ∙ ap (λ x. times k (get_or rows j []) + x) (none (s == k))

@@ -13,6 +13,7 @@ use Rattle.std.proofs.lemmas.List.Sums.{sum_by-cons}
 use Rattle.cjc_world.specs.ClassFile.declared.tree.ClassTree.{ClassTree}
 use Rattle.cjc_world.specs.Classes.{Class, declared, class_named}
 use Rattle.cjc_world.specs.Order.{is_in, is_of_kind, names_waiting, may_stand, next}
+use Rattle.cjc_world.proofs.Joined.{or-false}
 use Rattle.cjc_order.specs.declared.classes.ready.Ready.{Ready}
 use Rattle.cjc_order.specs.Classes.Numbers.{numbered_from, own_number, own_numbers, listed_numbers}
 use Rattle.cjc_order.specs.Classes.Queue.{AreSubs, IsQueue, has, is_kind_at, is_kind_of, times, unplaced}
@@ -75,10 +76,6 @@ unplaced-all (x ∷ xs) = unplaced-cons [] x xs ∙ (let e = unplaced-all xs in 
 
 -- ---- which classes may stand
 
-or_none : (b : Bool) → (b || false) ≡ b
-or_none true = refl
-or_none false = refl
-
 module _ (w : List Class) (i : Bool) (p : List ℕ) where
   number-waits : (o : Option Class) → list_any (λ n. not (is_in p n)) (own_number i o) ≡ names_waiting i p o
   number-waits None = refl
@@ -86,7 +83,7 @@ module _ (w : List Class) (i : Bool) (p : List ℕ) where
     where
       by : (b : Bool) → list_any (λ n. not (is_in p n)) (if b then c.number ∷ [] else [])
           ≡ (b && not (is_in p c.number))
-      by true = or_none (not (is_in p c.number))
+      by true = or-false (not (is_in p c.number))
       by false = refl
 
   numbers-wait : (xs : List (List ℕ)) → list_any (λ n. not (is_in p n)) (own_numbers i w xs)
@@ -248,14 +245,14 @@ queue-placed i trees listed subs p counts ready rest k q s lt there taken = reco
         off true false c = refl
         off false b c = refl
     by j false = q.stands j ∙ ap (λ b. is_kind_at i trees j && not b && (get_or counts j 0 == 0))
-        (sym (or_none (is_in p j)))
+        (sym (or-false (is_in p j)))
 
     done : (j : ℕ) (b : Bool) → (k == j) ≡ b → (is_in p j || (b || false)) ≡ true → get_or counts j 0 ≡ 0
     done j true f e =
         let zero_here : (get_or counts k 0 == 0) ≡ true = third_holds (is_kind_at i trees k) (not (is_in p k))
         (get_or counts k 0 == 0) holds in
         subst (λ (m : ℕ). get_or counts m 0 ≡ 0) (eqb-true k j f) (eqb-true (get_or counts k 0) 0 zero_here)
-    done j false f e = q.done j (sym (or_none (is_in p j)) ∙ e)
+    done j false f e = q.done j (sym (or-false (is_in p j)) ∙ e)
 
 -- the least that is ready gets its place
 module _ (w : List Class) (i : Bool) (trees : List ClassTree) (p counts : List ℕ) (ready : Ready)

@@ -1,16 +1,13 @@
 -- The order of the classes of one kind, from the class files alone.
 use Rattle.std.proofs.Common.{◌≡◌, ℕ, zero, suc, ◌+◌, ◌-◌, ◌<◌, ◌≤◌, refl, sym, ap, subst, ◌∙◌, arith, Bool, true}
-use Rattle.std.proofs.Common.{false, List, [], ◌∷◌, ◌++◌, length, drop, take, add-one, get_or, append_assoc, append-nil}
-use Rattle.std.proofs.Common.{inl, inr, eq-eqb}
-use Rattle.std.specs.Prelude.{◌&&◌, ◌||◌, ◌==◌, not, if◌then◌else◌, cond, ◌⊎◌, slice_get, map, filter, Option, Some}
+use Rattle.std.proofs.Common.{false, List, [], ◌∷◌, ◌++◌, length, drop, take, append_assoc, append-nil}
+use Rattle.std.proofs.Common.{eq-eqb}
+use Rattle.std.specs.Prelude.{◌&&◌, ◌||◌, ◌==◌, not, if◌then◌else◌, cond, slice_get, map, filter, Option, Some}
 use Rattle.std.specs.Prelude.{None, option_map, All}
 use Rattle.std.specs.List.{list_any}
 use Rattle.std.proofs.lemmas.List.Elements.{filter-append, All-append}
 use Rattle.std.proofs.lemmas.List.Folds.{list_any-append}
 use Rattle.std.proofs.lemmas.List.Sums.{sum_by-cons}
-use Rattle.std.proofs.lemmas.Option.{slice_get_within, slice_get_cases, get_or_from_slice_get}
-use Rattle.std.proofs.Math.Seq.{drop-cons}
-use Rattle.std.proofs.lemmas.Grind.{common_steps}
 use Rattle.std.proofs.lemmas.List.{map-append}
 use Rattle.cjc_world.specs.Bytes.declared.settings.FileLine.{FileLine}
 use Rattle.cjc_world.specs.ClassFile.declared.tree.ClassTree.{ClassTree}
@@ -23,8 +20,10 @@ use Rattle.cjc_world.specs.Order.{is_in, is_of_kind, waits, names_waiting, may_s
 use Rattle.cjc_world.specs.Order.{in_order}
 use Rattle.cjc_order.specs.Classes.Numbers.{numbered_from, class_count, declared_at, IsOfKind}
 use Rattle.cjc_order.specs.Classes.Queue.{IsBegun}
+use Rattle.cjc_world.proofs.BytesGets.{get_past, drop_at}
 
-class_count-cons : (line : FileLine) (lines : List FileLine) → class_count (line ∷ lines) ≡ cond line.class_file 1 0 +
+pub class_count-cons : (line : FileLine) (lines : List FileLine) → class_count (line ∷ lines)
+    ≡ cond line.class_file 1 0 +
     class_count lines
 class_count-cons line lines = sum_by-cons (λ (l : FileLine). cond l.class_file 1 0) line lines
 
@@ -59,23 +58,6 @@ own-export : (n : ℕ) (o : Option ExportTree) → filter is_own (of_export_file
 own-export n None = refl
 own-export n (Some t) = own-numbered n t.classes
 
-past-all : {A : Type 0} (xs : List A) (k : ℕ) → length xs ≤ k → drop k xs ≡ []
-past-all xs k long = grind (arith, common_steps)
-
-past : {A : Type 0} (xs : List A) (k : ℕ) → slice_get xs k ≡ None → (drop k xs ≡ []) × (drop (k + 1) xs ≡ [])
-past {A = A} xs k e = by (slice_get_cases xs k).1
-  where
-    by : ((x : A) × (k < length xs) × (slice_get xs k ≡ Some x) × (get_or xs k x ≡ x))
-        ⊎ ((length xs ≤ k) × (slice_get xs k ≡ None)) → (drop k xs ≡ []) × (drop (k + 1) xs ≡ [])
-    by (inl s) = let no = s.2 in cc
-    by (inr n) = let long = n.0 in (past-all xs k long, past-all xs (k + 1) (omega arith))
-
-here : {A : Type 0} (xs : List A) (k : ℕ) (x : A) → slice_get xs k ≡ Some x → drop k xs ≡ x ∷ drop (k + 1) xs
-here xs k x e =
-    let within = slice_get_within xs k x e in
-    drop-cons xs k x within ∙ ap (λ q. q ∷ drop (suc k) xs) (get_or_from_slice_get xs k x x e)
-    ∙ ap (λ n. x ∷ drop n xs) (sym (add-one k))
-
 pub taken-below : {A : Type 0} (n : ℕ) (xs : List A) (k : ℕ) (x : A) → slice_get (take n xs) k ≡ Some x → k < n
 taken-below zero [] k x e = cc
 taken-below zero (y ∷ xs) k x e = cc
@@ -109,12 +91,12 @@ own-classes trees exports c e i (line ∷ lines) =
         → filter is_own (of_class_file c o ++ classes_from trees exports (c + 1) e i lines)
         ≡ numbered_from c (take (suc (class_count lines)) (drop c trees))
     at None f rest =
-        let p = past trees c f in
+        let p = get_past trees c f in
         rest ∙ ap (λ q. numbered_from (c + 1) (take (class_count lines) q)) p.1 ∙ empty (class_count lines)
         ∙ ap (λ q. numbered_from c (take (suc (class_count lines)) q)) (sym p.0)
     at (Some t) f rest =
         ap (λ q. declared c t ∷ q) rest ∙ ap (λ q. numbered_from c (take (suc (class_count lines)) q))
-        (sym (here trees c t f))
+        (sym (drop_at trees c t f))
 
     by : (b : Bool)
         → filter is_own (classes_from trees exports (c + 1) e i lines) ≡ numbered_from (c + 1) (take (class_count lines)
@@ -195,7 +177,7 @@ unfolding count one
 count-less i p k [] = omega arith
 count-less i p k (c ∷ cs) = let one = waits-less i p k c in let rest = count-less i p k cs in omega arith
 
-stands-waits : (w : List Class) (i : Bool) (p : List ℕ) (c : Class) → may_stand w i p c ≡ true → waits i p c ≡ true
+pub stands-waits : (w : List Class) (i : Bool) (p : List ℕ) (c : Class) → may_stand w i p c ≡ true → waits i p c ≡ true
 unfolding may_stand
 stands-waits w i p c e = by (waits i p c) (not (list_any (λ x. names_waiting i p (class_named w x)) c.supers
     || list_any (λ x. names_waiting i p (class_named w x)) c.interfaces)) e
@@ -233,7 +215,7 @@ fewer w i p (d ∷ cs) c e = by (may_stand w i p d) refl e (fewer w i p cs c)
         omega arith
     by false f e rest = let less = rest e in let one = waits-less i p c.number d in omega arith
 
-next-waits : (w : List Class) (i : Bool) (p : List ℕ) (cs : List Class) (c : Class) → next w i p cs ≡ Some c
+pub next-waits : (w : List Class) (i : Bool) (p : List ℕ) (cs : List Class) (c : Class) → next w i p cs ≡ Some c
     → waits i p c ≡ true
 unfolding next
 next-waits w i p [] c e = cc

@@ -1,12 +1,11 @@
 -- Names that are put behind others, each once, and walks that pass over what they are done with.
-use Rattle.std.proofs.Common.{◌≡◌, ◌⊎◌, ℕ, suc, ◌+◌, ◌<◌, ◌≤◌, Bool, true, false, cond, ◌||◌, List, [], ◌∷◌, ◌++◌, map}
+use Rattle.std.proofs.Common.{◌≡◌, ◌⊎◌, ℕ, ◌+◌, ◌<◌, ◌≤◌, Bool, true, false, cond, ◌||◌, List, [], ◌∷◌, ◌++◌, map}
 use Rattle.std.proofs.Common.{append_assoc, append-nil, refl, sym, ap, subst, ◌∙◌, length, get_or, slice_get, take}
-use Rattle.std.proofs.Common.{Some, drop, drop-cons, add-one, inl, inr}
+use Rattle.std.proofs.Common.{Some, drop, inl, inr}
 use Rattle.std.specs.List.{flat_map, list_any}
 use Rattle.std.specs.Str.{bytes_eq}
 use Rattle.std.proofs.lemmas.List.{drop_all, map-append, take_more}
 use Rattle.std.proofs.lemmas.Option.{slice_get_within, get_or_from_slice_get}
-use Rattle.std.proofs.lemmas.List.Concat.{flat_map-cons}
 use Rattle.std.proofs.lemmas.List.Folds.{list_any-append}
 use Rattle.std.proofs.lemmas.Slice.Eq.{bytes_eq-Decides}
 use Rattle.indexmap.specs.IndexSet.{insert_key}
@@ -15,6 +14,9 @@ use Rattle.cjc_world.specs.Interfaces.{Interface, is_among}
 use Rattle.cjc_world.specs.Interfaces
 use Rattle.cjc_order.specs.Supers.Supers.{each_once, name_of}
 use Rattle.cjc_order.specs.Supers.Working.Walk.{names-equivalence, Seen, put, finish, with_all, AreIn, AreDone}
+use Rattle.cjc_world.proofs.BytesLists.{name_is}
+use Rattle.cjc_world.proofs.BytesBools.{or_true, or_cases}
+use Rattle.cjc_world.proofs.BytesGets.{get_step}
 
 -- ---- one after the other
 
@@ -22,18 +24,13 @@ pub all_append : (ks xs ys : List (List ℕ)) → with_all ks (xs ++ ys) ≡ wit
 all_append ks [] ys = refl
 all_append ks (x ∷ xs) ys = all_append (insert_key bytes_eq ks x) xs ys
 
-step : {A : Type 0} {B : Type 0} (f : A → List B) (list : List A) (i : ℕ) (d : A) → i < length list
-    → flat_map f (drop i list) ≡ f (get_or list i d) ++ flat_map f (drop (i + 1) list)
-step f list i d lt = rw add-one (ap (flat_map f) (drop-cons list i d lt)
-    ∙ flat_map-cons f (get_or list i d) (drop (suc i) list))
-
 pub walk_next : (f : List ℕ → List (List ℕ)) (ks : List (List ℕ)) (list : List (List ℕ)) (i : ℕ) (d : List ℕ)
     (total : List (List ℕ)) → i < length list
     → with_all ks (flat_map f (drop i list)) ≡ total → with_all (with_all ks (f (get_or list i d)))
     (flat_map f (drop (i + 1) list)) ≡ total
 walk_next f ks list i d total lt so_far =
     sym (all_append ks (f (get_or list i d)) (flat_map f (drop (i + 1) list)))
-    ∙ (ap (with_all ks) (sym (step f list i d lt)) ∙ so_far)
+    ∙ (ap (with_all ks) (sym (get_step f list i d lt)) ∙ so_far)
 
 pub walk_end : (f : List ℕ → List (List ℕ)) (ks : List (List ℕ)) (list : List (List ℕ)) (i : ℕ) (total : List (List ℕ))
     → length list ≤ i
@@ -45,15 +42,8 @@ walk_end f ks list i total le so_far = ap (λ xs. with_all ks (flat_map f xs)) (
 abbrev has : List (List ℕ) → List ℕ → Bool
 has ks x = list_any (bytes_eq x) ks
 
-or_true : (b : Bool) → (b || true) ≡ true
-or_true true = refl
-or_true false = refl
-
-itself : (x : List ℕ) → bytes_eq x x ≡ true
-itself x = (bytes_eq-Decides x x).1 refl
-
 has_last : (ks : List (List ℕ)) (x : List ℕ) → has (ks ++ x ∷ []) x ≡ true
-has_last ks x = list_any-append (bytes_eq x) ks (x ∷ []) ∙ (ap (λ b. has ks x || (b || false)) (itself x)
+has_last ks x = list_any-append (bytes_eq x) ks (x ∷ []) ∙ (ap (λ b. has ks x || (b || false)) (name_is x)
     ∙ or_true (has ks x))
 
 has_longer : (ks : List (List ℕ)) (x y : List ℕ) → has ks y ≡ true → has (ks ++ x ∷ []) y ≡ true
@@ -72,10 +62,6 @@ insert_old ks x y h = go (has ks x)
     go : (b : Bool) → has (cond b ks (ks ++ x ∷ [])) y ≡ true
     go true = h
     go false = has_longer ks x y h
-
-or_cases : (a b : Bool) → (a || b) ≡ true → (a ≡ true) ⊎ (b ≡ true)
-or_cases true b e = inl refl
-or_cases false b e = inr e
 
 insert_cases : (ks : List (List ℕ)) (x y : List ℕ) → has (insert_key bytes_eq ks x) y ≡ true → has ks y ≡ true ⊎ (y ≡ x)
 insert_cases ks x y h = go (has ks x) h

@@ -1,5 +1,5 @@
 -- Names by the numbers of classes are those of the classes in their order.
-use Rattle.std.proofs.Common.{◌≡◌, ℕ, zero, suc, ◌+◌, ◌-◌, Bool, true, false, List, [], ◌∷◌, ◌++◌, map, length}
+use Rattle.std.proofs.Common.{◌≡◌, ℕ, suc, ◌+◌, ◌-◌, Bool, true, false, List, [], ◌∷◌, ◌++◌, map, length}
 use Rattle.std.proofs.Common.{slice_get, refl, sym, ap, ◌∙◌, arith, append-nil, Some, None}
 use Rattle.std.specs.Prelude.{if◌then◌else◌, option_map, unwrap_or, codes}
 use Rattle.std.specs.List.{flat_map}
@@ -32,13 +32,9 @@ use Rattle.cjc_classes.specs.World.Files.{Files}
 use Rattle.cjc_classes.specs.World.Order.{class_order, in_order, written}
 use Rattle.cjc_pairing.specs.CardNames.Working.Classes.{each_from, field_where, name_in, name_where, names_at, names_of}
 use Rattle.cjc_pairing.specs.CardNames.Working.Classes.{names_where}
+use Rattle.cjc_classes.proofs.BytesGets.{in_front}
 
 -- ---- methods
-
-in_front : {A : Type 0} (xs ys : List A) (k : ℕ) (x : A) → slice_get xs k ≡ Some x → slice_get (xs ++ ys) k ≡ Some x
-in_front [] ys k x e = absurd cc
-in_front (y ∷ xs) ys zero x e = e
-in_front (y ∷ xs) ys (suc k) x e = in_front xs ys k x e
 
 module _ (w : List Class) (n : ℕ) (t : ClassTree) where
   abbrev name_of : Found → MethodName

@@ -1,7 +1,8 @@
 -- What an instruction names is in the pool of its package.
-use Rattle.std.proofs.Common.{◌≡◌, ℕ, zero, suc, refl, ap, ◌∙◌, Bool, true, false, ◌||◌, List, [], ◌∷◌, ◌++◌}
-use Rattle.std.specs.Prelude.{Option, Some, None, IsSome, position, slice_get, if◌then◌else◌}
+use Rattle.std.proofs.Common.{◌≡◌, ℕ, refl, ap, ◌∙◌, true, false, ◌||◌, List, [], ◌∷◌}
+use Rattle.std.specs.Prelude.{Option, Some, None, IsSome, position, if◌then◌else◌}
 use Rattle.std.specs.List.{flat_map, list_any}
+use Rattle.std.proofs.lemmas.Map.Keys.{any_passes_from_place}
 use Rattle.cjc_narrow.specs.Bytes.declared.fault.MemberId.{MemberId}
 use Rattle.cjc_narrow.specs.Keys.Index.{index_of}
 use Rattle.cjc_narrow.specs.Keys.Working.Same.{same_key-Decides}
@@ -17,42 +18,10 @@ use Rattle.cjc_pool.specs.Pool.{IsPool, PoolView, calls, is_called, token_in, to
 use Rattle.cjc_components.specs.Tokens.Tokens.{Assigned}
 use Rattle.cjc_narrow.specs.World.Files.{Files}
 use Rattle.cjc_pool.specs.Named.{CallsHaveTokens, IsAmong}
+use Rattle.cjc_narrow.proofs.BytesQuantified.{any_front}
+use Rattle.cjc_narrow.proofs.BytesGets.{any_flat}
 
 -- ---- among lists
-
-any_at : {A : Type 0} (p : A → Bool) (xs : List A) (k : ℕ) (x : A) → slice_get xs k ≡ Some x → p x ≡ true
-    → list_any p xs ≡ true
-any_at p [] k x e h = cc
-any_at p (y ∷ xs) zero x e h = let same : y ≡ x = cc in ap (λ b. b || list_any p xs) (ap p same ∙ h)
-any_at p (y ∷ xs) (suc k) x e h = either (p y) (list_any p xs) (any_at p xs k x e h)
-  where
-    either : (a b : Bool) → b ≡ true → (a || b) ≡ true
-    either true b f = refl
-    either false b f = f
-
-any_left : {A : Type 0} (p : A → Bool) (xs ys : List A) → list_any p xs ≡ true → list_any p (xs ++ ys) ≡ true
-any_left p [] ys e = absurd cc
-any_left p (x ∷ xs) ys e = go (p x) e (any_left p xs ys)
-  where
-    go : (b : Bool) → (b || list_any p xs) ≡ true → (list_any p xs ≡ true → list_any p (xs ++ ys) ≡ true)
-        → (b || list_any p (xs ++ ys)) ≡ true
-    go true f rest = refl
-    go false f rest = rest f
-
-any_right : {A : Type 0} (p : A → Bool) (xs ys : List A) → list_any p ys ≡ true → list_any p (xs ++ ys) ≡ true
-any_right p [] ys e = e
-any_right p (x ∷ xs) ys e = go (p x) (any_right p xs ys e)
-  where
-    go : (b : Bool) → list_any p (xs ++ ys) ≡ true → (b || list_any p (xs ++ ys)) ≡ true
-    go true f = refl
-    go false f = f
-
-any_flat : {A B : Type 0} (p : B → Bool) (f : A → List B) (xs : List A) (k : ℕ) (x : A) → slice_get xs k ≡ Some x
-    → list_any p (f x) ≡ true → list_any p (flat_map f xs) ≡ true
-any_flat p f [] k x e h = cc
-any_flat p f (y ∷ xs) zero x e h = let same : y ≡ x = cc in any_left p (f y) (flat_map f xs) (ap (λ z. list_any p (f z))
-    same ∙ h)
-any_flat p f (y ∷ xs) (suc k) x e h = any_right p (f y) (flat_map f xs) (any_flat p f xs k x e h)
 
 pub same_itself : (key : PoolKey) → same_key key key ≡ true
 same_itself key = (same_key-Decides key key).1 refl
@@ -73,7 +42,7 @@ module _ (files : Files) (tokens : Assigned) (methods : List NMethod) (pool : Po
       let in_code : list_any (same_key key) (flat_map insn_keys method.insns) ≡ true =
       any_flat (same_key key) insn_keys method.insns there.place insn there.is_insn e in
       let in_method : list_any (same_key key) (method_keys method) ≡ true =
-      any_left (same_key key) (flat_map insn_keys method.insns) (flat_map (λ c. class_key c.class) method.catches)
+      any_front (same_key key) (flat_map insn_keys method.insns) (flat_map (λ c. class_key c.class) method.catches)
       in_code in
       let in_all : list_any (same_key key) (flat_map method_keys methods) ≡ true = any_flat (same_key key) method_keys
       methods there.at method there.is_method in_method in
@@ -84,9 +53,10 @@ module _ (files : Files) (tokens : Assigned) (methods : List NMethod) (pool : Po
       → HasToken pool.keys (token_in pool) id
   has_token nargs id there =
       let method = there.method in
-      let one : list_any (calls id) method.insns ≡ true = any_at (calls id) method.insns there.place
+      let one : list_any (calls id) method.insns ≡ true = any_passes_from_place (calls id) method.insns there.place
       (insns.Interface nargs id) there.is_insn (same_itself (keys.Field id)) in
-      let called : is_called methods id ≡ true = any_at (λ m. list_any (calls id) m.insns) methods there.at method
+      let called : is_called methods id ≡ true = any_passes_from_place (λ m. list_any
+      (calls id) m.insns) methods there.at method
       there.is_method one in
       let found = some_of (token_of files tokens id) (calls_have id called) in
       (found.0, is.token id ∙ ap (λ b. if b then token_of files tokens id else None) called ∙ found.1)

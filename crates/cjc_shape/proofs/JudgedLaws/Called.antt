@@ -4,10 +4,10 @@ use Rattle.std.proofs.Common.{List, [], ◌∷◌, ◌++◌, length}
 use Rattle.std.specs.Prelude.{◌-◌, ◌+◌, ◌<◌, ◌==◌, Option, Some, None, IsSome, option_and_then, option_map, slice_get}
 use Rattle.std.specs.Prelude.{if◌then◌else◌}
 use Rattle.std.specs.List.{list_any}
-use Rattle.cjc_world.specs.Bytes.AccessFlags.{is_interface}
-use Rattle.cjc_world.specs.Bytes.Breaks.{Break, each_from}
-use Rattle.cjc_world.specs.Bytes.Order.{FilePlace, file_of}
-use Rattle.cjc_world.specs.Bytes.declared.fault.MemberId.{MemberId}
+use Rattle.cjc_bytes.specs.AccessFlags.{is_interface}
+use Rattle.cjc_bytes.specs.Breaks.{Break, each_from}
+use Rattle.cjc_bytes.specs.Order.{FilePlace, file_of}
+use Rattle.cjc_bytes.specs.declared.fault.MemberId.{MemberId}
 use Rattle.cjc_world.specs.ClassFile.Code.{CodeTree}
 use Rattle.cjc_world.specs.ClassFile.declared.tree.ClassTree.{ClassTree}
 use Rattle.cjc_world.specs.ClassFile.declared.tree.MethodTree.{MethodTree}
@@ -19,7 +19,6 @@ use Rattle.cjc_world.specs.ExportFile.declared.tree.ExportTree.{ExportTree}
 use Rattle.cjc_narrow_proof.specs.JvmSemantics.OnePackage.{method_hit}
 use Rattle.cjc_narrow_proof.specs.Narrow.Rows.Resolved.{by_owner, resolved_method}
 use Rattle.cjc_methods.specs.Pool.Pool.{token_of}
-use Rattle.cjc_narrow_proof.proofs.SelectedLaws.Limits.{each_at, none_left, none_right, not_broken}
 use Rattle.cjc_narrow_proof.specs.Subset.Members.{ResolvedMember, hit, hit_of, is_array, is_constructor, is_initialiser}
 use Rattle.cjc_narrow_proof.proofs.SubsetCallees.{method_unfound}
 use Rattle.cjc_narrow_proof.specs.Subset.Names.{code_breaks, insn_breaks, is_hidden, is_member_missing, is_name_missing}
@@ -40,18 +39,9 @@ use Rattle.cjc_world.specs.Rules.{is_desc_missing}
 use Rattle.cjc_world.specs.declared.found.Found.{Found}
 use Rattle.cjc_shape.proofs.JudgedLaws.Owners.{IsOwn, found_again, found_own, own_at, owner_hit}
 use Rattle.cjc_shape.proofs.JudgedLaws.Tokens.{interface_tokens}
-
-or_left : (a b : Bool) → (a || b) ≡ false → a ≡ false
-or_left true b e = cc
-or_left false b e = refl
-
-or_right : (a b : Bool) → (a || b) ≡ false → b ≡ false
-or_right true b e = cc
-or_right false b e = e
-
-not_false : (a : Bool) → not a ≡ false → a ≡ true
-not_false true e = refl
-not_false false e = cc
+use Rattle.cjc_bytes.proofs.Bools.{not_false, or_left, or_right}
+use Rattle.cjc_bytes.proofs.BrokenRules.{not_broken, each_at}
+use Rattle.cjc_bytes.proofs.Lists.{none_left, none_right}
 
 -- a name that is there, of no array, is found
 found_by : (missing array : Bool) (o : Option Found) → missing ≡ false → (not missing && (array || is_not_found o))

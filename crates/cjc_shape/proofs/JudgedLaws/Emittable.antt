@@ -1,10 +1,10 @@
 -- The methods of a tested package that are selected by the indices of their pool, and laid out, can be emitted.
-use Rattle.std.proofs.Common.{◌≡◌, ℕ, zero, suc, ◌<◌, ◌≤◌, refl, sym, ap, subst, ◌∙◌, arith, Bool, true, false, ◌||◌}
+use Rattle.std.proofs.Common.{◌≡◌, ℕ, zero, suc, ◌<◌, ◌≤◌, refl, sym, ap, subst, ◌∙◌, arith, Bool, true, false}
 use Rattle.std.proofs.Common.{List, [], ◌∷◌, length}
 use Rattle.std.specs.Prelude.{Option, Some, None, IsSome, map, position, slice_get, unwrap_or, if◌then◌else◌}
 use Rattle.std.specs.List.{list_any}
 use Rattle.std.proofs.lemmas.Option.{slice_get-map}
-use Rattle.cjc_world.specs.Bytes.declared.fault.MemberId.{MemberId}
+use Rattle.cjc_bytes.specs.declared.fault.MemberId.{MemberId}
 use Rattle.cjc_methods.specs.CapRead.Opcodes.{form}
 use Rattle.cjc_world.specs.ClassFile.Code.{CodeTree}
 use Rattle.cjc_world.specs.ClassFile.declared.tree.ClassTree.{ClassTree}
@@ -43,7 +43,6 @@ use Rattle.cjc_narrow_proof.proofs.SelectedLaws.Numbers.{all_fit}
 use Rattle.cjc_narrow_proof.proofs.SelectedLaws.Places.{reached_from}
 use Rattle.cjc_narrow_proof.proofs.SelectedLaws.Said.{all_said}
 use Rattle.cjc_narrow_proof.specs.Selected.Operands.{IndexFits, IsSmall, NumbersFit, OperandsFit}
-use Rattle.cjc_narrow_proof.proofs.SubsetAny.{any_off}
 use Rattle.cjc_narrow_proof.specs.Subset.Ints.{code_works_on_int}
 use Rattle.cjc_narrow_proof.specs.Subset.Names.{names_missing, names_unfit, names_unfound}
 use Rattle.cjc_exported.specs.Tokens.Tokens.{assigned}
@@ -57,18 +56,9 @@ use Rattle.cjc_shape.proofs.JudgedLaws.Called.{IsDeclared, is_fit, is_found, is_
 use Rattle.cjc_shape.proofs.JudgedLaws.Called.{resolved_token}
 use Rattle.cjc_shape.proofs.JudgedLaws.Selected.{judged_acyclic, judged_names, judged_selectable, judged_whole}
 use Rattle.cjc_shape.proofs.JudgedLaws.Selected.{judged_writable}
+use Rattle.cjc_bytes.proofs.Gets.{any_at, any_off}
 
 -- ---- lists
-
-any_at : {A : Type 0} (p : A → Bool) (xs : List A) → list_any p xs ≡ true → (k : ℕ) × (x : A)
-    × (slice_get xs k ≡ Some x) × (p x ≡ true)
-any_at p [] e = cc
-any_at p (x ∷ xs) e = by (p x) refl e (any_at p xs)
-  where
-    by : (b : Bool) → p x ≡ b → (b || list_any p xs) ≡ true → (list_any p xs ≡ true → (k : ℕ) × (y : _)
-        × (slice_get xs k ≡ Some y) × (p y ≡ true)) → (k : ℕ) × (y : _) × (slice_get (x ∷ xs) k ≡ Some y) × (p y ≡ true)
-    by true is e rest = (0, x, refl, is)
-    by false is e rest = let r = rest e in (suc r.0, r.1, r.2, r.3)
 
 is_reached : (flags : List Bool) (k : ℕ) (row : Unit {0}) → slice_get (rows_by flags) k ≡ Some (Some row)
     → slice_get flags k ≡ Some true

@@ -17,14 +17,7 @@ use Rattle.cjc_world.specs.Interfaces.{gathered, known}
 use Rattle.cjc_world.specs.Supertypes.{IsAcyclic, supertypes, line, upwards}
 use Rattle.cjc_world.specs.Lookup.{find_method, first, is_called, is_wanted, member_at, or_else, own_method}
 use Rattle.cjc_world.specs.declared.found.Found.{Found}
-
-both_left : (a b : Bool) → (a && b) ≡ true → a ≡ true
-both_left true b e = refl
-both_left false b e = cc
-
-both_right : (a b : Bool) → (a && b) ≡ true → b ≡ true
-both_right true b e = e
-both_right false b e = cc
+use Rattle.cjc_bytes.proofs.Bools.{both_front, both_back}
 
 -- A method at its place in its class.
 pub record IsOwn (owner : Class) (name desc : List ℕ) (f : Found) : Type 0 where
@@ -58,8 +51,8 @@ own_at owner name desc f e = by (position wanted owner.methods) refl e
           member = m;
           is_member = slice_get-get_or owner.methods i no_member r.0;
           is_place = cc;
-          has_name = (bytes_eq-Decides m.name name).0 (both_left (bytes_eq m.name name) (bytes_eq m.desc desc) called);
-          has_desc = (bytes_eq-Decides m.desc desc).0 (both_right (bytes_eq m.name name) (bytes_eq m.desc desc) called);
+          has_name = (bytes_eq-Decides m.name name).0 (both_front (bytes_eq m.name name) (bytes_eq m.desc desc) called);
+          has_desc = (bytes_eq-Decides m.desc desc).0 (both_back (bytes_eq m.name name) (bytes_eq m.desc desc) called);
         }
 
 module _ (name desc : List ℕ) (f : Found) where

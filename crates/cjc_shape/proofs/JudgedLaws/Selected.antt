@@ -1,10 +1,9 @@
 -- The methods of a package that was tested keep the rules that selection rests on.
 use Rattle.std.proofs.Common.{◌≡◌, ℕ, zero, suc, refl, sym, ap, subst, ◌∙◌, List, [], ◌∷◌, slice_get, Some, false}
 use Rattle.std.proofs.lemmas.Option.{get_or_from_slice_get, slice_get_within}
-use Rattle.cjc_world.specs.Bytes.Breaks.{Among, Break, foremost}
-use Rattle.cjc_world.specs.Bytes.Format.{FileSpells}
-use Rattle.cjc_world.specs.Bytes.declared.fault.MemberId.{MemberId}
-use Rattle.cjc_world.specs.Bytes.declared.settings.FileLine.{FileLine}
+use Rattle.cjc_bytes.specs.Format.{FileSpells}
+use Rattle.cjc_bytes.specs.declared.fault.MemberId.{MemberId}
+use Rattle.cjc_bytes.specs.declared.settings.FileLine.{FileLine}
 use Rattle.cjc_world.specs.ClassFile.ClassFile.{class_file}
 use Rattle.cjc_world.specs.ClassFile.Code.{CodeTree}
 use Rattle.cjc_world.specs.ClassFile.declared.tree.ClassTree.{ClassTree}
@@ -16,11 +15,12 @@ use Rattle.cjc_judge.specs.declared.judged.Judged.{Judged}
 use Rattle.cjc_world.specs.ExportFile.Writable.{IsWritable}
 use Rattle.cjc_world.specs.ExportFile.declared.tree.ExportTree.{ExportTree}
 use Rattle.cjc_judge.specs.Rules.{AreWorld, files_spelt, of_group, of_names, of_world, settings_of, world_files}
-use Rattle.cjc_judge.specs.Spelt.{FileTree, SpellTrees, classes_of, exports_of, of_class, of_export}
+use Rattle.cjc_judge.specs.Spelt.{FileTree, classes_of, exports_of, of_class, of_export}
 use Rattle.cjc_judge.specs.Trees.{AllSpelt}
 use Rattle.cjc_judge.specs.Types.{AreTables, IsTableOf}
 use Rattle.cjc_methods.specs.Layout.Layouts.{IsWhole}
 use Rattle.cjc_judge.specs.List.Listed.{ListTree}
+use Rattle.cjc_judge.proofs.Firsts.{all_spell}
 use Rattle.cjc_narrow_proof.specs.Narrow.Rows.Selected.{selected_code}
 use Rattle.cjc_narrow_proof.specs.Narrow.Select.Select.{IsSelectable}
 use Rattle.cjc_narrow_proof.specs.Selected.Keeps.{KeepsRules}
@@ -39,20 +39,9 @@ use Rattle.cjc_world.specs.Rules.{breaks}
 use Rattle.cjc_world.proofs.Unbroken.{unbroken_is_acyclic}
 use Rattle.cjc_narrow_proof.specs.Narrow.Written.Rows.{has_rows, rows_by}
 use Rattle.cjc_shape.specs.Judged.Tested.{IsOne, IsTested, states}
+use Rattle.cjc_bytes.proofs.BrokenRules.{no_breaks}
 
 -- ---- lists
-
-pub none_among : (bs : List Break) → ((b : Break) → Among b bs → ⊥) → bs ≡ []
-none_among [] h = refl
-none_among (b ∷ bs) h = absurd (h b foremost)
-
-pub spells : (lines : List FileLine) (files : List (List ℕ)) (trees : List FileTree) → AllSpelt lines files trees
-    → SpellTrees lines files trees
-spells [] files trees h = h
-spells (line ∷ lines) [] trees h = h
-spells (line ∷ lines) (bytes ∷ files) [] h = h
-spells (line ∷ lines) (bytes ∷ files) (of_class tree ∷ trees) h = ((h.0.0, h.0.1), spells lines files trees h.1)
-spells (line ∷ lines) (bytes ∷ files) (of_export tree ∷ trees) h = ((h.0.0, h.0.1), spells lines files trees h.1)
 
 -- the file of a class
 class_spelt : (lines : List FileLine) (files : List (List ℕ)) (trees : List FileTree) (k : ℕ) (class : ClassTree)
@@ -123,9 +112,9 @@ module _ (list : ListTree) (files : List (List ℕ)) (judged : Judged) (is : IsT
 
   pub is_world : AreWorld list files trees
   is_world =
-      let spelt = spells list.lines files trees is.judged_by.read.spelt in (
+      let spelt = all_spell list.lines files trees is.judged_by.read.spelt in (
         spelt,
-        none_among (breaks list.name (files_spelt list trees)) (λ b among. is.judged_by.unbroken b
+        no_breaks (breaks list.name (files_spelt list trees)) (λ b among. is.judged_by.unbroken b
             (of_world (trees, spelt, among))),
       )
 
@@ -146,12 +135,12 @@ module _ (list : ListTree) (files : List (List ℕ)) (judged : Judged) (is : IsT
   judged_names =
       ap (λ w. name_breaks w judged.codes) same_world
       ∙ ap (name_breaks (files_spelt list trees)) same_codes
-      ∙ none_among (name_breaks (files_spelt list trees) (all_codes (classes_of trees)))
+      ∙ no_breaks (name_breaks (files_spelt list trees) (all_codes (classes_of trees)))
       (λ b among. is.judged_by.unbroken b (of_names (trees, is_world, among)))
 
   pub judged_checks : check_breaks list.name judged.world judged.codes (settings_of list) ≡ []
   judged_checks =
-      let none = none_among (check_breaks list.name (files_spelt list trees) (all_codes (classes_of trees))
+      let none = no_breaks (check_breaks list.name (files_spelt list trees) (all_codes (classes_of trees))
       (settings_of list))
       (λ b among. is.judged_by.unbroken b (of_group (
         is.limits.0,

@@ -9,13 +9,13 @@ use Rattle.std.proofs.lemmas.List.{length-map, map-append}
 use Rattle.std.proofs.lemmas.List.Elements.{Contains-append_right}
 use Rattle.std.proofs.lemmas.List.Quantifiers.{position-Some}
 use Rattle.std.proofs.lemmas.Option.{slice_get-map, slice_get_within}
-use Rattle.cjc_world.specs.Bytes.AccessFlags.{is_interface}
-use Rattle.cjc_world.specs.Bytes.Breaks.{Break}
-use Rattle.cjc_world.specs.Bytes.Order.{file_of}
-use Rattle.cjc_world.specs.Bytes.declared.settings.FileLine.{FileLine}
+use Rattle.cjc_bytes.specs.AccessFlags.{is_interface}
+use Rattle.cjc_bytes.specs.Breaks.{Break}
+use Rattle.cjc_bytes.specs.Order.{file_of}
+use Rattle.cjc_bytes.specs.declared.settings.FileLine.{FileLine}
 use Rattle.cjc_world.specs.ClassFile.declared.tree.ClassTree.{ClassTree}
 use Rattle.cjc_world.specs.ClassFile.declared.tree.FieldTree.{FieldTree}
-use Rattle.cjc_world.specs.ExportFile.Writable.{ClassFits, EachAfter, IsWritable, MethodFits, MethodStands}
+use Rattle.cjc_world.specs.ExportFile.Writable.{ClassFits, IsWritable, MethodFits, MethodStands}
 use Rattle.cjc_world.specs.ExportFile.declared.tree.ExportClass.{ExportClass}
 use Rattle.cjc_world.specs.ExportFile.declared.tree.ExportField.{ExportField}
 use Rattle.cjc_world.specs.ExportFile.declared.tree.ExportMethod.{ExportMethod}
@@ -33,7 +33,7 @@ use Rattle.cjc_exported.specs.Tokens.Rules.{token_breaks}
 use Rattle.cjc_exported.specs.Tokens.Slots.{hidden_slots, shown_token}
 use Rattle.cjc_exported.specs.Tokens.Tokens.{assigned, imports_of, joined, listed_field_token, listed_method_token}
 use Rattle.cjc_exported.specs.Tokens.Tokens.{method_tokens, of_class, of_import, token_of_member}
-use Rattle.cjc_narrow_proof.proofs.VTableFiled.{Has, IsFiled, at_front, behind, filed, get-has, has-get, in_class_file}
+use Rattle.cjc_narrow_proof.proofs.VTableFiled.{Has, IsFiled, filed, get-has, has-get, in_class_file}
 use Rattle.cjc_narrow_proof.proofs.VTableFiled.{in_export_file, of-imports}
 use Rattle.cjc_world.specs.Added.{added, asked_by, own_methods, without_initialiser, by_token, with_token}
 use Rattle.cjc_world.specs.Classes.{Class, Member, all_classes, class_named, declared, field_of_class, field_of_export}
@@ -44,21 +44,12 @@ use Rattle.cjc_world.specs.Supertypes.{supertypes}
 use Rattle.cjc_world.specs.declared.found.Found.{Found}
 use Rattle.cjc_methods.specs.Fixpoint.Working.Edges.{contains_head, contains_tail}
 use Rattle.cjc_shape.proofs.JudgedLaws.Owners.{IsOwn}
+use Rattle.cjc_bytes.proofs.Lists.{none_left, none_right}
+use Rattle.cjc_bytes.proofs.Bools.{or_left}
+use Rattle.cjc_bytes.proofs.Gets.{get_behind}
+use Rattle.cjc_narrow_proof.proofs.VTableRead.{each-after}
 
 -- ---- lists
-
-get_behind : {A : Type 0} (xs ys : List A) (k : ℕ) → slice_get (xs ++ ys) (length xs + k) ≡ slice_get ys k
-get_behind [] ys k = let n : 0 + k ≡ k = omega arith in ap (slice_get ys) n
-get_behind (x ∷ xs) ys k = let n : suc (length xs) + k ≡ suc (length xs + k) = omega arith
-    in ap (slice_get (x ∷ xs ++ ys)) n ∙ get_behind xs ys k
-
-none_left : {A : Type 0} (xs ys : List A) → xs ++ ys ≡ [] → xs ≡ []
-none_left [] ys e = refl
-none_left (x ∷ xs) ys e = cc
-
-none_right : {A : Type 0} (xs ys : List A) → xs ++ ys ≡ [] → ys ≡ []
-none_right [] ys e = e
-none_right (x ∷ xs) ys e = cc
 
 -- an item that passes is found, or one before it
 passing : {A : Type 0} (p : A → Bool) (xs : List A) (k : ℕ) (x : A) → slice_get xs k ≡ Some x → p x ≡ true → (i : ℕ)
@@ -88,11 +79,7 @@ unfolding field_tokens
 fields_counted exported fs i [] = refl
 fields_counted exported fs i (f ∷ rest) = ap suc (fields_counted exported fs (i + 1) rest)
 
-either_false : (a b : Bool) → (a || b) ≡ false → a ≡ false
-either_false false b e = refl
-either_false true b e = cc
-
-unbroken_where : (b : Bool) (x : Break) → breaks_where b x ≡ [] → b ≡ false
+pub unbroken_where : (b : Bool) (x : Break) → breaks_where b x ≡ [] → b ≡ false
 unbroken_where false x e = refl
 unbroken_where true x e = cc
 
@@ -128,7 +115,7 @@ module _ (files : Files) (applets : Bool) (unbroken : token_breaks applets files
       let low : has_high_token w exported n c ≡ false =
       sym (ap (λ i. has_high_token w (is_exported w applets (declared i c)) i c) m)
       ∙ none_high w applets files.lines 0 files.classes n c unbroken there in
-      let own = either_false (if is_interface c.flags then nat_lt 128 (length (interface_methods w (declared n c)))
+      let own = or_left (if is_interface c.flags then nat_lt 128 (length (interface_methods w (declared n c)))
       else (has_high_method w (declared n c)
       || (exported && nat_lt 255 (count_by is_open_bound (declared n c).methods)))) (exported
       && nat_lt 255 (count_by is_open_static c.fields)) low in
@@ -208,18 +195,12 @@ module _ (files : Files) (applets : Bool) (unbroken : token_breaks applets files
 
 -- ---- a class of an export file
 
-imports_are : (ts : List ExportTree) → imports_of ts ≡ map of_import (imports ts)
+pub imports_are : (ts : List ExportTree) → imports_of ts ≡ map of_import (imports ts)
 imports_are [] = refl
 imports_are (t ∷ ts) = ap (λ rows. map of_import t.classes ++ rows) (imports_are ts)
     ∙ sym (map-append of_import t.classes (imports ts))
 
-each_after : {A : Type 0} (P : List A → A → Type 0) (before xs : List A) (x : A) → EachAfter P before xs → Has x xs
-    → (b : List A) × P b x
-each_after P before [] x h i = elim i [ ]
-each_after P before (y ∷ xs) x h at_front = (before, h.0)
-each_after P before (y ∷ xs) x h (behind i) = each_after P (before ++ y ∷ []) xs x h.1 i
-
-method_fits : (interface : Bool) (count : ℕ) (before : List ExportMethod) (m : ExportMethod)
+pub method_fits : (interface : Bool) (count : ℕ) (before : List ExportMethod) (m : ExportMethod)
     → MethodStands interface count before m → MethodFits m
 method_fits true count before m h = h.0
 method_fits false count before m h = h.0
@@ -227,12 +208,12 @@ method_fits false count before m h = h.0
 small_token : (t : ExportTree) (c : ExportClass) (m : ExportMethod) → IsWritable t → Has c t.classes → Has m c.methods
     → m.token < 256
 small_token t c m writable in_tree in_class =
-    let class = each_after ClassFits [] t.classes c writable.classes in_tree in
-    let stands = each_after (MethodStands (is_interface c.flags) (length c.methods)) [] c.methods m class.1.methods
+    let class = each-after ClassFits [] t.classes c writable.classes in_tree in
+    let stands = each-after (MethodStands (is_interface c.flags) (length c.methods)) [] c.methods m class.1.methods
     in_class in
     (method_fits (is_interface c.flags) (length c.methods) stands.0 m stands.1).token
 
-listed_at : (ms : List ExportMethod) (i : ℕ) (m : Member) → slice_get (map method_of_export ms) i ≡ Some m
+pub listed_at : (ms : List ExportMethod) (i : ℕ) (m : Member) → slice_get (map method_of_export ms) i ≡ Some m
     → (x : ExportMethod) × (slice_get ms i ≡ Some x) × (method_of_export x ≡ m)
 listed_at [] i m e = cc
 listed_at (x ∷ ms) zero m e = (x, refl, cc)

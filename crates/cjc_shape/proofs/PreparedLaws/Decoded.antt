@@ -2,9 +2,8 @@
 use Rattle.std.proofs.Common.{◌≡◌, ℕ, zero, suc, ◌+◌, ◌≤◌, refl, sym, ap, subst, ◌∙◌, arith, ⊎_elim, List, [], ◌∷◌}
 use Rattle.std.proofs.Common.{◌++◌, length}
 use Rattle.std.specs.Prelude.{Option, Some, None, Result, Ok, Err, slice_get, IfSome}
-use Rattle.std.specs.List.{AllByRecursion}
-use Rattle.cjc_world.specs.Bytes.declared.breaks.BrokenAt.{BrokenAt}
-use Rattle.cjc_world.specs.Bytes.declared.settings.FileLine.{FileLine}
+use Rattle.cjc_bytes.specs.declared.breaks.BrokenAt.{BrokenAt}
+use Rattle.cjc_bytes.specs.declared.settings.FileLine.{FileLine}
 use Rattle.cjc_world.specs.ClassFile.Code.{CodeTree}
 use Rattle.cjc_world.specs.ClassFile.Fits.{ClassFits, CodeFits, MethodFits}
 use Rattle.cjc_world.specs.ClassFile.declared.tree.ClassTree.{ClassTree}
@@ -17,6 +16,7 @@ use Rattle.cjc_judge.specs.Codes.{all_unsupported_insns, unsupported_with}
 use Rattle.cjc_judge.specs.Spelt.{FileTree, classes_of, of_class, of_export}
 use Rattle.cjc_judge.specs.Trees.{AllSpelt, AreInstructions}
 use Rattle.cjc_judge.proofs.Decoding.{method_rule}
+use Rattle.cjc_bytes.proofs.Gets.{all_at}
 
 -- ---- lists
 
@@ -40,12 +40,6 @@ in_right : {A : Type 0} (x : A) (xs ys : List A) → In x ys → In x (xs ++ ys)
 unfolding In
 in_right x [] ys i = i
 in_right x (y ∷ xs) ys i = let r = in_right x xs ys i in (suc r.0, r.1)
-
-all_of : {A : Type 0} (P : A → Type 0) (xs : List A) (k : ℕ) (x : A) → AllByRecursion P xs → slice_get xs k ≡ Some x
-    → P x
-all_of P [] k x all e = cc
-all_of P (y ∷ xs) zero x all e = let is : y ≡ x = cc in subst P is all.0
-all_of P (y ∷ xs) (suc k) x all e = all_of P xs k x all.1 e
 
 -- ---- what methods with broken code give
 
@@ -135,7 +129,7 @@ class_read (line ∷ lines) (bytes ∷ files) (of_export tree ∷ trees) k class
 pub code_bytes : (class : ClassTree) (i : ℕ) (method : MethodTree) (tree : CodeTree) → ClassFits class
     → slice_get class.methods i ≡ Some method → method.code ≡ Some tree → length tree.bytes ≤ 65535
 code_bytes class i method tree fits e f =
-    let m = all_of MethodFits class.methods i method fits.methods e in
+    let m = all_at MethodFits class.methods i method fits.methods e in
     let c : CodeFits tree = subst (λ o. IfSome o CodeFits) f m.code in
     c.bytes
 

@@ -1,44 +1,38 @@
 -- Where no limit is broken, few classes are exported and few cells declared, so that all have tokens where 413 is not
 -- broken either.
-use Rattle.std.proofs.Common.{◌≡◌, ℕ, suc, ◌≤◌, refl, arith, Bool, true, false, ◌&&◌, List, [], ◌∷◌, ◌++◌, length}
+use Rattle.std.proofs.Common.{◌≡◌, ℕ, suc, refl, Bool, true, false, ◌&&◌, List, [], ◌∷◌, ◌++◌, length}
 use Rattle.std.proofs.Common.{get_or}
-use Rattle.std.specs.Prelude.{Some, nat_le, nat_lt, slice_get, if◌then◌else◌}
+use Rattle.std.specs.Prelude.{Some, nat_lt, slice_get, if◌then◌else◌}
 use Rattle.std.specs.List.{list_all}
-use Rattle.std.proofs.lemmas.Bool.Decides.{nat_tests}
 use Rattle.std.proofs.lemmas.Option.{slice_get-get_or}
-use Rattle.cjc_world.specs.Bytes.Breaks.{Break, each_from}
-use Rattle.cjc_world.specs.Bytes.Order.{file_of}
-use Rattle.cjc_world.specs.Bytes.declared.settings.Settings.{Settings}
+use Rattle.std.proofs.lemmas.Bool.{and_from}
+use Rattle.cjc_bytes.specs.Breaks.{Break, each_from}
+use Rattle.cjc_bytes.specs.Order.{file_of}
+use Rattle.cjc_bytes.specs.declared.settings.Settings.{Settings}
 use Rattle.cjc_world.specs.ClassFile.declared.tree.ClassTree.{ClassTree}
 use Rattle.cjc_narrow_proof.specs.Bytecode.declared.method_code.MethodCode.{MethodCode}
-use Rattle.cjc_narrow_proof.proofs.SelectedLaws.Limits.{each_at, none_left, none_right, not_broken}
 use Rattle.cjc_narrow_proof.specs.Subset.Checks.{check_breaks, class_breaks, code_breaks, list_breaks, own_breaks}
 use Rattle.cjc_narrow_proof.specs.Subset.Limits.{has_many_exported}
 use Rattle.cjc_exported.specs.Tokens.Rules.{FewCells, FewExported, HasFewCells, has_few_cells, has_few_exported, is_few}
 use Rattle.cjc_exported.specs.Tokens.Rules.{tested_breaks, token_breaks}
 use Rattle.cjc_world.specs.Files.{Files}
 use Rattle.cjc_shape.proofs.PreparedLaws.Few.{few-cells, few-exported}
+use Rattle.cjc_bytes.proofs.BrokenRules.{not_broken, each_at}
+use Rattle.cjc_bytes.proofs.Lists.{none_left, none_right}
+use Rattle.cjc_bytes.proofs.Numbers.{at_most}
 
 tokens_where : (b : Bool) (bs : List Break) → (if b then bs else []) ≡ [] → b ≡ true → bs ≡ []
 tokens_where true bs e f = e
 tokens_where false bs e f = cc
 
-le-true : (m n : ℕ) → m ≤ n → nat_le m n ≡ true
-le-true m n l = grind (arith, nat_tests)
-
 cells_all : (cs : List ClassTree) → ((k : ℕ) (c : ClassTree) → slice_get cs k ≡ Some c → HasFewCells c)
     → list_all has_few_cells cs ≡ true
 cells_all [] f = refl
-cells_all (c ∷ cs) f = by (has_few_cells c) (le-true _ 255 (f 0 c refl)) (cells_all cs (λ k d e. f (suc k) d e))
+cells_all (c ∷ cs) f = by (has_few_cells c) (at_most _ 255 (f 0 c refl)) (cells_all cs (λ k d e. f (suc k) d e))
   where
     by : (b : Bool) → b ≡ true → list_all has_few_cells cs ≡ true → (b && list_all has_few_cells cs) ≡ true
     by true e rest = rest
     by false e rest = cc
-
-both : (a b : Bool) → a ≡ true → b ≡ true → (a && b) ≡ true
-both true true e f = refl
-both true false e f = f
-both false b e f = e
 
 module _ (name : List ℕ) (w : Files) (codes : List MethodCode) (settings : Settings) (unbroken : check_breaks name w
     codes settings ≡ []) where
@@ -79,6 +73,7 @@ module _ (name : List ℕ) (w : Files) (codes : List MethodCode) (settings : Set
   pub has_tokens : tested_breaks has_applets w ≡ [] → token_breaks has_applets w ≡ []
   unfolding tested_breaks
   has_tokens none =
-      let few : is_few has_applets w ≡ true = both (has_few_exported has_applets w) (list_all has_few_cells w.classes)
-      (le-true _ 255 few_exported) (cells_all w.classes few_cells_at) in
+      let few : is_few has_applets w ≡ true = and_from (has_few_exported has_applets w)
+      (list_all has_few_cells w.classes)
+      (at_most _ 255 few_exported) (cells_all w.classes few_cells_at) in
       tokens_where (is_few has_applets w) (token_breaks has_applets w) none few

@@ -4,8 +4,8 @@ use Rattle.std.proofs.Common.{[], ◌∷◌, length}
 use Rattle.std.specs.Prelude.{All, Option, Some, None, map, option_map, position, slice_get, if◌then◌else◌, Result, Ok}
 use Rattle.std.specs.Str.{bytes_eq}
 use Rattle.std.proofs.lemmas.Option.{slice_get-map}
-use Rattle.cjc_world.specs.Bytes.declared.breaks.BrokenAt.{BrokenAt}
-use Rattle.cjc_world.specs.Bytes.declared.fault.MemberId.{MemberId}
+use Rattle.cjc_bytes.specs.declared.breaks.BrokenAt.{BrokenAt}
+use Rattle.cjc_bytes.specs.declared.fault.MemberId.{MemberId}
 use Rattle.cjc_world.specs.ClassFile.Code.{CodeTree}
 use Rattle.cjc_world.specs.ClassFile.declared.tree.ClassTree.{ClassTree}
 use Rattle.cjc_world.specs.ClassFile.declared.tree.MethodTree.{MethodTree}
@@ -26,7 +26,8 @@ use Rattle.cjc_world.specs.Classes.{Class, all_classes, class_named, declared, m
 use Rattle.cjc_world.specs.Files.{Files}
 use Rattle.cjc_world.specs.Lookup.{is_called}
 use Rattle.cjc_world.specs.Rules.{breaks, is_twice}
-use Rattle.cjc_world.proofs.Settled.{bytes-refl, bytes-true}
+use Rattle.cjc_bytes.proofs.Lists.{name_is, bytes_true}
+use Rattle.cjc_bytes.proofs.Bools.{both_front, both_back}
 
 -- ---- the definition
 
@@ -78,14 +79,6 @@ unfolding own own_class own_method own_code
 own_of files code class method tree is = ap (own_class code.method) is.is_class ∙ ap (own_method class) is.is_method
     ∙ ap (own_code class method) is.is_code
 
-and_left : (a b : Bool) → (a && b) ≡ true → a ≡ true
-and_left true b e = refl
-and_left false b e = e
-
-and_right : (a b : Bool) → (a && b) ≡ true → b ≡ true
-and_right true b e = e
-and_right false b e = cc
-
 module _ (files : Files) (list : List ℕ) (listed : length files.classes ≤ class_count files.lines)
     (unbroken : breaks list files ≡ []) where
   abbrev w : List Class
@@ -123,7 +116,7 @@ module _ (files : Files) (list : List ℕ) (listed : length files.classes ≤ cl
       equal (sym one ∙ same ∙ other)
     where
       called : (name desc : List ℕ) → (bytes_eq name name && bytes_eq desc desc) ≡ true
-      called name desc = ap (λ b. b && bytes_eq desc desc) (bytes-refl name) ∙ bytes-refl desc
+      called name desc = ap (λ b. b && bytes_eq desc desc) (name_is name) ∙ name_is desc
 
       equal : Some i ≡ Some j → i ≡ j
       equal e = cc
@@ -136,8 +129,8 @@ module _ (files : Files) (list : List ℕ) (listed : length files.classes ≤ cl
     own_named : is_named (own files code) id ≡ true
     unfolding is_named
     own_named = ap (λ o. is_named o id) (own_of files code class method tree is)
-        ∙ ap (λ b. b && (bytes_eq method.name method.name && bytes_eq method.desc method.desc)) (bytes-refl class.name)
-        ∙ ap (λ b. b && bytes_eq method.desc method.desc) (bytes-refl method.name) ∙ bytes-refl method.desc
+        ∙ ap (λ b. b && (bytes_eq method.name method.name && bytes_eq method.desc method.desc)) (name_is class.name)
+        ∙ ap (λ b. b && bytes_eq method.desc method.desc) (name_is method.name) ∙ name_is method.desc
 
     module _ (table : TypeTable) (is_table : IsTypeTable w (body_of class method tree code.insns) table) where
       -- another code of the same name has the same rows
@@ -196,13 +189,13 @@ module _ (files : Files) (list : List ℕ) (listed : length files.classes ≤ cl
               let mine = own_of files c o.0 o.1 o.2 o.3 in
               let named : (bytes_eq o.0.name class.name && (bytes_eq o.1.name method.name
               && bytes_eq o.1.desc method.desc)) ≡ true = sym (ap (λ x. is_named x id) mine) ∙ g in
-              let classes = bytes-true o.0.name class.name (and_left (bytes_eq o.0.name class.name)
+              let classes = bytes_true o.0.name class.name (both_front (bytes_eq o.0.name class.name)
               (bytes_eq o.1.name method.name && bytes_eq o.1.desc method.desc) named) in
-              let members = and_right (bytes_eq o.0.name class.name) (bytes_eq o.1.name method.name
+              let members = both_back (bytes_eq o.0.name class.name) (bytes_eq o.1.name method.name
               && bytes_eq o.1.desc method.desc) named in
-              let names = bytes-true o.1.name method.name (and_left (bytes_eq o.1.name method.name)
+              let names = bytes_true o.1.name method.name (both_front (bytes_eq o.1.name method.name)
               (bytes_eq o.1.desc method.desc) members) in
-              let descs = bytes-true o.1.desc method.desc (and_right (bytes_eq o.1.name method.name)
+              let descs = bytes_true o.1.desc method.desc (both_back (bytes_eq o.1.name method.name)
               (bytes_eq o.1.desc method.desc) members) in
               ap (λ x. rows_at x c q) mine ∙ same_rows c o.0 o.1 o.2 q o.3 (each 0 c q refl refl o.0 o.1 o.2 o.3)
               classes names descs

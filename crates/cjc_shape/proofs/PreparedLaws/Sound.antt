@@ -1,10 +1,10 @@
 -- What a package has that breaks no rule of its files.
-use Rattle.std.proofs.Common.{◌≡◌, ℕ, suc, ◌≤◌, refl, sym, ap, subst, ◌∙◌, arith, Bool, true, false, List, [], ◌∷◌}
+use Rattle.std.proofs.Common.{◌≡◌, ℕ, ◌≤◌, refl, sym, ap, subst, ◌∙◌, arith, Bool, true, false, List, [], ◌∷◌}
 use Rattle.std.proofs.Common.{length}
 use Rattle.std.specs.Prelude.{Some, Err, cond, slice_get}
-use Rattle.cjc_world.specs.Bytes.Breaks.{Break, broken_at}
-use Rattle.cjc_world.specs.Bytes.Order.{FilePlace, file_of}
-use Rattle.cjc_world.specs.Bytes.declared.settings.FileLine.{FileLine}
+use Rattle.cjc_bytes.specs.Breaks.{Break, broken_at}
+use Rattle.cjc_bytes.specs.Order.{FilePlace, file_of}
+use Rattle.cjc_bytes.specs.declared.settings.FileLine.{FileLine}
 use Rattle.cjc_world.specs.ClassFile.Code.{CodeTree}
 use Rattle.cjc_world.specs.ClassFile.declared.tree.ClassTree.{ClassTree}
 use Rattle.cjc_world.specs.ClassFile.declared.tree.MethodTree.{MethodTree}
@@ -12,7 +12,6 @@ use Rattle.cjc_methods.specs.ClassOrder.Classes.Numbers.{class_count}
 use Rattle.cjc_judge.specs.Clinit.Rules.{BreaksImage}
 use Rattle.cjc_narrow_proof.specs.Bytecode.Decoded.{of_code}
 use Rattle.cjc_narrow_proof.specs.Bytecode.PackageCodes.{all_codes}
-use Rattle.cjc_narrow_proof.specs.Bytecode.declared.method_code.MethodCode.{MethodCode}
 use Rattle.cjc_judge.specs.declared.groups.Group.TheVariants as groups
 use Rattle.cjc_judge.specs.declared.judged.Judged.{Judged}
 use Rattle.cjc_judge.specs.Codes.{all_unsupported_insns}
@@ -21,25 +20,25 @@ use Rattle.cjc_judge.specs.Rules.{of_group}
 use Rattle.cjc_judge.specs.Spelt.{FileTree, classes_of}
 use Rattle.cjc_judge.specs.Spelt as spelt_files
 use Rattle.cjc_judge.specs.Trees.{AllSpelt}
-use Rattle.cjc_judge.specs.Types.{AreTables}
 use Rattle.cjc_shape.specs.Judged.Tested.{IsOne, IsTested}
 use Rattle.cjc_shape.proofs.JudgedLaws.Selected.{is_world, judged_checks, judged_names, judged_selectable, judged_whole}
-use Rattle.cjc_shape.proofs.JudgedLaws.Selected.{none_among, same_codes, same_world, spells, types}
+use Rattle.cjc_shape.proofs.JudgedLaws.Selected.{same_codes, same_world, types}
 use Rattle.cjc_judge.specs.List.Listed.{ListTree}
+use Rattle.cjc_judge.proofs.Firsts.{all_spell}
+use Rattle.cjc_judge.proofs.Tables.{tables_sized}
 use Rattle.cjc_methods.specs.Ready.{AreReady, IsDecoded}
 use Rattle.cjc_narrow_proof.specs.Laws.Unbroken.{IsUnbroken}
 use Rattle.cjc_narrow_proof.proofs.LawsLaws.Own.{flags_by_name}
-use Rattle.cjc_narrow_proof.proofs.SelectedLaws.Limits.{each_at}
 use Rattle.cjc_narrow_proof.specs.Subset.Ints.{any_works_on_int}
 use Rattle.cjc_narrow_proof.specs.Subset.Places.{at_method, of_class, of_method}
 use Rattle.cjc_exported.specs.Tokens.Rules.{FewCells, FewExported, tested_breaks, token_breaks}
-use Rattle.cjc_methods.specs.Types.declared.table.TypeTable.{TypeTable}
-use Rattle.cjc_narrow_proof.proofs.VTableNumbers.{class_count-cons}
 use Rattle.cjc_world.specs.Files.{Files}
 use Rattle.cjc_world.specs.Rules.{breaks}
 use Rattle.cjc_shape.specs.Prepared.{IsSound, tested}
 use Rattle.cjc_shape.proofs.PreparedLaws.Limited as limited
 use Rattle.cjc_shape.proofs.PreparedLaws.Decoded.{class_read, code_bytes, decoded_unless, unsupported_listed}
+use Rattle.cjc_methods.proofs.ClassOrderStanding.{class_count-cons}
+use Rattle.cjc_bytes.proofs.BrokenRules.{each_at, no_breaks}
 
 -- ---- the lines
 
@@ -64,12 +63,6 @@ lines_few (line ∷ lines) (bytes ∷ files) (spelt_files.of_export tree ∷ tre
     omega (arith, rest, all)
 
 -- ---- tables
-
-tables_count : (world : Files) (codes : List MethodCode) (tables : List TypeTable) → AreTables world codes tables
-    → length tables ≡ length codes
-tables_count world [] tables h = ap length h
-tables_count world (c ∷ codes) [] h = absurd h
-tables_count world (c ∷ codes) (t ∷ tables) h = ap suc (tables_count world codes tables h.1)
 
 no_break : (b : Break) → (b ∷ []) ≡ [] → ⊥
 no_break b e = cc
@@ -129,7 +122,7 @@ module _ (list : ListTree) (files : List (List ℕ)) (judged : Judged) (is : IsS
   has_tokens =
       let world = is_world list files judged is_tested in
       let none : tested_breaks (has_applets list) (files_spelt list trees) ≡ [] =
-      none_among (tested_breaks (has_applets list) (files_spelt list trees))
+      no_breaks (tested_breaks (has_applets list) (files_spelt list trees))
       (λ b among. is.judged_by.unbroken b (of_group (3, groups.Tokens, refl, (trees, world, among)))) in
       limited.has_tokens list.name w judged.codes (settings_of list) (judged_checks list files judged is_tested)
       (ap (tested_breaks (has_applets list)) same ∙ none)
@@ -142,9 +135,9 @@ module _ (list : ListTree) (files : List (List ℕ)) (judged : Judged) (is : IsS
   unfolding unsupported_breaks unsupported_break
   not_unsupported n i class method offset e f g =
       let listed = unsupported_listed offset n i (classes_of trees) class method e f g in
-      let spelt = spells list.lines files trees is.judged_by.read.spelt in
+      let spelt = all_spell list.lines files trees is.judged_by.read.spelt in
       let none : unsupported_breaks (files_spelt list trees) (all_unsupported_insns (classes_of trees)) ≡ [] =
-      none_among (unsupported_breaks (files_spelt list trees) (all_unsupported_insns (classes_of trees)))
+      no_breaks (unsupported_breaks (files_spelt list trees) (all_unsupported_insns (classes_of trees)))
       (λ b among. is.judged_by.unbroken b (of_group (0, groups.Unsupported, refl, (trees, spelt, among)))) in
       let here = each_at (λ _ x. unsupported_break (files_spelt list trees) x) listed.0 (all_unsupported_insns
       (classes_of trees)) (record { class = n; method = i; offset = offset }) none listed.1 in
@@ -171,7 +164,7 @@ module _ (list : ListTree) (files : List (List ℕ)) (judged : Judged) (is : IsS
     codes_are = is.judged_by.read.codes_are;
     decoded = decoded;
     found = λ n i class method e f. flags_by_name w list.name listed world_unbroken n class e i method f;
-    count = tables_count w judged.codes judged.types (is.judged_by.types refl);
+    count = tables_sized w judged.codes judged.types (is.judged_by.types refl);
     each = λ k code table is_code is_table class method tree is_method.
         let one : IsOne judged code class method tree table = record {
           place = k;

@@ -2,10 +2,9 @@
 use Rattle.std.proofs.Common.{◌≡◌, ◌⊎◌, ℕ, zero, suc, ◌+◌, ◌<◌, ◌≤◌, refl, sym, ap, subst, ◌∙◌, arith, Bool, true}
 use Rattle.std.proofs.Common.{false, List, [], ◌∷◌, length, get_or}
 use Rattle.std.specs.Prelude.{All, Option, Some, None, map, slice_get}
-use Rattle.std.specs.List.{Contains}
 use Rattle.std.proofs.lemmas.List.{length-map}
-use Rattle.std.proofs.lemmas.Option.{get_or_from_slice_get, slice_get-get_or, slice_get_within}
-use Rattle.cjc_world.specs.Bytes.declared.fault.MemberId.{MemberId}
+use Rattle.std.proofs.lemmas.Option.{slice_get-get_or, slice_get_within}
+use Rattle.cjc_bytes.specs.declared.fault.MemberId.{MemberId}
 use Rattle.cjc_narrow_proof.specs.JvmSemantics.Linked.{Method}
 use Rattle.cjc_narrow_proof.specs.JvmSemantics.OnePackage.{method_by}
 use Rattle.cjc_world.specs.ClassFile.Code.{CodeTree}
@@ -43,9 +42,7 @@ use Rattle.cjc_world.specs.Files.{Files}
 use Rattle.cjc_world.specs.Order.{method_order}
 use Rattle.cjc_shape.proofs.WholeLaws.Ordered.{all_own}
 use Rattle.cjc_shape.specs.Whole.Conversion.{AreLeast, IsDraft, IsSelected, IsSpeltBy}
-
-contained : {A : Type 0} (xs : List A) (k : ℕ) (x : A) → slice_get xs k ≡ Some x → Contains xs x
-contained xs k x e = (k, slice_get_within xs k x e, get_or_from_slice_get xs k x x e)
+use Rattle.cjc_bytes.proofs.Gets.{contained}
 
 -- the code of each method
 each_code : (files : Files) (near : List MemberId) (rows : Method → List (Option State)) (ms : List LaidMethod)

@@ -1,7 +1,7 @@
 -- No method of a package works on int whose list does not allow int, or that does not break 801.
 use Rattle.std.proofs.Common.{◌≡◌, ℕ, refl, sym, ap, subst, ◌∙◌, Bool, true, false, ◌&&◌, List, []}
-use Rattle.cjc_world.specs.Bytes.Breaks.{IsFirstRefusal, at, list_spot}
-use Rattle.cjc_world.specs.Bytes.declared.fault.Fault.{Fault}
+use Rattle.cjc_bytes.specs.Breaks.{IsFirstRefusal, at, list_spot}
+use Rattle.cjc_bytes.specs.declared.fault.Fault.{Fault}
 use Rattle.cjc_judge.specs.List.Listed.{ListTree}
 use Rattle.cjc_judge.specs.Rules.{settings_of}
 use Rattle.cjc_judge.specs.declared.judged.Judged.{Judged}
@@ -11,7 +11,6 @@ use Rattle.cjc_narrow_proof.specs.Bytecode.PackageCodes.{all_codes}
 use Rattle.cjc_narrow_proof.specs.Bytecode.declared.method_code.MethodCode.{MethodCode}
 use Rattle.cjc_narrow_proof.specs.Subset.Ints.{any_works_on_int}
 use Rattle.cjc_narrow_proof.proofs.SelectedLaws.IntFree.{none_without}
-use Rattle.cjc_narrow_proof.proofs.SelectedLaws.Limits.{not_broken}
 use Rattle.cjc_shape.specs.Prepared.{BreaksNothing, IsSound}
 use Rattle.cjc_shape.specs.Whole.Conversion.{IsPackageOf}
 use Rattle.cjc_shape.specs.Whole.Working.Shaped as told
@@ -20,10 +19,8 @@ use Rattle.cjc_shape.proofs.PreparedLaws.Sound.{is_tested}
 use Rattle.cjc_shape.proofs.WholeLaws.Drafts.{draft, is_draft}
 use Rattle.cjc_shape.proofs.WholeLaws.Second.{both_none, is_base, package_is_draft}
 use Rattle.cjc_world.specs.Files.{Files}
-
-both_true : (a b : Bool) → a ≡ true → (a && b) ≡ false → b ≡ false
-both_true true b e f = f
-both_true false b e f = cc
+use Rattle.cjc_bytes.proofs.BrokenRules.{not_broken}
+use Rattle.cjc_bytes.proofs.Bools.{both_true}
 
 module _ (list : ListTree) (files : List (List ℕ)) (judged : Judged) (is : IsSound list files judged) where
   -- the instructions that were read are those of a package of these files

@@ -5,11 +5,11 @@ use Rattle.std.proofs.Common.{◌++◌, length, nat_lt}
 use Rattle.std.specs.Prelude.{Option, Some, None, map}
 use Rattle.std.specs.List.{flat_map}
 use Rattle.std.proofs.lemmas.List.Concat.{flat_map-cons}
-use Rattle.cjc_world.specs.Bytes.Breaks.{Among, Break, IsFirst, IsFirstRefusal, at}
-use Rattle.cjc_world.specs.Bytes.Order.{NotAfter}
-use Rattle.cjc_world.specs.Bytes.declared.fault.Fault.{Fault}
-use Rattle.cjc_world.specs.Bytes.declared.fault.Fault.TheVariants as faults
-use Rattle.cjc_world.specs.Bytes.declared.fault.Refusal.{Refusal}
+use Rattle.cjc_bytes.specs.Breaks.{Among, Break, IsFirst, IsFirstRefusal, at}
+use Rattle.cjc_bytes.specs.Order.{NotAfter}
+use Rattle.cjc_bytes.specs.declared.fault.Fault.{Fault}
+use Rattle.cjc_bytes.specs.declared.fault.Fault.TheVariants as faults
+use Rattle.cjc_bytes.specs.declared.fault.Refusal.{Refusal}
 use Rattle.cjc_methods.specs.Components.ExportFile.{export_of}
 use Rattle.cjc_methods.specs.Components.Limits.{code_breaks, else_of, form_breaks, in_class, int_breaks, layout_breaks}
 use Rattle.cjc_methods.specs.Components.Limits.{limit_breaks, of_methods, size_breaks, spot_of_list, word_breaks}
@@ -30,6 +30,7 @@ use Rattle.cjc_world.specs.Order.{method_order}
 use Rattle.cjc_shape.specs.Whole.Conversion.{BreaksWritten, IsDraft, IsPackageOf, IsRefused, of_form, of_size}
 use Rattle.cjc_shape.specs.Whole.Working.Shaped.{Stopped}
 use Rattle.cjc_shape.proofs.WholeLaws.Drafts.{draft, is_draft, narrow_codes, same_members, same_narrow, same_spelt}
+use Rattle.cjc_bytes.proofs.BrokenRules.{no_among}
 
 -- ---- what rules on methods go by
 
@@ -158,9 +159,6 @@ module _ (list : ListTree) (files : Files) (members : List Found) (narrow : List
   coded_are p is = else_same _ _ _ _ (ints_are p is) (forms_are p is)
 
 -- ---- what is broken at the second level
-
-no_among : (b : Break) → Among b [] → ⊥
-no_among b among = elim among [ ]
 
 pub package_is_draft : (list : ListTree) (files : List (List ℕ)) (p : Package) → IsPackageOf list files p
     → IsDraft list files p

@@ -1,8 +1,8 @@
 -- A package that breaks no rule of its files, with its methods laid out.
 use Rattle.std.proofs.Common.{◌≡◌, ◌⊎◌, ℕ, refl, sym, ap, subst, ◌∙◌, inl, inr, List, [], ◌∷◌, ◌++◌, length}
 use Rattle.std.specs.Prelude.{All, Option, Some, None, map}
-use Rattle.cjc_world.specs.Bytes.Breaks.{Among, Break, IsFirst, IsFirstRefusal}
-use Rattle.cjc_world.specs.Bytes.declared.fault.Fault.{Fault}
+use Rattle.cjc_bytes.specs.Breaks.{Break, IsFirst, IsFirstRefusal}
+use Rattle.cjc_bytes.specs.declared.fault.Fault.{Fault}
 use Rattle.cjc_judge.specs.Clinit.Image.{IsImage}
 use Rattle.cjc_narrow_proof.specs.Bytecode.PackageCodes.{all_codes}
 use Rattle.cjc_methods.specs.Components.ExportFile.{export_of}
@@ -30,9 +30,7 @@ use Rattle.cjc_shape.proofs.WholeLaws.Drafts.{draft, is_draft, narrow_codes, nar
 use Rattle.cjc_shape.proofs.WholeLaws.Drafts.{spelt_by}
 use Rattle.cjc_shape.proofs.WholeLaws.Second.{F, W, coded, coded_are, else_same, form_refused, forms, forms_are, fs}
 use Rattle.cjc_shape.proofs.WholeLaws.Second.{ints, ints_are, is_base, package_is_draft, words_are}
-
-no_among : (b : Break) → Among b [] → ⊥
-no_among b among = elim among [ ]
+use Rattle.cjc_bytes.proofs.BrokenRules.{no_among}
 
 -- the first of some is the first of these, else of others
 else_first : (xs ys : List Break) (e : Fault) → IsFirstRefusal xs e → IsFirstRefusal (else_of xs ys) e

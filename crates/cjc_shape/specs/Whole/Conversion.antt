@@ -2,9 +2,9 @@
 -- first.
 use Rattle.std.specs.Prelude.{◌≡◌, ℕ, List, [], map, slice_get, Option, Some}
 use Rattle.std.specs.List.{Contains}
-use Rattle.cjc_world.specs.Bytes.Breaks.{Break, Among}
-use Rattle.cjc_world.specs.Bytes.declared.fault.MemberId.{MemberId}
-use Rattle.cjc_world.specs.Bytes.declared.fault.Refusal.{Refusal}
+use Rattle.cjc_bytes.specs.Breaks.{Break, Among}
+use Rattle.cjc_bytes.specs.declared.fault.MemberId.{MemberId}
+use Rattle.cjc_bytes.specs.declared.fault.Refusal.{Refusal}
 use Rattle.cjc_narrow_proof.specs.JvmSemantics.Linked.{Method}
 use Rattle.cjc_narrow_proof.specs.JvmSemantics.OnePackage.{method_by}
 use Rattle.cjc_world.specs.ClassFile.Code.{CodeTree}

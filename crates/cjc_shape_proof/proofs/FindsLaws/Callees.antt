@@ -7,6 +7,7 @@ use Rattle.std.proofs.lemmas.Bool.{lt-ltb}
 use Rattle.cjc_bytes.specs.Descriptor.{Part, Parts, base_kind, plain}
 use Rattle.cjc_bytes.specs.Spots.{desc_of, part_of}
 use Rattle.cjc_bytes.specs.declared.descriptor.Kind.{Kind}
+use Rattle.cjc_bytes.proofs.Quantified.{last_false}
 use Rattle.cjc_bytes.specs.declared.descriptor.Kind.TheVariants as kinds
 use Rattle.cjc_ncode.specs.Script.Sorts.{OfClass, OfReferences, Reference, Shape, array_by, array_of, reference_to}
 use Rattle.cjc_ncode.specs.Script.Sorts.{result_by}
@@ -108,18 +109,6 @@ any_front p (x ∷ xs) ys e = by (p x) e (any_front p xs ys)
     by true e rest = absurd cc
     by false e rest = rest e
 
-any_last : (p : Part → Bool) (xs : List Part) (y : Part) → list_any p (xs ++ y ∷ []) ≡ false → p y ≡ false
-any_last p [] y e = by (p y) e
-  where
-    by : (b : Bool) → (b || false) ≡ false → b ≡ false
-    by true e = absurd cc
-    by false e = refl
-any_last p (x ∷ xs) y e = any_last p xs y (by (p x) e)
-  where
-    by : (b : Bool) → (b || list_any p (xs ++ y ∷ [])) ≡ false → list_any p (xs ++ y ∷ []) ≡ false
-    by true e = absurd cc
-    by false e = e
-
 -- the parts of a descriptor name what is there
 pub parts_there : (w : List Class) (desc : List ℕ) → length desc < 2 ^ 32 → desc_of desc ≡ Some (parts desc)
     → is_desc_missing w desc ≡ false → list_any (λ p. is_type_missing w p.class) (let d = parts desc in d.params
@@ -133,7 +122,7 @@ pub result_there : (w : List Class) (desc : List ℕ) → length desc < 2 ^ 32 �
     ≡ Some (Reference kind) → IsThere w kind
 result_there w desc short is e kind r =
     let d = parts desc in
-    let fine = any_last (λ p. is_type_missing w p.class) (let d = parts desc in d.params) (let d = parts desc
+    let fine = last_false (λ p. is_type_missing w p.class) (let d = parts desc in d.params) (let d = parts desc
     in d.result) (parts_there w desc short is e) in
     by (let d = parts desc in let q = d.result in q.kind) refl (let d = parts desc in d.result) refl r fine
   where

@@ -10,18 +10,19 @@ use Rattle.cjc_bytes.specs.Descriptor.{Parts}
 use Rattle.cjc_bytes.specs.Spots.{desc_of}
 use Rattle.cjc_bytes.specs.declared.fault.MemberId.{MemberId}
 use Rattle.cjc_bytes.specs.declared.settings.Settings.{Settings}
-use Rattle.cjc_world_proof.specs.JvmSemantics.OnePackage.{ResolvedMember, callee_at, interface_callee, is_constructor}
-use Rattle.cjc_world_proof.specs.JvmSemantics.OnePackage.{is_initialiser, method_hit, first_super, select_in}
-use Rattle.cjc_world_proof.specs.JvmSemantics.OnePackage.{selected_from}
-use Rattle.cjc_world_proof.specs.Calls.Solid.{HasCode, IsSolid}
-use Rattle.cjc_world_proof.specs.Calls.Targets.{IsReceiver}
-use Rattle.cjc_world_proof.proofs.CallsLaws.Own.{IsAt, hit_is, own_at}
-use Rattle.cjc_world_proof.proofs.CallsLaws.Selects.{is_selected, on_interface, on_object, receiver_plain}
-use Rattle.cjc_world_proof.proofs.CallsLaws.Specials.{above_callee, itself_callee}
-use Rattle.cjc_world_proof.proofs.CallsLaws.Types.{below_type, type_below}
+use Rattle.cjc_bytes.proofs.Bools.{true_or_false, true_not_false, or_right}
+use Rattle.cjc_token_proof.specs.JvmSemantics.OnePackage.{ResolvedMember, callee_at, interface_callee, is_constructor}
+use Rattle.cjc_token_proof.specs.JvmSemantics.OnePackage.{is_initialiser, method_hit, first_super, select_in}
+use Rattle.cjc_token_proof.specs.JvmSemantics.OnePackage.{selected_from}
+use Rattle.cjc_token_proof.specs.WorldProof.Calls.Solid.{HasCode, IsSolid}
+use Rattle.cjc_token_proof.specs.WorldProof.Calls.Targets.{IsReceiver}
+use Rattle.cjc_token_proof.proofs.WorldProofOwn.{IsAt, hit_is, own_at}
+use Rattle.cjc_token_proof.proofs.WorldProofSelects.{is_selected, on_interface, on_object}
+use Rattle.cjc_token_proof.proofs.WorldProofSpecials.{above_callee, itself_callee}
+use Rattle.cjc_token_proof.proofs.WorldProofTypes.{below_type, type_below, receiver_class as receiver_plain}
 use Rattle.cjc_classfile.specs.declared.tree.ClassTree.{ClassTree}
-use Rattle.cjc_subset.specs.Bytecode.declared.insn.JOp.TheVariants as jop
-use Rattle.cjc_subset.specs.Bytecode.declared.method_code.MethodCode.{MethodCode}
+use Rattle.cjc_ncode.specs.Bytecode.declared.insn.JOp.TheVariants as jop
+use Rattle.cjc_ncode.specs.Bytecode.declared.method_code.MethodCode.{MethodCode}
 use Rattle.cjc_shape_proof.specs.Whole.{Accepts, AreTabled}
 use Rattle.cjc_shape_proof.proofs.FindsLaws.Begun.{chosen, reached}
 use Rattle.cjc_shape_proof.proofs.FindsLaws.Callees.{result_there}
@@ -40,10 +41,10 @@ use Rattle.cjc_narrow_proof.specs.Runs.Tables.{Tables, look_ups}
 use Rattle.cjc_ncode.specs.ByLabel.{Named}
 use Rattle.cjc_ncode.specs.Script.Sorts.{Shape, shape_name}
 use Rattle.cjc_narrow_proof.specs.Selection.Relation.{IsMadeOf}
-use Rattle.cjc_world_proof.specs.Files.{AreReadFiles}
-use Rattle.cjc_subset.specs.Names.{is_bodiless, is_hidden, is_name_missing, is_unfit_call, is_unfit_class}
-use Rattle.cjc_subset.specs.Names.{is_unfit_method, is_unfit_super, is_unfit_virtual, names_missing, names_unfit}
-use Rattle.cjc_subset.specs.Members as subset
+use Rattle.cjc_token_proof.specs.WorldProof.Files.{AreReadFiles}
+use Rattle.cjc_vtable.specs.Subset.Names.{is_bodiless, is_hidden, is_name_missing, is_unfit_call, is_unfit_class}
+use Rattle.cjc_vtable.specs.Subset.Names.{is_unfit_method, is_unfit_super, is_unfit_virtual, names_missing, names_unfit}
+use Rattle.cjc_vtable.specs.Subset.Members as subset
 use Rattle.cjc_narrow_proof.specs.Tables.Kinds.{is_one_of}
 use Rattle.cjc_narrow_proof.specs.Types.declared.cell.Cell.{Cell}
 use Rattle.cjc_narrow_proof.specs.Types.Flow.{Body}
@@ -60,26 +61,10 @@ use Rattle.cjc_world.specs.Supertypes.{is_below}
 use Rattle.cjc_world.specs.Rules.{is_desc_missing, is_missing, lists_missing}
 use Rattle.cjc_world.specs.Subtype.{is_subtype}
 
-or_left : (a b : Bool) → (a || b) ≡ false → a ≡ false
-or_left true b e = absurd cc
-or_left false b e = refl
-
-or_right : (a b : Bool) → (a || b) ≡ false → b ≡ false
-or_right true b e = absurd cc
-or_right false b e = e
-
-true_not_false : (b : Bool) → b ≡ true → b ≡ false → ⊥
-true_not_false true e f = cc
-true_not_false false e f = cc
-
 left_off : (a b : Bool) → b ≡ true → (a && b) ≡ false → a ≡ false
 left_off true true e f = absurd cc
 left_off false b e f = refl
 left_off true false e f = absurd cc
-
-true_or_false : (b : Bool) → (b ≡ true) ⊎ (b ≡ false)
-true_or_false true = inl refl
-true_or_false false = inr refl
 
 abbrev named_hit : Class → Member → ResolvedMember
 named_hit c m = record { owner = c; flags = m.flags }

@@ -1,36 +1,26 @@
 -- The descriptors of methods and fields of read files.
-use Rattle.std.proofs.Common.{◌≡◌, ℕ, ◌<◌, ◌^◌, refl, sym, ap, subst, arith, Bool, true, false, List, [], ◌∷◌, length}
+use Rattle.std.proofs.Common.{◌≡◌, ℕ, ◌<◌, ◌^◌, refl, sym, ap, subst, arith, Bool, true, false, List, [], length}
 use Rattle.std.specs.Prelude.{Option, Some, None, option_and_then, slice_get, if◌then◌else◌}
 use Rattle.cjc_bytes.specs.Descriptor.{Parts}
 use Rattle.cjc_bytes.specs.Spots.{desc_of}
-use Rattle.cjc_bytes.proofs.Inverse.{all_at}
-use Rattle.cjc_world_proof.proofs.CallsLaws.Own.{mapped_at}
+use Rattle.cjc_token_proof.proofs.WorldProofOwn.{mapped_at}
 use Rattle.cjc_classfile.specs.Fits as fits
 use Rattle.cjc_classfile.proofs.Fitting.{spelt_fits}
 use Rattle.cjc_classfile.specs.declared.tree.ClassTree.{ClassTree}
 use Rattle.cjc_export.specs.Members.{as_desc, same_bool}
-use Rattle.cjc_export.specs.Writable.{ClassFits, EachAfter, MethodFits, MethodStands}
-use Rattle.cjc_export.specs.declared.tree.ExportMethod.{ExportMethod}
+use Rattle.cjc_export.specs.Writable.{ClassFits, MethodStands}
 use Rattle.cjc_bytes.specs.AccessFlags.{is_interface}
-use Rattle.cjc_subset.specs.Bytecode.ReadLaws.Members.{IsDescOf, IsReadClass}
-use Rattle.cjc_subset.proofs.BytecodeMembers.{read_class}
-use Rattle.cjc_world_proof.specs.Files.{AreReadFiles}
-use Rattle.cjc_subset.specs.Members.{imports}
-use Rattle.cjc_vtable.proofs.Filed.{Has, IsFiled, at_front, behind, filed, get-has, has-get, in_class_file}
+use Rattle.cjc_bytes.proofs.Gets.{all_at}
+use Rattle.cjc_ncode.specs.Bytecode.ReadLaws.Members.{IsDescOf, IsReadClass}
+use Rattle.cjc_ncode.proofs.BytecodeMembers.{read_class}
+use Rattle.cjc_token_proof.specs.WorldProof.Files.{AreReadFiles}
+use Rattle.cjc_vtable.specs.Subset.Members.{imports}
+use Rattle.cjc_vtable.proofs.Filed.{IsFiled, filed, get-has, has-get, in_class_file}
 use Rattle.cjc_vtable.proofs.Filed.{in_export_file, of-imports}
+use Rattle.cjc_vtable.proofs.Read.{each-after}
 use Rattle.cjc_world.specs.Classes.{Class, Member, all_classes, class_named, method_of_class, method_of_export}
 use Rattle.cjc_world.specs.Files.{Files}
-
-pub each_after : {A : Type 0} (P : List A → A → Type 0) (before xs : List A) (x : A) → EachAfter P before xs → Has x xs
-    → (b : List A) × P b x
-each_after P before [] x h i = elim i [ ]
-each_after P before (y ∷ xs) x h at_front = (before, h.0)
-each_after P before (y ∷ xs) x h (behind i) = each_after P _ xs x h.1 i
-
-stands_fit : (interface : Bool) (count : ℕ) (before : List ExportMethod) (m : ExportMethod)
-    → MethodStands interface count before m → MethodFits m
-stands_fit true count before m h = h.0
-stands_fit false count before m h = h.0
+use Rattle.cjc_shape.proofs.JudgedLaws.Tokens.{method_fits}
 
 -- bytes that are kept as a method's descriptor are one
 kept_desc : (desc : List ℕ) → as_desc true desc ≡ Some desc → IsDescOf true desc
@@ -75,11 +65,11 @@ module _ (files : Files) (read : AreReadFiles files) where
           let tree = of-imports t files.exports (get-has t (imports files.exports) n at) in
           let place = has-get tree.0 files.exports tree.1 in
           let w = read.exports place.0 tree.0 place.1 in
-          let class = each_after ClassFits [] (let u = tree.0 in u.classes) t w.classes tree.2 in
+          let class = each-after ClassFits [] (let u = tree.0 in u.classes) t w.classes tree.2 in
           let fit = class.1 in
-          let stands = each_after (MethodStands (is_interface t.flags) (length t.methods)) [] t.methods k.0 fit.methods
+          let stands = each-after (MethodStands (is_interface t.flags) (length t.methods)) [] t.methods k.0 fit.methods
           (get-has k.0 t.methods i k.1) in
-          let one = stands_fit (is_interface t.flags) (length t.methods) stands.0 k.0 stands.1 in
+          let one = method_fits (is_interface t.flags) (length t.methods) stands.0 k.0 stands.1 in
           let short = one.desc in (
             subst (IsDescOf true) (sym same) (kept_desc (let x = k.0 in x.desc) one.is_desc),
             subst (λ v. length v < 2 ^ 32) (sym same) (omega (arith, short)),

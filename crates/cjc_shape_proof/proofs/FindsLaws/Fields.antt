@@ -1,7 +1,7 @@
 -- The fields that code names: they are found, and what may be their receiver has them.
 use Rattle.std.proofs.Common.{◌≡◌, ℕ, ◌-◌, ◌<◌, ◌^◌, refl, sym, ap, subst, ◌∙◌, arith, Bool, true, false, List, length}
-use Rattle.std.proofs.Common.{inl, inr, ⊎_elim}
-use Rattle.std.specs.Prelude.{not, ◌&&◌, ◌||◌, ◌⊎◌, nat_lt, Some, None, option_and_then, option_map, is_some, slice_get}
+use Rattle.std.proofs.Common.{⊎_elim}
+use Rattle.std.specs.Prelude.{not, ◌&&◌, ◌||◌, nat_lt, Some, None, option_and_then, option_map, is_some, slice_get}
 use Rattle.std.specs.Prelude.{if◌then◌else◌}
 use Rattle.std.specs.List.{flat_map, list_all}
 use Rattle.std.proofs.lemmas.Bool.{lt-ltb}
@@ -12,23 +12,24 @@ use Rattle.cjc_bytes.specs.Spots.{desc_of}
 use Rattle.cjc_bytes.specs.declared.fault.MemberId.{MemberId}
 use Rattle.cjc_bytes.specs.declared.settings.Settings.{Settings}
 use Rattle.cjc_bytes.proofs.DescriptorTypes.{desc_spelt}
-use Rattle.cjc_bytes.proofs.Inverse.{all_at}
-use Rattle.cjc_world_proof.specs.JvmSemantics.Linked.{Instance, Method, Static}
-use Rattle.cjc_world_proof.specs.JvmSemantics.OnePackage.{constant_at, constant_in, exported_constant, field_by}
-use Rattle.cjc_world_proof.specs.JvmSemantics.OnePackage.{field_hit}
-use Rattle.cjc_world_proof.specs.JvmSemantics.OnePackage.{field_named, member_of, object_fields, of_class}
-use Rattle.cjc_world_proof.specs.Calls.Solid.{IsSolid}
-use Rattle.cjc_world_proof.specs.Calls.Targets.{IsReceiver}
-use Rattle.cjc_world_proof.proofs.CallsLaws.Fields.{object_has}
-use Rattle.cjc_world_proof.proofs.CallsLaws.Own.{IsFieldAt, field_at, field_hit_is, mapped_at}
-use Rattle.cjc_world_proof.proofs.CallsLaws.Selects.{receiver_plain}
-use Rattle.cjc_world_proof.proofs.CallsLaws.Types.{type_below}
+use Rattle.cjc_bytes.proofs.Gets.{all_at}
+use Rattle.cjc_bytes.proofs.Lists.{name_is as bytes-refl}
+use Rattle.cjc_bytes.proofs.Bools.{true_or_false, true_not_false, or_left, or_right, bool_middle}
+use Rattle.cjc_token_proof.specs.JvmSemantics.Linked.{Instance, Method, Static}
+use Rattle.cjc_token_proof.specs.JvmSemantics.OnePackage.{constant_at, constant_in, exported_constant, field_by}
+use Rattle.cjc_token_proof.specs.JvmSemantics.OnePackage.{field_hit}
+use Rattle.cjc_token_proof.specs.JvmSemantics.OnePackage.{field_named, member_of, object_fields, of_class}
+use Rattle.cjc_token_proof.specs.WorldProof.Calls.Solid.{IsSolid}
+use Rattle.cjc_token_proof.specs.WorldProof.Calls.Targets.{IsReceiver}
+use Rattle.cjc_token_proof.proofs.WorldProofFields.{object_has}
+use Rattle.cjc_token_proof.proofs.WorldProofOwn.{IsFieldAt, field_at, field_hit_is, mapped_at}
+use Rattle.cjc_token_proof.proofs.WorldProofTypes.{type_below, receiver_class}
 use Rattle.cjc_classfile.proofs.Fitting.{spelt_fits}
 use Rattle.cjc_classfile.specs.Fits as fits
 use Rattle.cjc_classfile.specs.declared.tree.ClassTree.{ClassTree}
 use Rattle.cjc_classfile.specs.declared.tree.FieldTree.{FieldTree}
-use Rattle.cjc_subset.specs.Bytecode.declared.insn.JOp.TheVariants as jop
-use Rattle.cjc_subset.specs.Bytecode.declared.method_code.MethodCode.{MethodCode}
+use Rattle.cjc_ncode.specs.Bytecode.declared.insn.JOp.TheVariants as jop
+use Rattle.cjc_ncode.specs.Bytecode.declared.method_code.MethodCode.{MethodCode}
 use Rattle.cjc_export.specs.Members.{is_constant_type, may_be_constant}
 use Rattle.cjc_shape_proof.proofs.FindsLaws.Descs.{read_of}
 use Rattle.cjc_shape_proof.proofs.FindsLaws.Receivers.{made_class, named_of, plain_class, receiver_of}
@@ -47,15 +48,15 @@ use Rattle.cjc_narrow_proof.specs.Selection.Objects.{has_values}
 use Rattle.cjc_narrow_proof.proofs.SelectedLaws.IntFree.{op_free}
 use Rattle.cjc_narrow_proof.specs.Selection.Relation.{HasObjects, IsMadeOf, bare, made}
 use Rattle.cjc_narrow_proof.specs.Selection.Rows.{HasField, is_word_sort, lists}
-use Rattle.cjc_world_proof.specs.Files.{AreReadFiles}
-use Rattle.cjc_subset.specs.Checks.{is_imported_variable, names_variable}
-use Rattle.cjc_subset.specs.Members.{imported_field, imports, is_imported_constant}
-use Rattle.cjc_subset.specs.Members as subset
-use Rattle.cjc_subset.proofs.Fits.{field_fits}
-use Rattle.cjc_subset.specs.Names.{is_constant_found, is_hidden, is_other_kind, is_unfit_field, names_unfit}
-use Rattle.cjc_subset.specs.Types.{is_any_unsupported, is_any_int, is_unsupported_desc, is_unsupported_name}
-use Rattle.cjc_subset.specs.Types.{is_unsupported_part, is_int_desc, is_int_part, names_unsupported}
-use Rattle.cjc_subset.specs.Ints.{works_on_int}
+use Rattle.cjc_token_proof.specs.WorldProof.Files.{AreReadFiles}
+use Rattle.cjc_vtable.specs.Subset.Checks.{is_imported_variable, names_variable}
+use Rattle.cjc_vtable.specs.Subset.Members.{imported_field, imports, is_imported_constant}
+use Rattle.cjc_vtable.specs.Subset.Members as subset
+use Rattle.cjc_vtable.proofs.SubsetFits.{field_fits}
+use Rattle.cjc_vtable.specs.Subset.Names.{is_constant_found, is_hidden, is_other_kind, is_unfit_field, names_unfit}
+use Rattle.cjc_vtable.specs.Subset.Types.{is_any_unsupported, is_any_int, is_unsupported_desc, is_unsupported_name}
+use Rattle.cjc_vtable.specs.Subset.Types.{is_unsupported_part, is_int_desc, is_int_part, names_unsupported}
+use Rattle.cjc_vtable.specs.Subset.Ints.{works_on_int}
 use Rattle.cjc_narrow_proof.specs.Types.declared.cell.Cell.{Cell}
 use Rattle.cjc_narrow_proof.specs.Types.declared.cell.Cell.TheVariants.{Refs}
 use Rattle.cjc_narrow_proof.specs.Types.Types.{no_parts, parts, parts_or_none}
@@ -63,7 +64,6 @@ use Rattle.cjc_world.specs.Upwards.{Below, Has, OnLine}
 use Rattle.cjc_world.specs.Upwards as upward
 use Rattle.cjc_world.proofs.UpwardLaws.Lines.{below_abroad, below_on, field_found_above, on_line}
 use Rattle.cjc_vtable.proofs.Filed.{IsFiled, filed, in_class_file, in_export_file}
-use Rattle.cjc_world.proofs.Settled.{bytes-refl}
 use Rattle.cjc_world.specs.declared.found.Found.{Found}
 use Rattle.cjc_world.specs.declared.image.StaticImage.{StaticImage}
 use Rattle.cjc_world.specs.Classes.{Class, Member, all_classes, class_at, class_named, field_of_class, field_of_export}
@@ -72,33 +72,14 @@ use Rattle.cjc_world.specs.Files.{Files}
 use Rattle.cjc_world.specs.Lookup.{find_field, member_at, object, receiver}
 use Rattle.cjc_world.specs.Subtype.{is_subtype, starts}
 
-pub or_left : (a b : Bool) → (a || b) ≡ false → a ≡ false
-or_left true b e = absurd cc
-or_left false b e = refl
-
-pub or_right : (a b : Bool) → (a || b) ≡ false → b ≡ false
-or_right true b e = absurd cc
-or_right false b e = e
-
-pub true_not_false : (b : Bool) → b ≡ true → b ≡ false → ⊥
-true_not_false true e f = cc
-true_not_false false e f = cc
-
-true_or_false : (b : Bool) → (b ≡ true) ⊎ (b ≡ false)
-true_or_false true = inl refl
-true_or_false false = inr refl
-
-pub second : (a b c : Bool) → (a || b || c) ≡ false → b ≡ false
-second a b c e = or_right a b (or_left (a || b) c e)
-
-on_object : (flags : ℕ) → is_other_kind false flags ≡ false → is_static flags ≡ false
+pub on_object : (flags : ℕ) → is_other_kind false flags ≡ false → is_static flags ≡ false
 on_object flags e = by (is_static flags) e
   where
     by : (b : Bool) → (if b then not false else false) ≡ false → b ≡ false
     by true e = absurd cc
     by false e = refl
 
-no_constant : (flags : ℕ) (desc : List ℕ) → is_static flags ≡ false → may_be_constant flags desc ≡ false
+pub no_constant : (flags : ℕ) (desc : List ℕ) → is_static flags ≡ false → may_be_constant flags desc ≡ false
 no_constant flags desc e = by (is_static flags) e
   where
     by : (b : Bool) → b ≡ false → (b && is_final flags && is_constant_type desc) ≡ false
@@ -222,7 +203,7 @@ module _ (list : List ℕ) (files : Files) (codes : List MethodCode) (settings :
       let hit : subset.hit w true (find_field w id.class id.name id.desc) ≡ Some (tested d m) =
       ap (subset.hit w true) found ∙ ap (λ g. subset.hit w true (Some g)) p.is
       ∙ tested_field w d p.place m (solid.numbered d.name d above.2) p.is_member in
-      let fit : is_other_kind false m.flags ≡ false = second (is_hidden w class id (tested d m))
+      let fit : is_other_kind false m.flags ≡ false = bool_middle (is_hidden w class id (tested d m))
       (is_other_kind false m.flags) (false && put
       && is_constant_found files (find_field w id.class id.name id.desc))
       (field_fits files class false put id (find_field w id.class id.name id.desc) (tested d m)
@@ -323,9 +304,9 @@ module _ (list : List ℕ) (files : Files) (codes : List MethodCode) (settings :
     where
       name_is : (cls : List ℕ) {fields : List MemberId} → HasObjects l cls fields → receiver cls ≡ cls
       name_is cls {fields = fields} (made e) = let q = made_class w cls fields e
-          in receiver_plain cls (solid.plain cls q.class q.found)
+          in receiver_class cls (solid.plain cls q.class q.found)
       name_is cls {fields = fields} (bare none e) = let q = plain_class w cls cls e
-          in receiver_plain cls (solid.plain cls q.class q.found)
+          in receiver_class cls (solid.plain cls q.class q.found)
   has_field id k (OfNumbers Booleans) below one r = absurd (array_not id k below)
   has_field id k (OfNumbers Bytes) below one r = absurd (array_not id k below)
   has_field id k (OfNumbers Shorts) below one r = absurd (array_not id k below)

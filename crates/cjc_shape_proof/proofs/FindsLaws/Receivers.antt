@@ -4,10 +4,10 @@ use Rattle.std.specs.Prelude.{not, ◌&&◌, ◌||◌, Option, Some, None, optio
 use Rattle.std.specs.List.{list_all}
 use Rattle.cjc_bytes.specs.AccessFlags.{is_abstract, is_interface}
 use Rattle.cjc_bytes.specs.declared.fault.MemberId.{MemberId}
-use Rattle.cjc_world_proof.specs.JvmSemantics.OnePackage.{is_made, is_plain_import, made_of, object_fields}
-use Rattle.cjc_world_proof.specs.Calls.Solid.{IsSolid}
-use Rattle.cjc_world_proof.specs.Calls.Targets.{IsReceiver}
-use Rattle.cjc_world_proof.proofs.CallsLaws.Selects.{receiver_plain}
+use Rattle.cjc_token_proof.specs.JvmSemantics.OnePackage.{is_made, is_plain_import, made_of, object_fields}
+use Rattle.cjc_token_proof.specs.WorldProof.Calls.Solid.{IsSolid}
+use Rattle.cjc_token_proof.specs.WorldProof.Calls.Targets.{IsReceiver}
+use Rattle.cjc_token_proof.proofs.WorldProofTypes.{receiver_class}
 use Rattle.cjc_components.specs.Narrow.Rows.Package.{named, plain_import}
 use Rattle.cjc_narrow_proof.specs.Runs.Tables.{Tables, look_ups}
 use Rattle.cjc_ncode.specs.ByLabel.{Named}
@@ -112,7 +112,7 @@ module _ (files : Files) (image : StaticImage) (near : List MemberId) (tables : 
   pub receiver_of : (kind : Shape (List ℕ)) → IsMadeOf l kind → IsReceiver w (receiver (shape_name kind))
   receiver_of (OfClass class) made_one =
       let r = of_class class made_one.0 made_one.1 in
-      subst (IsReceiver w) (sym (receiver_plain class (solid.plain class r.class r.named))) r
+      subst (IsReceiver w) (sym (receiver_class class (solid.plain class r.class r.named))) r
   receiver_of (OfNumbers Booleans) made_one = root
   receiver_of (OfNumbers Bytes) made_one = root
   receiver_of (OfNumbers Shorts) made_one = root

@@ -1,28 +1,31 @@
 -- What scripts name: a method of the package, or none.
-use Rattle.std.proofs.Common.{◌≡◌, ℕ, zero, suc, ◌<◌, ◌^◌, refl, sym, ap, subst, ◌∙◌, arith, Bool, true, false, List}
-use Rattle.std.proofs.Common.{[], ◌∷◌, length, inl, inr, ⊎_elim}
-use Rattle.std.specs.Prelude.{not, ◌&&◌, ◌||◌, ◌⊎◌, Option, Some, None, option_and_then, slice_get, if◌then◌else◌}
+use Rattle.std.proofs.Common.{◌≡◌, ℕ, ◌<◌, ◌^◌, refl, sym, ap, subst, ◌∙◌, arith, Bool, true, false, List}
+use Rattle.std.proofs.Common.{length, ⊎_elim}
+use Rattle.std.specs.Prelude.{not, ◌&&◌, Option, Some, None, option_and_then, slice_get, if◌then◌else◌}
 use Rattle.std.specs.List.{AllByRecursion, list_any}
 use Rattle.std.specs.Str.{bytes_eq}
 use Rattle.cjc_bytes.specs.declared.fault.MemberId.{MemberId}
 use Rattle.cjc_bytes.specs.declared.settings.Settings.{Settings}
-use Rattle.cjc_bytes.proofs.Inverse.{all_at}
-use Rattle.cjc_world_proof.specs.JvmSemantics.Linked.{Method}
-use Rattle.cjc_world_proof.specs.JvmSemantics.OnePackage.{entry_in, entry_named, is_constructor, is_initialiser}
-use Rattle.cjc_world_proof.specs.JvmSemantics.OnePackage.{is_sendable}
-use Rattle.cjc_world_proof.specs.JvmSemantics.OnePackage.{method_at, method_hit, select_in, sent_by, sent_named}
-use Rattle.cjc_world_proof.specs.Calls.Solid.{IsSolid}
-use Rattle.cjc_world_proof.specs.Calls.Targets.{IsOwnCode, IsReceiver, IsSentTo}
-use Rattle.cjc_world_proof.proofs.CallsLaws.Own.{own_at}
-use Rattle.cjc_world_proof.proofs.CallsLaws.Scripts.{called_method, sent_method, then_some}
-use Rattle.cjc_world_proof.proofs.CallsLaws.Selects.{own_tree}
-use Rattle.cjc_world_proof.proofs.CallsLaws.Types.{below_type}
+use Rattle.cjc_bytes.proofs.Gets.{all_at, any_at, any_off}
+use Rattle.cjc_bytes.proofs.Lists.{name_is, bytes_true}
+use Rattle.cjc_bytes.proofs.Options.{then_some, not_far, where_true}
+use Rattle.cjc_bytes.proofs.Bools.{both_front, both_back, true_or_false, true_not_false}
+use Rattle.cjc_token_proof.specs.JvmSemantics.Linked.{Method}
+use Rattle.cjc_token_proof.specs.JvmSemantics.OnePackage.{entry_in, entry_named, is_constructor, is_initialiser}
+use Rattle.cjc_token_proof.specs.JvmSemantics.OnePackage.{is_sendable}
+use Rattle.cjc_token_proof.specs.JvmSemantics.OnePackage.{method_at, method_hit, select_in, sent_by, sent_named}
+use Rattle.cjc_token_proof.specs.WorldProof.Calls.Solid.{IsSolid}
+use Rattle.cjc_token_proof.specs.WorldProof.Calls.Targets.{IsOwnCode, IsReceiver, IsSentTo}
+use Rattle.cjc_token_proof.proofs.WorldProofOwn.{own_at}
+use Rattle.cjc_token_proof.proofs.WorldProofScripts.{called_method, sent_method}
+use Rattle.cjc_token_proof.proofs.WorldProofSelects.{own_tree}
+use Rattle.cjc_token_proof.proofs.WorldProofTypes.{below_type}
 use Rattle.cjc_classfile.proofs.Fitting.{spelt_fits}
 use Rattle.cjc_classfile.specs.Fits as fits
 use Rattle.cjc_classfile.specs.declared.tree.ClassTree.{ClassTree}
 use Rattle.cjc_classfile.specs.declared.tree.MethodTree.{MethodTree}
-use Rattle.cjc_subset.specs.Bytecode.declared.method_code.MethodCode.{MethodCode}
-use Rattle.cjc_subset.specs.Types.{is_int_desc}
+use Rattle.cjc_ncode.specs.Bytecode.declared.method_code.MethodCode.{MethodCode}
+use Rattle.cjc_vtable.specs.Subset.Types.{is_int_desc}
 use Rattle.cjc_shape_proof.specs.Whole.{AreTabled}
 use Rattle.cjc_shape_proof.proofs.FindsLaws.Begun.{begun, declarer}
 use Rattle.cjc_shape_proof.proofs.FindsLaws.Callees.{params_there}
@@ -30,7 +33,7 @@ use Rattle.cjc_shape_proof.proofs.FindsLaws.Descs.{read_of}
 use Rattle.cjc_shape_proof.proofs.FindsLaws.Receivers.{receiver_of}
 use Rattle.cjc_narrow_proof.specs.Laws.Unbroken.{AreSpelt, IsUnbroken}
 use Rattle.cjc_narrow_proof.proofs.LawsLaws.Own.{class_by_name, own_kept}
-use Rattle.cjc_world_proof.proofs.SelectionLaws.Rules.{method_kept}
+use Rattle.cjc_token_proof.proofs.WorldProofRules.{method_kept}
 use Rattle.cjc_narrow_proof.proofs.LawsLaws.WordTypes.{word_desc}
 use Rattle.cjc_narrow_proof.proofs.SelectedLaws.IntFree.{code_free, own_desc}
 use Rattle.cjc_narrow_proof.specs.Runs.Converted.{IsFound, IsMember, a_member, no_method}
@@ -39,7 +42,7 @@ use Rattle.cjc_narrow_proof.specs.Runs.Types.{IsThere}
 use Rattle.cjc_ncode.specs.ByLabel.{Named}
 use Rattle.cjc_ncode.specs.Script.Sorts.{Reference, Shape, shape_name}
 use Rattle.cjc_narrow_proof.specs.Selection.Relation.{IsMadeOf}
-use Rattle.cjc_world_proof.specs.Files.{AreReadFiles}
+use Rattle.cjc_token_proof.specs.WorldProof.Files.{AreReadFiles}
 use Rattle.cjc_narrow_proof.specs.Tables.Calls.{IsWordDesc, types_of}
 use Rattle.cjc_world.proofs.UpwardLaws.Lines.{first_has, line_named, of_line}
 use Rattle.cjc_world.specs.declared.found.Found.{Found}
@@ -49,57 +52,6 @@ use Rattle.cjc_world.specs.Files.{Files}
 use Rattle.cjc_world.specs.Supertypes.{line}
 use Rattle.cjc_world.specs.Lookup.{find_method, is_selectable, object, own_method, receiver, selected}
 use Rattle.cjc_world.specs.Subtype.{is_subtype}
-use Rattle.cjc_world.proofs.Settled.{bytes-refl, bytes-true}
-
-both_front : (a b : Bool) → (a && b) ≡ true → a ≡ true
-both_front true b e = refl
-both_front false b e = absurd cc
-
-both_back : (a b : Bool) → (a && b) ≡ true → b ≡ true
-both_back true b e = e
-both_back false b e = absurd cc
-
-true_not_false : (b : Bool) → b ≡ true → b ≡ false → ⊥
-true_not_false true e f = cc
-true_not_false false e f = cc
-
-true_or_false : (b : Bool) → (b ≡ true) ⊎ (b ≡ false)
-true_or_false true = inl refl
-true_or_false false = inr refl
-
-or_left : (a b : Bool) → (a || b) ≡ false → a ≡ false
-or_left true b e = absurd cc
-or_left false b e = refl
-
-or_right : (a b : Bool) → (a || b) ≡ false → b ≡ false
-or_right true b e = absurd cc
-or_right false b e = e
-
--- one of a list passes, at a place
-any_at : {A : Type 0} (p : A → Bool) (xs : List A) → list_any p xs ≡ true → (i : ℕ) × (x : A)
-    × (slice_get xs i ≡ Some x) × (p x ≡ true)
-any_at p [] e = absurd cc
-any_at {A} p (y ∷ xs) e = by (p y) refl e (any_at p xs)
-  where
-    by : (b : Bool) → p y ≡ b → (b || list_any p xs) ≡ true → (list_any p xs ≡ true → (i : ℕ) × (x : A)
-        × (slice_get xs i ≡ Some x) × (p x ≡ true)) → (i : ℕ) × (x : A) × (slice_get (y ∷ xs) i ≡ Some x) × (p x ≡ true)
-    by true f e rest = (0, y, refl, f)
-    by false f e rest = let r = rest e in (suc r.0, r.1, r.2, r.3)
-
--- or none does
-any_off : {A : Type 0} (p : A → Bool) (xs : List A) (i : ℕ) (x : A) → list_any p xs ≡ false → slice_get xs i ≡ Some x
-    → p x ≡ false
-any_off p [] i x e f = absurd cc
-any_off p (y ∷ xs) zero x e f = let same : y ≡ x = cc in ap p (sym same) ∙ or_left (p y) (list_any p xs) e
-any_off p (y ∷ xs) (suc i) x e f = any_off p xs i x (or_right (p y) (list_any p xs) e) f
-
-not_far : {A : Type 0} (b : Bool) (o : Option A) (a : A) → (if b then None else o) ≡ Some a → b ≡ false
-not_far true o a e = absurd cc
-not_far false o a e = refl
-
-where_true : {A : Type 0} (b : Bool) (o : Option A) (a : A) → (if b then o else None) ≡ Some a → o ≡ Some a
-where_true true o a e = e
-where_true false o a e = absurd cc
 
 -- nothing, where something is impossible
 none_where : {A : Type 0} (o : Option A) → ((a : A) → o ≡ Some a → ⊥) → o ≡ None
@@ -137,8 +89,8 @@ declared_one files id e =
       place = m.0;
       is_class = c.2;
       is_method = m.2;
-      name = bytes-true k.name id.name (both_front (bytes_eq k.name id.name) (bytes_eq k.desc id.desc) m.3);
-      desc = bytes-true k.desc id.desc (both_back (bytes_eq k.name id.name) (bytes_eq k.desc id.desc) m.3);
+      name = bytes_true k.name id.name (both_front (bytes_eq k.name id.name) (bytes_eq k.desc id.desc) m.3);
+      desc = bytes_true k.desc id.desc (both_back (bytes_eq k.name id.name) (bytes_eq k.desc id.desc) m.3);
     }
 
 declared_none : (files : Files) (id : MemberId) → list_any (λ t. declares id t) files.classes ≡ false
@@ -149,8 +101,8 @@ declared_none files id e o =
     let a = any_off (λ t. declares id t) files.classes o.number t e o.is_class in
     let b = any_off (λ k. is_method_of id k) t.methods o.place k a o.is_method in
     let yes : is_method_of id k ≡ true = ap (λ n. bytes_eq n id.name && bytes_eq k.desc id.desc) o.name
-    ∙ ap (λ b. b && bytes_eq k.desc id.desc) (bytes-refl id.name) ∙ ap (λ n. bytes_eq n id.desc) o.desc
-    ∙ bytes-refl id.desc in
+    ∙ ap (λ b. b && bytes_eq k.desc id.desc) (name_is id.name) ∙ ap (λ n. bytes_eq n id.desc) o.desc
+    ∙ name_is id.desc in
     true_not_false (is_method_of id k) yes b
 
 -- a script names no initialiser

@@ -4,14 +4,16 @@ use Rattle.std.proofs.Common.{◌∙◌, subst, sym, ⊎_elim, Option, Some, Non
 use Rattle.std.specs.Prelude.{Ok, if◌then◌else◌}
 use Rattle.std.specs.List.{AllByRecursion}
 use Rattle.std.specs.Str.{bytes_eq}
+use Rattle.std.proofs.lemmas.Option.{cond_some}
 use Rattle.cjc_bytes.specs.Text.{TextLine}
 use Rattle.cjc_bytes.specs.declared.settings.AppletLine.{AppletLine}
-use Rattle.cjc_shape_proof.proofs.WrittenLaws.FittingLaws.Lists.{all_both}
+use Rattle.cjc_bytes.proofs.Options.{onward_ok, where_true}
+use Rattle.cjc_bytes.proofs.Quantified.{all_both}
 use Rattle.cjc_shape_proof.specs.Written.LaidOut.{AidsAreShort}
 use Rattle.cjc_shape.specs.Judge.Spelt.{IsRead}
-use Rattle.cjc_components.proofs.ListItems.{aid_is, onward, package_says, passed}
+use Rattle.cjc_components.proofs.ListItems.{aid_is, onward, package_says}
 use Rattle.cjc_components.proofs.ListTexts.{lines_are}
-use Rattle.cjc_components.proofs.ListWholes.{onward_ok, said_ok}
+use Rattle.cjc_components.proofs.ListWholes.{said_ok}
 use Rattle.cjc_components.specs.List.Grammar.{aid_of, applet_of, has_room, is_name, item_of, package_of, with_item}
 use Rattle.cjc_components.specs.List.Grammar.{with_line}
 use Rattle.cjc_components.specs.List.Listed.{ListTree, of_lines, said, with_lines}
@@ -23,10 +25,6 @@ either_if : {A : Type 0} (b : Bool) (x : A) (o : Option A) (y : A) → (if b the
     ⊎ (o ≡ Some y)
 either_if true x o y e = inl (cc)
 either_if false x o y e = inr e
-
-only_if : {A : Type 0} (b : Bool) (o : Option A) (y : A) → (if b then o else None) ≡ Some y → o ≡ Some y
-only_if true o y e = e
-only_if false o y e = absurd cc
 
 -- ---- one line more
 
@@ -47,7 +45,7 @@ file_keeps l m keyword file e =
           lines = l.lines ++ (record { class_file = b; name = file })
               ∷ [];
         }) else None) ≡ Some m → l.applets ≡ m.applets
-    as_file b f = let p = passed (has_room b l.lines) (record l {
+    as_file b f = let p = cond_some (has_room b l.lines) (record l {
       lines = l.lines
           ++ (record { class_file = b; name = file }) ∷ [];
     }) m f in ap (λ (t : ListTree). t.applets) p.1
@@ -70,9 +68,9 @@ applet_keeps : (l m : ListTree) (keyword class digits : List ℕ) → with_line 
 unfolding with_line item_of with_item applet_of
 applet_keeps l m keyword class digits e short =
     let r = onward (item_of (keyword ∷ class ∷ digits ∷ [])) (with_item l) m e in
-    let a = only_if (bytes_eq keyword (codes "applet")) (applet_of class digits) r.0 r.1 in
+    let a = where_true (bytes_eq keyword (codes "applet")) (applet_of class digits) r.0 r.1 in
     let aid = onward (aid_of digits) _ r.0 a in
-    let named = passed (is_name class) _ r.0 aid.2 in
+    let named = cond_some (is_name class) _ r.0 aid.2 in
     as_applet aid.0 (aid_is digits aid.0 aid.1).2 (ap (with_item l) named.1 ∙ r.2)
   where
     as_applet : (aid : List ℕ) → length aid ≤ 16

@@ -2,8 +2,7 @@
 -- number, and no two have one token.
 use Rattle.std.proofs.Common.{◌≡◌, ℕ, zero, suc, ◌+◌, ◌<◌, ◌≤◌, refl, sym, ap, subst, ◌∙◌, arith, Bool, true, false}
 use Rattle.std.proofs.Common.{List, [], ◌∷◌, ◌++◌, length, map, ⊎_elim, Option, Some, None}
-use Rattle.std.specs.Prelude.{not, ◌&&◌, ◌||◌, ◌==◌, nat_lt, slice_get, if◌then◌else◌}
-use Rattle.std.specs.List.{list_any}
+use Rattle.std.specs.Prelude.{not, ◌&&◌, ◌==◌, nat_lt, slice_get, if◌then◌else◌}
 use Rattle.std.proofs.lemmas.Bool.{eqb-false, eqb-true}
 use Rattle.std.proofs.lemmas.Bool.Decides.{nat_tests}
 use Rattle.std.proofs.lemmas.List.{length-map}
@@ -15,14 +14,16 @@ use Rattle.cjc_export.specs.Members.{interface_token, interface_token_taken, not
 use Rattle.cjc_export.specs.Writable.{EachAfter, MethodFits, MethodStands}
 use Rattle.cjc_export.specs.declared.tree.ExportMethod.{ExportMethod}
 use Rattle.cjc_tokens.specs.Members.{Signature}
-use Rattle.cjc_vtable.proofs.Filed.{Has, at_front, behind}
+use Rattle.cjc_vtable.proofs.Filed.{Has, at_front, behind, has-either}
 use Rattle.cjc_world.specs.Classes.{Class, Member}
 use Rattle.cjc_world.specs.Lookup.{member_at}
 use Rattle.cjc_world.specs.declared.found.Found.{Found}
-use Rattle.cjc_shape_proof.proofs.WrittenLaws.FittingLaws.Interfaces.{has_front}
 use Rattle.cjc_shape_proof.proofs.WrittenLaws.FittingLaws.Lists.{Apart, sum_within}
-use Rattle.cjc_shape_proof.proofs.WrittenLaws.FittingLaws.Order.{has_back, has_cons, has_either, has_none, ones}
-use Rattle.cjc_shape_proof.proofs.WrittenLaws.FittingLaws.Standing.{listed_in}
+use Rattle.cjc_shape_proof.proofs.WrittenLaws.FittingLaws.Order.{has_cons, has_none, ones}
+use Rattle.cjc_shape_proof.proofs.WrittenLaws.FittingLaws.Standing.{listed_in, none_any}
+use Rattle.cjc_bytes.proofs.Numbers.{other_number as other}
+use Rattle.cjc_token_proof.proofs.TablesLaws.Filed.{has-front}
+use Rattle.cjc_check_proof.proofs.ClassesLaws.Lists.{has-back}
 
 -- ---- no two of one token
 
@@ -36,7 +37,7 @@ pub differ_append : (xs ys : List ExportMethod) → Differ xs → Differ ys → 
 unfolding Differ
 differ_append [] ys a b apart = b
 differ_append (x ∷ xs) ys a b apart = (
-  λ y h. ⊎_elim (λ g. a.0 y g) (λ g. apart x y at_front g) (has_either y xs ys h),
+  λ y h. ⊎_elim (λ g. a.0 y g) (λ g. apart x y at_front g) (has-either y xs ys h),
   differ_append xs ys a.1 b (λ z y h g. apart z y (behind h) g),
 )
 
@@ -45,23 +46,6 @@ pub record IsMet (n : ℕ) (x : ExportMethod) : Type 0 where
   pub fits : MethodFits x
   pub low : x.token < n
   pub plain : not_special x.name ≡ Some x.name
-
-none_any : {A : Type 0} (test : A → Bool) (xs : List A) → ((y : A) → Has y xs → test y ≡ false)
-    → list_any test xs ≡ false
-none_any test [] none = refl
-none_any test (x ∷ xs) none = both (test x) (list_any test xs) (none x at_front)
-    (none_any test xs (λ y h. none y (behind h)))
-  where
-    both : (a b : Bool) → a ≡ false → b ≡ false → (a || b) ≡ false
-    both true b e f = cc
-    both false b e f = f
-
-other : (m n : ℕ) → (m ≡ n → ⊥) → (m == n) ≡ false
-other m n ne = by (m == n) refl
-  where
-    by : (t : Bool) → (m == n) ≡ t → t ≡ false
-    by true f = absurd (ne (eqb-true m n f))
-    by false f = refl
 
 pub stand : (n : ℕ) (before xs : List ExportMethod) → ((m x : ExportMethod) → Has m before → Has x xs
     → m.token ≡ x.token → ⊥) → Differ xs → ((x : ExportMethod) → Has x xs → IsMet n x)
@@ -82,7 +66,7 @@ stand n before (x ∷ xs) apart differ met = (
         (λ i. apart m y i (behind g))
         (λ i. ⊎_elim (λ (same : m ≡ x). λ (e : m.token ≡ y.token). differ.0 y g
         (sym (ap (λ (z : ExportMethod). z.token) same) ∙ e)) (λ j. has_none m j) (has_cons m x [] i))
-        (has_either m before (x ∷ []) h)
+        (has-either m before (x ∷ []) h)
 
     none : interface_token_taken before x.token ≡ false
     none = none_any (λ m. m.token == x.token) before (λ m h. other m.token x.token (apart m x h at_front))
@@ -233,7 +217,7 @@ listed_has p c i (x ∷ ms) zero m e l =
 listed_has p c i (x ∷ ms) (suc k) m e l =
     let s : i + 1 + k ≡ i + suc k = omega arith in
     let entry : ℕ → ExportMethod = λ j. method_entry (member_token p (Some (member_at c j))) m in
-    has_back (entry (i + suc k)) (if is_listed c x then method_entry (member_token p (Some (member_at c i))) x ∷ []
+    has-back (entry (i + suc k)) (if is_listed c x then method_entry (member_token p (Some (member_at c i))) x ∷ []
     else []) (methods_from p c (i + 1) ms)
     (subst (λ j. Has (entry j) (methods_from p c (i + 1) ms)) s (listed_has p c (i + 1) ms k m e l))
 
@@ -256,7 +240,7 @@ pub supers_in : (w : List Class) (c : Class) (t : ℕ) (ss : List Signature) (ro
 supers_in w c t [] row e h = has_none e h
 supers_in w c t (s ∷ ss) [] e h = has_none e h
 supers_in w c t (s ∷ ss) (f ∷ row) e h = ⊎_elim (λ g. here f refl g) (λ g. next (supers_in w c (t + 1) ss row e g))
-    (has_either e (super_at w c t s f) (supers_from w c (t + 1) ss row) h)
+    (has-either e (super_at w c t s f) (supers_from w c (t + 1) ss row) h)
   where
     next : IsSuperAt w c (t + 1) ss row e → IsSuperAt w c t (s ∷ ss) (f ∷ row) e
     next r =
@@ -311,11 +295,11 @@ supers_has w c t (x ∷ ss) (g ∷ row) zero s f m a b d e =
     let is : super_at w c t x g ≡ entry ∷ [] =
     ap (super_at w c t x) two ∙ ap (λ (q : Signature). super_at w c t q (Some f)) one ∙ ap (λ q. if q then []
     else super_entry t (method_meant w f)) d ∙ ap (super_entry t) e ∙ ap (λ k. method_entry k m ∷ []) (sym z) in
-    has_front entry (super_at w c t x g) (supers_from w c (t + 1) ss row) (subst (λ (ys : List ExportMethod). Has entry
+    has-front entry (super_at w c t x g) (supers_from w c (t + 1) ss row) (subst (λ (ys : List ExportMethod). Has entry
     ys) (sym is) at_front)
 supers_has w c t (x ∷ ss) (g ∷ row) (suc i) s f m a b d e =
     let z : t + 1 + i ≡ t + suc i = omega arith in
-    has_back (method_entry (t + suc i) m) (super_at w c t x g) (supers_from w c (t + 1) ss row)
+    has-back (method_entry (t + suc i) m) (super_at w c t x g) (supers_from w c (t + 1) ss row)
     (subst (λ k. Has (method_entry k m) (supers_from w c (t + 1) ss row)) z (supers_has w c (t + 1) ss row i s f m a b d
     e))
 

@@ -1,7 +1,7 @@
 -- The methods of an exported interface can stand in an export file: each has a token of its own below their number, and
 -- none is named as a constructor or an initialiser is.
 use Rattle.std.proofs.Common.{◌≡◌, ℕ, zero, suc, ◌+◌, ◌*◌, ◌-◌, ◌<◌, ◌≤◌, ◌^◌, refl, sym, ap, subst, ◌∙◌, arith, Bool}
-use Rattle.std.proofs.Common.{true, false, List, [], ◌∷◌, ◌++◌, length, map, append-nil, ⊎_elim, Option, Some, None}
+use Rattle.std.proofs.Common.{true, false, List, [], ◌∷◌, ◌++◌, length, map, ⊎_elim, Option, Some, None}
 use Rattle.std.specs.Prelude.{not, ◌&&◌, ◌||◌, ◌/◌, ◌%◌, count_by, nat_lt, option_and_then, option_map, position}
 use Rattle.std.specs.Prelude.{slice_get, unwrap_or, if◌then◌else◌}
 use Rattle.std.proofs.lemmas.Bool.{ltb-false}
@@ -10,8 +10,9 @@ use Rattle.std.proofs.lemmas.List.{length-map}
 use Rattle.std.proofs.lemmas.Nat.Bits.{and_pow}
 use Rattle.std.proofs.lemmas.Option.{slice_get-map, slice_get_cases, slice_get_within}
 use Rattle.cjc_bytes.specs.AccessFlags.{acc_shareable, acc_super, is_abstract, is_interface}
+use Rattle.cjc_bytes.proofs.Bools.{or_left}
+use Rattle.cjc_bytes.proofs.Gets.{in_front as at_front, get_behind, mapped_at}
 use Rattle.cjc_classfile.specs.declared.tree.ClassTree.{ClassTree}
-use Rattle.cjc_classfile.specs.declared.tree.FieldTree.{FieldTree}
 use Rattle.cjc_components.specs.Class.{is_shareable}
 use Rattle.cjc_components.specs.Descriptor.{as_added, method_in, methods_with_added, no_member}
 use Rattle.cjc_components.specs.ExportFile.{added_from, declares, export_class, inherited, inherited_from, is_listed}
@@ -27,9 +28,8 @@ use Rattle.cjc_shape.proofs.ExportedTokens.{low_tokens}
 use Rattle.cjc_shape.specs.Judge.declared.judged.Judged.{Judged}
 use Rattle.cjc_components.specs.List.Listed.{ListTree}
 use Rattle.cjc_narrow_proof.proofs.LawsLaws.Own.{class_by_name, first_here, own_kept}
-use Rattle.cjc_tokens.proofs.TokenLaws.Meant.{found_method, has_token}
+use Rattle.cjc_tokens.proofs.TokenLaws.Meant.{found_method, has_token, above}
 use Rattle.cjc_tokens.proofs.Facts.{same-refl, same-true}
-use Rattle.cjc_tokens.proofs.Held.{at_front}
 use Rattle.cjc_tokens.proofs.Means.{kept-at}
 use Rattle.cjc_tokens.specs.Fields.{field_tokens}
 use Rattle.cjc_tokens.specs.Lines.{line_at}
@@ -40,32 +40,33 @@ use Rattle.cjc_tokens.specs.Methods.{is_open_bound}
 use Rattle.cjc_tokens.specs.Rules.{has_high_method, has_high_token}
 use Rattle.cjc_tokens.specs.Slots.{hidden_slots, row, shown_token}
 use Rattle.cjc_tokens.specs.Tokens.{OfClass, assigned, joined, method_tokens, token_of_member}
-use Rattle.cjc_vtable.proofs.Filed.{Has, at-number, behind, get-has}
+use Rattle.cjc_vtable.proofs.Filed.{Has, at-number, behind, get-has, has-either}
 use Rattle.cjc_vtable.proofs.Filed as filed
-use Rattle.cjc_vtable.proofs.SlotNames.{get-behind, position-at}
+use Rattle.cjc_vtable.proofs.SlotNames.{position-at}
 use Rattle.cjc_world.proofs.Cycles.{class_named-name}
 use Rattle.cjc_world.proofs.Settled.{supertypes-known}
 use Rattle.cjc_world.specs.Added.{added, asked_by, declares_open, has_open, lacking, own_methods, takes_added}
 use Rattle.cjc_world.specs.Classes.{Class, Member, class_named, declared, field_of_class, method_of_class}
 use Rattle.cjc_world.specs.Exported.{is_exported}
 use Rattle.cjc_world.specs.Interfaces.{gathered, known}
-use Rattle.cjc_world.specs.Supertypes.{End, Supertypes, Known, supertypes}
+use Rattle.cjc_world.specs.Supertypes.{supertypes}
 use Rattle.cjc_world.specs.Lookup.{first, is_called, is_wanted, member_at, method_of_interface, or_else, own_method}
 use Rattle.cjc_world.specs.Lookup.{own_of}
 use Rattle.cjc_world.specs.Rules.{is_twice}
 use Rattle.cjc_world.specs.declared.found.Found.{Found}
-use Rattle.cjc_shape_proof.proofs.WrittenLaws.FittingLaws.Exported.{or_first}
-use Rattle.cjc_shape_proof.proofs.WrittenLaws.FittingLaws.Interfaces.{are_asked, has_front}
+use Rattle.cjc_shape_proof.proofs.WrittenLaws.FittingLaws.Interfaces.{are_asked}
 use Rattle.cjc_shape_proof.proofs.WrittenLaws.FittingLaws.Limited.{acyclic, few_imports, are_supertypes, tokens}
 use Rattle.cjc_shape_proof.proofs.WrittenLaws.FittingLaws.Limited.{unbroken}
-use Rattle.cjc_shape_proof.proofs.WrittenLaws.FittingLaws.Lists.{mapped_at}
 use Rattle.cjc_shape_proof.proofs.WrittenLaws.FittingLaws.Meant.{IsMethodRead, named_method}
-use Rattle.cjc_shape_proof.proofs.WrittenLaws.FittingLaws.Order.{has_back, has_either, has_none}
+use Rattle.cjc_shape_proof.proofs.WrittenLaws.FittingLaws.Order.{has_none}
 use Rattle.cjc_shape_proof.proofs.WrittenLaws.FittingLaws.Standing.{listed_in}
 use Rattle.cjc_shape_proof.specs.Written.LaidOut.{ExportedInterfacesStand, IsLaidOut, MethodsStand}
 use Rattle.cjc_shape_proof.proofs.WritingLaws.Entries.{Differ, IsMet, as_many, differ_append, listed_differ, listed_has}
 use Rattle.cjc_shape_proof.proofs.WritingLaws.Entries.{stand, supers_differ, supers_has, supers_in}
-use Rattle.cjc_shape_proof.proofs.WritingLaws.Signatures.{asked_plain, mapped_has, new_has, new_once, own_kept_there}
+use Rattle.cjc_shape_proof.proofs.WritingLaws.Signatures.{asked_plain, new_has, new_once, own_kept_there}
+use Rattle.cjc_classes.proofs.KeyTokens.Kept.{fields_long}
+use Rattle.cjc_token_proof.proofs.TablesLaws.Filed.{has-front}
+use Rattle.cjc_check_proof.proofs.ClassesLaws.Lists.{has-back, has-mapped}
 
 -- ---- flags
 
@@ -114,12 +115,6 @@ first_in own (c ∷ cs) f e = by (own c) refl e (first_in own cs f)
     by (Some g) k h rest = (c, filed.at_front, k ∙ h)
     by None k h rest = let r = rest h in (r.0, behind r.1, r.2)
 
-above : (c : Class) (supers interfaces : Supertypes) → gathered false (Known c supers interfaces End)
-    ≡ gathered false supers ++ gathered true interfaces
-unfolding gathered
-above c supers interfaces = append-nil ((gathered false supers ++ gathered true interfaces) ++ [])
-    ∙ append-nil (gathered false supers ++ gathered true interfaces)
-
 -- ---- what a class declares
 
 declared_at : (ms : List Member) (s : Signature) → is_among (signatures (λ m. true) ms) s ≡ true → (k : ℕ)
@@ -147,12 +142,6 @@ declared_there (x ∷ ms) (suc k) m e = last (same (signature_of x) (signature_o
     last false f = f
 
 -- ---- an interface
-
-fields_long : (exported : Bool) (fs : List FieldTree) (i : ℕ) (rest : List FieldTree)
-    → length (field_tokens exported fs i rest) ≡ length rest
-unfolding field_tokens
-fields_long exported fs i [] = refl
-fields_long exported fs i (f ∷ rest) = ap suc (fields_long exported fs (i + 1) rest)
 
 module _ (list : ListTree) (files : List (List ℕ)) (judged : Judged) (p : Package) (is : IsLaidOut list files judged p)
     (place : ℕ) (owner : Class) (at : slice_get (exported_classes p) place ≡ Some owner)
@@ -197,7 +186,7 @@ module _ (list : ListTree) (files : List (List ℕ)) (judged : Judged) (p : Pack
   few_methods : length its_methods ≤ 128
   unfolding has_high_token
   few_methods = by (let u = t in is_interface u.flags) interface
-      (or_first _ _ (low_tokens p owner o (tokens list files judged p is)))
+      (or_left _ _ (low_tokens p owner o (tokens list files judged p is)))
     where
       by : (b : Bool) → b ≡ true → (if b then nat_lt 128 (length its_methods) else (has_high_method w c
           || (true && nat_lt 255 (count_by is_open_bound methods)))) ≡ false → length its_methods ≤ 128
@@ -211,7 +200,7 @@ module _ (list : ListTree) (files : List (List ℕ)) (judged : Judged) (p : Pack
   signed_plain i s e =
       let d = c in
       let all = asked_by (supertypes w d.supers) (supertypes w d.interfaces) ++ own_methods c in
-      let r = mapped_has signature_of s all (new_has [] (map signature_of all) i s e) in
+      let r = has-mapped signature_of s all (new_has [] (map signature_of all) i s e) in
       ap (λ (u : Signature). is_initialiser u.name) (sym r.2)
       ∙ asked_plain (supertypes w d.supers) (supertypes w d.interfaces) c r.0 r.1
 
@@ -245,7 +234,7 @@ module _ (list : ListTree) (files : List (List ℕ)) (judged : Judged) (p : Pack
       methods ++ map (λ m. shown_token (line_at w c) (signature_of m)) (added w c)) interface in
       ap (option_and_then (λ (x : OfClass). joined (slice_get x.members (fields + k)))) kept.1
       ∙ ap (λ i. joined (slice_get (front ++ method_tokens w ex c) (i + k))) counted
-      ∙ ap joined (get-behind front (method_tokens w ex c) k)
+      ∙ ap joined (get_behind front (method_tokens w ex c) k)
       ∙ ap (λ xs. joined (slice_get xs k)) as_own
       ∙ ap joined (slice_get-map (interface_token its_methods) methods k)
       ∙ ap (λ q. joined (option_map (interface_token its_methods) q)) e
@@ -472,7 +461,7 @@ module _ (list : ListTree) (files : List (List ℕ)) (judged : Judged) (p : Pack
   all_differ = differ_append A S own_differ (supers_differ w c 0 its_methods its_row) across
 
   all_placed : (e : ExportMethod) → Has e (A ++ S) → IsPlaced e
-  all_placed e h = ⊎_elim (λ a. own_placed e a) (λ b. super_placed e b) (has_either e A S h)
+  all_placed e h = ⊎_elim (λ a. own_placed e a) (λ b. super_placed e b) (has-either e A S h)
 
   -- ---- each token is that of one
 
@@ -490,7 +479,7 @@ module _ (list : ListTree) (files : List (List ℕ)) (judged : Judged) (p : Pack
           in
           let shown : is_listed c r.1 ≡ true = is_shown_one r.1 start in (
             method_entry (tok (fields + r.0)) r.1,
-            has_front (method_entry (tok (fields + r.0)) r.1) A S
+            has-front (method_entry (tok (fields + r.0)) r.1) A S
                 (listed_has p c fields methods r.0 r.1 r.2 shown),
             own_token r.0 r.1 i r.2 start signed,
           )
@@ -512,7 +501,7 @@ module _ (list : ListTree) (files : List (List ℕ)) (judged : Judged) (p : Pack
           let s_is = super_of s f.0 (signed_plain i s e) f.1 in
           let z : 0 + i ≡ i = omega arith in (
             method_entry (0 + i) s_is.member,
-            has_back (method_entry (0 + i) s_is.member) A S
+            has-back (method_entry (0 + i) s_is.member) A S
                 (supers_has w c 0 its_methods its_row i s f.0 s_is.member e row_is own s_is.meant),
             z,
           )

@@ -1,5 +1,5 @@
 -- The methods of an interface by their signatures: each stands once, and none is an initialiser.
-use Rattle.std.proofs.Common.{◌≡◌, ℕ, zero, suc, refl, sym, ap, subst, ◌∙◌, Bool, true, false, List, [], ◌∷◌, ◌++◌, map}
+use Rattle.std.proofs.Common.{◌≡◌, ℕ, zero, suc, refl, sym, ap, subst, ◌∙◌, Bool, true, false, List, [], ◌∷◌, ◌++◌}
 use Rattle.std.proofs.Common.{Contains, ⊎_elim, Some}
 use Rattle.std.specs.Prelude.{◌||◌, codes, length, option_map, position, slice_get, if◌then◌else◌}
 use Rattle.std.specs.Str.{bytes_eq}
@@ -9,12 +9,12 @@ use Rattle.cjc_tokens.proofs.Held.{new-fresh}
 use Rattle.cjc_tokens.specs.Members.{Signature, is_initialiser, same}
 use Rattle.cjc_tokens.specs.Slots.{Slots, has_slot, new_in}
 use Rattle.cjc_vtable.proofs.Asked.{has-here}
-use Rattle.cjc_vtable.proofs.Filed.{Has, at_front, behind}
+use Rattle.cjc_vtable.proofs.Filed.{Has, at_front, behind, has-either}
 use Rattle.cjc_world.specs.Added.{asked_by, by_token, methods_of, own_methods, without_initialiser}
 use Rattle.cjc_world.specs.Classes.{Class, Member}
 use Rattle.cjc_world.specs.Interfaces.{gathered, known}
 use Rattle.cjc_world.specs.Supertypes.{Supertypes}
-use Rattle.cjc_shape_proof.proofs.WrittenLaws.FittingLaws.Order.{has_cons, has_either, has_none}
+use Rattle.cjc_shape_proof.proofs.WrittenLaws.FittingLaws.Order.{has_cons, has_none}
 
 -- ---- signatures that are new
 
@@ -68,11 +68,6 @@ new_once S (x ∷ ss) i s e = by (has_slot S x) i e (new_once S ss) (new_once (S
         (apart i e (same x s) refl)
         ∙ ap (option_map suc) (new i s e)
 
-pub mapped_has : {A B : Type 0} (f : A → B) (y : B) (xs : List A) → Has y (map f xs) → (x : A) × Has x xs × (f x ≡ y)
-mapped_has f y [] h = has_none y h
-mapped_has f y (x ∷ xs) h = ⊎_elim (λ same_one. (x, at_front, sym same_one)) (λ g. let r = mapped_has f y xs g
-    in (r.0, behind r.1, r.2)) (has_cons y (f x) (map f xs) h)
-
 -- ---- methods that an interface has
 
 without_plain : (ms : List Member) (m : Member) → Has m (without_initialiser ms) → is_initialiser m.name ≡ false
@@ -93,7 +88,7 @@ own_plain d m h = without_plain (if d.is_imported then by_token (length d.method
 of_plain : (ds : List Class) (m : Member) → Has m (methods_of ds) → is_initialiser m.name ≡ false
 unfolding methods_of
 of_plain [] m h = has_none m h
-of_plain (d ∷ ds) m h = ⊎_elim (λ g. own_plain d m g) (λ g. of_plain ds m g) (has_either m (own_methods d)
+of_plain (d ∷ ds) m h = ⊎_elim (λ g. own_plain d m g) (λ g. of_plain ds m g) (has-either m (own_methods d)
     (methods_of ds) h)
 
 pub asked_plain : (supers interfaces : Supertypes) (d : Class) (m : Member) → Has m (asked_by supers interfaces
@@ -101,7 +96,7 @@ pub asked_plain : (supers interfaces : Supertypes) (d : Class) (m : Member) → 
 unfolding asked_by
 asked_plain supers interfaces d m h =
     ⊎_elim (λ g. of_plain (known (gathered false supers ++ gathered true interfaces)) m g) (λ g. own_plain d m g)
-    (has_either m (methods_of (known (gathered false supers ++ gathered true interfaces))) (own_methods d) h)
+    (has-either m (methods_of (known (gathered false supers ++ gathered true interfaces))) (own_methods d) h)
 
 -- ---- a class's own method among those
 

@@ -1,20 +1,20 @@
 -- The files of a converted package are read ones that break no rule of classes and names.
-use Rattle.std.proofs.Common.{◌≡◌, ℕ, zero, suc, ◌+◌, ◌<◌, ◌≤◌, refl, sym, ap, subst, ◌∙◌, arith, Bool, true, false}
-use Rattle.std.proofs.Common.{not, List, [], ◌∷◌, length}
-use Rattle.std.specs.Prelude.{Some, cond, slice_get}
+use Rattle.std.proofs.Common.{◌≡◌, ℕ, zero, suc, ◌<◌, ◌≤◌, refl, sym, ap, subst, ◌∙◌, arith}
+use Rattle.std.proofs.Common.{List, [], ◌∷◌, length}
+use Rattle.std.specs.Prelude.{Some, slice_get}
 use Rattle.std.specs.List.{AllByRecursion}
-use Rattle.std.proofs.lemmas.List.Sums.{sum_by-cons}
-use Rattle.cjc_bytes.proofs.Inverse.{all_at}
 use Rattle.cjc_bytes.specs.Descriptor.{IsClassName}
 use Rattle.cjc_bytes.specs.Format.{FileSpells}
 use Rattle.cjc_bytes.specs.declared.settings.FileLine.{FileLine}
+use Rattle.cjc_bytes.proofs.Gets.{all_at}
+use Rattle.cjc_bytes.proofs.Numbers.{one_file}
 use Rattle.cjc_classfile.proofs.Fitting.{spelt_fits}
 use Rattle.cjc_classfile.specs.ClassFile.{class_file}
 use Rattle.cjc_classfile.specs.Fits as fits
 use Rattle.cjc_classfile.specs.declared.tree.ClassTree.{ClassTree}
 use Rattle.cjc_clinit.specs.Image.{IsImage}
-use Rattle.cjc_world_proof.specs.Initialisers.Values.{StandOnce}
-use Rattle.cjc_subset.specs.Bytecode.PackageCodes.{all_codes}
+use Rattle.cjc_token_proof.specs.WorldProof.Initialisers.Values.{StandOnce}
+use Rattle.cjc_ncode.specs.Bytecode.PackageCodes.{all_codes}
 use Rattle.cjc_components.specs.Package.{Package, world}
 use Rattle.cjc_shape.specs.Judge.Rules.{settings_of}
 use Rattle.cjc_shape.specs.Judge.Spelt.{FileTree, classes_of, exports_of}
@@ -26,10 +26,10 @@ use Rattle.cjc_shape.specs.Judged.Tested.{AreFiles, IsTested}
 use Rattle.cjc_components.specs.List.Listed.{ListTree}
 use Rattle.cjc_narrow_proof.specs.Laws.Unbroken.{AreSpelt, IsUnbroken}
 use Rattle.cjc_shape.proofs.PreparedLaws.Sound.{is_tested, is_unbroken}
-use Rattle.cjc_subset.proofs.BytecodeMembers.{read_class}
-use Rattle.cjc_subset.specs.Bytecode.ReadLaws.Members.{IsReadClass}
-use Rattle.cjc_world_proof.specs.Files.{AreReadFiles}
-use Rattle.cjc_subset.specs.Checks.{check_breaks}
+use Rattle.cjc_ncode.proofs.BytecodeMembers.{read_class}
+use Rattle.cjc_ncode.specs.Bytecode.ReadLaws.Members.{IsReadClass}
+use Rattle.cjc_token_proof.specs.WorldProof.Files.{AreReadFiles}
+use Rattle.cjc_vtable.specs.Subset.Checks.{check_breaks}
 use Rattle.cjc_narrow_proof.proofs.TablesLaws.Spelt.{class_read}
 use Rattle.cjc_token_proof.specs.Tables.Sound.{AreFieldDescs, IsSound, export_count}
 use Rattle.cjc_vtable.specs.Kept.{AreRead, BreaksNone, IsKept}
@@ -39,19 +39,12 @@ use Rattle.cjc_shape.proofs.WholeLaws.Second.{package_is_draft}
 use Rattle.cjc_world.specs.Files.{Files}
 use Rattle.cjc_world.specs.Rules.{breaks}
 use Rattle.cjc_token_proof.specs.WrittenCalls.Standing.{AreMethods}
+use Rattle.cjc_token_proof.proofs.TablesLaws.Filed.{export_count-cons}
 use Rattle.cjc_shape_proof.specs.Written.Converted.{IsConverted}
 use Rattle.cjc_shape_proof.proofs.WrittenLaws.PackageNames.{package_named}
 use Rattle.cjc_shape_proof.proofs.WrittenLaws.FittingLaws.Initialisers.{stand_once}
 
 -- ---- the lines
-
-none_of : (b : Bool) → b ≡ false → ◌≡◌ {A = ℕ} (cond (not b) 1 0) 1
-none_of false e = refl
-none_of true e = cc
-
-export_count-cons : (line : FileLine) (lines : List FileLine) → export_count (line ∷ lines) ≡ cond (not line.class_file)
-    1 0 + export_count lines
-export_count-cons line lines = sum_by-cons (λ (l : FileLine). cond (not l.class_file) 1 0) line lines
 
 exports_few : (lines : List FileLine) (files : List (List ℕ)) (trees : List FileTree) → AllSpelt lines files trees
     → length (exports_of trees) ≤ export_count lines
@@ -65,7 +58,7 @@ exports_few (line ∷ lines) (bytes ∷ files) (spelt_files.of_class tree ∷ tr
     omega (arith, rest, all)
 exports_few (line ∷ lines) (bytes ∷ files) (spelt_files.of_export tree ∷ trees) h =
     let rest = exports_few lines files trees h.1 in
-    let one = none_of line.class_file h.0.0 in
+    let one = one_file line.class_file h.0.0 in
     let all = export_count-cons line lines in
     omega (arith, rest, one, all)
 

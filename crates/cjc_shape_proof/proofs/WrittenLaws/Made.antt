@@ -8,20 +8,21 @@ use Rattle.std.proofs.lemmas.Bool.{ltb-false}
 use Rattle.std.proofs.lemmas.List.Elements.{All-head, All-tail}
 use Rattle.std.proofs.lemmas.List.Concat.{flat_map-cons}
 use Rattle.std.proofs.lemmas.List.Sums.{sum_by-cons}
-use Rattle.std.proofs.lemmas.Option.{get_or_from_slice_get, slice_get-map, slice_get_within}
-use Rattle.cjc_bytes.proofs.Inverse.{all_at}
+use Rattle.std.proofs.lemmas.Option.{slice_get-map}
 use Rattle.cjc_bytes.specs.Breaks.{at}
 use Rattle.cjc_bytes.specs.declared.fault.MemberId.{MemberId}
-use Rattle.cjc_world_proof.specs.JvmSemantics.Linked.{Method}
-use Rattle.cjc_world_proof.specs.JvmSemantics.OnePackage.{method_at, method_by, method_in}
+use Rattle.cjc_bytes.proofs.Gets.{all_at, contained, item_has}
+use Rattle.cjc_bytes.proofs.Lists.{none_left}
+use Rattle.cjc_token_proof.specs.JvmSemantics.Linked.{Method}
+use Rattle.cjc_token_proof.specs.JvmSemantics.OnePackage.{method_at, method_by, method_in}
 use Rattle.cjc_classfile.proofs.Fitting.{spelt_fits}
 use Rattle.cjc_classfile.specs.Code.{CodeTree}
 use Rattle.cjc_classfile.specs.Fits as fits
 use Rattle.cjc_classfile.specs.declared.tree.ClassTree.{ClassTree}
 use Rattle.cjc_classfile.specs.declared.tree.MethodTree.{MethodTree}
-use Rattle.cjc_subset.specs.Bytecode.Decoded.{of_code, of_method}
-use Rattle.cjc_subset.specs.Bytecode.PackageCodes.{all_codes}
-use Rattle.cjc_subset.specs.Bytecode.declared.method_code.MethodCode.{MethodCode}
+use Rattle.cjc_ncode.specs.Bytecode.Decoded.{of_code, of_method}
+use Rattle.cjc_ncode.specs.Bytecode.PackageCodes.{all_codes}
+use Rattle.cjc_ncode.specs.Bytecode.declared.method_code.MethodCode.{MethodCode}
 use Rattle.cjc_check_proof.specs.Made.{AllAreMade, IsMade}
 use Rattle.cjc_components.specs.Limits.{in_class, is_too_long, layout_breaks, of_methods, widest_method}
 use Rattle.cjc_components.specs.Methods.{method_size}
@@ -56,12 +57,7 @@ use Rattle.cjc_shape_proof.specs.Written.Converted.{IsConverted}
 use Rattle.cjc_shape_proof.proofs.WrittenLaws.Files.{own_unbroken, read_files, same_files}
 use Rattle.cjc_shape_proof.proofs.WrittenLaws.Ordering.{IsOrdered, ordered_by}
 use Rattle.cjc_shape_proof.proofs.WrittenLaws.Places.{coded_there}
-use Rattle.cjc_shape_proof.proofs.WrittenLaws.Shaping.{all_in, none_front, none_of_method, own_at as own_there}
-
--- ---- lists
-
-contained : {A : Type 0} (xs : List A) (j : ℕ) (x : A) → slice_get xs j ≡ Some x → Contains xs x
-contained xs j x e = (j, slice_get_within xs j x e, get_or_from_slice_get xs j x x e)
+use Rattle.cjc_shape_proof.proofs.WrittenLaws.Shaping.{none_of_method, own_at as own_there}
 
 -- ---- the package
 
@@ -111,15 +107,15 @@ module _ (list : ListTree) (files : List (List ℕ)) (judged : Judged) (p : Pack
       let there : slice_get (map (code_at p.files near rows) (method_order (world p))) k ≡ Some m.code =
       slice_get-map (code_at p.files near rows) (method_order (world p)) k ∙ ap (option_map (code_at p.files near rows))
       (member_at k m e) ∙ ap Some (sym w.code) in
-      all_in IsWhole (map (code_at p.files near rows) (method_order (world p))) k m.code
+      item_has IsWhole (map (code_at p.files near rows) (method_order (world p))) k m.code
       (law p.files judged.codes judged.types own_ready rows own_rows near (method_order (world p)) owned) there
 
   -- 311
   pub ordered_at : (k : ℕ) (m : LaidMethod) → slice_get p.methods k ≡ Some m → IsOrdered m.code
   ordered_at k m e =
       let none = none_of_method list files judged is.sound p is.is_package (layout_breaks p)
-      (none_front (of_methods p (layout_breaks p)) _ (forms_of p is.forms)) k m e in
-      ordered_by m.code _ (none_front _ _ none)
+      (none_left (of_methods p (layout_breaks p)) _ (forms_of p is.forms)) k m e in
+      ordered_by m.code _ (none_left _ _ none)
 
   -- ---- where a method is of its class file
 

@@ -12,13 +12,13 @@ use Rattle.cjc_ncode.specs.CardSemantics.Bytecode.Renaming.{AreAlike, KnownHeap,
 use Rattle.cjc_ncode.specs.CardSemantics.Bytecode.Renaming.{one_thing, option_as, shape_as}
 use Rattle.cjc_bytes.specs.Breaks.{RulePlace}
 use Rattle.cjc_bytes.specs.declared.fault.MemberId.{MemberId}
-use Rattle.cjc_world_proof.specs.JvmSemantics.Linked.{Method}
-use Rattle.cjc_world_proof.specs.JvmSemantics.Linked as linked
-use Rattle.cjc_world_proof.specs.JvmSemantics.OnePackage.{method_at}
+use Rattle.cjc_token_proof.specs.JvmSemantics.Linked.{Method}
+use Rattle.cjc_token_proof.specs.JvmSemantics.Linked as linked
+use Rattle.cjc_token_proof.specs.JvmSemantics.OnePackage.{method_at}
 use Rattle.cjc_components.specs.Limits.{order_breaks}
 use Rattle.cjc_components.specs.Methods.{in_table_order, method_size}
 use Rattle.cjc_classfile.specs.declared.tree.Catch.{Catch}
-use Rattle.cjc_subset.specs.Bytecode.declared.insn.JInsn.{JInsn}
+use Rattle.cjc_ncode.specs.Bytecode.declared.insn.JInsn.{JInsn}
 use Rattle.cjc_components.specs.Package.{LaidMethod, Package, pool}
 use Rattle.cjc_components.specs.Layout.Handlers.{table_order}
 use Rattle.cjc_components.specs.Layout.Refusals.{least, overtaking}
@@ -239,12 +239,12 @@ module _ (files : Files) (image : StaticImage) (before after : Method → NMetho
     imported_known = λ name c e. object_known refl refl;
     throwable = λ name. sym (option_stays (l.throwable name));
     throwable_known = λ name c e. object_known refl refl;
-    called = λ id. named_sorted (Rattle.cjc_world_proof.specs.JvmSemantics.OnePackage.entry_named files w id);
-    called_known = λ id start e. named_fine (Rattle.cjc_world_proof.specs.JvmSemantics.OnePackage.entry_named files w
+    called = λ id. named_sorted (Rattle.cjc_token_proof.specs.JvmSemantics.OnePackage.entry_named files w id);
+    called_known = λ id start e. named_fine (Rattle.cjc_token_proof.specs.JvmSemantics.OnePackage.entry_named files w
         id) start e;
     sent = λ kind id is_known. ap (λ x. l'.sent x id) (shape_stays kind)
-        ∙ named_sorted (Rattle.cjc_world_proof.specs.JvmSemantics.OnePackage.sent_named files w (shape_name kind) id);
-    sent_known = λ kind id start is_known e. named_fine (Rattle.cjc_world_proof.specs.JvmSemantics.OnePackage.sent_named
+        ∙ named_sorted (Rattle.cjc_token_proof.specs.JvmSemantics.OnePackage.sent_named files w (shape_name kind) id);
+    sent_known = λ kind id start is_known e. named_fine (Rattle.cjc_token_proof.specs.JvmSemantics.OnePackage.sent_named
         files w
         (shape_name kind) id) start e;
     name = λ c is_known. refl;

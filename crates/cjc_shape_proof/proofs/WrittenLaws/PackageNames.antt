@@ -1,15 +1,16 @@
 -- The name of a package, as a list spells it, is one of a class.
-use Rattle.std.proofs.Common.{◌≡◌, ℕ, refl, sym, ap, subst, ◌∙◌, arith, Bool, true, false, List, [], ◌∷◌, length}
+use Rattle.std.proofs.Common.{◌≡◌, ℕ, refl, sym, ap, subst, ◌∙◌, Bool, true, false, List, [], ◌∷◌}
 use Rattle.std.specs.Prelude.{◌==◌, if◌then◌else◌}
 use Rattle.std.specs.List.{join_with_byte, list_all, slice_split}
 use Rattle.std.proofs.lemmas.Bool.{eqb-true}
-use Rattle.std.proofs.lemmas.List.Splits.{join_with_byte-slice_split, length-slice_split}
+use Rattle.std.proofs.lemmas.List.Splits.{join_with_byte-slice_split}
 use Rattle.cjc_bytes.specs.Descriptor.{IsClassName, IsName, inside, last, more, simple}
+use Rattle.cjc_bytes.proofs.Bools.{both_front, both_back}
+use Rattle.cjc_bytes.proofs.Lists.{never_none}
 use Rattle.cjc_bytes.specs.Descriptor as descriptors
 use Rattle.cjc_shape.specs.Judge.Spelt.{IsRead}
 use Rattle.cjc_components.specs.List.Grammar.{is_name, is_name_byte, is_name_part}
 use Rattle.cjc_components.specs.List.Listed.{ListTree}
-use Rattle.cjc_world.proofs.Trees.{all-back, all-front}
 
 -- a letter, a digit, _ or $ is a byte of a name: the four that are none are no such byte
 name_byte : (b : ℕ) → is_name_byte b ≡ true → descriptors.is_name_byte b ≡ true
@@ -36,9 +37,9 @@ name_byte b e = dot (b == 46) refl
     dot false f = semicolon (b == 59) refl
 
 part_name : (b : ℕ) (bs : List ℕ) → list_all is_name_byte (b ∷ bs) ≡ true → IsName (b ∷ bs)
-part_name b [] e = last (name_byte b (all-front (is_name_byte b) true e))
-part_name b (c ∷ bs) e = more (name_byte b (all-front (is_name_byte b) (list_all is_name_byte (c ∷ bs)) e))
-    (part_name c bs (all-back (is_name_byte b) (list_all is_name_byte (c ∷ bs)) e))
+part_name b [] e = last (name_byte b (both_front (is_name_byte b) true e))
+part_name b (c ∷ bs) e = more (name_byte b (both_front (is_name_byte b) (list_all is_name_byte (c ∷ bs)) e))
+    (part_name c bs (both_back (is_name_byte b) (list_all is_name_byte (c ∷ bs)) e))
 
 part_of_name : (bs : List ℕ) → is_name_part bs ≡ true → IsName bs
 part_of_name [] e = absurd cc
@@ -47,19 +48,15 @@ part_of_name (b ∷ bs) e = part_name b bs e
 -- parts joined by /
 joined_name : (part : List ℕ) (parts : List (List ℕ)) → list_all is_name_part (part ∷ parts) ≡ true
     → IsClassName (join_with_byte 47 (part ∷ parts))
-joined_name part [] e = simple (part_of_name part (all-front (is_name_part part) true e))
+joined_name part [] e = simple (part_of_name part (both_front (is_name_part part) true e))
 joined_name part (next ∷ parts) e =
-    inside (part_of_name part (all-front (is_name_part part) (list_all is_name_part (next ∷ parts)) e))
-    (joined_name next parts (all-back (is_name_part part) (list_all is_name_part (next ∷ parts)) e))
+    inside (part_of_name part (both_front (is_name_part part) (list_all is_name_part (next ∷ parts)) e))
+    (joined_name next parts (both_back (is_name_part part) (list_all is_name_part (next ∷ parts)) e))
 
 some_parts : (parts : List (List ℕ)) (bs : List ℕ) → join_with_byte 47 parts ≡ bs → (parts ≡ [] → ⊥)
     → list_all is_name_part parts ≡ true → IsClassName bs
 some_parts [] bs e some all = absurd (some refl)
 some_parts (part ∷ parts) bs e some all = subst IsClassName e (joined_name part parts all)
-
-never_none : (bs : List ℕ) → slice_split (λ b. b == 47) bs ≡ [] → ⊥
-never_none bs e = let count = length-slice_split (λ b. b == 47) bs in let none = ap length e
-    in omega (arith, count, none)
 
 pub class_name : (bs : List ℕ) → is_name bs ≡ true → IsClassName bs
 unfolding is_name

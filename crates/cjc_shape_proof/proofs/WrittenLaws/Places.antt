@@ -2,19 +2,15 @@
 use Rattle.std.proofs.Common.{◌≡◌, ℕ, zero, suc, ◌+◌, ap, subst, ◌∙◌, arith, List, [], ◌∷◌, ◌++◌, length}
 use Rattle.std.specs.Prelude.{Some, Result, Ok, slice_get}
 use Rattle.cjc_bytes.specs.declared.breaks.BrokenAt.{BrokenAt}
+use Rattle.cjc_bytes.proofs.Gets.{in_front, get_behind}
 use Rattle.cjc_classfile.specs.Code.{CodeTree}
 use Rattle.cjc_classfile.specs.declared.tree.ClassTree.{ClassTree}
 use Rattle.cjc_classfile.specs.declared.tree.MethodTree.{MethodTree}
-use Rattle.cjc_subset.specs.Bytecode.Decoded.{decoding}
-use Rattle.cjc_subset.specs.Bytecode.PackageCodes.{code_with, of_classes, of_methods, where_code}
-use Rattle.cjc_subset.specs.Bytecode.declared.insn.JInsn.{JInsn}
+use Rattle.cjc_ncode.specs.Bytecode.Decoded.{decoding}
+use Rattle.cjc_ncode.specs.Bytecode.PackageCodes.{code_with, of_classes, of_methods, where_code}
+use Rattle.cjc_ncode.specs.Bytecode.declared.insn.JInsn.{JInsn}
 
 -- ---- each method with code is there
-
-behind : {A : Type 0} (xs ys : List A) (k : ℕ) → slice_get (xs ++ ys) (length xs + k) ≡ slice_get ys k
-behind [] ys k = let at : 0 + k ≡ k = omega arith in ap (slice_get ys) at
-behind (x ∷ xs) ys k = let at : suc (length xs) + k ≡ suc (length xs + k) = omega arith
-    in ap (slice_get (x ∷ xs ++ ys)) at ∙ behind xs ys k
 
 coded_method : (class k : ℕ) (t : ClassTree) (ms : List MethodTree) (j : ℕ) (m : MethodTree) (tree : CodeTree)
     (insns : List JInsn) → slice_get ms j ≡ Some m → m.code ≡ Some tree → decoding t m tree ≡ Ok insns
@@ -39,14 +35,9 @@ coded_method class k t (x ∷ ms) (suc j) m tree insns e f g =
     let at : k + 1 + j ≡ k + suc j = omega arith in
     let front = where_code (code_with class k) t x x.code in (
       length front + r.0,
-      behind front (of_methods code_with class (k + 1) t ms) r.0 ∙ r.1
+      get_behind front (of_methods code_with class (k + 1) t ms) r.0 ∙ r.1
           ∙ ap (λ i. Some (record { class = class; method = i; insns = insns })) at,
     )
-
-front_of : {A : Type 0} (xs ys : List A) (k : ℕ) (x : A) → slice_get xs k ≡ Some x → slice_get (xs ++ ys) k ≡ Some x
-front_of [] ys k x e = cc
-front_of (y ∷ xs) ys zero x e = e
-front_of (y ∷ xs) ys (suc k) x e = front_of xs ys k x e
 
 pub coded_there : (n : ℕ) (ts : List ClassTree) (i j : ℕ) (t : ClassTree) (m : MethodTree) (tree : CodeTree)
     (insns : List JInsn) → slice_get ts i ≡ Some t → slice_get t.methods j ≡ Some m → m.code ≡ Some tree
@@ -59,7 +50,7 @@ coded_there n (x ∷ ts) zero j t m tree insns e f g h =
     let at : n ≡ n + 0 = omega arith in
     let place : 0 + j ≡ j = omega arith in (
       r.0,
-      front_of (of_methods code_with n 0 x x.methods) (of_classes code_with (n + 1) ts) r.0 (record {
+      in_front (of_methods code_with n 0 x x.methods) (of_classes code_with (n + 1) ts) r.0 (record {
         class = n;
         method = 0 + j;
         insns = insns;
@@ -77,6 +68,6 @@ coded_there n (x ∷ ts) (suc i) j t m tree insns e f g h =
     let at : n + 1 + i ≡ n + suc i = omega arith in
     let front = of_methods code_with n 0 x x.methods in (
       length front + r.0,
-      behind front (of_classes code_with (n + 1) ts) r.0 ∙ r.1
+      get_behind front (of_classes code_with (n + 1) ts) r.0 ∙ r.1
           ∙ ap (λ k. Some (record { class = k; method = j; insns = insns })) at,
     )

@@ -1,15 +1,17 @@
 -- A package that is laid out has layouts of its methods and a pool, as those ask who emit them.
 use Rattle.std.proofs.Common.{◌≡◌, ℕ, zero, suc, ◌+◌, ◌<◌, ◌≤◌, refl, sym, ap, subst, ◌∙◌, arith, Bool, true, false}
 use Rattle.std.proofs.Common.{List, [], ◌∷◌, ◌++◌, length, map}
-use Rattle.std.specs.Prelude.{◌||◌, All, Option, Some, None, flat_map, option_and_then, option_map, position, slice_get}
+use Rattle.std.specs.Prelude.{◌||◌, All, Option, Some, None, option_and_then, option_map, position, slice_get}
 use Rattle.std.specs.Prelude.{slice_index, if◌then◌else◌}
 use Rattle.std.specs.List.{list_any}
 use Rattle.std.proofs.lemmas.Bool.{ltb-false}
-use Rattle.std.proofs.lemmas.List.Concat.{flat_map-cons}
-use Rattle.std.proofs.lemmas.List.Elements.{All-head, All-tail}
 use Rattle.std.proofs.lemmas.Option.{slice_get-map}
 use Rattle.cjc_bytes.specs.Breaks.{Break, at}
 use Rattle.cjc_bytes.specs.declared.fault.MemberId.{MemberId}
+use Rattle.cjc_bytes.proofs.Lists.{none_left, none_right}
+use Rattle.cjc_bytes.proofs.Gets.{item_has, none_each}
+use Rattle.cjc_bytes.proofs.Quantified.{any_both}
+use Rattle.cjc_bytes.proofs.Numbers.{none_at}
 use Rattle.cjc_components.specs.Limits.{form_breaks, in_class, is_too_long, layout_breaks, of_methods}
 use Rattle.cjc_components.specs.Package.{LaidMethod, Package, world}
 use Rattle.cjc_shape.specs.Judge.declared.judged.Judged.{Judged}
@@ -37,6 +39,7 @@ use Rattle.cjc_shape.specs.Whole.Conversion.{IsPackageOf}
 use Rattle.cjc_world.specs.Classes.{Class, all_classes, class_at}
 use Rattle.cjc_world.specs.Files.{Files}
 use Rattle.cjc_world.specs.Order.{method_order}
+use Rattle.cjc_components.proofs.ListWholes.{or_none}
 
 -- ---- the methods of interfaces that code calls
 
@@ -52,22 +55,9 @@ called_of : List NMethod → List MemberId
 called_of [] = []
 called_of (m ∷ ms) = called_in m.insns ++ called_of ms
 
-any_both : {A : Type 0} (p : A → Bool) (xs ys : List A) → list_any p (xs ++ ys) ≡ (list_any p xs || list_any p ys)
-any_both p [] ys = refl
-any_both p (x ∷ xs) ys = by (p x) (any_both p xs ys)
-  where
-    by : (b : Bool) → list_any p (xs ++ ys) ≡ (list_any p xs || list_any p ys) → (b || list_any p (xs ++ ys))
-        ≡ ((b || list_any p xs) || list_any p ys)
-    by true e = refl
-    by false e = e
-
-or_false : (b : Bool) → (b || false) ≡ b
-or_false true = refl
-or_false false = refl
-
 insn_called : (id : MemberId) (i : NInsn) → calls id i ≡ list_any (same_member id) (called_by i)
 unfolding called_by
-insn_called id (insns.Interface nargs m) = sym (or_false (same_member id m))
+insn_called id (insns.Interface nargs m) = sym (or_none (same_member id m))
 insn_called id (insns.Op op) = refl
 insn_called id (insns.Push op value) = refl
 insn_called id (insns.Local op index) = refl
@@ -176,31 +166,6 @@ layout_wide m wide = refl
 
 -- ---- what is broken of no method
 
-pub none_front : {A : Type 0} (xs ys : List A) → xs ++ ys ≡ [] → xs ≡ []
-none_front [] ys e = refl
-none_front (x ∷ xs) ys e = cc
-
-pub none_back : {A : Type 0} (xs ys : List A) → xs ++ ys ≡ [] → ys ≡ []
-none_back [] ys e = e
-none_back (x ∷ xs) ys e = cc
-
-pub not_at : (b : Bool) (place : _) (rule : ℕ) → at b place rule ≡ [] → b ≡ false
-not_at false place rule e = refl
-not_at true place rule e = cc
-
-pub none_each : {A B : Type 0} (f : A → List B) (xs : List A) (k : ℕ) (x : A) → flat_map f xs ≡ []
-    → slice_get xs k ≡ Some x → f x ≡ []
-none_each f [] k x e g = cc
-none_each f (y ∷ xs) zero x e g = let is : y ≡ x = cc in ap f (sym is)
-    ∙ none_front (f y) (flat_map f xs) (sym (flat_map-cons f y xs) ∙ e)
-none_each f (y ∷ xs) (suc k) x e g = none_each f xs k x (none_back (f y) (flat_map f xs) (sym (flat_map-cons f y xs)
-    ∙ e)) g
-
-pub all_in : {A : Type 0} (P : A → Type 0) (xs : List A) (k : ℕ) (x : A) → All P xs → slice_get xs k ≡ Some x → P x
-all_in P [] k x all e = cc
-all_in P (y ∷ xs) zero x all e = let is : y ≡ x = cc in subst P is (All-head P y xs all)
-all_in P (y ∷ xs) (suc k) x all e = all_in P xs k x (All-tail P y xs all) e
-
 module _ (list : ListTree) (files : List (List ℕ)) (judged : Judged) (is : IsSound list files judged) (p : Package)
     (whole : IsPackageOf list files p) where
   same_world : p.files ≡ judged.world
@@ -214,7 +179,7 @@ module _ (list : ListTree) (files : List (List ℕ)) (judged : Judged) (is : IsS
       let owned : All (IsOwn p.files) (method_order (world p)) =
       subst (λ (w : Files). All (IsOwn w) (method_order (all_classes w))) (sym same_world)
       (all_own judged.world (listed list files judged is)) in
-      all_in (IsOwn p.files) (method_order (world p)) k m.member owned there
+      item_has (IsOwn p.files) (method_order (world p)) k m.member owned there
 
   -- nothing of a method
   pub none_of_method : (B : Class → LaidMethod → List Break) → of_methods p B ≡ [] → (k : ℕ) (m : LaidMethod)
@@ -231,5 +196,5 @@ module _ (list : ListTree) (files : List (List ℕ)) (judged : Judged) (is : IsS
   pub short_at : form_breaks p ≡ [] → (k : ℕ) (m : LaidMethod) → slice_get p.methods k ≡ Some m
       → (let code = m.code in code.widest ≤ 32767)
   short_at forms k m e =
-      let none = none_of_method (layout_breaks p) (none_front (of_methods p (layout_breaks p)) _ forms) k m e in
-      ltb-false 32767 (let code = m.code in code.widest) (not_at (is_too_long m) _ 415 (none_back _ _ none))
+      let none = none_of_method (layout_breaks p) (none_left (of_methods p (layout_breaks p)) _ forms) k m e in
+      ltb-false 32767 (let code = m.code in code.widest) (none_at (is_too_long m) _ 415 (none_right _ _ none))

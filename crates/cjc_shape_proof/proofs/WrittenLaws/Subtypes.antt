@@ -6,16 +6,16 @@ use Rattle.std.specs.Prelude.{◌||◌, Option, Some, None, option_to_list, if�
 use Rattle.std.specs.List.{AllByRecursion}
 use Rattle.std.specs.Str.{bytes_eq}
 use Rattle.cjc_bytes.specs.AccessFlags.{is_interface}
-use Rattle.cjc_world_proof.proofs.CallsLaws.Selects.{receiver_plain}
-use Rattle.cjc_world_proof.proofs.CallsLaws.Types.{below_type, type_below}
+use Rattle.cjc_bytes.proofs.Lists.{name_is, bytes_true}
+use Rattle.cjc_token_proof.proofs.WorldProofTypes.{below_type, type_below, receiver_class}
 use Rattle.cjc_ncode.specs.Script.Sorts.{Booleans, Bytes, Element, Ints, OfNumbers, OfReferences, Shape, Shorts}
 use Rattle.cjc_ncode.specs.Script.Sorts.{shape_name}
 use Rattle.cjc_tokens.specs.Methods.{interfaces_at}
-use Rattle.cjc_world.proofs.UpwardLaws.Lines.{gathered_has, line_below, on_line}
+use Rattle.cjc_world.proofs.UpwardLaws.Lines.{gathered_has, line_below, on_line, same_class}
 use Rattle.cjc_world.specs.Upwards.{Below, Has, IsOrdered, OnLine, after, foremost, here, up}
 use Rattle.cjc_vtable.specs.Laws.{Under, below, interface_named, itself}
 use Rattle.cjc_world.proofs.Cycles.{class_named-name}
-use Rattle.cjc_world.proofs.Settled.{bytes-refl, bytes-true, supertypes-AreSupertypes}
+use Rattle.cjc_world.proofs.Settled.{supertypes-AreSupertypes}
 use Rattle.cjc_world.specs.Classes.{Class, class_named}
 use Rattle.cjc_world.specs.Interfaces.{Interface, each_once, gathered, is_among, known, where_listed}
 use Rattle.cjc_world.specs.Supertypes.{End, AreSupertypes, Supertypes, Known, ends, supertypes, known_here}
@@ -26,9 +26,6 @@ use Rattle.cjc_world.specs.Subtype.{is_subtype, starts}
 use Rattle.cjc_token_proof.specs.WrittenCalls.Calls.{KeepsSubtypes, Receives, numbers, one_of, references}
 
 -- ---- superclasses
-
-same_class : {c d : Class} → Some c ≡ Some d → c ≡ d
-same_class e = cc
 
 pub line_under : (w : List Class) (x y : List ℕ) (d : Class) → OnLine w x d → class_named w y ≡ Some d → Under w x y
 line_under w x y d (here e) f =
@@ -84,7 +81,7 @@ gathered_among w (i ∷ is) d told h = by i.class told.0 h (gathered_among w is 
         → (Has d (known is) → is_among is d.name ≡ true) → (bytes_eq i.name d.name || is_among is d.name) ≡ true
     first_or c e (inl same) rest =
         let name : d.name ≡ i.name = ap (λ (v : Class). v.name) same ∙ class_named-name w i.name c (sym e) in
-        ap (λ n. bytes_eq i.name n || is_among is d.name) name ∙ ap (λ b. b || is_among is d.name) (bytes-refl i.name)
+        ap (λ n. bytes_eq i.name n || is_among is d.name) name ∙ ap (λ b. b || is_among is d.name) (name_is i.name)
     first_or c e (inr h) rest = later (bytes_eq i.name d.name) (rest h)
 
     split : (c : Class) → Has d (c ∷ known is) → (d ≡ c) ⊎ Has d (known is)
@@ -125,17 +122,17 @@ once_named w seen (i ∷ is) y d e told none some =
     here_one : bytes_eq i.name y ≡ true → (rest : List Class) → interface_named (option_to_list i.class ++ rest) y
         ≡ Some d
     here_one g rest =
-        let is : i.class ≡ Some d = told.0 ∙ ap (class_named w) (bytes-true i.name y g) ∙ e in
+        let is : i.class ≡ Some d = told.0 ∙ ap (class_named w) (bytes_true i.name y g) ∙ e in
         ap (λ o. interface_named (option_to_list o ++ rest) y) is
         ∙ ap (λ b. if b then Some d else interface_named rest y) (ap (λ n. bytes_eq n y) (class_named-name w y d e)
-        ∙ bytes-refl y)
+        ∙ name_is y)
 
     by : (a : Bool) → is_among seen i.name ≡ a → (b : Bool) → bytes_eq i.name y ≡ b → (b || is_among is y) ≡ true
         → (is_among is y ≡ true → interface_named (known (each_once seen is)) y ≡ Some d)
         → (is_among (seen ++ i ∷ []) y ≡ false → is_among is y ≡ true
         → interface_named (known (each_once (seen ++ i ∷ []) is)) y ≡ Some d)
         → interface_named (known (if a then each_once seen is else i ∷ each_once (seen ++ i ∷ []) is)) y ≡ Some d
-    by true f true g some rest more = let clash : true ≡ false = sym f ∙ ap (is_among seen) (bytes-true i.name y g)
+    by true f true g some rest more = let clash : true ≡ false = sym f ∙ ap (is_among seen) (bytes_true i.name y g)
         ∙ none in cc
     by true f false g some rest more = rest some
     by false f true g some rest more = here_one g (known (each_once (seen ++ i ∷ []) is))
@@ -148,7 +145,7 @@ module _ (w : List Class) (ordered : IsOrdered w) (plain : (x : List ℕ) (c : C
     → starts 91 x ≡ false) where
   below_by : (x y : List ℕ) (c d : Class) → class_named w x ≡ Some c → class_named w y ≡ Some d
       → is_subtype w x y ≡ true → Below w x y
-  below_by x y c d e f sub = subst (λ z. Below w z y) (receiver_plain x (plain x c e)) (type_below w x y (plain y d f)
+  below_by x y c d e f sub = subst (λ z. Below w z y) (receiver_class x (plain x c e)) (type_below w x y (plain y d f)
       sub)
 
   implements : (x y : List ℕ) (c i : Class) → class_named w x ≡ Some c → is_interface c.flags ≡ false
@@ -196,7 +193,7 @@ module _ (w : List Class) (ordered : IsOrdered w) (plain : (x : List ℕ) (c : C
   class_is_object x c e concrete =
       let r = ordered.rooted x c e concrete in
       let name : r.0.name ≡ object = class_named-name w object r.0 r.1 in
-      below_type w x object refl (subst (λ z. Below w z object) (sym (receiver_plain x (plain x c e)))
+      below_type w x object refl (subst (λ z. Below w z object) (sym (receiver_class x (plain x c e)))
       (subst (Below w x) name (line_below w x r.0 r.2)))
 
   numbers_are_objects : (element : Element) → is_subtype w (shape_name (OfNumbers element)) object ≡ true

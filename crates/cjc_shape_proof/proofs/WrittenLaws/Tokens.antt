@@ -3,20 +3,19 @@ use Rattle.std.proofs.Common.{◌≡◌, ℕ, zero, suc, ◌+◌, ◌<◌, ◌�
 use Rattle.std.proofs.Common.{List, [], ◌∷◌, length}
 use Rattle.std.specs.Prelude.{◌&&◌, ◌||◌, not, nat_lt, Some, slice_get, if◌then◌else◌, count_by}
 use Rattle.std.specs.List.{AllByRecursion}
-use Rattle.std.proofs.lemmas.Bool.{ltb-false}
+use Rattle.std.proofs.lemmas.Bool.{ltb-false, or_parts}
 use Rattle.std.proofs.lemmas.Option.{slice_get_within}
 use Rattle.cjc_bytes.specs.AccessFlags.{is_interface, is_private, is_static}
-use Rattle.cjc_bytes.specs.Breaks.{Break}
 use Rattle.cjc_bytes.specs.Order.{file_of}
 use Rattle.cjc_bytes.specs.declared.settings.FileLine.{FileLine}
+use Rattle.cjc_bytes.proofs.Lists.{none_left, none_right}
 use Rattle.cjc_classfile.specs.declared.tree.ClassTree.{ClassTree}
 use Rattle.cjc_export.specs.Members.{is_unbound, method_token_taken, method_token_wrong}
 use Rattle.cjc_export.specs.Writable.{ClassFits, IsWritable, MethodStands}
 use Rattle.cjc_export.specs.declared.tree.ExportMethod.{ExportMethod}
 use Rattle.cjc_export.specs.declared.tree.ExportTree.{ExportTree}
-use Rattle.cjc_world_proof.proofs.CallsLaws.Own.{mapped_at}
-use Rattle.cjc_shape_proof.proofs.FindsLaws.Descs.{each_after}
-use Rattle.cjc_subset.specs.Members.{imports}
+use Rattle.cjc_token_proof.proofs.WorldProofOwn.{mapped_at}
+use Rattle.cjc_vtable.specs.Subset.Members.{imports}
 use Rattle.cjc_tokens.proofs.Held.{token-slot}
 use Rattle.cjc_tokens.proofs.Walks.{supertypes-known}
 use Rattle.cjc_tokens.specs.Lines.{line_in, line_of}
@@ -27,7 +26,7 @@ use Rattle.cjc_tokens.specs.Fields.{is_open_static}
 use Rattle.cjc_tokens.specs.Slots.{slots}
 use Rattle.cjc_world.specs.Upwards.{IsOrdered}
 use Rattle.cjc_vtable.proofs.Filed.{IsFiled, filed, get-has, has-get, in_class_file, in_export_file, of-imports}
-use Rattle.cjc_world.proofs.Unbroken.{nil_back, nil_front}
+use Rattle.cjc_vtable.proofs.Read.{each-after}
 use Rattle.cjc_world.specs.Classes.{Class, Member, all_classes, class_named, declared, imported, method_of_export}
 use Rattle.cjc_world.specs.Exported.{is_exported}
 use Rattle.cjc_world.specs.Files.{Files}
@@ -35,18 +34,9 @@ use Rattle.cjc_world.proofs.Cycles.{class_named-name}
 use Rattle.cjc_world.proofs.Settled.{AreSupertypes-one, supertypes-AreSupertypes, lists-front}
 use Rattle.cjc_shape_proof.proofs.WrittenLaws.FittingLaws.Slots.{IsLow, IsLowMember, class_few}
 use Rattle.cjc_token_proof.specs.WrittenCalls.Calls.{KeepsTokens}
-
--- ---- tests
-
-none_either : (a b : Bool) → (a || b) ≡ false → (a ≡ false) × (b ≡ false)
-none_either true b e = cc
-none_either false b e = (refl, e)
+use Rattle.cjc_shape.proofs.JudgedLaws.Tokens.{unbroken_where}
 
 -- ---- 413 at a class
-
-off : (b : Bool) (x : Break) → breaks_where b x ≡ [] → b ≡ false
-off true x e = cc
-off false x e = refl
 
 none_high : (w : List Class) (applets : Bool) (lines : List FileLine) (k : ℕ) (cs : List ClassTree) (n : ℕ)
     (c : ClassTree) → breaks_from w applets lines k cs ≡ [] → slice_get cs n ≡ Some c
@@ -56,8 +46,9 @@ none_high w applets lines k [] n c e f = cc
 none_high w applets lines k (d ∷ cs) zero c e f =
     let is : d ≡ c = cc in
     let at : k ≡ k + 0 = omega arith in
-    let here = off (has_high_token w (is_exported w applets (declared k d)) k d) (at_class (file_of lines k) d.name)
-    (nil_front (breaks_where (has_high_token w (is_exported w applets (declared k d)) k d)
+    let here = unbroken_where (has_high_token w (is_exported w applets (declared k d)) k d) (at_class
+    (file_of lines k) d.name)
+    (none_left (breaks_where (has_high_token w (is_exported w applets (declared k d)) k d)
     (at_class (file_of lines k) d.name)) (breaks_from w applets lines (k + 1) cs) e) in
     subst (λ i. has_high_token w (is_exported w applets (declared i c)) i c ≡ false) at
     (subst (λ x. has_high_token w (is_exported w applets (declared k x)) k x ≡ false) is here)
@@ -65,7 +56,7 @@ none_high w applets lines k (d ∷ cs) (suc n) c e f =
     let at : k + 1 + n ≡ k + suc n = omega arith in
     subst (λ i. has_high_token w (is_exported w applets (declared i c)) i c ≡ false) at
     (none_high w applets lines (k + 1) cs n c
-    (nil_back (breaks_where (has_high_token w (is_exported w applets (declared k d)) k d)
+    (none_right (breaks_where (has_high_token w (is_exported w applets (declared k d)) k d)
     (at_class (file_of lines k) d.name)) (breaks_from w applets lines (k + 1) cs) e) f)
 
 module _ (files : Files) (applets : Bool) (unbroken : token_breaks applets files ≡ [])
@@ -86,9 +77,9 @@ module _ (files : Files) (applets : Bool) (unbroken : token_breaks applets files
       (none_high w applets files.lines 0 files.classes n t unbroken e) in
       let B = exported && nat_lt 255 (count_by is_open_static t.fields) in
       let M = has_high_method w c || (exported && nat_lt 255 (count_by is_open_bound c.methods)) in
-      let first = (none_either (if is_interface t.flags then nat_lt 128 (length (interface_methods w c))
+      let first = (or_parts (if is_interface t.flags then nat_lt 128 (length (interface_methods w c))
       else M) B none).0 in
-      (none_either (has_high_method w c) (exported && nat_lt 255 (count_by is_open_bound c.methods))
+      (or_parts (has_high_method w c) (exported && nat_lt 255 (count_by is_open_bound c.methods))
       (sym (ap (λ b. if b then nat_lt 128 (length (interface_methods w c)) else M) plain) ∙ first)).0
 
   -- ---- imported classes
@@ -122,7 +113,7 @@ module _ (files : Files) (applets : Bool) (unbroken : token_breaks applets files
       low : (before : List ExportMethod) (o : ExportMethod) → method_of_export o ≡ m
           → method_token_wrong before (is_unbound o.flags o.name) o.token ≡ false → m.token ≤ 127
       low before o e f =
-          let two = none_either (method_token_taken before (is_unbound o.flags o.name) o.token)
+          let two = or_parts (method_token_taken before (is_unbound o.flags o.name) o.token)
           (not (is_unbound o.flags o.name) && nat_lt 127 o.token) f in
           let three : nat_lt 127 o.token ≡ false = sym (ap (λ b. not b && nat_lt 127 o.token) (unbound_not o e)) ∙ two.1
           in
@@ -139,9 +130,9 @@ module _ (files : Files) (applets : Bool) (unbroken : token_breaks applets files
           let tree = of-imports t files.exports (get-has t (imports files.exports) n at) in
           let e = has-get tree.0 files.exports tree.1 in
           let written = writable e.0 tree.0 e.1 in
-          let class = each_after ClassFits [] (let u = tree.0 in u.classes) t written.classes tree.2 in
+          let class = each-after ClassFits [] (let u = tree.0 in u.classes) t written.classes tree.2 in
           let fit = class.1 in
-          let stands = each_after (MethodStands (is_interface t.flags) (length t.methods)) [] t.methods o.0 fit.methods
+          let stands = each-after (MethodStands (is_interface t.flags) (length t.methods)) [] t.methods o.0 fit.methods
           (get-has o.0 t.methods k.0 o.1) in
           low stands.0 o.0 (sym o.2) ((subst (λ b. MethodStands b (length t.methods) stands.0 o.0) plain stands.1).1)
 

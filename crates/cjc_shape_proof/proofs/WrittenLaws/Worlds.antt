@@ -4,12 +4,13 @@ use Rattle.std.proofs.Common.{◌≡◌, ℕ, refl, sym, ap, ◌∙◌, Bool, tr
 use Rattle.std.specs.Prelude.{◌&&◌, ◌||◌, not, Some, is_some, slice_get}
 use Rattle.cjc_bytes.specs.AccessFlags.{is_abstract, is_interface, is_static}
 use Rattle.cjc_bytes.specs.declared.settings.Settings.{Settings}
-use Rattle.cjc_world_proof.specs.JvmSemantics.OnePackage.{is_constructor, is_initialiser}
-use Rattle.cjc_world_proof.proofs.CallsLaws.Own.{mapped_at}
-use Rattle.cjc_world_proof.specs.Calls.Solid.{IsOwn, IsSolid}
+use Rattle.cjc_bytes.proofs.Bools.{last_of}
+use Rattle.cjc_token_proof.specs.JvmSemantics.OnePackage.{is_constructor, is_initialiser}
+use Rattle.cjc_token_proof.proofs.WorldProofOwn.{mapped_at}
+use Rattle.cjc_token_proof.specs.WorldProof.Calls.Solid.{IsOwn, IsSolid}
 use Rattle.cjc_classfile.specs.declared.tree.ClassTree.{ClassTree}
 use Rattle.cjc_classfile.specs.declared.tree.MethodTree.{MethodTree}
-use Rattle.cjc_subset.specs.Bytecode.declared.method_code.MethodCode.{MethodCode}
+use Rattle.cjc_ncode.specs.Bytecode.declared.method_code.MethodCode.{MethodCode}
 use Rattle.cjc_components.specs.Package.{Package, world}
 use Rattle.cjc_shape.specs.Judge.Rules.{has_applets, settings_of}
 use Rattle.cjc_shape.specs.Judge.declared.judged.Judged.{Judged}
@@ -17,11 +18,11 @@ use Rattle.cjc_components.specs.List.Listed.{ListTree}
 use Rattle.cjc_narrow_proof.proofs.LawsLaws.ClassNames.{each_name}
 use Rattle.cjc_shape.proofs.PreparedLaws.Sound.{has_tokens}
 use Rattle.cjc_ncode.specs.Script.Sorts.{Shape, shape_name}
-use Rattle.cjc_world_proof.proofs.SelectionLaws.Rules.{method_kept}
-use Rattle.cjc_world_proof.proofs.SelectionLaws.Solid.{solid as solid_of}
-use Rattle.cjc_world_proof.specs.Files.{IsClean}
-use Rattle.cjc_subset.specs.Checks.{check_breaks}
-use Rattle.cjc_subset.specs.Flags.{is_unfit_method, is_unfit_method_kind}
+use Rattle.cjc_token_proof.proofs.WorldProofRules.{method_kept}
+use Rattle.cjc_token_proof.proofs.WorldProofSolid.{solid as solid_of}
+use Rattle.cjc_token_proof.specs.WorldProof.Files.{IsClean}
+use Rattle.cjc_vtable.specs.Subset.Checks.{check_breaks}
+use Rattle.cjc_vtable.specs.Subset.Flags.{is_unfit_method, is_unfit_method_kind}
 use Rattle.cjc_narrow_proof.proofs.TablesLaws.Spelt.{class_read}
 use Rattle.cjc_world.specs.Upwards.{IsOrdered}
 use Rattle.cjc_world.specs.Classes.{Class, Member, all_classes, class_named, method_of_class}
@@ -34,12 +35,6 @@ use Rattle.cjc_shape_proof.specs.Written.Converted.{IsConverted}
 use Rattle.cjc_shape_proof.proofs.WrittenLaws.Files.{are_spelt, own_unbroken, read_files, same_files}
 use Rattle.cjc_shape_proof.proofs.WrittenLaws.Subtypes.{keeps_subtypes, receivers_are_objects}
 use Rattle.cjc_shape_proof.proofs.WrittenLaws.Tokens.{keeps_tokens}
-
-last_of : (a b c d : Bool) → (a || b || c || d) ≡ false → d ≡ false
-last_of true b c d e = cc
-last_of false true c d e = cc
-last_of false false true d e = cc
-last_of false false false d e = e
 
 both_then : (a b c : Bool) → a ≡ true → b ≡ true → (a && b && not c) ≡ false → c ≡ true
 both_then true true true e f g = refl

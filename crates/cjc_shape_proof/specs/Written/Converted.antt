@@ -1,6 +1,6 @@
 -- Packages that are converted, and what is asked of the export files beside them.
 use Rattle.std.specs.Prelude.{◌≡◌, ℕ, List, [], Some, true, false, ◌&&◌, slice_get}
-use Rattle.cjc_world_proof.specs.JvmSemantics.OnePackage.{is_initialiser}
+use Rattle.cjc_token_proof.specs.JvmSemantics.OnePackage.{is_initialiser}
 use Rattle.cjc_bytes.specs.AccessFlags.{is_interface, is_private, is_static}
 use Rattle.cjc_components.specs.Limits.{code_breaks, of_methods, size_breaks, word_breaks}
 use Rattle.cjc_components.specs.Package.{Package, world}
@@ -10,8 +10,8 @@ use Rattle.cjc_shape.specs.Judge.declared.judged.Judged.{Judged}
 use Rattle.cjc_shape.specs.Judge.Spelt.{IsRead}
 use Rattle.cjc_components.specs.List.Listed.{ListTree}
 use Rattle.cjc_shape.specs.Prepared.{IsSound}
-use Rattle.cjc_world_proof.specs.Files.{ExportsAreSound}
-use Rattle.cjc_subset.specs.Members.{imports}
+use Rattle.cjc_token_proof.specs.WorldProof.Files.{ExportsAreSound}
+use Rattle.cjc_vtable.specs.Subset.Members.{imports}
 use Rattle.cjc_tokens.specs.Members.{is_exposed}
 use Rattle.cjc_vtable.specs.Kept.{ExportsAgree}
 use Rattle.cjc_shape.specs.Whole.Conversion.{IsPackageOf}

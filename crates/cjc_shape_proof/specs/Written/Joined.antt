@@ -4,7 +4,7 @@ use Rattle.std.specs.Prelude.{◌≡◌, ℕ, List, Bool, true, Some, slice_get}
 use Rattle.cjc_bytes.specs.declared.fault.MemberId.{MemberId}
 use Rattle.cjc_ncode.specs.CardSemantics.Bytecode.Alike.{KnownThing, start_as}
 use Rattle.cjc_ncode.specs.CardSemantics.Bytecode.Renaming.{KnownOperation, option_as, shape_as}
-use Rattle.cjc_world_proof.specs.JvmSemantics.Linked.{Method}
+use Rattle.cjc_token_proof.specs.JvmSemantics.Linked.{Method}
 use Rattle.cjc_token_proof.specs.ByToken.Cells.{are_cells}
 use Rattle.cjc_token_proof.specs.ByToken.Classes.{memories, tests}
 use Rattle.cjc_token_proof.specs.Calls.Reaching as reaching

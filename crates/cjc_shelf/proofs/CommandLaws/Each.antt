@@ -1,23 +1,19 @@
 -- One item after another.
 use Rattle.std.proofs.Common.{◌≡◌, ℕ, ◌+◌, ◌<◌, ◌≤◌, Bool, true, false, cond, List, [], ◌∷◌, ◌++◌, length, drop, get_or}
-use Rattle.std.proofs.Common.{Result, Ok, Err, sym, subst, refl, ap, ◌∙◌, add-one}
+use Rattle.std.proofs.Common.{Result, Ok, Err, sym, subst, refl, ap, ◌∙◌}
 use Rattle.std.proofs.lemmas.List.{drop_all}
 use Rattle.std.proofs.lemmas.List.Elements.{All-nil, All-cons, All-append}
-use Rattle.std.proofs.Math.Seq.{drop-cons}
 use Rattle.cjc_shelf.specs.Shelf.{Shelved, longest_file}
 use Rattle.cjc_shelf.specs.declared.command.status.Status.{Status}
 use Rattle.cjc_shelf.specs.Command.Plan.{Plan, has, ◌>>=◌, for_each, read, read_behind}
 use Rattle.cjc_shelf.specs.Command.Gather.{Gathers, IsSame, AreShort}
 use Rattle.cjc_shelf.proofs.CommandLaws.Gathering.{gathers_then, gathers_end, gathers_has}
+use Rattle.cjc_bytes.proofs.Gets.{drop_next}
 
 -- Whatever is gathered of what is left is gathered of all.
 abbrev pub GoesBack : {S : Type 0} → Plan S → Plan S → Shelved → Shelved → Type 0
 GoesBack {S} whole left old now = (new : Shelved) (result : Result S Status) → Gathers left IsSame now new result
     → Gathers whole IsSame old new result
-
-pub next_item : {A : Type 0} (items : List A) (i : ℕ) (a : A) → i < length items → a ≡ get_or items i a
-    → drop i items ≡ a ∷ drop (i + 1) items
-next_item items i a lt is = rw (add-one, drop-cons items i a lt, ← is) refl
 
 module _ {A S : Type 0} (is_last : S → Bool) (step : S → A → Plan S) (whole : Plan S) where
   one_step : (s : S) (a : A) (items rest : List A) → items ≡ a ∷ rest → is_last s ≡ false
@@ -31,7 +27,7 @@ module _ {A S : Type 0} (is_last : S → Bool) (step : S → A → Plan S) (whol
       → GoesBack whole (for_each is_last step s (drop i items)) old now
       → Gathers {T = S} (step s a) IsSame now new (Err end) → Gathers {T = S} whole IsSame old new (Err end)
   item_ends s items i a old now new end lt is goes_on back g =
-      let step_is = one_step s a (drop i items) (drop (i + 1) items) (next_item items i a lt is) goes_on in
+      let step_is = one_step s a (drop i items) (drop (i + 1) items) (drop_next items i a lt is) goes_on in
       back new (Err end) (subst (λ (p : Plan S). Gathers {T = S} p IsSame now new (Err end)) (sym step_is)
       (gathers_end (step s a) (λ t. for_each is_last step t (drop (i + 1) items)) IsSame now new end g))
 
@@ -41,7 +37,7 @@ module _ {A S : Type 0} (is_last : S → Bool) (step : S → A → Plan S) (whol
       → GoesBack whole (for_each is_last step s (drop i items)) old now → Gathers (step s a) IsSame now mid (Ok t)
       → GoesBack whole (for_each is_last step t (drop (i + 1) items)) old mid
   item_next s items i a t old now mid lt is goes_on back g new result rest =
-      let step_is = one_step s a (drop i items) (drop (i + 1) items) (next_item items i a lt is) goes_on in
+      let step_is = one_step s a (drop i items) (drop (i + 1) items) (drop_next items i a lt is) goes_on in
       back new result (subst (λ (p : Plan S). Gathers p IsSame now new result) (sym step_is)
       (gathers_then (step s a) (λ u. for_each is_last step u (drop (i + 1) items)) IsSame now mid new t result g rest))
 

@@ -1,5 +1,5 @@
 -- What writing and printing give together, and what stands after files are written.
-use Rattle.std.proofs.Common.{◌≡◌, ℕ, ◌<◌, true, false, cond, List, [], ◌∷◌, length, Some, IfSome, Err, nat_eq, rules}
+use Rattle.std.proofs.Common.{◌≡◌, ℕ, ◌<◌, false, cond, List, [], ◌∷◌, length, Some, IfSome, Err}
 use Rattle.std.proofs.Common.{refl, ap, ◌∙◌, arith}
 use Rattle.std.specs.Prelude.{bytes_eq}
 use Rattle.std.specs.FinMap.{get, insert, get-insert}
@@ -14,6 +14,7 @@ use Rattle.cjc_shelf.specs.Command.Publish.{AreDistinct, Stand}
 use Rattle.cjc_shelf.specs.declared.command.publishing.Stop.{Stop}
 use Rattle.cjc_shelf.specs.declared.command.status.File.{File}
 use Rattle.cjc_shelf.specs.declared.command.status.Todo.{Todo}
+use Rattle.cjc_bytes.proofs.Lists.{name_is}
 
 -- ---- how publishing ends
 
@@ -44,16 +45,9 @@ publishes_stop todo old new from stop w = stops todo old new from stop.at stop.e
 
 -- ---- what stands after the writes
 
-same_number : (c : ℕ) → nat_eq c c ≡ true
-same_number c = search rules
-
-same_name : (name : List ℕ) → bytes_eq name name ≡ true
-same_name [] = refl
-same_name (c ∷ name) = rw (same_number c) (same_name name)
-
 after_own : (files : Files) (name bytes : List ℕ) → get (insert files name bytes) name ≡ Some bytes
 after_own files name bytes = get-insert nat_list_cmp_total files name bytes name
-    ∙ ap (λ b. cond b (Some bytes) (get files name)) (is_eq-slice_cmp name name ∙ same_name name)
+    ∙ ap (λ b. cond b (Some bytes) (get files name)) (is_eq-slice_cmp name name ∙ name_is name)
 
 after_other : (files : Files) (name bytes other : List ℕ) → bytes_eq other name ≡ false
     → get (insert files name bytes) other ≡ get files other

@@ -1,7 +1,7 @@
 -- Runs that agree within two instructions for one agree within three, with any run that has the same reports.
 use Rattle.std.proofs.Common.{◌≡◌, ℕ, ◌*◌, ◌≤◌, ap, sym, subst, ◌∙◌, arith}
 use Rattle.std.specs.Prelude.{◌≢◌, ◌⊎◌}
-use Rattle.cjc_card_semantics.specs.Bytecode.Runs.{Agree, Alike}
+use Rattle.cjc_ncode.specs.CardSemantics.Bytecode.Runs.{Agree, Alike}
 use Rattle.cjc_script.specs.Agree.{IsBegun}
 use Rattle.cjc_script.specs.declared.report.Outcome.TheVariants.{Stuck}
 use Rattle.cjc_script.specs.declared.report.Report.{Report}

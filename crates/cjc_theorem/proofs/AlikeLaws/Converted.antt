@@ -1,6 +1,5 @@
 -- A package that breaks no rule, nor does what is written for it, is one that is converted.
-use Rattle.std.proofs.Common.{◌≡◌, ℕ, refl, sym, subst, List, [], ◌∷◌}
-use Rattle.cjc_bytes.specs.Breaks.{Break}
+use Rattle.std.proofs.Common.{◌≡◌, ℕ, sym, subst, List, []}
 use Rattle.cjc_components.specs.Limits.{code_breaks, else_of, limit_breaks, of_methods, size_breaks, word_breaks}
 use Rattle.cjc_components.specs.Package.{Package, world}
 use Rattle.cjc_judge.specs.Rules.{settings_of}
@@ -8,7 +7,7 @@ use Rattle.cjc_judge.specs.Spelt.{IsRead}
 use Rattle.cjc_judge.specs.declared.judged.Judged.{Judged}
 use Rattle.cjc_components.specs.List.Listed.{ListTree}
 use Rattle.cjc_shape_proof.specs.Shape.Prepared.{IsSound}
-use Rattle.cjc_world_proof.specs.Files.{ExportsAreSound}
+use Rattle.cjc_token_proof.specs.WorldProof.Files.{ExportsAreSound}
 use Rattle.cjc_subset.specs.Checks.{check_breaks}
 use Rattle.cjc_theorem.proofs.FairExports.Listed.{names}
 use Rattle.cjc_theorem.proofs.SoundRuns.Placed.{sound_package}
@@ -20,14 +19,7 @@ use Rattle.cjc_shape_proof.proofs.ShapeDrafts.{same_spelt}
 use Rattle.cjc_shape_proof.specs.Shape.Whole.Conversion.{IsPackageOf}
 use Rattle.cjc_world.specs.Files.{Files}
 use Rattle.cjc_shape_proof.specs.Written.Converted.{ExportsArePlain, IsConverted}
-
-front_nil : (a b : List Break) → else_of a b ≡ [] → a ≡ []
-front_nil [] b e = refl
-front_nil (x ∷ a) b e = cc
-
-back_nil : (a b : List Break) → else_of a b ≡ [] → b ≡ []
-back_nil [] b e = e
-back_nil (x ∷ a) b e = cc
+use Rattle.cjc_shape_proof.proofs.CheckProofLimits.{after_first, before_second}
 
 module _ (list : ListTree) (files : List (List ℕ)) (judged : Judged) (of : IsRead list) (is : IsSound list files judged)
     (p : Package) (laid : IsPackageOf list files p) where
@@ -52,14 +44,14 @@ module _ (list : ListTree) (files : List (List ℕ)) (judged : Judged) (of : IsR
   pub is_converted : limit_breaks p ≡ [] → ExportsAreSound p.files → ExportsArePlain p.files → ExportsAgree (world p)
       → IsConverted list files judged p
   is_converted limits exports plain agree =
-      let rest = back_nil (of_methods p (word_breaks p)) (else_of (code_breaks p) (size_breaks p)) limits in
+      let rest = after_first (of_methods p (word_breaks p)) (else_of (code_breaks p) (size_breaks p)) limits in
       record {
         read = of;
         sound = is;
         is_package = laid;
-        words = front_nil (of_methods p (word_breaks p)) (else_of (code_breaks p) (size_breaks p)) limits;
-        forms = front_nil (code_breaks p) (size_breaks p) rest;
-        sizes = back_nil (code_breaks p) (size_breaks p) rest;
+        words = before_second (of_methods p (word_breaks p)) (else_of (code_breaks p) (size_breaks p)) limits;
+        forms = before_second (code_breaks p) (size_breaks p) rest;
+        sizes = after_first (code_breaks p) (size_breaks p) rest;
         exports = exports;
         plain = plain;
         agree = agree;

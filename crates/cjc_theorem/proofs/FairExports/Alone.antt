@@ -1,64 +1,24 @@
 -- The classes of export files by themselves, and where they stand among the files of a package: names find the same
 -- classes,
 -- and the same classes stand above them.
-use Rattle.std.proofs.Common.{◌≡◌, ℕ, zero, suc, ◌+◌, refl, sym, ap, ◌∙◌, arith, Bool, true, false, List, [], ◌∷◌}
-use Rattle.std.specs.Prelude.{Option, Some, None, slice_get, if◌then◌else◌}
-use Rattle.std.specs.Str.{bytes_eq}
-use Rattle.cjc_export.specs.declared.tree.ExportClass.{ExportClass}
+use Rattle.std.proofs.Common.{◌≡◌, ℕ, ◌+◌, refl, sym, ap, ◌∙◌, arith, true, List, [], ◌∷◌}
+use Rattle.std.specs.Prelude.{Option, Some, None, slice_get}
+use Rattle.cjc_world.specs.ExportFile.declared.tree.ExportClass.{ExportClass}
 use Rattle.cjc_theorem.specs.FairExports.Fair.{world_of}
-use Rattle.cjc_world_proof.proofs.SelectionLaws.Rules.{listed_abroad}
+use Rattle.cjc_theorem.proofs.FairWriting.Worlds.{numbered_at, numbered_some}
+use Rattle.cjc_token_proof.proofs.WorldProofRules.{listed_abroad}
 use Rattle.cjc_subset.specs.Members.{imports}
 use Rattle.cjc_token_proof.proofs.TablesLaws.Clean.{has_named, own_name}
 use Rattle.cjc_token_proof.proofs.TablesLaws.Filed.{import_filed, import_in}
 use Rattle.cjc_token_proof.specs.Tables.Sound.{IsSound}
-use Rattle.cjc_world.specs.Classes.{Class, all_classes, class_named, imported, numbered}
+use Rattle.cjc_world.specs.Classes.{Class, all_classes, class_named, imported}
 use Rattle.cjc_world.specs.Files.{Files}
 use Rattle.cjc_world.specs.Supertypes.{Above, IsAcyclic, AreSupertypes, Supertypes, Lists, after, directly, ends}
 use Rattle.cjc_world.specs.Supertypes.{foremost, supertypes, known_here, onwards, unknown_here}
 use Rattle.cjc_world.proofs.Cycles.{class_named-name}
-use Rattle.cjc_world.proofs.Settled.{AreSupertypes-one, bytes-refl, supertypes-AreSupertypes, lists-behind, lists-front}
+use Rattle.cjc_world.proofs.Settled.{AreSupertypes-one, supertypes-AreSupertypes, lists-behind, lists-front}
 use Rattle.cjc_world.proofs.Unbroken.{unbroken_is_acyclic}
-
--- ---- classes of export files in a row
-
--- one that a name finds
-numbered_at : (k : ℕ) (cs : List ExportClass) (x : List ℕ) (d : Class) → class_named (numbered k cs) x ≡ Some d
-    → (n : ℕ) × (c : ExportClass) × (slice_get cs n ≡ Some c) × (d ≡ imported (k + n) c)
-unfolding class_named
-numbered_at k [] x d e = absurd cc
-numbered_at k (c ∷ cs) x d e = by (bytes_eq c.name x) e (numbered_at (k + 1) cs x d)
-  where
-    by : (b : Bool) → (if b then Some (imported k c) else class_named (numbered (k + 1) cs) x) ≡ Some d
-        → (class_named (numbered (k + 1) cs) x ≡ Some d → (n : ℕ) × (a : ExportClass) × (slice_get cs n ≡ Some a)
-        × (d ≡ imported (k + 1 + n) a))
-        → (n : ℕ) × (a : ExportClass) × (slice_get (c ∷ cs) n ≡ Some a) × (d ≡ imported (k + n) a)
-    by true e rest =
-        let same : imported k c ≡ d = cc in
-        let none : k ≡ k + 0 = omega arith in
-        (0, c, refl, sym same ∙ ap (λ m. imported m c) none)
-    by false e rest =
-        let r = rest e in
-        let i = r.0 in
-        let next : k + 1 + i ≡ k + suc i = omega arith in
-        (suc i, r.1, r.2, r.3 ∙ ap (λ m. imported m r.1) next)
-
--- the name of each finds one
-numbered_some : (k : ℕ) (cs : List ExportClass) (n : ℕ) (c : ExportClass) → slice_get cs n ≡ Some c → (d : Class)
-    × (class_named (numbered k cs) c.name ≡ Some d)
-unfolding class_named
-numbered_some k [] n c e = absurd cc
-numbered_some k (b ∷ cs) zero c e =
-    let same : b ≡ c = cc in (
-      imported k b,
-      ap (λ t. if t then Some (imported k b) else class_named (numbered (k + 1) cs) c.name)
-          (ap (λ (q : ExportClass). bytes_eq q.name c.name) same ∙ bytes-refl c.name),
-    )
-numbered_some k (b ∷ cs) (suc n) c e = by (bytes_eq b.name c.name) (numbered_some (k + 1) cs n c e)
-  where
-    by : (t : Bool) → (d : Class) × (class_named (numbered (k + 1) cs) c.name ≡ Some d) → (d : Class)
-        × ((if t then Some (imported k b) else class_named (numbered (k + 1) cs) c.name) ≡ Some d)
-    by true r = (imported k b, refl)
-    by false r = r
+use Rattle.cjc_bytes.proofs.Lists.{name_is}
 
 -- ---- among the files of a package
 

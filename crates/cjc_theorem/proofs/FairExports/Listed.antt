@@ -1,21 +1,23 @@
 -- What export files say of names and flags, where a package beside them breaks none of the rules of the card's
 -- language.
-use Rattle.std.proofs.Common.{◌≡◌, ℕ, ◌+◌, refl, sym, ap, subst, ◌∙◌, arith, Bool, true, false, List, [], ◌∷◌, length}
+use Rattle.std.proofs.Common.{◌≡◌, ℕ, ◌+◌, refl, sym, ap, subst, ◌∙◌, Bool, true, false, List, [], ◌∷◌, length}
 use Rattle.std.specs.Prelude.{◌==◌, not, ◌&&◌, ◌||◌, Some, slice_get}
 use Rattle.std.specs.List.{join_with_byte, list_all, slice_split}
 use Rattle.std.specs.Str.{bytes_eq}
-use Rattle.std.proofs.lemmas.List.Splits.{join_with_byte-slice_split, length-slice_split}
+use Rattle.std.proofs.lemmas.List.Splits.{join_with_byte-slice_split}
 use Rattle.cjc_bytes.specs.AccessFlags.{is_interface, is_private, is_static}
 use Rattle.cjc_bytes.specs.Breaks.{class_spot, member_spot}
 use Rattle.cjc_bytes.specs.Descriptor.{IsClassName, IsName, inside, is_name_byte, last, more, simple}
 use Rattle.cjc_bytes.specs.Order.{FilePlace}
 use Rattle.cjc_bytes.specs.Refused.{method_text}
 use Rattle.cjc_bytes.specs.declared.settings.Settings.{Settings}
+use Rattle.cjc_bytes.proofs.Lists.{name_is, none_left, none_right, never_none}
+use Rattle.cjc_bytes.proofs.Bools.{both_front, both_back, not_false}
+use Rattle.cjc_bytes.proofs.BrokenRules.{not_broken, each_at}
 use Rattle.cjc_code.specs.declared.method_code.MethodCode.{MethodCode}
-use Rattle.cjc_export.specs.declared.tree.ExportClass.{ExportClass}
-use Rattle.cjc_export.specs.declared.tree.ExportMethod.{ExportMethod}
-use Rattle.cjc_export.specs.declared.tree.ExportTree.{ExportTree}
-use Rattle.cjc_narrow_proof.proofs.SelectedLaws.Limits.{each_at, none_left, none_right, not_broken}
+use Rattle.cjc_world.specs.ExportFile.declared.tree.ExportClass.{ExportClass}
+use Rattle.cjc_world.specs.ExportFile.declared.tree.ExportMethod.{ExportMethod}
+use Rattle.cjc_world.specs.ExportFile.declared.tree.ExportTree.{ExportTree}
 use Rattle.cjc_shape_proof.specs.Written.Converted.{ExportsArePlain}
 use Rattle.cjc_subset.specs.Checks.{check_breaks, list_breaks}
 use Rattle.cjc_subset.specs.Exports.{export_breaks, export_file_of, is_class_name, is_name, is_of_objects}
@@ -25,15 +27,13 @@ use Rattle.cjc_tokens.specs.Members.{is_exposed}
 use Rattle.cjc_vtable.proofs.Filed.{get-has, has-get, of-imports}
 use Rattle.cjc_world.specs.Files.{Files}
 use Rattle.cjc_world.specs.Lookup.{object}
-use Rattle.cjc_world.proofs.Settled.{bytes-refl}
-use Rattle.cjc_world.proofs.Trees.{all-back, all-front}
 
 -- ---- names
 
 part_name : (b : ℕ) (bs : List ℕ) → list_all is_name_byte (b ∷ bs) ≡ true → IsName (b ∷ bs)
-part_name b [] e = last (all-front (is_name_byte b) true e)
-part_name b (c ∷ bs) e = more (all-front (is_name_byte b) (list_all is_name_byte (c ∷ bs)) e)
-    (part_name c bs (all-back (is_name_byte b) (list_all is_name_byte (c ∷ bs)) e))
+part_name b [] e = last (both_front (is_name_byte b) true e)
+part_name b (c ∷ bs) e = more (both_front (is_name_byte b) (list_all is_name_byte (c ∷ bs)) e)
+    (part_name c bs (both_back (is_name_byte b) (list_all is_name_byte (c ∷ bs)) e))
 
 part_of_name : (bs : List ℕ) → is_name bs ≡ true → IsName bs
 part_of_name [] e = absurd cc
@@ -42,29 +42,21 @@ part_of_name (b ∷ bs) e = part_name b bs e
 -- parts joined by /
 joined_name : (part : List ℕ) (parts : List (List ℕ)) → list_all is_name (part ∷ parts) ≡ true
     → IsClassName (join_with_byte 47 (part ∷ parts))
-joined_name part [] e = simple (part_of_name part (all-front (is_name part) true e))
+joined_name part [] e = simple (part_of_name part (both_front (is_name part) true e))
 joined_name part (next ∷ parts) e =
-    inside (part_of_name part (all-front (is_name part) (list_all is_name (next ∷ parts)) e))
-    (joined_name next parts (all-back (is_name part) (list_all is_name (next ∷ parts)) e))
+    inside (part_of_name part (both_front (is_name part) (list_all is_name (next ∷ parts)) e))
+    (joined_name next parts (both_back (is_name part) (list_all is_name (next ∷ parts)) e))
 
 some_parts : (parts : List (List ℕ)) (bs : List ℕ) → join_with_byte 47 parts ≡ bs → (parts ≡ [] → ⊥)
     → list_all is_name parts ≡ true → IsClassName bs
 some_parts [] bs e some all = absurd (some refl)
 some_parts (part ∷ parts) bs e some all = subst IsClassName e (joined_name part parts all)
 
-never_none : (bs : List ℕ) → slice_split (λ b. b == 47) bs ≡ [] → ⊥
-never_none bs e = let count = length-slice_split (λ b. b == 47) bs in let none = ap length e
-    in omega (arith, count, none)
-
 class_name : (bs : List ℕ) → is_class_name bs ≡ true → IsClassName bs
 unfolding is_class_name
 class_name bs e = some_parts (slice_split (λ b. b == 47) bs) bs (join_with_byte-slice_split 47 bs) (never_none bs) e
 
 -- ---- flags
-
-is_not : (b : Bool) → not b ≡ false → b ≡ true
-is_not true e = refl
-is_not false e = absurd cc
 
 module _ (p o i s q : Bool) (fit : ((p && o) || (i && not s) || (q && (p || s))) ≡ false) where
   first_off : (p && o) ≡ false
@@ -131,7 +123,7 @@ module _ (list : List ℕ) (files : Files) (codes : List MethodCode) (settings :
   unfolding listed_class_breaks
   names n c e =
       let r = clean n c e in
-      class_name c.name (is_not (is_class_name c.name) (not_broken (not (is_class_name c.name)) (class_spot r.file
+      class_name c.name (not_false (is_class_name c.name) (not_broken (not (is_class_name c.name)) (class_spot r.file
       r.number c.name) 301 (none_left _ _ r.clear)))
 
   -- 304
@@ -163,7 +155,7 @@ module _ (list : List ℕ) (files : Files) (codes : List MethodCode) (settings :
   root_bare n c e same k m at_k named = bare (is_private m.flags) (is_exposed m.flags) (is_initialiser m.name)
       (is_static m.flags) (is_of_objects c m.name) (fit_listed n c e k m at_k)
       (either (is_interface c.flags) (bytes_eq c.name object) (is_initialiser m.name) (ap (λ x. bytes_eq x object) same
-      ∙ bytes-refl object) named)
+      ∙ name_is object) named)
     where
       either : (a b i : Bool) → b ≡ true → i ≡ false → (a || (b && not i)) ≡ true
       either true b i e f = refl

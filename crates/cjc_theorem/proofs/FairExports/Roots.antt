@@ -7,12 +7,14 @@ use Rattle.cjc_jvm_semantics.specs.Effects.{Arithmetic, ArrayStore, ClassCast, F
 use Rattle.cjc_jvm_semantics.specs.Effects.{NullPointer, exception_class}
 use Rattle.cjc_bytes.specs.AccessFlags.{is_interface}
 use Rattle.cjc_bytes.specs.Descriptor.{IsClassName}
-use Rattle.cjc_export.proofs.Rooted.{has_root}
-use Rattle.cjc_export.specs.declared.tree.ExportClass.{ExportClass}
-use Rattle.cjc_export.specs.declared.tree.ExportTree.{ExportTree}
+use Rattle.cjc_bytes.proofs.Lists.{name_is, bytes_true}
+use Rattle.cjc_bytes.proofs.Bools.{both_front, both_back}
+use Rattle.cjc_world.proofs.ExportFileRooted.{has_root}
+use Rattle.cjc_world.specs.ExportFile.declared.tree.ExportClass.{ExportClass}
+use Rattle.cjc_world.specs.ExportFile.declared.tree.ExportTree.{ExportTree}
 use Rattle.cjc_theorem.proofs.FairExports.Alone.{acyclic, found}
-use Rattle.cjc_world_proof.proofs.SelectionLaws.Rules.{only_object, super_class}
-use Rattle.cjc_world_proof.specs.Files.{ExportsAreSound}
+use Rattle.cjc_token_proof.proofs.WorldProofRules.{only_object, super_class}
+use Rattle.cjc_token_proof.specs.WorldProof.Files.{ExportsAreSound}
 use Rattle.cjc_subset.specs.Members.{imports}
 use Rattle.cjc_token_proof.proofs.TablesLaws.Clean.{language}
 use Rattle.cjc_token_proof.proofs.TablesLaws.Filed.{has-back, has-front}
@@ -28,18 +30,9 @@ use Rattle.cjc_world.specs.Lookup.{object}
 use Rattle.cjc_world.specs.Rules.{has_array_exceptions, has_class, has_exception, has_language, has_needed}
 use Rattle.cjc_world.specs.Rules.{has_other_exceptions, has_roots, throwable}
 use Rattle.cjc_world.proofs.Cycles.{class_named-name}
-use Rattle.cjc_world.proofs.Settled.{bytes-refl, bytes-true}
-
-front_of : (a b : Bool) → (a && b) ≡ true → a ≡ true
-front_of true b e = refl
-front_of false b e = absurd cc
-
-back_of : (a b : Bool) → (a && b) ≡ true → b ≡ true
-back_of true b e = e
-back_of false b e = absurd cc
 
 differ : (x y : List ℕ) → bytes_eq x y ≡ false → x ≡ y → ⊥
-differ x y e same = let clash : true ≡ false = sym (bytes-refl x) ∙ ap (bytes_eq x) same ∙ e in cc
+differ x y e same = let clash : true ≡ false = sym (name_is x) ∙ ap (bytes_eq x) same ∙ e in cc
 
 -- ---- java/lang
 
@@ -63,10 +56,11 @@ named_in name (c ∷ cs) e = by (bytes_eq c.name name) refl e (named_in name cs)
     by : (b : Bool) → bytes_eq c.name name ≡ b → (b || list_any (λ q. bytes_eq q.name name) cs) ≡ true
         → (list_any (λ q. bytes_eq q.name name) cs ≡ true → (q : ExportClass) × Has q cs × (q.name ≡ name))
         → (q : ExportClass) × Has q (c ∷ cs) × (q.name ≡ name)
-    by true f e rest = (c, at_front, bytes-true c.name name f)
+    by true f e rest = (c, at_front, bytes_true c.name name f)
     by false f e rest = let r = rest e in (r.0, behind r.1, r.2)
 
-in_imports : (c : ExportClass) (t : ExportTree) (ts : List ExportTree) → Has t ts → Has c t.classes → Has c (imports ts)
+pub in_imports : (c : ExportClass) (t : ExportTree) (ts : List ExportTree) → Has t ts → Has c t.classes → Has c
+    (imports ts)
 in_imports c t [] h g = elim h [ ]
 in_imports c t (u ∷ ts) at_front g = has-front c t.classes (imports ts) g
 in_imports c t (u ∷ ts) (behind h) g = has-back c u.classes (imports ts) (in_imports c t ts h g)
@@ -91,43 +85,43 @@ IsNeeded w t name = (has_class t name ≡ true) × (is_below w name throwable �
 
 needed_one : (w : List Class) (t : ExportTree) (name : List ℕ) → has_exception w t name ≡ true → IsNeeded w t name
 needed_one w t name e = (
-  front_of (has_class t name) (is_below w name throwable) e,
-  back_of (has_class t name) (is_below w name throwable) e,
+  both_front (has_class t name) (is_below w name throwable) e,
+  both_back (has_class t name) (is_below w name throwable) e,
 )
 
 is_needed : (w : List Class) (t : ExportTree) → has_array_exceptions w t ≡ true → has_other_exceptions w t ≡ true
     → (fault : Fault) → IsNeeded w t (exception_class fault)
 unfolding has_array_exceptions has_other_exceptions
 is_needed w t a o IndexOutside = needed_one w t (codes "java/lang/ArrayIndexOutOfBoundsException")
-    (front_of (has_exception w t (codes "java/lang/ArrayIndexOutOfBoundsException"))
+    (both_front (has_exception w t (codes "java/lang/ArrayIndexOutOfBoundsException"))
     (has_exception w t (codes "java/lang/ArrayStoreException"))
-    (front_of (has_exception w t (codes "java/lang/ArrayIndexOutOfBoundsException")
+    (both_front (has_exception w t (codes "java/lang/ArrayIndexOutOfBoundsException")
     && has_exception w t (codes "java/lang/ArrayStoreException"))
     (has_exception w t (codes "java/lang/NegativeArraySizeException")) a))
 is_needed w t a o ArrayStore = needed_one w t (codes "java/lang/ArrayStoreException")
-    (back_of (has_exception w t (codes "java/lang/ArrayIndexOutOfBoundsException"))
+    (both_back (has_exception w t (codes "java/lang/ArrayIndexOutOfBoundsException"))
     (has_exception w t (codes "java/lang/ArrayStoreException"))
-    (front_of (has_exception w t (codes "java/lang/ArrayIndexOutOfBoundsException")
+    (both_front (has_exception w t (codes "java/lang/ArrayIndexOutOfBoundsException")
     && has_exception w t (codes "java/lang/ArrayStoreException"))
     (has_exception w t (codes "java/lang/NegativeArraySizeException")) a))
 is_needed w t a o NegativeSize = needed_one w t (codes "java/lang/NegativeArraySizeException")
-    (back_of (has_exception w t (codes "java/lang/ArrayIndexOutOfBoundsException")
+    (both_back (has_exception w t (codes "java/lang/ArrayIndexOutOfBoundsException")
     && has_exception w t (codes "java/lang/ArrayStoreException"))
     (has_exception w t (codes "java/lang/NegativeArraySizeException")) a)
 is_needed w t a o Arithmetic = needed_one w t (codes "java/lang/ArithmeticException")
-    (front_of (has_exception w t (codes "java/lang/ArithmeticException"))
+    (both_front (has_exception w t (codes "java/lang/ArithmeticException"))
     (has_exception w t (codes "java/lang/ClassCastException"))
-    (front_of (has_exception w t (codes "java/lang/ArithmeticException")
+    (both_front (has_exception w t (codes "java/lang/ArithmeticException")
     && has_exception w t (codes "java/lang/ClassCastException"))
     (has_exception w t (codes "java/lang/NullPointerException")) o))
 is_needed w t a o ClassCast = needed_one w t (codes "java/lang/ClassCastException")
-    (back_of (has_exception w t (codes "java/lang/ArithmeticException"))
+    (both_back (has_exception w t (codes "java/lang/ArithmeticException"))
     (has_exception w t (codes "java/lang/ClassCastException"))
-    (front_of (has_exception w t (codes "java/lang/ArithmeticException")
+    (both_front (has_exception w t (codes "java/lang/ArithmeticException")
     && has_exception w t (codes "java/lang/ClassCastException"))
     (has_exception w t (codes "java/lang/NullPointerException")) o))
 is_needed w t a o NullPointer = needed_one w t (codes "java/lang/NullPointerException")
-    (back_of (has_exception w t (codes "java/lang/ArithmeticException")
+    (both_back (has_exception w t (codes "java/lang/ArithmeticException")
     && has_exception w t (codes "java/lang/ClassCastException"))
     (has_exception w t (codes "java/lang/NullPointerException")) o)
 
@@ -147,7 +141,7 @@ root_listed (x ∷ xs) e = by (bytes_eq x object) refl e (root_listed xs)
   where
     by : (b : Bool) → bytes_eq x object ≡ b → (b || has_root xs) ≡ true → (has_root xs ≡ true → Lists object xs)
         → Lists object (x ∷ xs)
-    by true f e rest = subst (λ z. Lists object (z ∷ xs)) (sym (bytes-true x object f)) foremost
+    by true f e rest = subst (λ z. Lists object (z ∷ xs)) (sym (bytes_true x object f)) foremost
     by false f e rest = after (rest e)
 
 -- ---- no interfaces
@@ -172,20 +166,21 @@ module _ (list : List ℕ) (files : Files) (sound : IsSound list files) where
   unfolding has_needed
   needs =
       let e = language_in.2 in
-      let front = front_of (has_roots lang && has_array_exceptions w lang) (has_other_exceptions w lang) e in (
-        front_of (has_roots lang) (has_array_exceptions w lang) front,
-        is_needed w lang (back_of (has_roots lang) (has_array_exceptions w lang) front) (back_of (has_roots lang
+      let front = both_front (has_roots lang && has_array_exceptions w lang) (has_other_exceptions w lang) e in (
+        both_front (has_roots lang) (has_array_exceptions w lang) front,
+        is_needed w lang (both_back (has_roots lang) (has_array_exceptions w lang) front) (both_back (has_roots lang
             && has_array_exceptions w lang) (has_other_exceptions w lang) e),
       )
 
   pub object_there : Stands files object
   unfolding has_roots
-  object_there = stands_in files lang object language_in.1 (front_of (has_class lang object) (has_class lang throwable)
+  object_there = stands_in files lang object language_in.1 (both_front (has_class lang object)
+      (has_class lang throwable)
       needs.0)
 
   throwable_there : Stands files throwable
   unfolding has_roots
-  throwable_there = stands_in files lang throwable language_in.1 (back_of (has_class lang object)
+  throwable_there = stands_in files lang throwable language_in.1 (both_back (has_class lang object)
       (has_class lang throwable) needs.0)
 
   fault_there : (fault : Fault) → Stands files (exception_class fault)

@@ -1,28 +1,29 @@
 -- What export files say of tokens, where they are fair, and what rules leave of the methods of interfaces and of
 -- java/lang/Object, in the world of a package.
-use Rattle.std.proofs.Common.{◌≡◌, ℕ, suc, refl, sym, ap, subst, ◌∙◌, Bool, true, false, List, [], ◌∷◌, ◌++◌, inl, inr}
+use Rattle.std.proofs.Common.{◌≡◌, ℕ, refl, sym, ap, subst, ◌∙◌, Bool, true, false, List, [], ◌∷◌, ◌++◌, inl, inr}
 use Rattle.std.proofs.Common.{length, map, ⊎_elim}
 use Rattle.std.specs.Prelude.{◌⊎◌, not, ◌&&◌, ◌||◌, Some, option_map, position, slice_get, if◌then◌else◌}
 use Rattle.std.proofs.lemmas.Option.{slice_get-map}
 use Rattle.cjc_bytes.specs.AccessFlags.{is_interface, is_private, is_static}
 use Rattle.cjc_bytes.specs.declared.settings.Settings.{Settings}
 use Rattle.cjc_code.specs.declared.method_code.MethodCode.{MethodCode}
-use Rattle.cjc_world_proof.proofs.CallsLaws.Own.{mapped_at}
+use Rattle.cjc_token_proof.proofs.WorldProofOwn.{mapped_at}
 use Rattle.cjc_components.specs.Package.{Package, world}
-use Rattle.cjc_export.specs.declared.tree.ExportClass.{ExportClass}
-use Rattle.cjc_export.specs.declared.tree.ExportMethod.{ExportMethod}
+use Rattle.cjc_world.specs.ExportFile.declared.tree.ExportClass.{ExportClass}
+use Rattle.cjc_world.specs.ExportFile.declared.tree.ExportMethod.{ExportMethod}
 use Rattle.cjc_theorem.specs.FairExports.Fair.{ExportsAreFair, world_of}
 use Rattle.cjc_theorem.proofs.FairExports.Alone.{acyclic, filed, found, same_supertypes, supers_abroad}
 use Rattle.cjc_theorem.proofs.FairExports.Listed.{exports_plain, root_bare}
 use Rattle.cjc_theorem.proofs.FairExports.Roots.{below_root, object_there}
-use Rattle.cjc_world_proof.proofs.SelectionLaws.Rules.{listed_abroad}
+use Rattle.cjc_theorem.proofs.AlikeLaws.VirtualCalls.MethodKinds.{in_get}
+use Rattle.cjc_token_proof.proofs.WorldProofRules.{listed_abroad}
 use Rattle.cjc_subset.specs.Checks.{check_breaks}
 use Rattle.cjc_token_proof.specs.Tables.Sound.{IsSound}
 use Rattle.cjc_tokens.specs.Members.{In, Signature, all_methods, first_of, has, is_initialiser, later, same}
 use Rattle.cjc_tokens.specs.Members.{signature_of}
 use Rattle.cjc_tokens.specs.Methods.{interface_methods}
-use Rattle.cjc_tokens.specs.Slots.{Slots, has_slot, new_in}
 use Rattle.cjc_tokens.proofs.Facts.{same-true}
+use Rattle.cjc_tokens.proofs.Held.{new-offered}
 use Rattle.cjc_world.specs.Upwards.{OnLine}
 use Rattle.cjc_world.proofs.UpwardLaws.Lines.{above_on, below_line, line_below}
 use Rattle.cjc_vtable.specs.Calls.{IsOneToOne}
@@ -40,28 +41,6 @@ use Rattle.cjc_world.proofs.Settled.{AreSupertypes-one, supertypes-AreSupertypes
 use Rattle.cjc_token_proof.specs.WrittenSends.Sends.{ExportsSend, InterfacesAsk}
 
 -- ---- an interface's methods are no initialisers
-
-or_split : (a b : Bool) → (a || b) ≡ true → (a ≡ true) ⊎ (b ≡ true)
-or_split true b e = inl refl
-or_split false b e = inr e
-
-has_new : (slots : Slots) (ss : List Signature) (s : Signature) → has (new_in slots ss) s ≡ true → has ss s ≡ true
-has_new slots [] s e = absurd cc
-has_new slots (t ∷ ss) s e = by (has_slot slots t) e (has_new slots ss s) (has_new (slots ++ Some t ∷ []) ss s)
-  where
-    either : (a b : Bool) → (b ≡ true → has ss s ≡ true) → (a || b) ≡ true → (a || has ss s) ≡ true
-    either true b rest e = refl
-    either false b rest e = rest e
-
-    back : (a : Bool) → has ss s ≡ true → (a || has ss s) ≡ true
-    back true e = refl
-    back false e = e
-
-    by : (b : Bool) → has (if b then new_in slots ss else t ∷ new_in (slots ++ Some t ∷ []) ss) s ≡ true
-        → (has (new_in slots ss) s ≡ true → has ss s ≡ true) → (has (new_in (slots ++ Some t ∷ []) ss) s ≡ true
-        → has ss s ≡ true) → (same t s || has ss s) ≡ true
-    by true e same_slots more = back (same t s) (same_slots e)
-    by false e same_slots more = either (same t s) (has (new_in (slots ++ Some t ∷ []) ss) s) more e
 
 has_either : (ms ns : List Member) (s : Signature) → has (map signature_of (ms ++ ns)) s ≡ true
     → (has (map signature_of ms) s ≡ true) ⊎ (has (map signature_of ns) s ≡ true)
@@ -109,7 +88,7 @@ asked_plain (c ∷ cs) s e = ⊎_elim (λ f. own_plain c s f) (λ g. asked_plain
 interface_plain : (w : List Class) (c : Class) (s : Signature) → has (interface_methods w c) s ≡ true
     → is_initialiser s.name ≡ false
 unfolding interface_methods asked_by
-interface_plain w c s e = by c.is_imported (has_new [] (map signature_of (if c.is_imported then own_methods c
+interface_plain w c s e = by c.is_imported (new-offered [] (map signature_of (if c.is_imported then own_methods c
     else asked_by (supertypes w c.supers) (supertypes w c.interfaces) ++ own_methods c)) s e)
   where
     by : (b : Bool)
@@ -134,11 +113,6 @@ in_front : (m : Member) (ms : List Member) → In m (ms ++ []) → In m ms
 in_front m [] h = h
 in_front m (x ∷ ms) first_of = first_of
 in_front m (x ∷ ms) (later h) = later (in_front m ms h)
-
-in_at : (m : Member) (ms : List Member) → In m ms → (k : ℕ) × (slice_get ms k ≡ Some m)
-in_at m [] h = elim h [ ]
-in_at m (x ∷ ms) first_of = (0, refl)
-in_at m (x ∷ ms) (later h) = let r = in_at m ms h in (suc r.0, r.1)
 
 selectable : (flags : ℕ) → is_private flags ≡ false → is_static flags ≡ false → is_selectable flags ≡ true
 selectable flags e f = ap (λ b. not b && not (is_static flags)) e ∙ ap not f
@@ -229,7 +203,7 @@ module _ (list : List ℕ) (files : Files) (sound : IsSound list files) where
         (supertypes-AreSupertypes w (acyclic list files sound) o.supers) (no_super o e is) in
         let here : In m o.methods = in_front m o.methods (subst (λ ks. In m (o.methods ++ all_methods (ks ++ []))) bare
         (subst (λ k. In m (all_methods (upwards k))) line_is among)) in
-        let at = in_at m o.methods here in
+        let at = in_get m o.methods here in
         let q = mapped_at method_of_export r.1.methods at.0 m (ap (λ (v : Class). slice_get v.methods at.0) (sym r.3)
         ∙ at.1) in
         let its = root_bare list files codes settings none r.0 r.1 r.2 name at.0 q.0 q.1

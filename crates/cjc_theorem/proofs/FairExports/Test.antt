@@ -1,13 +1,15 @@
 -- A test of export files by which they are fair.
-use Rattle.std.proofs.Common.{◌≡◌, ℕ, zero, suc, refl, sym, ap, ◌∙◌, arith, Bool, true, false, List, [], ◌∷◌}
+use Rattle.std.proofs.Common.{◌≡◌, ℕ, zero, suc, refl, sym, ap, ◌∙◌, Bool, true, false, List, [], ◌∷◌}
 use Rattle.std.proofs.Common.{◌++◌, map}
 use Rattle.std.specs.Prelude.{◌==◌, ◌&&◌, ◌||◌, not, Some, slice_get, if◌then◌else◌}
 use Rattle.std.specs.List.{list_all}
 use Rattle.std.proofs.lemmas.Bool.{eqb-true}
-use Rattle.std.proofs.lemmas.Bool.Decides.{nat_tests}
 use Rattle.cjc_bytes.specs.AccessFlags.{is_interface}
-use Rattle.cjc_export.specs.declared.tree.ExportClass.{ExportClass}
-use Rattle.cjc_export.specs.declared.tree.ExportTree.{ExportTree}
+use Rattle.cjc_bytes.proofs.Bools.{both_front, both_back}
+use Rattle.cjc_bytes.proofs.Numbers.{like_number}
+use Rattle.cjc_bytes.proofs.Plain.{no_both}
+use Rattle.cjc_world.specs.ExportFile.declared.tree.ExportClass.{ExportClass}
+use Rattle.cjc_world.specs.ExportFile.declared.tree.ExportTree.{ExportTree}
 use Rattle.cjc_theorem.specs.FairExports.Fair.{ExportsAreFair, world_of}
 use Rattle.cjc_subset.specs.Members.{imports}
 use Rattle.cjc_tokens.specs.Members.{In, all_methods, first_of, is_virtual, later, same, signature_of}
@@ -15,14 +17,6 @@ use Rattle.cjc_tokens.proofs.Facts.{same-refl, same-true}
 use Rattle.cjc_vtable.specs.Calls.{IsOneToOne}
 use Rattle.cjc_world.specs.Classes.{Class, Member, method_of_export}
 use Rattle.cjc_world.specs.Supertypes.{supertypes, upwards}
-
-both_front : (a b : Bool) → (a && b) ≡ true → a ≡ true
-both_front true b e = refl
-both_front false b e = absurd cc
-
-both_back : (a b : Bool) → (a && b) ≡ true → b ≡ true
-both_back true b e = e
-both_back false b e = absurd cc
 
 -- ---- tokens
 
@@ -44,12 +38,6 @@ both_told true true t e f g = g
 both_told true false t e f g = absurd cc
 both_told false b t e f g = absurd cc
 
-same_number : (k : ℕ) → (k == k) ≡ true
-same_number k = grind (arith, nat_tests)
-
-clash : {A : Type 0} → true ≡ false → A
-clash e = absurd cc
-
 agreed : (m n : Member) → agree m n ≡ true → is_virtual m ≡ true → is_virtual n ≡ true
     → (m.token ≡ n.token → signature_of m ≡ signature_of n) × (signature_of m ≡ signature_of n → m.token ≡ n.token)
 unfolding agree
@@ -68,8 +56,8 @@ agreed m n e v u = by (m.token == n.token) (same (signature_of m) (signature_of 
     by true false f g h = absurd cc
     by false true f g h = absurd cc
     by false false f g h = (
-      λ token. clash (sym (same_number m.token) ∙ ap (λ k. m.token == k) token ∙ f),
-      λ signature. clash (sym (same-refl (signature_of m)) ∙ ap (same (signature_of m)) signature ∙ g),
+      λ token. no_both (sym (like_number m.token) ∙ ap (λ k. m.token == k) token ∙ f),
+      λ signature. no_both (sym (same-refl (signature_of m)) ∙ ap (same (signature_of m)) signature ∙ g),
     )
 
 is_one_to_one : (ms : List Member) → one_to_one ms ≡ true → IsOneToOne ms

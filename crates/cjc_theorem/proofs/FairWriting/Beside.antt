@@ -4,12 +4,13 @@ use Rattle.std.proofs.Common.{◌≡◌, ℕ, refl, sym, ap, subst, ◌∙◌, B
 use Rattle.std.proofs.Common.{⊎_elim}
 use Rattle.std.specs.Prelude.{◌⊎◌, Some, slice_get}
 use Rattle.cjc_bytes.specs.AccessFlags.{is_interface}
+use Rattle.cjc_bytes.proofs.Plain.{no_both}
 use Rattle.cjc_classfile.specs.declared.tree.ClassTree.{ClassTree}
 use Rattle.cjc_components.specs.ExportFile.{export_class, export_of}
 use Rattle.cjc_components.specs.Exports.{exported_classes}
 use Rattle.cjc_components.specs.Package.{Package, world}
-use Rattle.cjc_export.specs.declared.tree.ExportClass.{ExportClass}
-use Rattle.cjc_export.specs.declared.tree.ExportTree.{ExportTree}
+use Rattle.cjc_world.specs.ExportFile.declared.tree.ExportClass.{ExportClass}
+use Rattle.cjc_world.specs.ExportFile.declared.tree.ExportTree.{ExportTree}
 use Rattle.cjc_shape_proof.proofs.ExportedOwn.{own_class}
 use Rattle.cjc_subset.specs.Members.{imports}
 use Rattle.cjc_token_proof.proofs.TablesLaws.Clean.{own_name}
@@ -18,39 +19,28 @@ use Rattle.cjc_token_proof.specs.Tables.Sound.{IsSound}
 use Rattle.cjc_tokens.specs.Members.{In, all_methods}
 use Rattle.cjc_world.specs.Upwards.{Below, IsOrdered, OnLine, here, up}
 use Rattle.cjc_world.proofs.Cycles.{class_named-name}
-use Rattle.cjc_world.proofs.UpwardLaws.Lines.{above_on, line_begins, listed_line}
-use Rattle.cjc_world_proof.specs.Files.{IsImportedClass}
+use Rattle.cjc_world.proofs.UpwardLaws.Lines.{above_on, line_begins, listed_line, same_class}
+use Rattle.cjc_token_proof.specs.WorldProof.Files.{IsImportedClass}
 use Rattle.cjc_vtable.proofs.Filed.{Has, IsFiled, at_front, behind, filed, get-has, has-get, in_class_file}
-use Rattle.cjc_vtable.proofs.Filed.{in_export_file, of-imports}
+use Rattle.cjc_vtable.proofs.Filed.{in_export_file, of-imports, has-either}
 use Rattle.cjc_vtable.proofs.Given.{In-split}
 use Rattle.cjc_vtable.specs.Laws.{KeepsRules, Under, below, itself}
 use Rattle.cjc_world.specs.Classes.{Class, Member, class_named, declared, imported, method_of_export}
 use Rattle.cjc_world.specs.Lookup.{object}
-use Rattle.cjc_world.specs.Supertypes.{Above, IsAcyclic, Lists, after, directly, foremost, supertypes, onwards, upwards}
+use Rattle.cjc_world.specs.Supertypes.{Above, IsAcyclic, Lists, directly, supertypes, onwards, upwards}
 use Rattle.cjc_world.proofs.Settled.{supertypes-AreSupertypes, lists-behind, lists-front}
 use Rattle.cjc_world.proofs.Trees.{lists-split}
 use Rattle.cjc_world.proofs.Unbroken.{unbroken_is_acyclic}
-use Rattle.cjc_theorem.proofs.FairWriting.Fewer.{among, in_imports, of_one, once_among, there}
+use Rattle.cjc_theorem.proofs.FairWriting.Fewer.{among, of_one, once_among, there}
 use Rattle.cjc_theorem.proofs.FairWriting.Upwards.{interface_below, step_above, super_under, under_below, under_on}
+use Rattle.cjc_theorem.proofs.FairWriting.Upwards.{no_item, item_cons}
 use Rattle.cjc_theorem.proofs.FairWriting.Worlds.{found}
 use Rattle.cjc_theorem.specs.Built.{AreDistinct, StandsOver}
 use Rattle.cjc_theorem.specs.FairExports.Fair.{world_of}
+use Rattle.cjc_theorem.proofs.FairExports.Roots.{in_imports}
+use Rattle.cjc_theorem.proofs.FairWriting.Hidden.{only_name}
 
 -- ---- lists
-
-no_item : {A B : Type 0} {x : A} → Has x [] → B
-no_item h = elim h [ ]
-
-item_cons : {A : Type 0} (x y : A) (xs : List A) → Has y (x ∷ xs) → (y ≡ x) ⊎ Has y xs
-item_cons x _ xs at_front = inl refl
-item_cons x y xs (behind h) = inr h
-
-has_either : {A : Type 0} (x : A) (a b : List A) → Has x (a ++ b) → Has x a ⊎ Has x b
-has_either x [] b h = inr h
-has_either x (y ∷ a) b h = ⊎_elim
-    (λ same. inl (subst (λ z. Has z (y ∷ a)) (sym same) at_front))
-    (λ g. ⊎_elim (λ k. inl (behind k)) (λ k. inr k) (has_either x a b g))
-    (item_cons y x (a ++ b) h)
 
 pub mapped : {A B : Type 0} (f : A → B) (xs : List A) (y : B) → Has y (map f xs) → (x : A) × Has x xs × (f x ≡ y)
 mapped f [] y h = no_item h
@@ -60,22 +50,12 @@ mapped f (x ∷ xs) y h = ⊎_elim (λ same. (x, at_front, sym same)) (λ g. let
 -- a class of the file in the midst, or of the others
 pub either_file : (t : ExportTree) (before following : List ExportTree) (e : ExportClass)
     → Has e (imports (before ++ t ∷ following)) → Has e t.classes ⊎ Has e (imports (before ++ following))
-either_file t [] following e h = has_either e t.classes (imports following) h
+either_file t [] following e h = has-either e t.classes (imports following) h
 either_file t (u ∷ before) following e h = ⊎_elim
     (λ a. inr (has-front e u.classes (imports (before ++ following)) a))
     (λ b. ⊎_elim (λ c. inl c) (λ c. inr (has-back e u.classes (imports (before ++ following)) c))
     (either_file t before following e b))
-    (has_either e u.classes (imports (before ++ t ∷ following)) h)
-
-no_both : {A : Type 0} → true ≡ false → A
-no_both e = absurd cc
-
-same_class : {c d : Class} → Some c ≡ Some d → c ≡ d
-same_class e = cc
-
-only_name : (x y : List ℕ) → Lists y (x ∷ []) → y ≡ x
-only_name x _ foremost = refl
-only_name x y (after l) = elim l [ ]
+    (has-either e u.classes (imports (before ++ t ∷ following)) h)
 
 -- ---- a package and the export files of its list
 
@@ -145,7 +125,8 @@ module _ (list : List ℕ) (p : Package) (sound : IsSound list p.files) where
   IsHere e = Has e (let t = export_of p in t.classes) ⊎ Has e (imports exports)
 
   pub known : (e : ExportClass) → IsHere e → IsKnown e
-  known e h = ⊎_elim (λ a. written_known e a) (λ b. let at = has-get e (imports exports) b in import_known at.0 e at.1) h
+  known e h = ⊎_elim (λ a. written_known e a) (λ b. let at = has-get e
+      (imports exports) b in import_known at.0 e at.1) h
 
   -- no two have one name
   one_kind : (a b : ExportClass) (c d : Class) → c ≡ d → IsImport a c ⊎ IsWritten a c → IsImport b d ⊎ IsWritten b d
@@ -204,7 +185,7 @@ module _ (list : List ℕ) (p : Package) (sound : IsSound list p.files) where
   own_files = export_of p ∷ exports
 
   own_here_is : (e : ExportClass) → Has e (imports own_files) → IsHere e
-  own_here_is e h = has_either e (let t = export_of p in t.classes) (imports exports) h
+  own_here_is e h = has-either e (let t = export_of p in t.classes) (imports exports) h
 
   one_above : (x y : List ℕ) (d : Class) → class_named (world_of own_files) x ≡ Some d
       → Lists y (d.supers ++ d.interfaces) → Above w x y
@@ -285,7 +266,7 @@ module _ (list : List ℕ) (p : Package) (sound : IsSound list p.files) where
 
     -- what a class here lists as a superclass is here, where one of the files has it
     step_here : (e f : ExportClass) → IsHere e → Has f cs → Lists f.name e.supers → IsHere f
-    step_here e f k h l = ⊎_elim (λ a. inl a) (λ b. far b) (has_either f (let t = export_of p
+    step_here e f k h l = ⊎_elim (λ a. inl a) (λ b. far b) (has-either f (let t = export_of p
         in t.classes) (imports all) h)
       where
         named : (d : Class) → IsFiled p.files d → class_named w f.name ≡ Some d → Has f (imports all) → IsHere f

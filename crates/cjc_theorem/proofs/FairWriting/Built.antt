@@ -1,9 +1,10 @@
--- Export files of platforms that are fair, with those that packages write over some of them, are fair, and so are fewer.
+-- Export files of platforms that are fair, with those that packages write over some of them, are fair, and so are
+-- fewer.
 use Rattle.std.proofs.Common.{◌≡◌, ℕ, sym, subst, List, ◌∷◌, ◌++◌, ⊎_elim}
 use Rattle.cjc_components.specs.ExportFile.{export_of}
 use Rattle.cjc_components.specs.List.Listed.{ListTree}
 use Rattle.cjc_components.specs.Package.{Package, world}
-use Rattle.cjc_export.specs.declared.tree.ExportTree.{ExportTree}
+use Rattle.cjc_world.specs.ExportFile.declared.tree.ExportTree.{ExportTree}
 use Rattle.cjc_judge.specs.Rules.{settings_of}
 use Rattle.cjc_judge.specs.declared.judged.Judged.{Judged}
 use Rattle.cjc_shape_proof.proofs.WrittenLaws.Files.{files_sound, own_unbroken}
@@ -12,10 +13,10 @@ use Rattle.cjc_shape_proof.specs.Written.Converted.{IsConverted}
 use Rattle.cjc_subset.specs.Members.{imports}
 use Rattle.cjc_theorem.proofs.AlikeLaws.Converted.{is_converted, own_checks, own_package}
 use Rattle.cjc_theorem.proofs.FairExports.Listed.{exports_plain, names}
-use Rattle.cjc_theorem.proofs.FairExports.Roots.{exports_sound}
+use Rattle.cjc_theorem.proofs.FairExports.Roots.{exports_sound, in_imports}
 use Rattle.cjc_theorem.proofs.FairExports.Sent.{exports_agree}
 use Rattle.cjc_theorem.proofs.FairWriting.Beside.{either_file, own_distinct, own_stands}
-use Rattle.cjc_theorem.proofs.FairWriting.Fewer.{among, fewer_distinct, fewer_fair, in_imports, there}
+use Rattle.cjc_theorem.proofs.FairWriting.Fewer.{among, fewer_distinct, fewer_fair, there}
 use Rattle.cjc_theorem.proofs.FairWriting.Fields.{still_fair}
 use Rattle.cjc_theorem.specs.Built.{AreBuilt, AreDistinct, IsWritten, StandsOver, and_written, of_platform}
 use Rattle.cjc_theorem.specs.FairExports.Fair.{ExportsAreFair}

@@ -6,6 +6,8 @@ use Rattle.std.proofs.lemmas.Option.{slice_get-map}
 use Rattle.cjc_bytes.specs.AccessFlags.{acc_native, acc_strict, acc_synchronized, has, is_abstract, is_interface}
 use Rattle.cjc_bytes.specs.AccessFlags.{is_private, is_protected, is_public, is_static}
 use Rattle.cjc_bytes.specs.declared.settings.Settings.{Settings}
+use Rattle.cjc_bytes.proofs.Bools.{both_front, both_back, or_left, or_right}
+use Rattle.cjc_bytes.proofs.Gets.{in_front, get_behind, mapped_at}
 use Rattle.cjc_classfile.specs.declared.tree.ClassTree.{ClassTree}
 use Rattle.cjc_code.specs.declared.method_code.MethodCode.{MethodCode}
 use Rattle.cjc_components.specs.Descriptor.{as_added, method_in, methods_with_added, no_member}
@@ -13,17 +15,15 @@ use Rattle.cjc_components.specs.ExportFile.{added_from, export_class, inherited_
 use Rattle.cjc_components.specs.ExportFile.{method_meant, methods_from, supers_from}
 use Rattle.cjc_components.specs.Names.{member_token}
 use Rattle.cjc_components.specs.Package.{Package, has_applets, world}
-use Rattle.cjc_export.specs.declared.tree.ExportClass.{ExportClass}
-use Rattle.cjc_export.specs.declared.tree.ExportMethod.{ExportMethod}
-use Rattle.cjc_shape_proof.proofs.WrittenLaws.FittingLaws.Exported.{is_bare, or_first, or_second}
-use Rattle.cjc_shape_proof.proofs.WrittenLaws.FittingLaws.Lists.{mapped_at}
-use Rattle.cjc_shape_proof.proofs.WrittenLaws.FittingLaws.Order.{has_cons, has_either, has_none}
+use Rattle.cjc_world.specs.ExportFile.declared.tree.ExportClass.{ExportClass}
+use Rattle.cjc_world.specs.ExportFile.declared.tree.ExportMethod.{ExportMethod}
+use Rattle.cjc_shape_proof.proofs.WrittenLaws.FittingLaws.Exported.{is_bare}
 use Rattle.cjc_shape_proof.proofs.WrittenLaws.FittingLaws.OwnTokens.{Offers, added_token, offers_given, offers_shown}
 use Rattle.cjc_shape_proof.proofs.WrittenLaws.FittingLaws.OwnTokens.{exposed_token, slot_there}
 use Rattle.cjc_shape_proof.proofs.WrittenLaws.FittingLaws.Rules as Rules
 use Rattle.cjc_shape_proof.proofs.WrittenLaws.FittingLaws.Standing.{IsInheritedAt, added_in, inherited_in, listed_in}
 use Rattle.cjc_token_proof.proofs.TablesLaws.Clean.{own_name}
-use Rattle.cjc_token_proof.proofs.TablesLaws.Filed.{own_in}
+use Rattle.cjc_token_proof.proofs.TablesLaws.Filed.{own_in, has-front}
 use Rattle.cjc_subset.specs.Checks.{check_breaks}
 use Rattle.cjc_subset.specs.Flags.{has_two_accesses, is_unfit_method}
 use Rattle.cjc_subset.specs.Members.{imports}
@@ -37,8 +37,8 @@ use Rattle.cjc_tokens.specs.Slots.{got, implementing, meant_by, own, row, shown_
 use Rattle.cjc_world.proofs.UpwardLaws.Lines.{first_has, gathered_above, has-cons, line_named, listed_line}
 use Rattle.cjc_world.specs.Upwards.{IsOrdered}
 use Rattle.cjc_vtable.proofs.Filed.{Has, IsFiled, at-number, at_front, behind, filed, get-has, has-get, in_class_file}
-use Rattle.cjc_vtable.proofs.Filed.{in_export_file}
-use Rattle.cjc_vtable.proofs.SlotNames.{get-behind, position-at}
+use Rattle.cjc_vtable.proofs.Filed.{in_export_file, has-either}
+use Rattle.cjc_vtable.proofs.SlotNames.{position-at}
 use Rattle.cjc_vtable.proofs.Worlds.{told-class}
 use Rattle.cjc_vtable.specs.Calls.{IsTold}
 use Rattle.cjc_vtable.specs.Laws.{KeepsRules}
@@ -55,28 +55,11 @@ use Rattle.cjc_world.specs.Lookup.{first, is_called, is_wanted, member_at, metho
 use Rattle.cjc_world.specs.Lookup.{own_of}
 use Rattle.cjc_world.specs.declared.found.Found.{Found}
 use Rattle.cjc_shape_proof.proofs.WritingLaws.Entries.{supers_in}
-use Rattle.cjc_shape_proof.proofs.WritingLaws.Signatures.{asked_plain, mapped_has, new_has}
+use Rattle.cjc_shape_proof.proofs.WritingLaws.Signatures.{asked_plain, new_has}
 use Rattle.cjc_theorem.proofs.FairWriting.Once.{place_token}
+use Rattle.cjc_shape_proof.proofs.CheckProofLists.{has-mapped}
 
 -- ---- tests and lists
-
-front_at : {A : Type 0} (xs ys : List A) (k : ℕ) (x : A) → slice_get xs k ≡ Some x → slice_get (xs ++ ys) k ≡ Some x
-front_at [] ys k x e = cc
-front_at (y ∷ xs) ys zero x e = e
-front_at (y ∷ xs) ys (suc k) x e = front_at xs ys k x e
-
-front_has : {A : Type 0} (x : A) (xs ys : List A) → Has x xs → Has x (xs ++ ys)
-front_has x [] ys h = has_none x h
-front_has x (y ∷ xs) ys h = ⊎_elim (λ same. subst (λ z. Has z (y ∷ xs ++ ys)) (sym same) at_front)
-    (λ g. behind (front_has x xs ys g)) (has_cons x y xs h)
-
-both_first : (a b : Bool) → (a && b) ≡ true → a ≡ true
-both_first true b e = refl
-both_first false b e = cc
-
-both_second : (a b : Bool) → (a && b) ≡ true → b ≡ true
-both_second true b e = e
-both_second false b e = cc
 
 -- a virtual method is neither private nor an initialiser
 virtual_plain : (m : Member) → is_virtual m ≡ true → (is_private m.flags ≡ false) × (is_initialiser m.name ≡ false)
@@ -97,10 +80,10 @@ one_access interface flags name coded fit =
     let kind = A || (is_abstract flags && (is_static flags || is_private flags)) in
     let special = is_abstract flags && (is_constructor name || is_initialiser name) in
     let bare = is_initialiser name && not (is_static flags) in
-    let three = or_first (kind || special || bare) (interface && coded && not (is_initialiser name)) fit in
-    let first = or_first kind special (or_first (kind || special) bare three) in
-    or_second (has flags acc_native || has flags acc_synchronized || has flags acc_strict) (has_two_accesses flags)
-    (or_first A (is_abstract flags && (is_static flags || is_private flags)) first)
+    let three = or_left (kind || special || bare) (interface && coded && not (is_initialiser name)) fit in
+    let first = or_left kind special (or_left (kind || special) bare three) in
+    or_right (has flags acc_native || has flags acc_synchronized || has flags acc_strict) (has_two_accesses flags)
+    (or_left A (is_abstract flags && (is_static flags || is_private flags)) first)
 
 exposed_visible : (flags : ℕ) → has_two_accesses flags ≡ false → is_exposed flags ≡ true → is_private flags ≡ false
 exposed_visible flags one e = by (is_public flags) (is_protected flags) (is_private flags) one e
@@ -139,15 +122,12 @@ added_plain w c k m e = by (takes_added c) e
         → slice_get (if b then lacking test [] (asked_by (supertypes w c.supers) (supertypes w c.interfaces)) else []) k
         ≡ Some m → is_initialiser m.name ≡ false
     by true f = asked_plain (supertypes w c.supers) (supertypes w c.interfaces) c m
-        (front_has m (asked_by (supertypes w c.supers) (supertypes w c.interfaces)) (own_methods c)
+        (has-front m (asked_by (supertypes w c.supers) (supertypes w c.interfaces)) (own_methods c)
         (lacking_has test [] (asked_by (supertypes w c.supers) (supertypes w c.interfaces)) k m f))
     by false f = cc
 
 same_member : {m n : Member} → Some m ≡ Some n → m ≡ n
 same_member e = cc
-
-no_both : {A : Type 0} → true ≡ false → A
-no_both e = absurd cc
 
 -- ---- a package
 
@@ -189,12 +169,12 @@ module _ (list : List ℕ) (p : Package) (codes : List MethodCode) (settings : S
       by (Some i) g h =
           let same : member_at d (length d.fields + i) ≡ f = cc in
           let r = position-at (λ m. test m && is_called s.name s.desc m) d.methods i g in
-          let kind = passes r.0 (both_first (test r.0) (is_called s.name s.desc r.0) r.2) in
+          let kind = passes r.0 (both_front (test r.0) (is_called s.name s.desc r.0) r.2) in
           record {
             member = r.0;
             meant = ap (method_meant w) (sym same)
-                ∙ place_meant d named i r.0 (front_at d.methods (map as_added (added w d)) i r.0 r.1);
-            signature = same-true (signature_of r.0) s (both_second (test r.0) (is_called s.name s.desc r.0) r.2);
+                ∙ place_meant d named i r.0 (in_front d.methods (map as_added (added w d)) i r.0 r.1);
+            signature = same-true (signature_of r.0) s (both_back (test r.0) (is_called s.name s.desc r.0) r.2);
             visible = kind.0;
             plain = kind.1;
           }
@@ -212,7 +192,7 @@ module _ (list : List ℕ) (p : Package) (codes : List MethodCode) (settings : S
           let moved : length d.fields + (length d.methods + i) ≡ length d.fields + length d.methods + i = omega arith in
           let r = position-at (λ m. is_called s.name s.desc m) (added w d) i g in
           let there : slice_get (methods_with_added w d) (length d.methods + i) ≡ Some (as_added r.0) =
-          get-behind d.methods (map as_added (added w d)) i ∙ slice_get-map as_added (added w d) i
+          get_behind d.methods (map as_added (added w d)) i ∙ slice_get-map as_added (added w d) i
           ∙ ap (option_map as_added) r.1 in
           record {
             member = as_added r.0;
@@ -234,7 +214,7 @@ module _ (list : List ℕ) (p : Package) (codes : List MethodCode) (settings : S
       named = ap (class_named w) (class_named-name w x c g) ∙ g
 
       shown_plain : (m : Member) → is_shown m ≡ true → (is_private m.flags ≡ false) × (is_initialiser m.name ≡ false)
-      shown_plain m h = virtual_plain m (both_second (is_exposed m.flags) (is_virtual m) h)
+      shown_plain m h = virtual_plain m (both_back (is_exposed m.flags) (is_virtual m) h)
 
       by : (b : Bool) → implementing (if b then Imported (c ∷ upwards supers)
           else Declared c (added w c) (line_in w supers)) s ≡ Some f → (implementing (line_in w supers) s ≡ Some f
@@ -408,5 +388,5 @@ module _ (list : List ℕ) (p : Package) (codes : List MethodCode) (settings : S
       pub class_entry : (e : ExportMethod) → Has e (let x = export_class p c in x.methods) → IsEntry e
       class_entry e h =
           ⊎_elim (λ a. own_entry e a) (λ b. ⊎_elim (λ d. given_entry e d) (λ d. inherited_entry e d)
-          (has_either e B C b))
-          (has_either e A (B ++ C) (subst (Has e) class_methods h))
+          (has-either e B C b))
+          (has-either e A (B ++ C) (subst (Has e) class_methods h))

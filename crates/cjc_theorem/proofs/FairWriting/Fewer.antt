@@ -1,8 +1,9 @@
--- Fewer export files, or the same ones in another order: what stands above a class among them stands above it among all.
+-- Fewer export files, or the same ones in another order: what stands above a class among them stands above it among
+-- all.
 use Rattle.std.proofs.Common.{◌≡◌, ℕ, sym, ap, subst, ◌∙◌, List, [], ◌∷◌, ◌++◌, map, ⊎_elim}
 use Rattle.std.specs.Prelude.{Some}
-use Rattle.cjc_export.specs.declared.tree.ExportClass.{ExportClass}
-use Rattle.cjc_export.specs.declared.tree.ExportTree.{ExportTree}
+use Rattle.cjc_world.specs.ExportFile.declared.tree.ExportClass.{ExportClass}
+use Rattle.cjc_world.specs.ExportFile.declared.tree.ExportTree.{ExportTree}
 use Rattle.cjc_subset.specs.Members.{imports}
 use Rattle.cjc_theorem.proofs.AlikeLaws.VirtualCalls.Chosen.{has_methods}
 use Rattle.cjc_theorem.proofs.FairWriting.Worlds.{finds, found}
@@ -10,7 +11,6 @@ use Rattle.cjc_theorem.specs.Built.{AreDistinct}
 use Rattle.cjc_theorem.specs.FairExports.Fair.{ExportsAreFair, world_of}
 use Rattle.cjc_tokens.specs.Members.{In, all_methods}
 use Rattle.cjc_vtable.proofs.Calls.{In-behind, In-front}
-use Rattle.cjc_token_proof.proofs.TablesLaws.Filed.{has-back, has-front}
 use Rattle.cjc_vtable.proofs.Filed.{Has, at_front, behind, get-has, has-get}
 use Rattle.cjc_vtable.proofs.Given.{In-split}
 use Rattle.cjc_world.proofs.Settled.{supertypes-AreSupertypes}
@@ -153,11 +153,3 @@ module _ (few all : List ExportTree) (sub : (e : ExportClass) → Has e (imports
         (λ c f g there_one l. there_one) fewer_distinct.acyclic distinct.acyclic e h in
         fair.tokens place.0 e place.1 plain m k (kept m i) (kept k j) virtual other;
   }
-
--- ---- files
-
-pub in_imports : (c : ExportClass) (t : ExportTree) (ts : List ExportTree) → Has t ts → Has c t.classes
-    → Has c (imports ts)
-in_imports c t [] h i = elim h [ ]
-in_imports c t (s ∷ ts) at_front i = has-front c t.classes (imports ts) i
-in_imports c t (s ∷ ts) (behind h) i = has-back c s.classes (imports ts) (in_imports c t ts h i)

@@ -1,28 +1,30 @@
 -- The export file that a package writes is fair with files beside it that are fair: field by field.
-use Rattle.std.proofs.Common.{◌≡◌, ℕ, suc, ◌+◌, ◌-◌, ◌*◌, ◌^◌, refl, sym, ap, subst, ◌∙◌, arith, Bool, true, false}
+use Rattle.std.proofs.Common.{◌≡◌, ℕ, ◌+◌, ◌-◌, ◌*◌, ◌^◌, refl, sym, ap, subst, ◌∙◌, arith, Bool, true, false}
 use Rattle.std.proofs.Common.{List, [], ◌∷◌, ◌++◌, map, inl, inr, ⊎_elim, Some}
 use Rattle.std.specs.Prelude.{◌⊎◌, not, ◌&&◌, ◌/◌, ◌%◌, nat_lt, slice_get, if◌then◌else◌}
 use Rattle.std.proofs.lemmas.Nat.Bits.{and_pow}
+use Rattle.std.proofs.lemmas.Bool.{and_from}
 use Rattle.cjc_bytes.specs.AccessFlags.{acc_shareable, acc_super, is_interface}
 use Rattle.cjc_bytes.specs.declared.settings.Settings.{Settings}
+use Rattle.cjc_bytes.proofs.Gets.{mapped_at}
+use Rattle.cjc_bytes.proofs.Plain.{no_both}
 use Rattle.cjc_code.specs.declared.method_code.MethodCode.{MethodCode}
 use Rattle.cjc_components.specs.Class.{is_shareable}
 use Rattle.cjc_components.specs.ExportFile.{export_class, export_of, without}
 use Rattle.cjc_components.specs.Exports.{exported_classes}
 use Rattle.cjc_components.specs.Package.{Package, world}
-use Rattle.cjc_export.specs.declared.tree.ExportClass.{ExportClass}
-use Rattle.cjc_export.specs.declared.tree.ExportMethod.{ExportMethod}
-use Rattle.cjc_export.specs.declared.tree.ExportTree.{ExportTree}
+use Rattle.cjc_world.specs.ExportFile.declared.tree.ExportClass.{ExportClass}
+use Rattle.cjc_world.specs.ExportFile.declared.tree.ExportMethod.{ExportMethod}
+use Rattle.cjc_world.specs.ExportFile.declared.tree.ExportTree.{ExportTree}
 use Rattle.cjc_shape_proof.proofs.ExportedOwn.{IsOwn, own_class}
-use Rattle.cjc_shape_proof.proofs.WrittenLaws.FittingLaws.Lists.{mapped_at}
-use Rattle.cjc_world_proof.specs.Files.{IsImportedClass}
+use Rattle.cjc_token_proof.specs.WorldProof.Files.{IsImportedClass}
 use Rattle.cjc_subset.specs.Checks.{check_breaks}
 use Rattle.cjc_subset.specs.Members.{imports}
 use Rattle.cjc_token_proof.proofs.TablesLaws.Filed.{has-back}
 use Rattle.cjc_token_proof.specs.Tables.Sound.{IsSound}
 use Rattle.cjc_tokens.proofs.Held.{token-slot}
 use Rattle.cjc_tokens.specs.Lines.{line_of}
-use Rattle.cjc_tokens.specs.Members.{In, all_methods, first_of, is_exposed, is_hidden, is_virtual, later, signature_of}
+use Rattle.cjc_tokens.specs.Members.{In, all_methods, is_exposed, is_hidden, is_virtual, signature_of}
 use Rattle.cjc_tokens.specs.Slots.{slots, token}
 use Rattle.cjc_vtable.proofs.Calls.{In-front}
 use Rattle.cjc_vtable.proofs.Filed.{Has, get-has, has-get}
@@ -35,6 +37,7 @@ use Rattle.cjc_world.specs.Classes.{Class, Member, class_named, method_of_export
 use Rattle.cjc_world.specs.Lookup.{object}
 use Rattle.cjc_world.specs.Supertypes.{Lists, supertypes, upwards}
 use Rattle.cjc_world.specs.Upwards.{IsOrdered, OnLine, here}
+use Rattle.cjc_world.proofs.UpwardLaws.Lines.{same_class}
 use Rattle.cjc_theorem.proofs.AlikeLaws.VirtualCalls.Lines.{under_on}
 use Rattle.cjc_theorem.proofs.FairWriting.Beside.{IsFrom, IsHere, IsImport, IsKnown, IsWritten, all_from, either_file}
 use Rattle.cjc_theorem.proofs.FairWriting.Beside.{known, mapped}
@@ -43,6 +46,7 @@ use Rattle.cjc_theorem.proofs.FairWriting.Fewer.{among, fewer_distinct, methods_
 use Rattle.cjc_theorem.proofs.FairWriting.Hidden.{both_told, hidden_alone}
 use Rattle.cjc_theorem.specs.Built.{AreDistinct, StandsOver}
 use Rattle.cjc_theorem.specs.FairExports.Fair.{ExportsAreFair, world_of}
+use Rattle.cjc_theorem.proofs.AlikeLaws.VirtualCalls.MethodKinds.{in_get}
 
 -- ---- flags
 
@@ -72,23 +76,8 @@ interface_kept f shareable = ap (nat_lt 0) (and_pow r 9 ∙ ap (λ b. b * 2 ^ 9)
 
 -- ---- lists
 
-in_at : (m : Member) (ms : List Member) → In m ms → (k : ℕ) × (slice_get ms k ≡ Some m)
-in_at m [] h = elim h [ ]
-in_at m (x ∷ ms) first_of = (0, refl)
-in_at m (x ∷ ms) (later h) = let r = in_at m ms h in (suc r.0, r.1)
-
-same_class : {c d : Class} → Some c ≡ Some d → c ≡ d
-same_class e = cc
-
 some_number : {a b : ℕ} → Some a ≡ Some b → a ≡ b
 some_number e = cc
-
-no_both : {A : Type 0} → true ≡ false → A
-no_both e = absurd cc
-
-both_true : (a b : Bool) → a ≡ true → b ≡ true → (a && b) ≡ true
-both_true true b e f = f
-both_true false b e f = cc
 
 closed_virtual : (a b : Bool) → a ≡ false → b ≡ true → (not a && b) ≡ true
 closed_virtual false b e f = f
@@ -171,7 +160,7 @@ module _ (list : List ℕ) (p : Package) (codes : List MethodCode) (settings : S
       → (m : Member) → In m (map method_of_export e.methods) → IsEntered e m
   entered e k j plain m i =
       let c = k.class in
-      let at = in_at m (map method_of_export e.methods) i in
+      let at = in_get m (map method_of_export e.methods) i in
       let r = mapped_at method_of_export e.methods at.0 m at.1 in
       let has : Has r.0 (let x = export_class p c in x.methods) = subst (λ (x : ExportClass). Has r.0 x.methods)
       (sym j.is) (get-has r.0 e.methods at.0 r.1) in
@@ -205,7 +194,7 @@ module _ (list : List ℕ) (p : Package) (codes : List MethodCode) (settings : S
           e.name e.name c c k.named (known_flags e k ∙ plain) k.named itself in
           t.listed c m k.named (ap (λ (d : Class). d.is_imported) j.is)
           (In-front m c.methods (all_methods (upwards (supertypes w c.supers)))
-          (subst (λ (d : Class). In m d.methods) (sym j.is) i)) (both_true (is_exposed m.flags) (is_virtual m) open_one
+          (subst (λ (d : Class). In m d.methods) (sym j.is) i)) (and_from (is_exposed m.flags) (is_virtual m) open_one
           virtual)
 
   -- and in each class below it

@@ -1,29 +1,34 @@
--- A package-visible method that an imported class lists, in a class of the package below it: no slot there has its token
+-- A package-visible method that an imported class lists, in a class of the package below it: no slot there has its
+-- token
 -- and another signature, and none its signature and another token (rule 305).
-use Rattle.std.proofs.Common.{◌≡◌, ℕ, zero, suc, ◌<◌, ◌≤◌, refl, sym, ap, subst, ◌∙◌, arith, Bool, true, false, List, []}
+use Rattle.std.proofs.Common.{◌≡◌, ℕ, zero, suc, ◌<◌, ◌≤◌, refl, sym, ap, subst, ◌∙◌, arith, Bool, true, false, List}
+use Rattle.std.proofs.Common.{[]}
 use Rattle.std.proofs.Common.{◌∷◌, ◌++◌, length, map, inl, inr, ⊎_elim}
-use Rattle.std.specs.Prelude.{◌⊎◌, not, ◌&&◌, ◌||◌, ◌==◌, Option, Some, None, slice_get, if◌then◌else◌}
-use Rattle.std.proofs.lemmas.Bool.{eqb-false, eqb-true}
+use Rattle.std.specs.Prelude.{◌⊎◌, not, ◌&&◌, ◌||◌, Option, Some, None, slice_get, if◌then◌else◌}
 use Rattle.std.proofs.lemmas.Option.{slice_get_within}
 use Rattle.cjc_bytes.specs.AccessFlags.{is_interface, is_private, is_static}
 use Rattle.cjc_bytes.specs.declared.settings.Settings.{Settings}
+use Rattle.cjc_bytes.proofs.Bools.{both_front, hidden_closed}
+use Rattle.cjc_bytes.proofs.Gets.{in_front}
+use Rattle.cjc_bytes.proofs.Plain.{no_both}
 use Rattle.cjc_code.specs.declared.method_code.MethodCode.{MethodCode}
 use Rattle.cjc_subset.specs.Checks.{check_breaks}
 use Rattle.cjc_theorem.proofs.AlikeLaws.VirtualCalls.Chosen.{has_methods}
 use Rattle.cjc_theorem.proofs.AlikeLaws.VirtualCalls.Hidden.{gets_none}
 use Rattle.cjc_tokens.proofs.Facts.{chosen-In, chosen-passes, chosen-some}
-use Rattle.cjc_tokens.proofs.Held.{at_either, at_front, listed_slot, new-offered, put-same_at, put-still, reserve-still}
+use Rattle.cjc_tokens.proofs.Held.{at_either, listed_slot, new-offered}
 use Rattle.cjc_tokens.proofs.Held.{shown-virtual}
 use Rattle.cjc_tokens.specs.Lines.{Declared, Imported, line_in, line_of}
-use Rattle.cjc_tokens.specs.Members.{In, Signature, all_methods, first_of, has, is_exposed, is_hidden, is_shown}
-use Rattle.cjc_tokens.specs.Members.{is_virtual, later, signature_of, signatures}
-use Rattle.cjc_tokens.specs.Slots.{Slots, listed_slots, new_in, put, reserve, slots, with_new}
+use Rattle.cjc_tokens.specs.Members.{In, Signature, all_methods, has, is_exposed, is_hidden, is_shown}
+use Rattle.cjc_tokens.specs.Members.{is_virtual, signature_of, signatures}
+use Rattle.cjc_tokens.specs.Slots.{Slots, listed_slots, new_in, reserve, slots, with_new}
 use Rattle.cjc_vtable.proofs.Agrees.{hidden-virtual, virtual_plain}
 use Rattle.cjc_vtable.proofs.Calls.{In-behind, In-front}
 use Rattle.cjc_vtable.proofs.Told.{told-slots}
 use Rattle.cjc_vtable.proofs.Worlds.{line_of-declared, told-class}
 use Rattle.cjc_vtable.specs.Calls.{IsOneToOne, is_special}
 use Rattle.cjc_vtable.specs.Laws.{KeepsRules}
+use Rattle.cjc_vtable.proofs.Sent.{In-used}
 use Rattle.cjc_world.proofs.Cycles.{class_named-name}
 use Rattle.cjc_world.proofs.Settled.{AreSupertypes-one, supertypes-AreSupertypes, supertypes-known}
 use Rattle.cjc_world.proofs.UpwardLaws.Lines.{line_begins, line_listed, line_named}
@@ -47,41 +52,11 @@ reserved zero (slot ∷ all) = (slot, refl)
 reserved (suc t) [] = reserved t []
 reserved (suc t) (slot ∷ all) = reserved t all
 
--- the token of a virtual method is used
-used_by : (ms : List Member) (m : Member) → In m ms → is_virtual m ≡ true → (o : Option Signature)
-    × (slice_get (listed_slots ms) m.token ≡ Some o)
-used_by [] m i e = elim i [ ]
-used_by (n ∷ ms) m first_of e = by (is_shown n) (is_virtual n) e
-  where
-    by : (b v : Bool) → v ≡ true → (o : Option Signature)
-        × (slice_get (if b then put n.token (signature_of n) (listed_slots ms) else if v
-        then reserve n.token (listed_slots ms) else listed_slots ms) n.token ≡ Some o)
-    by true v f = (Some (signature_of n), put-same_at n.token n.token (signature_of n) (listed_slots ms) refl)
-    by false true f = reserved n.token (listed_slots ms)
-    by false false f = cc
-used_by (n ∷ ms) m (later i) e = by (is_shown n) (is_virtual n) (n.token == m.token) refl (used_by ms m i e)
-  where
-    by : (b v a : Bool) → (n.token == m.token) ≡ a → (o : Option Signature) × (slice_get (listed_slots ms) m.token
-        ≡ Some o) → (o : Option Signature) × (slice_get (if b then put n.token (signature_of n) (listed_slots ms)
-        else if v then reserve n.token (listed_slots ms) else listed_slots ms) m.token ≡ Some o)
-    by true v true g r = (
-      Some (signature_of n),
-      put-same_at n.token m.token (signature_of n) (listed_slots ms)
-          (eqb-true n.token m.token g),
-    )
-    by true v false g r = (
-      r.0,
-      put-still n.token m.token (signature_of n) (listed_slots ms) r.0
-          (eqb-false n.token m.token g) r.1,
-    )
-    by false true a g r = (r.0, reserve-still n.token m.token r.0 (listed_slots ms) r.1)
-    by false false a g r = r
-
 -- among imported methods that do not contradict one another
 listed_alone : (ms : List Member) (m : Member) → IsOneToOne ms → In m ms → is_virtual m ≡ true
     → IsAlone (listed_slots ms) m
 listed_alone ms m told i virtual = record {
-  used = used_by ms m i virtual;
+  used = In-used ms m i virtual;
   alone = λ t s e.
       let n = listed_slot ms t s e in
       let r = told n.0 m n.1 i (shown-virtual n.0 n.2) virtual in (
@@ -104,7 +79,7 @@ new_alone : (all : Slots) (ss : List Signature) (m : Member) → IsAlone all m �
 new_alone all ss m is other = record {
   used = (
     is.used.0,
-    at_front all (map Some (new_in all ss)) m.token is.used.0 is.used.1,
+    in_front all (map Some (new_in all ss)) m.token is.used.0 is.used.1,
   );
   alone = λ t s e. ⊎_elim
       (λ h. is.alone t s h)
@@ -122,13 +97,9 @@ new_alone all ss m is other = record {
 
 -- ---- access
 
-only_name : (x y : List ℕ) → Lists y (x ∷ []) → y ≡ x
+pub only_name : (x y : List ℕ) → Lists y (x ∷ []) → y ≡ x
 only_name x _ foremost = refl
 only_name x y (after l) = elim l [ ]
-
-hidden_closed : (a b : Bool) → (not a && b) ≡ true → a ≡ false
-hidden_closed true b e = cc
-hidden_closed false b e = refl
 
 not_private : (m : Member) → is_virtual m ≡ true → is_private m.flags ≡ false
 not_private m e = by (is_private m.flags) (is_static m.flags) (is_special (signature_of m)) e
@@ -144,13 +115,6 @@ open_over v true false false e f g h = cc
 open_over v false b q e f g h = cc
 open_over v true true q e f g h = cc
 open_over v true false true e f g h = cc
-
-no_both : {A : Type 0} → true ≡ false → A
-no_both e = absurd cc
-
-shown_exposed : (a b : Bool) → (a && b) ≡ true → a ≡ true
-shown_exposed true b e = refl
-shown_exposed false b e = cc
 
 -- ---- a world
 
@@ -223,7 +187,7 @@ module _ (list : List ℕ) (files : Files) (codes : List MethodCode) (settings :
           let is = chosen-passes is_shown s c.methods n.0 n.1 in
           let k = n.0 in
           open_over (is_private k.flags) (is_exposed k.flags) (is_exposed m.flags) (is_private m.flags)
-          (shown_exposed (is_exposed k.flags) (is_virtual k) is.1) closed (not_private m virtual)
+          (both_front (is_exposed k.flags) (is_virtual k) is.1) closed (not_private m virtual)
           (rules.access x c k m e own (chosen-In is_shown s c.methods k n.1) all_above (is.0 ∙ same)
           (ap is_special (is.0 ∙ same) ∙ virtual_plain m virtual))
 

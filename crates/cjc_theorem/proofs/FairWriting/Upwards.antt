@@ -3,11 +3,11 @@ use Rattle.std.proofs.Common.{◌≡◌, ℕ, refl, sym, ap, subst, ◌∙◌, B
 use Rattle.std.proofs.Common.{⊎_elim}
 use Rattle.std.specs.Prelude.{◌⊎◌, ◌||◌, Some, None, if◌then◌else◌}
 use Rattle.std.specs.Str.{bytes_eq}
-use Rattle.cjc_export.specs.Supers.{is_one_of}
+use Rattle.cjc_world.specs.ExportFile.Supers.{is_one_of}
 use Rattle.cjc_vtable.specs.ClassOrder.Supers.Supers.{each_once, interfaces, name_of, names_upwards, superclasses}
 use Rattle.cjc_world.specs.Upwards.{Below, OnLine, here, up}
-use Rattle.cjc_world.proofs.UpwardLaws.Lines.{listed_below}
-use Rattle.cjc_vtable.proofs.Filed.{Has, at_front, behind}
+use Rattle.cjc_world.proofs.UpwardLaws.Lines.{listed_below, no_list}
+use Rattle.cjc_vtable.proofs.Filed.{Has, at_front, behind, has-either}
 use Rattle.cjc_vtable.specs.Laws.{Under, below, itself}
 use Rattle.cjc_world.specs.Classes.{Class, class_named}
 use Rattle.cjc_world.specs.Interfaces.{Interface, gathered, is_among, where_listed}
@@ -15,27 +15,20 @@ use Rattle.cjc_world.specs.Interfaces
 use Rattle.cjc_world.specs.Supertypes.{Above, IsAcyclic, AreSupertypes, Supertypes, Lists, after, directly, ends}
 use Rattle.cjc_world.specs.Supertypes.{foremost, supertypes, known_here, onwards, unknown_here}
 use Rattle.cjc_world.proofs.Cycles.{class_named-name}
-use Rattle.cjc_world.proofs.Settled.{bytes-true, supertypes-AreSupertypes, lists-behind, lists-front}
+use Rattle.cjc_world.proofs.Settled.{supertypes-AreSupertypes, lists-behind, lists-front}
 use Rattle.cjc_world.proofs.Trees.{lists-split}
+use Rattle.cjc_bytes.proofs.Lists.{bytes_true}
 
 -- ---- lists
 
-no_list : {A : Type 0} {x : List ℕ} → Lists x [] → A
-no_list i = elim i [ ]
-
-no_item : {A B : Type 0} {x : A} → Has x [] → B
+pub no_item : {A B : Type 0} {x : A} → Has x [] → B
 no_item h = elim h [ ]
-
-has_either : {A : Type 0} (x : A) (a b : List A) → Has x (a ++ b) → Has x a ⊎ Has x b
-has_either x [] b h = inr h
-has_either x (y ∷ a) b at_front = inl at_front
-has_either x (y ∷ a) b (behind h) = ⊎_elim (λ g. inl (behind g)) (λ g. inr g) (has_either x a b h)
 
 list_cons : (x y : List ℕ) (xs : List (List ℕ)) → Lists y (x ∷ xs) → (y ≡ x) ⊎ Lists y xs
 list_cons x _ xs foremost = inl refl
 list_cons x y xs (after l) = inr l
 
-item_cons : {A : Type 0} (x y : A) (xs : List A) → Has y (x ∷ xs) → (y ≡ x) ⊎ Has y xs
+pub item_cons : {A : Type 0} (x y : A) (xs : List A) → Has y (x ∷ xs) → (y ≡ x) ⊎ Has y xs
 item_cons x _ xs at_front = inl refl
 item_cons x y xs (behind h) = inr h
 
@@ -57,7 +50,7 @@ once_lists seen (x ∷ xs) y l = by (is_one_of seen x) l (λ g. once_lists seen 
 
 one_more : (seen : List (List ℕ)) (x y : List ℕ) → is_one_of (seen ++ x ∷ []) y ≡ true → (is_one_of seen y ≡ true)
     ⊎ (x ≡ y)
-one_more [] x y e = inr (bytes-true x y (first (bytes_eq x y) e))
+one_more [] x y e = inr (bytes_true x y (first (bytes_eq x y) e))
   where
     first : (b : Bool) → (b || false) ≡ true → b ≡ true
     first true e = refl
@@ -160,7 +153,7 @@ module _ (w : List Class) where
   up_gathered listed xs k i (unknown_here {x = x} {xs = rest} {next = next} e n) h = ⊎_elim
       (λ a. (x, foremost, inl (own listed a)))
       (λ b. let r = up_gathered listed rest next i n b in (r.0, after r.1, r.2))
-      (has_either i (where_listed listed (record { name = x; class = None })) (gathered listed next) h)
+      (has-either i (where_listed listed (record { name = x; class = None })) (gathered listed next) h)
     where
       own : (b : Bool) → Has i (where_listed b (record { name = x; class = None })) → x ≡ i.name
       own true h = ⊎_elim (λ same. sym (ap (λ (j : Interface). j.name) same)) (λ g. no_item g)
@@ -178,11 +171,11 @@ module _ (w : List Class) where
       in (x, foremost, listed_below w x r.0 i.name c e (lists-front r.0 c.supers c.interfaces r.1) r.2))
       (λ b. let r = up_gathered true c.interfaces t i ik b
       in (x, foremost, listed_below w x r.0 i.name c e (lists-behind r.0 c.supers c.interfaces r.1) r.2))
-      (has_either i S I both))
+      (has-either i S I both))
       (λ own_one. (x, foremost, inl (sym (class_named-name w x c e) ∙ own listed own_one)))
-      (has_either i (S ++ I) self front))
+      (has-either i (S ++ I) self front))
       (λ back. let r = up_gathered listed rest next i n back in (r.0, after r.1, r.2))
-      (has_either i (S ++ I ++ self) (gathered listed next) h)
+      (has-either i (S ++ I ++ self) (gathered listed next) h)
     where
       own : (b : Bool) → Has i (where_listed b (record { name = c.name; class = Some c })) → c.name ≡ i.name
       own true h = ⊎_elim (λ same. sym (ap (λ (j : Interface). j.name) same)) (λ g. no_item g)
@@ -231,4 +224,4 @@ module _ (w : List Class) where
         a in (r.0, lists-front r.0 c.supers c.interfaces r.1, subst (Below w r.0) n.2 r.2))
         (λ b. let r = up_gathered true c.interfaces (supertypes w c.interfaces) i (supertypes-AreSupertypes w acyclic
         c.interfaces) b in (r.0, lists-behind r.0 c.supers c.interfaces r.1, subst (Below w r.0) n.2 r.2))
-        (has_either i (gathered false (supertypes w c.supers)) (gathered true (supertypes w c.interfaces)) h)
+        (has-either i (gathered false (supertypes w c.supers)) (gathered true (supertypes w c.interfaces)) h)

@@ -2,14 +2,14 @@
 use Rattle.std.proofs.Common.{◌≡◌, ℕ, zero, suc, ◌+◌, refl, sym, ap, ◌∙◌, arith, Bool, true, false, List, [], ◌∷◌}
 use Rattle.std.specs.Prelude.{Some, slice_get, if◌then◌else◌}
 use Rattle.std.specs.Str.{bytes_eq}
-use Rattle.cjc_export.specs.declared.tree.ExportClass.{ExportClass}
+use Rattle.cjc_world.specs.ExportFile.declared.tree.ExportClass.{ExportClass}
 use Rattle.cjc_vtable.proofs.Filed.{Has, get-has, has-get}
 use Rattle.cjc_world.specs.Classes.{Class, class_named, imported, numbered}
 use Rattle.cjc_world.proofs.Cycles.{class_named-name}
-use Rattle.cjc_world.proofs.Settled.{bytes-refl}
+use Rattle.cjc_bytes.proofs.Lists.{name_is}
 
 -- one that a name finds
-numbered_at : (k : ℕ) (cs : List ExportClass) (x : List ℕ) (d : Class) → class_named (numbered k cs) x ≡ Some d
+pub numbered_at : (k : ℕ) (cs : List ExportClass) (x : List ℕ) (d : Class) → class_named (numbered k cs) x ≡ Some d
     → (n : ℕ) × (c : ExportClass) × (slice_get cs n ≡ Some c) × (d ≡ imported (k + n) c)
 unfolding class_named
 numbered_at k [] x d e = absurd cc
@@ -30,7 +30,7 @@ numbered_at k (c ∷ cs) x d e = by (bytes_eq c.name x) e (numbered_at (k + 1) c
         (suc i, r.1, r.2, r.3 ∙ ap (λ m. imported m r.1) next)
 
 -- the name of each finds one
-numbered_some : (k : ℕ) (cs : List ExportClass) (n : ℕ) (c : ExportClass) → slice_get cs n ≡ Some c → (d : Class)
+pub numbered_some : (k : ℕ) (cs : List ExportClass) (n : ℕ) (c : ExportClass) → slice_get cs n ≡ Some c → (d : Class)
     × (class_named (numbered k cs) c.name ≡ Some d)
 unfolding class_named
 numbered_some k [] n c e = absurd cc
@@ -38,7 +38,7 @@ numbered_some k (b ∷ cs) zero c e =
     let same : b ≡ c = cc in (
       imported k b,
       ap (λ t. if t then Some (imported k b) else class_named (numbered (k + 1) cs) c.name)
-          (ap (λ (q : ExportClass). bytes_eq q.name c.name) same ∙ bytes-refl c.name),
+          (ap (λ (q : ExportClass). bytes_eq q.name c.name) same ∙ name_is c.name),
     )
 numbered_some k (b ∷ cs) (suc n) c e = by (bytes_eq b.name c.name) (numbered_some (k + 1) cs n c e)
   where

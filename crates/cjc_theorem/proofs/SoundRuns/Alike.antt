@@ -6,10 +6,10 @@ use Rattle.std.proofs.lemmas.Option.{slice_get-map}
 use Rattle.cjc_jvm_semantics.specs.ByName.{run as run_by_name}
 use Rattle.cjc_jvm_semantics.specs.Linked.{Method}
 use Rattle.cjc_jvm_semantics.specs.OnePackage.{is_initialiser, method_at, method_by}
-use Rattle.cjc_card_semantics.specs.Bytecode.Runs.{Agree}
+use Rattle.cjc_ncode.specs.CardSemantics.Bytecode.Runs.{Agree}
 use Rattle.cjc_bytes.specs.Breaks.{Break}
 use Rattle.cjc_bytes.specs.declared.fault.MemberId.{MemberId}
-use Rattle.cjc_world_proof.proofs.CallsLaws.Own.{mapped_at}
+use Rattle.cjc_token_proof.proofs.WorldProofOwn.{mapped_at}
 use Rattle.cjc_classfile.proofs.Fitting.{spelt_fits}
 use Rattle.cjc_classfile.specs.Code.{CodeTree}
 use Rattle.cjc_classfile.specs.Fits.{ClassFits}
@@ -42,7 +42,7 @@ use Rattle.cjc_shape_proof.specs.Shape.Prepared.{IsSound}
 use Rattle.cjc_narrow_proof.specs.Intervals.Frames.{RangeState}
 use Rattle.cjc_narrow_proof.specs.Intervals.Tables.{IsLeastRanges}
 use Rattle.cjc_script.specs.declared.script.Script.{Script}
-use Rattle.cjc_world_proof.specs.Files.{ExportsAreSound}
+use Rattle.cjc_token_proof.specs.WorldProof.Files.{ExportsAreSound}
 use Rattle.cjc_theorem.proofs.SoundRuns.Begins.{begins}
 use Rattle.cjc_theorem.proofs.SoundRuns.Coded.{IsCoded}
 use Rattle.cjc_theorem.proofs.SoundRuns.Laid.{IsOfFile, bare_code, id_of, none_among, of_file, told_among}

@@ -1,16 +1,18 @@
 -- The methods of class files that have code, as the machine by name has them: whether a method is one of them is
 -- decided.
-use Rattle.std.proofs.Common.{◌≡◌, ◌⊎◌, ℕ, zero, suc, refl, sym, ap, ◌∙◌, Bool, true, false, List, [], ◌∷◌, ◌++◌, inl}
-use Rattle.std.proofs.Common.{inr, ⊎_elim}
+use Rattle.std.proofs.Common.{◌≡◌, ◌⊎◌, ℕ, zero, suc, refl, sym, ap, ◌∙◌, Bool, true, false, List, [], ◌∷◌, ◌++◌}
+use Rattle.std.proofs.Common.{⊎_elim}
 use Rattle.std.specs.Prelude.{◌||◌, Option, Some, None, slice_get}
 use Rattle.std.specs.List.{list_any}
 use Rattle.std.proofs.lemmas.List.Folds.{list_any-append}
+use Rattle.std.proofs.lemmas.Bool.{or_left, or_right}
 use Rattle.cjc_jvm_semantics.specs.Linked.{Method}
 use Rattle.cjc_jvm_semantics.specs.OnePackage.{method_by}
 use Rattle.cjc_classfile.specs.Code.{CodeTree}
 use Rattle.cjc_classfile.specs.declared.tree.ClassTree.{ClassTree}
 use Rattle.cjc_classfile.specs.declared.tree.MethodTree.{MethodTree}
 use Rattle.cjc_theorem.proofs.SoundRuns.Same.{method_decides, same_method}
+use Rattle.cjc_bytes.proofs.Bools.{or_cases}
 
 -- one with this code
 with_code : ClassTree → MethodTree → Option CodeTree → List Method
@@ -50,32 +52,21 @@ record IsHere (class : ClassTree) (ms : List MethodTree) (x : Method) : Type 0 w
   is_code : method.code ≡ Some tree
   is : x ≡ method_by class method (Some tree)
 
-either : (a b : Bool) → (a || b) ≡ true → (a ≡ true) ⊎ (b ≡ true)
-either true b e = inl refl
-either false b e = inr e
-
-in_front : (a b : Bool) → a ≡ true → (a || b) ≡ true
-in_front true b e = refl
-in_front false b e = absurd cc
-
-behind : (a b : Bool) → b ≡ true → (a || b) ≡ true
-behind true b e = refl
-behind false b e = e
-
 module _ (x : Method) where
   split : (xs ys : List Method) → is_among x (xs ++ ys) ≡ true → (is_among x xs ≡ true) ⊎ (is_among x ys ≡ true)
   unfolding is_among
-  split xs ys e = either (list_any (same_method x) xs) (list_any (same_method x) ys)
+  split xs ys e = or_cases (list_any (same_method x) xs) (list_any (same_method x) ys)
       (sym (list_any-append (same_method x) xs ys) ∙ e)
 
   left : (xs ys : List Method) → is_among x xs ≡ true → is_among x (xs ++ ys) ≡ true
   unfolding is_among
-  left xs ys e = list_any-append (same_method x) xs ys ∙ in_front (list_any (same_method x) xs)
+  left xs ys e = list_any-append (same_method x) xs ys ∙ or_left (list_any (same_method x) xs)
       (list_any (same_method x) ys) e
 
   right : (xs ys : List Method) → is_among x ys ≡ true → is_among x (xs ++ ys) ≡ true
   unfolding is_among
-  right xs ys e = list_any-append (same_method x) xs ys ∙ behind (list_any (same_method x) xs) (list_any (same_method x)
+  right xs ys e = list_any-append (same_method x) xs ys ∙ or_right (list_any (same_method x) xs) (list_any
+      (same_method x)
       ys) e
 
   one : (y : Method) → is_among x (y ∷ []) ≡ true → x ≡ y
@@ -88,7 +79,7 @@ module _ (x : Method) where
 
   this : (y : Method) → x ≡ y → is_among x (y ∷ []) ≡ true
   unfolding is_among
-  this y e = in_front (same_method x y) false ((method_decides x y).1 e)
+  this y e = or_left (same_method x y) false ((method_decides x y).1 e)
 
   here : (c : ClassTree) (ms : List MethodTree) → is_among x (of_class c ms) ≡ true → IsHere c ms x
   unfolding of_class with_code is_among

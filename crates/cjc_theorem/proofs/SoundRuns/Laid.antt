@@ -8,6 +8,8 @@ use Rattle.std.proofs.lemmas.Option.{slice_get-map}
 use Rattle.cjc_jvm_semantics.specs.Linked.{Method}
 use Rattle.cjc_jvm_semantics.specs.OnePackage.{method_at, method_by, method_in}
 use Rattle.cjc_bytes.specs.declared.fault.MemberId.{MemberId}
+use Rattle.cjc_bytes.proofs.Lists.{name_is}
+use Rattle.cjc_bytes.proofs.Plain.{same_some}
 use Rattle.cjc_vtable.specs.ClassOrder.Classes.Numbers.{class_count}
 use Rattle.cjc_classfile.specs.Code.{CodeTree}
 use Rattle.cjc_classfile.specs.declared.tree.ClassTree.{ClassTree}
@@ -29,7 +31,6 @@ use Rattle.cjc_world.specs.Files.{Files}
 use Rattle.cjc_world.specs.Lookup.{is_called}
 use Rattle.cjc_world.specs.Rules.{breaks, is_twice}
 use Rattle.cjc_world.specs.declared.found.Found.{Found}
-use Rattle.cjc_world.proofs.Settled.{bytes-refl}
 use Rattle.cjc_token_proof.specs.WrittenCalls.Standing.{is_method_of, laid_from, no_rows}
 
 -- A method of a class file.
@@ -72,9 +73,6 @@ pub id_of : (class : ClassTree) (m : MethodTree) (o : Option CodeTree) → (meth
 id_of class m None = refl
 id_of class m (Some tree) = refl
 
-some : {A : Type 0} {x y : A} → Some x ≡ Some y → x ≡ y
-some e = cc
-
 -- ---- one method of a name
 
 module _ (files : Files) (list : List ℕ) (listed : length files.classes ≤ class_count files.lines)
@@ -85,7 +83,7 @@ module _ (files : Files) (list : List ℕ) (listed : length files.classes ≤ cl
   same_class : (n k : ℕ) (c d : ClassTree) → slice_get files.classes n ≡ Some c → slice_get files.classes k ≡ Some d
       → c.name ≡ d.name → n ≡ k
   same_class n k c d e f names =
-      let is : declared n c ≡ declared k d = some (sym (class_by_name files list listed unbroken n c e)
+      let is : declared n c ≡ declared k d = same_some (sym (class_by_name files list listed unbroken n c e)
       ∙ ap (class_named w) names ∙ class_by_name files list listed unbroken k d f) in
       ap (λ (v : Class). v.number) is
 
@@ -99,13 +97,13 @@ module _ (files : Files) (list : List ℕ) (listed : length files.classes ≤ cl
       λ k m h. first_here (λ q. is_called m.name m.desc q) (map method_of_class c.methods) k (method_of_class m)
       (slice_get-map method_of_class c.methods k ∙ ap (option_map method_of_class) h) (called m.name m.desc)
       (kept.methods k m h).0 in
-      some (sym (at i a f)
+      same_some (sym (at i a f)
       ∙ ap (λ x. position (λ q. is_called x a.desc q) (map method_of_class c.methods)) names
       ∙ ap (λ x. position (λ q. is_called b.name x q) (map method_of_class c.methods)) descs
       ∙ at j b g)
     where
       called : (name desc : List ℕ) → (bytes_eq name name && bytes_eq desc desc) ≡ true
-      called name desc = ap (λ b. b && bytes_eq desc desc) (bytes-refl name) ∙ bytes-refl desc
+      called name desc = ap (λ b. b && bytes_eq desc desc) (name_is name) ∙ name_is desc
 
   pub one_of_name : (x y : Method) → IsOfFile files x → IsOfFile files y → x.id ≡ y.id → x ≡ y
   one_of_name x y o q e =
@@ -113,12 +111,14 @@ module _ (files : Files) (list : List ℕ) (listed : length files.classes ≤ cl
       ∙ ap (λ (m : Method). m.id) q.is ∙ id_of q.class q.method (let m = q.method in m.code) in
       let numbers = same_class o.number q.number o.class q.class o.is_class q.is_class (ap (λ (i : MemberId). i.class)
       ids) in
-      let classes : o.class ≡ q.class = some (sym o.is_class ∙ ap (slice_get files.classes) numbers ∙ q.is_class) in
+      let classes : o.class ≡ q.class = same_some (sym o.is_class ∙ ap (slice_get files.classes) numbers
+      ∙ q.is_class) in
       let there : slice_get (let c = o.class in c.methods) q.place ≡ Some q.method =
       ap (λ (c : ClassTree). slice_get c.methods q.place) classes ∙ q.is_method in
       let places = same_place o.number o.place q.place o.class o.method q.method o.is_class o.is_method there
       (ap (λ (i : MemberId). i.name) ids) (ap (λ (i : MemberId). i.desc) ids) in
-      let methods : o.method ≡ q.method = some (sym o.is_method ∙ ap (slice_get (let c = o.class in c.methods)) places
+      let methods : o.method ≡ q.method = same_some (sym o.is_method ∙ ap (slice_get
+      (let c = o.class in c.methods)) places
       ∙ there) in
       o.is ∙ ap (λ c. method_by c o.method (let m = o.method in m.code)) classes
       ∙ ap (λ (m : MethodTree). method_by q.class m m.code) methods ∙ sym q.is
@@ -154,7 +154,7 @@ module _ (files : Files) (list : List ℕ) (listed : length files.classes ≤ cl
     named m ms one y e true f rest =
         let same : y ≡ x = one_of_name y x (of_file files m.member y e) file ((same_member-Decides y.id x.id).0 f) in
         inl (one.code ∙ ap (code_by files near rows m.member) e ∙ ap (code_of files near rows) same)
-    named m ms one y e false f rest = later m ms (λ g. no (some (sym e ∙ g))) rest
+    named m ms one y e false f rest = later m ms (λ g. no (same_some (sym e ∙ g))) rest
       where
         no : y ≡ x → ⊥
         no g = let yes = sym f ∙ (same_member-Decides y.id x.id).1 (ap (λ (v : Method). v.id) g) in absurd cc

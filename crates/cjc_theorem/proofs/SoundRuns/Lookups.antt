@@ -1,7 +1,7 @@
 -- The look-ups of narrow code ask for the code of methods of class files alone.
 use Rattle.std.proofs.Common.{◌≡◌, ℕ, refl, ap, ◌∙◌, Bool, true, false, List, [], ◌∷◌}
 use Rattle.std.specs.Prelude.{◌&&◌, Option, Some, None, option_and_then, option_map, if◌then◌else◌}
-use Rattle.cjc_card_semantics.specs.Bytecode.Machine.{Nowhere, Within}
+use Rattle.cjc_ncode.specs.CardSemantics.Bytecode.Machine.{Nowhere, Within}
 use Rattle.cjc_jvm_semantics.specs.Linked.{Abroad, Callee, Inside, Method}
 use Rattle.cjc_jvm_semantics.specs.OnePackage.{ResolvedMember, callee_at, entry_in, entry_named, first_imported}
 use Rattle.cjc_jvm_semantics.specs.OnePackage.{first_super, interface_callee, is_initialiser, is_sendable, made_of}

@@ -4,16 +4,9 @@ use Rattle.std.specs.Prelude.{◌&&◌, ◌==◌, if◌then◌else◌}
 use Rattle.std.specs.List.{list_all, slice_split, onto_first}
 use Rattle.std.proofs.lemmas.Bool.{eqb-true}
 use Rattle.cjc_bytes.specs.Descriptor.{IsClassName, inside, last, more, simple}
+use Rattle.cjc_bytes.proofs.Bools.{both_front, both_back}
 use Rattle.cjc_bytes.specs.Descriptor as descriptor
 use Rattle.cjc_components.specs.List.Grammar.{is_name, is_name_byte, is_name_part}
-
-both_front : (a b : Bool) → (a && b) ≡ true → a ≡ true
-both_front true b e = refl
-both_front false b e = absurd cc
-
-both_back : (a b : Bool) → (a && b) ≡ true → b ≡ true
-both_back true b e = e
-both_back false b e = absurd cc
 
 -- a byte of such a name is one of names
 byte_is : (b : ℕ) → is_name_byte b ≡ true → descriptor.is_name_byte b ≡ true

@@ -1,21 +1,22 @@
 -- Each method with code that is no initialiser stands in Method.
 use Rattle.std.proofs.Common.{◌≡◌, ℕ, zero, suc, ◌+◌, ◌-◌, ◌≤◌, ⊎_elim, refl, sym, ap, subst, ◌∙◌, arith, Bool, true}
 use Rattle.std.proofs.Common.{false, List, [], ◌∷◌, ◌++◌, length}
-use Rattle.std.specs.Prelude.{map, not, ◌&&◌, ◌||◌, ◌==◌, Option, None, Some, cond, is_some, option_and_then}
+use Rattle.std.specs.Prelude.{map, not, ◌&&◌, ◌||◌, Option, None, Some, is_some, option_and_then}
 use Rattle.std.specs.Prelude.{option_map, slice_get, if◌then◌else◌}
-use Rattle.std.proofs.lemmas.List.Sums.{sum_by-cons}
 use Rattle.std.proofs.lemmas.List.{length-map}
 use Rattle.std.proofs.lemmas.Option.{slice_get_past, slice_get-map}
 use Rattle.cjc_jvm_semantics.specs.Linked.{Method}
 use Rattle.cjc_jvm_semantics.specs.OnePackage.{is_constructor, is_initialiser, method_at, method_by, method_in}
 use Rattle.cjc_bytes.specs.AccessFlags.{is_abstract, is_interface, is_static}
-use Rattle.cjc_bytes.specs.Descriptor.{IsClassName, IsName, inside, is_name_byte, last, more, simple}
+use Rattle.cjc_bytes.specs.Descriptor.{IsClassName, IsName, inside, last, more, simple}
 use Rattle.cjc_bytes.specs.declared.settings.FileLine.{FileLine}
-use Rattle.cjc_world_proof.proofs.CallsLaws.Own.{mapped_at, method_is}
+use Rattle.cjc_bytes.proofs.Bools.{or_right}
+use Rattle.cjc_bytes.proofs.Numbers.{first_byte, one_file}
+use Rattle.cjc_token_proof.proofs.WorldProofOwn.{mapped_at, method_is}
 use Rattle.cjc_classfile.specs.Code.{CodeTree}
 use Rattle.cjc_classfile.specs.declared.tree.ClassTree.{ClassTree}
 use Rattle.cjc_classfile.specs.declared.tree.MethodTree.{MethodTree}
-use Rattle.cjc_export.specs.declared.tree.ExportClass.{ExportClass}
+use Rattle.cjc_world.specs.ExportFile.declared.tree.ExportClass.{ExportClass}
 use Rattle.cjc_judge.specs.Rules.{settings_of}
 use Rattle.cjc_judge.specs.Spelt.{FileTree, IsRead, exports_of}
 use Rattle.cjc_judge.specs.Spelt as spelt_files
@@ -26,15 +27,15 @@ use Rattle.cjc_narrow_proof.proofs.LawsLaws.Own.{class_by_name}
 use Rattle.cjc_shape_proof.proofs.ShapeSelected.{judged_checks}
 use Rattle.cjc_shape_proof.proofs.ShapeSound.{is_tested, listed, world_unbroken}
 use Rattle.cjc_shape_proof.specs.Shape.Prepared.{IsSound}
-use Rattle.cjc_world_proof.proofs.SelectionLaws.Rules.{method_kept}
+use Rattle.cjc_token_proof.proofs.WorldProofRules.{method_kept}
 use Rattle.cjc_theorem.proofs.SoundRuns.Read.{package_is, read_files}
 use Rattle.cjc_subset.specs.Flags.{is_unfit_method_kind}
 use Rattle.cjc_subset.specs.Members.{imports}
 use Rattle.cjc_token_proof.proofs.TablesLaws.Clean.{has_named}
-use Rattle.cjc_token_proof.proofs.TablesLaws.Order.{has-either, kind-has, kind-in}
+use Rattle.cjc_token_proof.proofs.TablesLaws.Order.{kind-has, kind-in}
 use Rattle.cjc_token_proof.specs.Tables.Sound.{IsSound as IsSoundPackage, export_count}
-use Rattle.cjc_token_proof.proofs.TablesLaws.Filed.{has-back, has-front, own_filed}
-use Rattle.cjc_vtable.proofs.Filed.{Has, at_front, behind, get-has, has-get}
+use Rattle.cjc_token_proof.proofs.TablesLaws.Filed.{has-back, has-front, own_filed, export_count-cons}
+use Rattle.cjc_vtable.proofs.Filed.{Has, at_front, behind, get-has, has-get, has-either}
 use Rattle.cjc_world.specs.Added.{added}
 use Rattle.cjc_world.specs.Classes.{Class, Member, all_classes, declared, field_of_class, method_of_class}
 use Rattle.cjc_world.specs.Files.{Files}
@@ -45,19 +46,9 @@ use Rattle.cjc_world.specs.declared.found.Found.{Found}
 
 -- ---- names
 
-plain_byte : (b : ℕ) → is_name_byte b ≡ true → (b == 91) ≡ false
-plain_byte b e = by (b == 46) (b == 59) (b == 91) e
-  where
-    by : (x y z : Bool) → (if x then false else if y then false else if z then false else if b == 47 then false
-        else true) ≡ true → z ≡ false
-    by x y false e = refl
-    by true y true e = absurd cc
-    by false true true e = absurd cc
-    by false false true e = absurd cc
-
 plain_name : (name back : List ℕ) → IsName name → starts 91 (name ++ back) ≡ false
-plain_name _ back (last e) = plain_byte _ e
-plain_name _ back (more e rest) = plain_byte _ e
+plain_name _ back (last e) = first_byte _ e
+plain_name _ back (more e rest) = first_byte _ e
 
 no_array : (name : List ℕ) → IsClassName name → starts 91 name ≡ false
 no_array name (simple n) = ap (starts 91) (sym (end name)) ∙ plain_name name [] n
@@ -69,14 +60,6 @@ no_array _ (inside {front = front} {back = back} n rest) = plain_name front (47 
 
 -- ---- the lines
 
-counted : (line : FileLine) (lines : List FileLine) → export_count (line ∷ lines) ≡ cond (not line.class_file) 1 0 +
-    export_count lines
-counted line lines = sum_by-cons (λ (l : FileLine). cond (not l.class_file) 1 0) line lines
-
-one_more : (b : Bool) → b ≡ false → ◌≡◌ {A = ℕ} (cond (not b) 1 0) 1
-one_more true e = cc
-one_more false e = refl
-
 exports_few : (lines : List FileLine) (files : List (List ℕ)) (trees : List FileTree) → AllSpelt lines files trees
     → length (exports_of trees) ≤ export_count lines
 exports_few [] files trees h = let none : trees ≡ [] = h.1 in subst (λ ts. length (exports_of ts) ≤ 0) (sym none)
@@ -85,12 +68,12 @@ exports_few (line ∷ lines) [] trees h = absurd h
 exports_few (line ∷ lines) (bytes ∷ files) [] h = absurd h
 exports_few (line ∷ lines) (bytes ∷ files) (spelt_files.of_class tree ∷ trees) h =
     let rest = exports_few lines files trees h.1 in
-    let all = counted line lines in
+    let all = export_count-cons line lines in
     omega (arith, rest, all)
 exports_few (line ∷ lines) (bytes ∷ files) (spelt_files.of_export tree ∷ trees) h =
     let rest = exports_few lines files trees h.1 in
-    let all = counted line lines in
-    let one = one_more line.class_file h.0.0 in
+    let all = export_count-cons line lines in
+    let one = one_file line.class_file h.0.0 in
     omega (arith, rest, all, one)
 
 -- ---- the order of methods
@@ -236,10 +219,6 @@ no_bare true true false e f g = absurd cc
 no_bare true false first e f g = absurd cc
 no_bare true true true e f g = absurd cc
 
-right : (a b : Bool) → (a || b) ≡ false → b ≡ false
-right true b e = absurd cc
-right false b e = e
-
 module _ (list : ListTree) (files : List (List ℕ)) (judged : Judged) (is : IsSound list files judged) (of : IsRead list)
     (names : (n : ℕ) (c : ExportClass) → slice_get (imports judged.world.exports) n ≡ Some c → IsClassName c.name) where
   abbrev world : Files
@@ -274,7 +253,7 @@ module _ (list : ListTree) (files : List (List ℕ)) (judged : Judged) (is : IsS
       let kept = (method_kept list.name judged.world judged.codes (settings_of list) checks n class e i method f).2 in
       let code : is_some method.code ≡ true = ap is_some g in
       let last : (is_interface class.flags && is_some method.code && not (is_initialiser method.name)) ≡ false =
-      right ((is_unfit_method_kind method.flags || (is_abstract method.flags && (is_constructor method.name
+      or_right ((is_unfit_method_kind method.flags || (is_abstract method.flags && (is_constructor method.name
       || is_initialiser method.name))) || (is_initialiser method.name && not (is_static method.flags)))
       (is_interface class.flags && is_some method.code && not (is_initialiser method.name)) kept in
       no_bare (is_interface class.flags) (is_some method.code) (is_initialiser method.name) last code plain

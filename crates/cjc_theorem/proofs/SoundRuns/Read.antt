@@ -19,7 +19,7 @@ use Rattle.cjc_shape_proof.specs.Shape.Prepared.{IsSound}
 use Rattle.cjc_shape_proof.proofs.ShapeSelected.{judged_writable}
 use Rattle.cjc_shape_proof.proofs.ShapeSound.{is_tested, is_unbroken}
 use Rattle.cjc_subset.specs.Ints.{any_works_on_int}
-use Rattle.cjc_world_proof.specs.Files.{AreReadFiles, ExportsAreSound}
+use Rattle.cjc_token_proof.specs.WorldProof.Files.{AreReadFiles, ExportsAreSound}
 use Rattle.cjc_theorem.proofs.SoundRuns.Names.{class_name}
 use Rattle.cjc_world.specs.Files.{Files}
 

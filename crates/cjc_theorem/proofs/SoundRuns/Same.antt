@@ -7,8 +7,10 @@ use Rattle.std.specs.Cmp.Lexicographic.{pointwise}
 use Rattle.std.specs.Ordering.{int_eq}
 use Rattle.std.specs.Str.{bytes_eq}
 use Rattle.std.proofs.lemmas.Slice.Eq.{bytes_eq-Decides, slice_eq-Decides}
+use Rattle.std.proofs.lemmas.Bool.{and_from}
 use Rattle.cjc_jvm_semantics.specs.Linked.{Method}
 use Rattle.cjc_bytes.specs.declared.fault.MemberId.{MemberId}
+use Rattle.cjc_bytes.proofs.Bools.{both_front, both_back}
 use Rattle.cjc_classfile.specs.declared.tree.Catch.{Catch}
 use Rattle.cjc_code.specs.declared.insn.JCase.{JCase}
 use Rattle.cjc_code.specs.declared.insn.JInsn.{JInsn}
@@ -156,18 +158,6 @@ told_back (jop.InstanceOf class) = refl
 
 -- ---- tests
 
-front : (a b : Bool) → (a && b) ≡ true → a ≡ true
-front true b e = refl
-front false b e = absurd cc
-
-back : (a b : Bool) → (a && b) ≡ true → b ≡ true
-back true b e = e
-back false b e = absurd cc
-
-joined : (a b : Bool) → a ≡ true → b ≡ true → (a && b) ≡ true
-joined true b e f = f
-joined false b e f = absurd cc
-
 names_decide : (xs ys : List (List ℕ)) → Decides (pointwise bytes_eq xs ys) (xs ≡ ys)
 names_decide xs ys = slice_eq-Decides bytes_eq-Decides xs ys (pointwise bytes_eq xs ys) refl
 
@@ -181,19 +171,20 @@ op_decides : (x y : JOp) → Decides (same_op x y) (x ≡ y)
 unfolding same_op
 op_decides x y = (
   λ e.
-      let a = (unsigned_Decides (kind x) (kind y)).0 (front (kind x == kind y) (pointwise int_eq (signed x) (signed y)
+      let a = (unsigned_Decides (kind x) (kind y)).0 (both_front (kind x == kind y) (pointwise int_eq (signed x)
+      (signed y)
       && pointwise bytes_eq (texts x) (texts y)) e) in
-      let rest = back (kind x == kind y) (pointwise int_eq (signed x) (signed y)
+      let rest = both_back (kind x == kind y) (pointwise int_eq (signed x) (signed y)
       && pointwise bytes_eq (texts x) (texts y)) e in
-      let b = (numbers_decide (signed x) (signed y)).0 (front (pointwise int_eq (signed x) (signed y))
+      let b = (numbers_decide (signed x) (signed y)).0 (both_front (pointwise int_eq (signed x) (signed y))
       (pointwise bytes_eq (texts x) (texts y)) rest) in
-      let c = (names_decide (texts x) (texts y)).0 (back (pointwise int_eq (signed x) (signed y))
+      let c = (names_decide (texts x) (texts y)).0 (both_back (pointwise int_eq (signed x) (signed y))
       (pointwise bytes_eq (texts x) (texts y)) rest) in
       sym (told_back x) ∙ (λ i. told (a i) (b i) (c i)) ∙ told_back y,
   λ e.
-      joined (kind x == kind y) (pointwise int_eq (signed x) (signed y) && pointwise bytes_eq (texts x) (texts y))
+      and_from (kind x == kind y) (pointwise int_eq (signed x) (signed y) && pointwise bytes_eq (texts x) (texts y))
       ((unsigned_Decides (kind x) (kind y)).1 (ap kind e))
-      (joined (pointwise int_eq (signed x) (signed y)) (pointwise bytes_eq (texts x) (texts y))
+      (and_from (pointwise int_eq (signed x) (signed y)) (pointwise bytes_eq (texts x) (texts y))
       ((numbers_decide (signed x) (signed y)).1 (ap signed e)) ((names_decide (texts x) (texts y)).1 (ap texts e))),
 )
 
@@ -204,10 +195,10 @@ insn_decides : (x y : JInsn) → Decides (same_insn x y) (x ≡ y)
 unfolding same_insn
 insn_decides x y = (
   λ e.
-      let at = (unsigned_Decides x.at y.at).0 (front (x.at == y.at) (same_op x.op y.op) e) in
-      let op = (op_decides x.op y.op).0 (back (x.at == y.at) (same_op x.op y.op) e) in
+      let at = (unsigned_Decides x.at y.at).0 (both_front (x.at == y.at) (same_op x.op y.op) e) in
+      let op = (op_decides x.op y.op).0 (both_back (x.at == y.at) (same_op x.op y.op) e) in
       (λ i. record { at = at i; op = op i }),
-  λ e. joined (x.at == y.at) (same_op x.op y.op) ((unsigned_Decides x.at y.at).1 (ap (λ (v : JInsn). v.at) e))
+  λ e. and_from (x.at == y.at) (same_op x.op y.op) ((unsigned_Decides x.at y.at).1 (ap (λ (v : JInsn). v.at) e))
       ((op_decides x.op y.op).1 (ap (λ (v : JInsn). v.op) e)),
 )
 
@@ -295,20 +286,20 @@ unfolding same_method
 method_decides x y = (
   λ e.
       let texts = (names_decide (method_texts x) (method_texts y)).0
-      (front (pointwise bytes_eq (method_texts x) (method_texts y)) (pointwise same_insn x.insns y.insns
+      (both_front (pointwise bytes_eq (method_texts x) (method_texts y)) (pointwise same_insn x.insns y.insns
       && pointwise same_catch x.catches y.catches) e) in
-      let rest = back (pointwise bytes_eq (method_texts x) (method_texts y)) (pointwise same_insn x.insns y.insns
+      let rest = both_back (pointwise bytes_eq (method_texts x) (method_texts y)) (pointwise same_insn x.insns y.insns
       && pointwise same_catch x.catches y.catches) e in
-      let insns = (all_insns x.insns y.insns).0 (front (pointwise same_insn x.insns y.insns)
+      let insns = (all_insns x.insns y.insns).0 (both_front (pointwise same_insn x.insns y.insns)
       (pointwise same_catch x.catches y.catches) rest) in
-      let catches = (all_catches x.catches y.catches).0 (back (pointwise same_insn x.insns y.insns)
+      let catches = (all_catches x.catches y.catches).0 (both_back (pointwise same_insn x.insns y.insns)
       (pointwise same_catch x.catches y.catches) rest) in
       sym (method_back x) ∙ (λ i. method_told (texts i) (insns i) (catches i)) ∙ method_back y,
   λ e.
-      joined (pointwise bytes_eq (method_texts x) (method_texts y)) (pointwise same_insn x.insns y.insns
+      and_from (pointwise bytes_eq (method_texts x) (method_texts y)) (pointwise same_insn x.insns y.insns
       && pointwise same_catch x.catches y.catches) ((names_decide (method_texts x) (method_texts y)).1
       (ap method_texts e))
-      (joined (pointwise same_insn x.insns y.insns) (pointwise same_catch x.catches y.catches)
+      (and_from (pointwise same_insn x.insns y.insns) (pointwise same_catch x.catches y.catches)
       ((all_insns x.insns y.insns).1 (ap (λ (v : Method). v.insns) e)) ((all_catches x.catches y.catches).1
       (ap (λ (v : Method). v.catches) e))),
 )

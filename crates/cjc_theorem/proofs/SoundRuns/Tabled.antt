@@ -7,8 +7,8 @@ use Rattle.std.specs.Prelude.{not, ◌&&◌, IfSome, Option, Some, slice_get, if
 use Rattle.std.proofs.lemmas.Option.{get_or_from_slice_get, slice_get_cases, slice_get_within}
 use Rattle.cjc_jvm_semantics.specs.Linked.{Method}
 use Rattle.cjc_jvm_semantics.specs.OnePackage.{is_initialiser, method_by}
-use Rattle.cjc_bytes.proofs.Inverse.{all_at}
 use Rattle.cjc_bytes.specs.declared.fault.MemberId.{MemberId}
+use Rattle.cjc_bytes.proofs.Gets.{all_at}
 use Rattle.cjc_classfile.specs.Code.{CodeTree}
 use Rattle.cjc_classfile.specs.Fits.{ClassFits, CodeFits, MethodFits}
 use Rattle.cjc_classfile.specs.declared.tree.ClassTree.{ClassTree}

@@ -1,8 +1,8 @@
 -- What a static image says is of sound types: its arrays are of so many numbers of their type, and each static cell
 -- holds what its descriptor says.
 use Rattle.std.proofs.Common.{◌≡◌, ℕ, zero, suc, ◌+◌, ◌<◌, ◌≤◌, refl, sym, ap, subst, ◌∙◌, arith, Bool, true, false}
-use Rattle.std.proofs.Common.{List, [], ◌∷◌, ◌++◌, length, inl, inr, ⊎_elim}
-use Rattle.std.specs.Prelude.{not, ◌&&◌, ◌⊎◌, ◌==◌, Option, Some, None, option_and_then, option_map, is_some, map}
+use Rattle.std.proofs.Common.{List, [], ◌∷◌, length, inl, inr, ⊎_elim}
+use Rattle.std.specs.Prelude.{not, ◌⊎◌, ◌==◌, Some, None, option_and_then, option_map, is_some, map}
 use Rattle.std.specs.Prelude.{replicate, slice_get, slice_set, if◌then◌else◌, ℤ, pos, negsuc, codes}
 use Rattle.std.specs.List.{All, AllByRecursion, flat_map}
 use Rattle.std.specs.Ordering.{int_eq}
@@ -16,7 +16,11 @@ use Rattle.cjc_bytes.specs.declared.fault.MemberId.{MemberId}
 use Rattle.cjc_bytes.specs.declared.descriptor.Kind.{Kind}
 use Rattle.cjc_bytes.specs.declared.descriptor.Kind.TheVariants as kinds
 use Rattle.cjc_bytes.proofs.DescriptorTypes.{desc_read}
-use Rattle.cjc_card_semantics.specs.Bytecode.Effects.{HeapObject}
+use Rattle.cjc_bytes.proofs.Lists.{bytes_true}
+use Rattle.cjc_bytes.proofs.Gets.{set_length, set_other}
+use Rattle.cjc_bytes.proofs.Options.{option_taken}
+use Rattle.cjc_bytes.proofs.Quantified.{all_both}
+use Rattle.cjc_ncode.specs.CardSemantics.Bytecode.Effects.{HeapObject}
 use Rattle.cjc_jvm_semantics.specs.OnePackage.{array_place, cell_of, cells, cells_in, number_place, or_zero}
 use Rattle.cjc_jvm_semantics.specs.OnePackage as by_name
 use Rattle.cjc_jvm_semantics.specs.Effects.{is_same_field}
@@ -36,8 +40,7 @@ use Rattle.cjc_clinit.specs.Image as images
 use Rattle.cjc_clinit.specs.Initialiser.{Initialises, Makes, Put, Stores, element_kind, is_initialiser, nothing_in}
 use Rattle.cjc_clinit.specs.Initialiser.{of_array, of_null, of_number, open_place, place_for}
 use Rattle.cjc_clinit.specs.Initialiser as init
-use Rattle.cjc_world_proof.proofs.InitialisersLaws.Places.{place-field}
-use Rattle.cjc_world_proof.proofs.InitialisersLaws.Values.{set-other}
+use Rattle.cjc_token_proof.proofs.WorldProofPlaces.{place-field}
 use Rattle.cjc_code.specs.declared.insn.JOp.{JOp}
 use Rattle.cjc_code.specs.declared.method_code.MethodCode.{MethodCode}
 use Rattle.cjc_narrow.specs.Rows.Package.{element_of_kind, first_array, first_cell, named}
@@ -53,19 +56,14 @@ use Rattle.cjc_script.specs.Sorts.{shape_name, sort_by, sort_or_none, zero_of}
 use Rattle.cjc_narrow_proof.specs.Selection.Relation.{CellFits, Heap, SlotsFit, a_boolean, a_byte, a_null, a_short}
 use Rattle.cjc_narrow_proof.specs.Selection.Relation.{an_int, an_object, element_range, no_slots, slot}
 use Rattle.cjc_narrow_proof.specs.Selection.Objects.{has_values}
-use Rattle.cjc_narrow_proof.proofs.SelectionLaws.Items.{all_with, long_with}
+use Rattle.cjc_narrow_proof.proofs.SelectionLaws.Items.{all_with}
 use Rattle.cjc_narrow_proof.proofs.SelectionLaws.Replies.{held_if}
 use Rattle.cjc_world.specs.declared.image.ArrayCell.{ArrayCell}
 use Rattle.cjc_world.specs.declared.image.StaticImage.{StaticImage}
 use Rattle.cjc_world.specs.declared.image.ValueCell.{ValueCell}
 use Rattle.cjc_world.specs.Classes.{all_classes}
 use Rattle.cjc_world.specs.Files.{Files}
-use Rattle.cjc_world.proofs.Settled.{bytes-true}
 use Rattle.cjc_world.proofs.Subtypes.{reflexive}
-
-both_back : (a b : Bool) → (a && b) ≡ true → b ≡ true
-both_back true b e = e
-both_back false b e = absurd cc
 
 -- ---- kinds of numbers and their types
 
@@ -131,7 +129,7 @@ module _ (l : Named) (heap : Heap) where
     where
       at : (b : ℕ) (kind : Kind) → base_kind b ≡ Some kind → bytes_eq desc (b ∷ []) ≡ true
           → CellFits l heap (sort_by kind []) (Num z) → CellFits l heap (field_sort desc) (Num z)
-      at b kind k same h = subst (λ s. CellFits l heap s (Num z)) (sym (ap field_sort (bytes-true desc (b ∷ []) same)
+      at b kind k same h = subst (λ s. CellFits l heap s (Num z)) (sym (ap field_sort (bytes_true desc (b ∷ []) same)
           ∙ letter_sort b kind k)) h
 
       by : (a b c d : Bool) → bytes_eq desc (codes "Z") ≡ a → bytes_eq desc (codes "B") ≡ b → bytes_eq desc (codes "S")
@@ -167,7 +165,7 @@ stores_keep : (kind : Kind) (P : ℤ → Type 0) → ((z : ℤ) → fits kind z 
 stores_keep kind P held init.none all = (all, refl)
 stores_keep kind P held (init.one {items = items} {i = i} {z = z} low fit rest) all =
     let r = stores_keep kind P held rest (all_with P items i z (held z fit) all) in
-    (r.0, r.1 ∙ long_with items i z)
+    (r.0, r.1 ∙ set_length items i z)
 
 replicate_all : (P : ℤ → Type 0) (n : ℕ) (z : ℤ) → P z → All P (replicate n z)
 replicate_all P n z p k d low = let long = length_replicated n z
@@ -201,20 +199,11 @@ pub record IsArray (a : ArrayCell) : Type 0 where
   pub items : AreItems a.kind a.items
   pub desc : (let f = a.field in f.desc) ≡ array_desc a.kind
 
-pub all_append : {A : Type 0} (P : A → Type 0) (xs ys : List A) → AllByRecursion P xs → AllByRecursion P ys
-    → AllByRecursion P (xs ++ ys)
-all_append P [] ys p q = q
-all_append P (x ∷ xs) ys p q = (p.0, all_append P xs ys p.1 q)
-
-pub placed : (b : Bool) (o : Option ℕ) (k : ℕ) → (if b then o else None) ≡ Some k → (b ≡ true) × (o ≡ Some k)
-placed true o k e = (refl, e)
-placed false o k e = absurd cc
-
 array_put : (c : ClassTree) (id : MemberId) (contents : Contents) → Puts contents → takes contents id.desc ≡ true
     → AllByRecursion IsArray (array_in (own_field c id) contents)
 array_put c id (ANumber z) p e = tt
 array_put c id ANull p e = tt
-array_put c id (AnArray kind items) p e = (record { items = p; desc = bytes-true id.desc (array_desc kind) e }, tt)
+array_put c id (AnArray kind items) p e = (record { items = p; desc = bytes_true id.desc (array_desc kind) e }, tt)
 
 module _ (files : Files) where
   puts_arrays : (number : ℕ) (c : ClassTree) {before after : List Held} {ops : List JOp} {ps : List Put}
@@ -222,8 +211,8 @@ module _ (files : Files) where
   puts_arrays number c init.ends = tt
   puts_arrays number c (init.puts {fields = fields} {contents = contents} {id = id} {k = k} {rest = rest} made place
       more) =
-      let p = placed (takes contents id.desc) (open_place files number c fields id) k place in
-      all_append IsArray (array_in (own_field c id) contents) (arrays_of c rest) (array_put c id contents
+      let p = option_taken (takes contents id.desc) (open_place files number c fields id) k place in
+      all_both IsArray (array_in (own_field c id) contents) (arrays_of c rest) (array_put c id contents
       (made_items made) p.0) (puts_arrays number c more)
 
   pub initialised_arrays : {before after : List (List Held)} {codes : List MethodCode} {arrays : List ArrayCell}
@@ -231,4 +220,4 @@ module _ (files : Files) where
   initialised_arrays images.none = tt
   initialised_arrays (images.other none rest) = initialised_arrays rest
   initialised_arrays (images.one {code = code} {arrays = arrays} c puts fields is made rest) =
-      all_append IsArray (arrays_of c puts) arrays (puts_arrays code.class c made) (initialised_arrays rest)
+      all_both IsArray (arrays_of c puts) arrays (puts_arrays code.class c made) (initialised_arrays rest)

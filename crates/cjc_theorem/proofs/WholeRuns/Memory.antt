@@ -6,7 +6,10 @@ use Rattle.std.specs.List.{AllByRecursion, flat_map}
 use Rattle.std.specs.Str.{bytes_eq}
 use Rattle.std.proofs.lemmas.Option.{slice_get-map}
 use Rattle.cjc_bytes.specs.declared.fault.MemberId.{MemberId}
-use Rattle.cjc_card_semantics.specs.Bytecode.Effects.{HeapObject, Slot}
+use Rattle.cjc_bytes.proofs.Lists.{bytes_true, map_append}
+use Rattle.cjc_bytes.proofs.Bools.{both_back}
+use Rattle.cjc_bytes.proofs.Quantified.{all_both}
+use Rattle.cjc_ncode.specs.CardSemantics.Bytecode.Effects.{HeapObject, Slot}
 use Rattle.cjc_jvm_semantics.specs.OnePackage.{array_place, cell_of, cells, cells_in, is_cell, number_place, or_zero}
 use Rattle.cjc_jvm_semantics.specs.Effects.{is_same_field}
 use Rattle.cjc_classfile.specs.declared.tree.ClassTree.{ClassTree}
@@ -24,7 +27,7 @@ use Rattle.cjc_script.specs.declared.report.FieldValue.{FieldValue}
 use Rattle.cjc_script.specs.Sorts.{OfNumbers, Reference, field_sort, shape_name}
 use Rattle.cjc_narrow_proof.specs.Selection.Relation.{CellFits, Heap, SlotsFit, an_object, no_slots, slot}
 use Rattle.cjc_narrow_proof.specs.Selection.Objects.{has_values}
-use Rattle.cjc_theorem.proofs.WholeRuns.First.{AreItems, IsArray, IsNumbers, all_append, initialised_arrays}
+use Rattle.cjc_theorem.proofs.WholeRuns.First.{AreItems, IsArray, IsNumbers, initialised_arrays}
 use Rattle.cjc_theorem.proofs.WholeRuns.First.{number_fits, zero_cell}
 use Rattle.cjc_theorem.proofs.WholeRuns.Puts.{NumberFits, classes_fit, puts_fit}
 use Rattle.cjc_world.specs.declared.image.ArrayCell.{ArrayCell}
@@ -32,15 +35,10 @@ use Rattle.cjc_world.specs.declared.image.StaticImage.{StaticImage}
 use Rattle.cjc_world.specs.declared.image.ValueCell.{ValueCell}
 use Rattle.cjc_world.specs.Classes.{all_classes}
 use Rattle.cjc_world.specs.Files.{Files}
-use Rattle.cjc_world.proofs.Settled.{bytes-true}
 use Rattle.cjc_world.proofs.Subtypes.{reflexive}
 
-both_back : (a b : Bool) → (a && b) ≡ true → b ≡ true
-both_back true b e = e
-both_back false b e = absurd cc
-
 same_desc : (a b : MemberId) → is_same_field a b ≡ true → a.desc ≡ b.desc
-same_desc a b e = bytes-true a.desc b.desc (both_back (bytes_eq a.class b.class && bytes_eq a.name b.name)
+same_desc a b e = bytes_true a.desc b.desc (both_back (bytes_eq a.class b.class && bytes_eq a.name b.name)
     (bytes_eq a.desc b.desc) e)
 
 -- ---- what a field holds
@@ -96,10 +94,6 @@ module _ (l : Named) (heap : Heap) where
   slots_append : (xs ys : List (Slot MemberId)) → SlotsFit l heap xs → SlotsFit l heap ys → SlotsFit l heap (xs ++ ys)
   slots_append [] ys p q = q
   slots_append (x ∷ xs) ys (slot h p) q = slot h (slots_append xs ys p q)
-
-map_append : {A B : Type 0} (f : A → B) (xs ys : List A) → map f (xs ++ ys) ≡ map f xs ++ map f ys
-map_append f [] ys = refl
-map_append f (x ∷ xs) ys = ap (λ zs. f x ∷ zs) (map_append f xs ys)
 
 append_none : {A : Type 0} (xs ys : List A) → ys ≡ [] → xs ++ ys ≡ xs
 append_none [] ys e = e

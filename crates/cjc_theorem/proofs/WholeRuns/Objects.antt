@@ -5,13 +5,13 @@ use Rattle.std.proofs.Common.{[], ◌∷◌, ◌++◌, length, reverse, ⊎_elim
 use Rattle.std.specs.Prelude.{◌&&◌, Some, slice_get, if◌then◌else◌}
 use Rattle.std.specs.List.{flat_map, list_all}
 use Rattle.std.proofs.lemmas.List.{reverse-append}
-use Rattle.cjc_bytes.proofs.Inverse.{all_at}
 use Rattle.cjc_bytes.specs.AccessFlags.{is_static}
 use Rattle.cjc_bytes.specs.declared.fault.MemberId.{MemberId}
 use Rattle.cjc_bytes.specs.declared.settings.Settings.{Settings}
+use Rattle.cjc_bytes.proofs.Gets.{all_at}
 use Rattle.cjc_jvm_semantics.specs.OnePackage.{declared_fields, instance_fields, member_of, object_fields}
-use Rattle.cjc_world_proof.specs.Calls.Solid.{IsSolid}
-use Rattle.cjc_world_proof.proofs.CallsLaws.Own.{mapped_at}
+use Rattle.cjc_token_proof.specs.WorldProof.Calls.Solid.{IsSolid}
+use Rattle.cjc_token_proof.proofs.WorldProofOwn.{mapped_at}
 use Rattle.cjc_classfile.proofs.Fitting.{spelt_fits}
 use Rattle.cjc_classfile.specs.Fits as fits
 use Rattle.cjc_classfile.specs.declared.tree.ClassTree.{ClassTree}
@@ -22,8 +22,8 @@ use Rattle.cjc_shape_proof.proofs.FindsLaws.Fields.{value_field, word_field}
 use Rattle.cjc_narrow_proof.specs.Runs.Names.{IsWordField}
 use Rattle.cjc_script.specs.Sorts.{field_sort}
 use Rattle.cjc_narrow_proof.specs.Selection.Objects.{has_values, is_field}
-use Rattle.cjc_world_proof.specs.Files.{AreReadFiles}
-use Rattle.cjc_world_proof.proofs.SelectionLaws.Rules.{field_kept}
+use Rattle.cjc_token_proof.specs.WorldProof.Files.{AreReadFiles}
+use Rattle.cjc_token_proof.proofs.WorldProofRules.{field_kept}
 use Rattle.cjc_subset.specs.Checks.{check_breaks}
 use Rattle.cjc_subset.specs.Types.{is_int_desc}
 use Rattle.cjc_world.specs.Upwards.{Has, after, foremost}

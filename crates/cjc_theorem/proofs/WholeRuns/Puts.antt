@@ -7,6 +7,10 @@ use Rattle.std.specs.List.{AllByRecursion}
 use Rattle.std.specs.Ordering.{int_eq}
 use Rattle.cjc_bytes.specs.declared.fault.MemberId.{MemberId}
 use Rattle.cjc_bytes.specs.declared.descriptor.Kind.{Kind}
+use Rattle.cjc_bytes.proofs.Numbers.{same_place}
+use Rattle.cjc_bytes.proofs.Options.{option_taken}
+use Rattle.cjc_bytes.proofs.Gets.{set_other}
+use Rattle.cjc_bytes.proofs.Quantified.{all_both}
 use Rattle.cjc_classfile.specs.declared.tree.ClassTree.{ClassTree}
 use Rattle.cjc_classfile.specs.declared.tree.FieldTree.{FieldTree}
 use Rattle.cjc_classfile.specs.declared.tree.MethodTree.{MethodTree}
@@ -23,24 +27,15 @@ use Rattle.cjc_clinit.specs.Image.{value_or_zero}
 use Rattle.cjc_clinit.specs.Image as images
 use Rattle.cjc_clinit.specs.Initialiser.{Initialises, Put, is_initialiser, nothing_in, open_place}
 use Rattle.cjc_clinit.specs.Initialiser as init
-use Rattle.cjc_world_proof.proofs.InitialisersLaws.Places.{place-field}
-use Rattle.cjc_world_proof.proofs.InitialisersLaws.Values.{set-other}
+use Rattle.cjc_token_proof.proofs.WorldProofPlaces.{place-field}
 use Rattle.cjc_code.specs.declared.insn.JOp.{JOp}
 use Rattle.cjc_code.specs.declared.method_code.MethodCode.{MethodCode}
-use Rattle.cjc_theorem.proofs.WholeRuns.First.{all_append, placed}
 use Rattle.cjc_world.specs.declared.image.ArrayCell.{ArrayCell}
 use Rattle.cjc_world.specs.declared.image.StaticImage.{StaticImage}
 use Rattle.cjc_world.specs.declared.image.ValueCell.{ValueCell}
 use Rattle.cjc_world.specs.Files.{Files}
 
 -- ---- places
-
-same_or_not : (j k : ℕ) → (j ≡ k) ⊎ (j ≡ k → ⊥)
-same_or_not zero zero = inl refl
-same_or_not zero (suc k) = inr (λ e. cc)
-same_or_not (suc j) zero = inr (λ e. cc)
-same_or_not (suc j) (suc k) = ⊎_elim (λ e. inl (ap suc e)) (λ no. inr (λ e. no (let same : j ≡ k = cc in same)))
-    (same_or_not j k)
 
 set_is : {A : Type 0} (xs : List A) (k : ℕ) (x y : A) → slice_get (slice_set xs k x) k ≡ Some y → x ≡ y
 set_is [] k x y e = absurd cc
@@ -83,14 +78,14 @@ module _ (files : Files) (image : StaticImage) where
   initialiser_fits number c is (init.puts {fields = fields} {contents = contents} {id = id} {k = k} made place more)
       before =
       initialiser_fits number c is more (λ j f z e h. ⊎_elim (λ same. here j f z e h same)
-      (λ no. before j f z e (sym (set-other fields k j (held_by contents) (λ s. no (sym s))) ∙ h))
-      (same_or_not j k))
+      (λ no. before j f z e (sym (set_other fields k j (held_by contents) (λ s. no (sym s))) ∙ h))
+      (same_place j k))
     where
       here : (j : ℕ) (f : FieldTree) (z : ℤ) → slice_get c.fields j ≡ Some f
           → slice_get (slice_set fields k (held_by contents)) j ≡ Some (held.Number z) → j ≡ k
           → fits_kind (number_kind f.desc) z ≡ true
       here j f z e h same =
-          let p = placed (takes contents id.desc) (open_place files number c fields id) k place in
+          let p = option_taken (takes contents id.desc) (open_place files number c fields id) k place in
           let field = place-field files image number c fields id k is p.1 in
           let one : Some f ≡ Some field.field = sym e ∙ ap (slice_get c.fields) same ∙ field.there in
           let f_is : f ≡ field.field = cc in
@@ -125,8 +120,8 @@ module _ (files : Files) (image : StaticImage) where
   all_initialised (images.other none rest) fit = all_initialised rest fit
   all_initialised (images.one {before = before} {code = code} c puts fields is made rest) fit =
       all_initialised rest (λ n d told e h. ⊎_elim (λ same. here n d told e h same)
-      (λ no. fit n d told e (sym (set-other before code.class n fields (λ s. no (sym s))) ∙ h))
-      (same_or_not n code.class))
+      (λ no. fit n d told e (sym (set_other before code.class n fields (λ s. no (sym s))) ∙ h))
+      (same_place n code.class))
     where
       here : (n : ℕ) (d : ClassTree) (told : List Held) → slice_get files.classes n ≡ Some d
           → slice_get (slice_set before code.class fields) n ≡ Some told → n ≡ code.class → HeldFits d told
@@ -230,7 +225,7 @@ fields_fit class told k (f ∷ fs) fit put =
     let here = of_start_fits class f o (start_fits f (held_in (slice_get told k)) (fit 0 f refl)
     (told_fits f (slice_get told k) (λ z h. put 0 f z refl (let at : k + 0 ≡ k = omega arith
     in ap (slice_get told) at ∙ h)))) in (
-      all_append NumberFits (of_start (field_id class f) o).others (of_fields class told (k + 1) fs).others here rest.0,
+      all_both NumberFits (of_start (field_id class f) o).others (of_fields class told (k + 1) fs).others here rest.0,
       ap (λ xs. xs ++ (of_fields class told (k + 1) fs).arrays) (no_arrays (field_id class f) o) ∙ rest.1,
     )
 
@@ -256,6 +251,6 @@ classes_fit puts n (c ∷ cs) h =
     let here = fields_fit c.name (fields_in (slice_get puts n)) 0 c.fields mine.0 (λ j f z e is. fit j f z e (let at : j
     ≡ 0 + j = omega arith in ap (slice_get (fields_in (slice_get puts n))) at ∙ is)) in
     let front = of_fields c.name (fields_in (slice_get puts n)) 0 c.fields in (
-      all_append NumberFits front.others (of_classes puts (n + 1) cs).others here.0 rest.0,
+      all_both NumberFits front.others (of_classes puts (n + 1) cs).others here.0 rest.0,
       ap (λ xs. xs ++ (of_classes puts (n + 1) cs).arrays) here.1 ∙ rest.1,
     )

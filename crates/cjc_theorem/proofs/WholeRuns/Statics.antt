@@ -1,9 +1,8 @@
 -- The static fields that code names: a cell of the package, or a constant.
 use Rattle.std.proofs.Common.{◌≡◌, ℕ, zero, suc, ◌<◌, ◌^◌, refl, sym, ap, subst, ◌∙◌, arith, Bool, true, false, List}
-use Rattle.std.proofs.Common.{[], ◌∷◌, ◌++◌, length}
+use Rattle.std.proofs.Common.{[], ◌∷◌, length}
 use Rattle.std.specs.Prelude.{not, ◌&&◌, ◌||◌, Option, Some, None, option_and_then, option_map, is_some, map, slice_get}
 use Rattle.std.specs.Prelude.{if◌then◌else◌, ℤ, codes}
-use Rattle.std.specs.List.{flat_map}
 use Rattle.std.specs.Str.{bytes_eq}
 use Rattle.std.proofs.lemmas.Bool.{lt-ltb}
 use Rattle.cjc_bytes.specs.AccessFlags.{is_static}
@@ -14,22 +13,23 @@ use Rattle.cjc_bytes.specs.declared.descriptor.Kind.{Kind}
 use Rattle.cjc_bytes.specs.declared.descriptor.Kind.TheVariants as kinds
 use Rattle.cjc_bytes.specs.declared.settings.Settings.{Settings}
 use Rattle.cjc_bytes.proofs.DescriptorTypes.{desc_read}
+use Rattle.cjc_bytes.proofs.Lists.{bytes_true, map_append}
+use Rattle.cjc_bytes.proofs.Bools.{both_back, or_right, bool_middle}
 use Rattle.cjc_jvm_semantics.specs.Linked.{Instance, Method, Static}
 use Rattle.cjc_jvm_semantics.specs.OnePackage.{cells, cell_of, cells_in, constant_at, constant_in, exported_constant}
 use Rattle.cjc_jvm_semantics.specs.OnePackage.{field_by, field_hit, field_named, is_cell, of_class}
-use Rattle.cjc_world_proof.specs.Calls.Solid.{IsSolid}
-use Rattle.cjc_world_proof.proofs.CallsLaws.Own.{IsFieldAt, field_at, field_hit_is, mapped_at}
+use Rattle.cjc_token_proof.specs.WorldProof.Calls.Solid.{IsSolid}
+use Rattle.cjc_token_proof.proofs.WorldProofOwn.{IsFieldAt, field_at, field_hit_is, mapped_at}
 use Rattle.cjc_classfile.specs.declared.tree.ClassTree.{ClassTree}
 use Rattle.cjc_classfile.specs.declared.tree.FieldTree.{FieldTree}
 use Rattle.cjc_code.specs.declared.insn.JOp.TheVariants as jop
 use Rattle.cjc_code.specs.declared.method_code.MethodCode.{MethodCode}
-use Rattle.cjc_export.specs.declared.tree.ExportClass.{ExportClass}
-use Rattle.cjc_export.specs.declared.tree.ExportField.{ExportField}
-use Rattle.cjc_export.specs.declared.tree.ExportTree.{ExportTree}
-use Rattle.cjc_export.specs.Members.{is_constant_type, may_be_constant}
-use Rattle.cjc_export.specs.Writable.{ClassFits, FieldFits, ValueFits}
-use Rattle.cjc_shape_proof.proofs.FindsLaws.Descs.{each_after, read_of}
-use Rattle.cjc_shape_proof.proofs.FindsLaws.Fields.{lists_has, or_left, or_right, second, tested, tested_field}
+use Rattle.cjc_world.specs.ExportFile.declared.tree.ExportClass.{ExportClass}
+use Rattle.cjc_world.specs.ExportFile.declared.tree.ExportField.{ExportField}
+use Rattle.cjc_world.specs.ExportFile.Members.{is_constant_type, may_be_constant}
+use Rattle.cjc_world.specs.ExportFile.Writable.{ClassFits, FieldFits, ValueFits}
+use Rattle.cjc_shape_proof.proofs.FindsLaws.Descs.{read_of}
+use Rattle.cjc_shape_proof.proofs.FindsLaws.Fields.{lists_has, tested, tested_field}
 use Rattle.cjc_narrow_proof.specs.Laws.Unbroken.{IsInsnOf, IsUnbroken}
 use Rattle.cjc_narrow_proof.proofs.LawsLaws.Instructions.{op_fit, op_there, static_there}
 use Rattle.cjc_narrow_proof.specs.Runs.Names.{IsNamed, IsWordField, a_constant, a_static}
@@ -38,7 +38,7 @@ use Rattle.cjc_code.specs.Range.Span.{Holds, full}
 use Rattle.cjc_code.proofs.ReadLaws.Entries.{fit32}
 use Rattle.cjc_script.specs.declared.report.FieldValue.{FieldValue}
 use Rattle.cjc_narrow_proof.specs.Selection.Rows.{lists}
-use Rattle.cjc_world_proof.specs.Files.{AreReadFiles}
+use Rattle.cjc_token_proof.specs.WorldProof.Files.{AreReadFiles}
 use Rattle.cjc_subset.specs.Checks.{is_imported_variable, names_variable}
 use Rattle.cjc_subset.specs.Members.{imported_field, imports, is_declared_constant, is_imported_constant}
 use Rattle.cjc_subset.specs.Members.{declared_field}
@@ -54,14 +54,15 @@ use Rattle.cjc_narrow_proof.specs.Types.Types.{no_parts, parts, parts_or_none, r
 use Rattle.cjc_world.specs.Upwards.{Has, after, foremost}
 use Rattle.cjc_world.proofs.UpwardLaws.Lines.{field_found_above, has-back, has-front}
 use Rattle.cjc_vtable.proofs.Filed.{IsFiled, filed, get-has, has-get, in_class_file, in_export_file, of-imports}
+use Rattle.cjc_vtable.proofs.Read.{each-after}
 use Rattle.cjc_theorem.proofs.WholeRuns.Objects.{own_field_word}
-use Rattle.cjc_world.proofs.Settled.{bytes-true}
 use Rattle.cjc_world.specs.declared.found.Found.{Found}
 use Rattle.cjc_world.specs.declared.image.StaticImage.{StaticImage}
 use Rattle.cjc_world.specs.Classes.{Class, Member, all_classes, class_named, declared, field_of_class, field_of_export}
 use Rattle.cjc_world.specs.Classes.{imported}
 use Rattle.cjc_world.specs.Files.{Files}
 use Rattle.cjc_world.specs.Lookup.{find_field, member_at}
+use Rattle.cjc_judge.proofs.RangesLaws.AreNumbers.{imports_flat}
 
 -- ---- the types of constants
 
@@ -83,7 +84,7 @@ constant_number desc e = by (bytes_eq desc (codes "Z")) (bytes_eq desc (codes "B
   where
     at : (b : ℕ) (kind : Kind) → base_kind b ≡ Some kind → result_of (plain kind) ≡ Number ∷ [] → bytes_eq desc (b ∷ [])
         ≡ true → result_of (parts desc).result ≡ Number ∷ []
-    at b kind k r same = ap (λ x. result_of (parts x).result) (bytes-true desc (b ∷ []) same) ∙ letter_number b kind k r
+    at b kind k r same = ap (λ x. result_of (parts x).result) (bytes_true desc (b ∷ []) same) ∙ letter_number b kind k r
 
     by : (z b s i : Bool) → bytes_eq desc (codes "Z") ≡ z → bytes_eq desc (codes "B") ≡ b → bytes_eq desc (codes "S")
         ≡ s → bytes_eq desc (codes "I") ≡ i → (z || b || s || i) ≡ true → result_of (parts desc).result ≡ Number ∷ []
@@ -93,30 +94,18 @@ constant_number desc e = by (bytes_eq desc (codes "Z")) (bytes_eq desc (codes "B
     by false false false true f g h k e = at 73 kinds.Int refl refl k
     by false false false false f g h k e = absurd cc
 
-both_front : (a b : Bool) → (a && b) ≡ true → a ≡ true
-both_front true b e = refl
-both_front false b e = absurd cc
-
-both_back : (a b : Bool) → (a && b) ≡ true → b ≡ true
-both_back true b e = e
-both_back false b e = absurd cc
-
 constant_typed : (flags : ℕ) (desc : List ℕ) → may_be_constant flags desc ≡ true → result_of (parts desc).result
     ≡ Number ∷ []
 constant_typed flags desc e = constant_number desc (both_back _ (is_constant_type desc) e)
 
 -- ---- what the tests say
 
-on_class : (flags : ℕ) → is_other_kind true flags ≡ false → is_static flags ≡ true
+pub on_class : (flags : ℕ) → is_other_kind true flags ≡ false → is_static flags ≡ true
 on_class flags e = by (is_static flags) e
   where
     by : (b : Bool) → (if b then not true else true) ≡ false → b ≡ true
     by true e = refl
     by false e = absurd cc
-
-imports_flat : (ts : List ExportTree) → imports ts ≡ flat_map (λ t. t.classes) ts
-imports_flat [] = refl
-imports_flat (t ∷ ts) = ap (λ cs. t.classes ++ cs) (imports_flat ts)
 
 -- ---- cells
 
@@ -142,22 +131,18 @@ cell_told image class (f ∷ fs) (suc k) x e is = by (is_cell f) (cell_told imag
     by true h = after h
     by false h = h
 
-map-append : {A B : Type 0} (f : A → B) (xs ys : List A) → map f (xs ++ ys) ≡ map f xs ++ map f ys
-map-append f [] ys = refl
-map-append f (x ∷ xs) ys = ap (λ zs. f x ∷ zs) (map-append f xs ys)
-
 cells_told : (image : StaticImage) (cs : List ClassTree) (n : ℕ) (t : ClassTree) (id : MemberId)
     → slice_get cs n ≡ Some t → Has id (map (λ cell. cell.field) (cells_in image t.name t.fields))
     → Has id (map (λ cell. cell.field) (cells image cs))
 cells_told image [] n t id e h = absurd cc
 cells_told image (c ∷ cs) zero t id e h =
     let same : c ≡ t = cc in
-    subst (Has id) (sym (map-append (λ cell. cell.field) (cells_in image c.name c.fields) (cells image cs)))
+    subst (Has id) (sym (map_append (λ cell. cell.field) (cells_in image c.name c.fields) (cells image cs)))
     (has-front id (map (λ cell. cell.field) (cells_in image c.name c.fields)) (map (λ cell. cell.field)
     (cells image cs)) (subst (λ (v : ClassTree). Has id (map (λ cell. cell.field) (cells_in image v.name v.fields)))
     (sym same) h))
 cells_told image (c ∷ cs) (suc k) t id e h =
-    subst (Has id) (sym (map-append (λ cell. cell.field) (cells_in image c.name c.fields) (cells image cs)))
+    subst (Has id) (sym (map_append (λ cell. cell.field) (cells_in image c.name c.fields) (cells image cs)))
     (has-back id (map (λ cell. cell.field) (cells_in image c.name c.fields)) (map (λ cell. cell.field) (cells image cs))
     (cells_told image cs k t id e h))
 
@@ -209,7 +194,7 @@ module _ (list : List ℕ) (files : Files) (codes : List MethodCode) (settings :
         found = found;
         named = above.2;
         at = p;
-        static = on_class m.flags (second (is_hidden w class id (tested d m)) (is_other_kind true m.flags) (put
+        static = on_class m.flags (bool_middle (is_hidden w class id (tested d m)) (is_other_kind true m.flags) (put
             && is_constant_found files (find_field w id.class id.name id.desc)) all);
         read_only = ap (λ g. put && is_constant_found files (Some g)) (sym p.is)
             ∙ ap (λ o. put && is_constant_found files o) (sym found) ∙ constant;
@@ -362,9 +347,9 @@ module _ (list : List ℕ) (files : Files) (codes : List MethodCode) (settings :
             let tree = of-imports t files.exports (get-has t (imports files.exports) n is_class) in
             let place = has-get tree.0 files.exports tree.1 in
             let writable = read.exports place.0 tree.0 place.1 in
-            let class = each_after ClassFits [] (let u = tree.0 in u.classes) t writable.classes tree.2 in
+            let class = each-after ClassFits [] (let u = tree.0 in u.classes) t writable.classes tree.2 in
             let fit = class.1 in
-            let one = each_after FieldFits [] t.fields x0.0 fit.fields (get-has x0.0 t.fields pl x0.1) in
+            let one = each-after FieldFits [] t.fields x0.0 fit.fields (get-has x0.0 t.fields pl x0.1) in
             (let h = one.1 in h.value)
 
         by : (b : Bool) (o : Option ℤ) → (let y = x0.0 in may_be_constant y.flags y.desc) ≡ b

@@ -3,10 +3,10 @@
 -- 16 bits (Java Virtual Machine Specification, chapter 6; Java Card Virtual Machine Specification 2.2.2, chapters 3, 4,
 -- 6, 7).
 use Rattle.std.specs.Prelude.{◌≡◌, ℕ, Some}
-use Rattle.cjc_card_semantics.specs.Bytecode.Runs.{Agree}
+use Rattle.cjc_ncode.specs.CardSemantics.Bytecode.Runs.{Agree}
 use Rattle.cjc_jvm_semantics.specs.ByName.{run as run_by_name}
-use Rattle.cjc_card_semantics.specs.CapRead.declared.tree.CapTree.{CapTree}
-use Rattle.cjc_card_semantics.specs.Machine.ByToken.{run as run_by_token}
+use Rattle.cjc_ncode.specs.CapRead.declared.tree.CapTree.{CapTree}
+use Rattle.cjc_ncode.specs.CardSemantics.Machine.ByToken.{run as run_by_token}
 use Rattle.cjc_clinit.specs.Image.{IsImage}
 use Rattle.cjc_code.specs.PackageCodes.{all_codes}
 use Rattle.cjc_judge.specs.Rules.{has_applets}

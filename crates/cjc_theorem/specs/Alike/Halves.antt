@@ -2,9 +2,9 @@
 -- the components, run by token, stands the narrow code that is selected, run by label (Java Card Virtual Machine
 -- Specification 2.2.2, chapter 7).
 use Rattle.std.specs.Prelude.{◌≡◌, ◌≢◌, ℕ, ◌≤◌, List, Bool, false, Option, Some, slice_get}
-use Rattle.cjc_card_semantics.specs.CapRead.declared.tree.CapTree.{CapTree}
-use Rattle.cjc_card_semantics.specs.Bytecode.Runs.{Agree}
-use Rattle.cjc_card_semantics.specs.Machine.ByToken.{run as run_by_token}
+use Rattle.cjc_ncode.specs.CapRead.declared.tree.CapTree.{CapTree}
+use Rattle.cjc_ncode.specs.CardSemantics.Bytecode.Runs.{Agree}
+use Rattle.cjc_ncode.specs.CardSemantics.Machine.ByToken.{run as run_by_token}
 use Rattle.cjc_components.specs.CheckRules.Complete.{Complete, complete}
 use Rattle.cjc_clinit.specs.Image.{IsImage}
 use Rattle.cjc_code.specs.PackageCodes.{all_codes}

@@ -4,7 +4,7 @@
 ghost use Rattle.std.specs.Prelude.{◌≡◌, ℕ, List, true};
 ghost use Rattle.cjc_token_proof.specs.ByToken.Cells.{are_cells};
 ghost use Rattle.cjc_clinit.specs.Image.{IsImage};
-ghost use Rattle.cjc_world_proof.specs.Initialisers.Values.{StandOnce};
+ghost use Rattle.cjc_token_proof.specs.WorldProof.Initialisers.Values.{StandOnce};
 ghost use Rattle.cjc_code.specs.declared.method_code.MethodCode.{MethodCode};
 ghost use Rattle.cjc_components.specs.Package.{Package};
 ghost use Rattle.cjc_shape_proof.specs.Classes.Descriptor.Fits.{AreFit};

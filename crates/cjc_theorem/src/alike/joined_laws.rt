@@ -3,7 +3,7 @@
 //! definition and laws alone; nothing here runs.
 
 ghost use Rattle.std.specs.Prelude.{◌≡◌, ◌≢◌, ℕ, List};
-ghost use Rattle.cjc_card_semantics.specs.Machine.ByToken.{run as run_by_token};
+ghost use Rattle.cjc_ncode.specs.CardSemantics.Machine.ByToken.{run as run_by_token};
 ghost use Rattle.cjc_components.specs.Package.{Package};
 ghost use Rattle.cjc_judge.specs.declared.judged.Judged.{Judged};
 ghost use Rattle.cjc_components.specs.List.Listed.{ListTree};

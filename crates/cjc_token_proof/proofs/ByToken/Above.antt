@@ -4,8 +4,8 @@ use Rattle.std.proofs.Common.{[], ◌∷◌, ◌++◌, length, map, inl, inr, �
 use Rattle.std.specs.Prelude.{Option, Some, None, if◌then◌else◌, ◌==◌, ◌||◌, ◌⊎◌, flat_map, option_and_then, option_map}
 use Rattle.std.specs.Prelude.{option_to_list, slice_get}
 use Rattle.std.proofs.lemmas.Bool.Decides.{nat_tests}
-use Rattle.cjc_export.specs.declared.tree.ExportClass.{ExportClass}
-use Rattle.cjc_export.specs.declared.tree.ExportTree.{ExportTree}
+use Rattle.cjc_world.specs.ExportFile.declared.tree.ExportClass.{ExportClass}
+use Rattle.cjc_world.specs.ExportFile.declared.tree.ExportTree.{ExportTree}
 use Rattle.cjc_card_semantics.specs.Machine.Classes.{Class, Own, External, same_class, is_in, Info, IsInterface}
 use Rattle.cjc_card_semantics.specs.Machine.Classes.{IsClass, infos, info_size, info_supers, all_supers, info_of}
 use Rattle.cjc_card_semantics.specs.Machine.Classes.{info_at, number_from, with_token, external, external_named}
@@ -14,6 +14,7 @@ use Rattle.cjc_card_semantics.specs.Machine.Classes.{info_steps, part_steps, cla
 use Rattle.cjc_card_semantics.specs.Machine.Loaded.{Part, Loaded}
 use Rattle.cjc_token_proof.specs.ByToken.Above.{IsAtOrAbove, itself, upwards}
 use Rattle.cjc_token_proof.proofs.ByToken.Slots.{class_tells, class_same}
+use Rattle.cjc_bytes.proofs.Lists.{length_mapped}
 
 -- ---- membership
 
@@ -166,10 +167,6 @@ some_few : {A : Type 0} (os : List (Option A)) → length (some_of os) ≤ lengt
 some_few [] = omega arith
 some_few (None ∷ os) = let h = some_few os in omega (arith, h)
 some_few (Some x ∷ os) = let h = some_few os in omega (arith, h)
-
-length_mapped : {A B : Type 0} (f : A → B) (xs : List A) → length (map f xs) ≡ length xs
-length_mapped f [] = refl
-length_mapped f (x ∷ xs) = ap suc (length_mapped f xs)
 
 -- the info at an offset, where the first stands at this one
 abbrev at_offset : (at : ℕ) → List Info → (offset : ℕ) → Option Info

@@ -5,6 +5,8 @@ use Rattle.std.specs.Prelude.{not, Some, None, map, nat_le, slice_get, slice_set
 use Rattle.std.specs.Prelude.{option_map, option_and_then}
 use Rattle.std.proofs.lemmas.Bool.Decides.{nat_tests}
 use Rattle.cjc_bytes.specs.declared.fault.MemberId.{MemberId}
+use Rattle.cjc_bytes.proofs.Bools.{both_front, both_back, or_right, hidden_closed}
+use Rattle.cjc_bytes.proofs.Lists.{length_mapped}
 use Rattle.cjc_script.specs.declared.value.Value.{Value}
 use Rattle.cjc_script.specs.declared.value.Value.TheVariants.{Num, Null, Obj}
 use Rattle.cjc_script.specs.declared.report.FieldValue.{FieldValue}
@@ -22,12 +24,12 @@ use Rattle.cjc_token_proof.specs.ByToken.Cells.{letter, width, is_number, Order,
 use Rattle.cjc_token_proof.specs.ByToken.Cells.{are_apart, IsOrder, HasCells, fits, are_cells, value_in, value_of}
 use Rattle.cjc_token_proof.specs.ByToken.Cells.{bytes_of, image_of, cell_of, cell_names, same_letter, may_access}
 use Rattle.cjc_token_proof.specs.ByToken.Cells.{CellsAgree}
-use Rattle.cjc_token_proof.proofs.ByToken.Members.{both_left, both_right, negated, member_tells, member_apart}
+use Rattle.cjc_token_proof.proofs.ByToken.Members.{member_tells, member_apart}
 use Rattle.cjc_token_proof.proofs.ByToken.Members.{other_slot, own_slot, front_one, behind_one, front_all, behind_all}
 use Rattle.cjc_token_proof.proofs.ByToken.Members.{either_field, shown_all}
 use Rattle.cjc_token_proof.proofs.ByToken.Image.{Held, HoldsValue, AllHold, AllNumbers, operand_fits, number_read}
 use Rattle.cjc_token_proof.proofs.ByToken.Image.{number_put, other_bytes, other_values, behind, at_first, first_is}
-use Rattle.cjc_token_proof.proofs.ByToken.Image.{apart_first, apart_rest}
+use Rattle.cjc_token_proof.proofs.ByToken.Image.{apart_first}
 
 -- ---- offsets
 
@@ -67,7 +69,7 @@ number_offset : (gs more : List MemberId) (f : MemberId) → is_one_of f gs ≡ 
 number_offset [] more f off all = sym (zero-add (offset_from 0 more f))
 number_offset (g ∷ gs) more f off all =
     let w = two_wide (letter g) (all g (front_one g gs)) in
-    let r = number_offset gs more f (apart_rest (same_member g f) (is_one_of f gs) off)
+    let r = number_offset gs more f (or_right (same_member g f) (is_one_of f gs) off)
     (λ h e. all h (behind_one h g gs e)) in
     let sum : width (letter g) + offset_from 0 (gs ++ more) f ≡ 2 * suc (length gs) + offset_from 0 more f =
     omega (arith, w, r) in
@@ -95,7 +97,7 @@ reference_put : (x : Held) (gs : List MemberId) (s : MemberId) (v old : Value) �
 unfolding place
 reference_put x [] s v old there is apart = cc
 reference_put x (g ∷ gs) s v old there is apart =
-    by (λ on. reference_put x gs s v old there on (both_right (not (is_one_of g gs)) (are_apart gs) apart))
+    by (λ on. reference_put x gs s v old there on (both_back (not (is_one_of g gs)) (are_apart gs) apart))
     (same_member g s) refl
   where
     by : (is_one_of s gs ≡ true → slice_set (map (value_of x) gs) (place gs s) v
@@ -105,7 +107,7 @@ reference_put x (g ∷ gs) s v old there is apart =
     by rest true e =
         let same : g ≡ s = member_tells g s e in
         let alone : is_one_of s gs ≡ false = ap (λ f. is_one_of f gs) (sym same)
-        ∙ negated (is_one_of g gs) (are_apart gs) apart in
+        ∙ hidden_closed (is_one_of g gs) (are_apart gs) apart in
         ap (λ t. slice_set (value_of x g ∷ map (value_of x) gs) (if t then 0 else suc (place gs s)) v) e
         ∙ (ap (λ vs. v ∷ vs) (sym (other_values x s v gs alone))
         ∙ (ap (λ o. value_in o ∷ map (value_of (slots_with same_member x s v)) gs) (sym (own_slot s v x old there))
@@ -141,14 +143,14 @@ letter_tells Int Short e = cc
 all_hold : (all : List MemberId) (x : Held) → are_cells all x ≡ true → AllHold x all
 all_hold [] x e f is = cc
 all_hold (g ∷ gs) [] e f is = cc
-all_hold (g ∷ gs) (s ∷ x) e f is = by (all_hold gs x (both_right (fits (letter g) s.value) (are_cells gs x) rest) f)
+all_hold (g ∷ gs) (s ∷ x) e f is = by (all_hold gs x (both_back (fits (letter g) s.value) (are_cells gs x) rest) f)
     (same_member s.key f) refl
   where
     rest : (fits (letter g) s.value && are_cells gs x) ≡ true
-    rest = both_right (same_member s.key g) (fits (letter g) s.value && are_cells gs x) e
+    rest = both_back (same_member s.key g) (fits (letter g) s.value && are_cells gs x) e
 
     key : s.key ≡ g
-    key = member_tells s.key g (both_left (same_member s.key g) (fits (letter g) s.value && are_cells gs x) e)
+    key = member_tells s.key g (both_front (same_member s.key g) (fits (letter g) s.value && are_cells gs x) e)
 
     by : (is_one_of f gs ≡ true → HoldsValue x f) → (t : Bool) → same_member s.key f ≡ t → HoldsValue (s ∷ x) f
     by later true h =
@@ -156,7 +158,7 @@ all_hold (g ∷ gs) (s ∷ x) e f is = by (all_hold gs x (both_right (fits (lett
         record {
           value = s.value;
           is = ap (λ t. if t then Some s.value else slot_of same_member x f) h;
-          fit = ap (λ k. fits (letter k) s.value) (sym same) ∙ both_left (fits (letter g) s.value) (are_cells gs x)
+          fit = ap (λ k. fits (letter k) s.value) (sym same) ∙ both_front (fits (letter g) s.value) (are_cells gs x)
               rest;
         }
     by later false h =
@@ -175,13 +177,13 @@ cells_kept [] [] f v fit e = refl
 cells_kept [] (s ∷ x) f v fit e = cc
 cells_kept (g ∷ gs) [] f v fit e = cc
 cells_kept (g ∷ gs) (s ∷ x) f v fit e =
-    by (cells_kept gs x f v fit (both_right (fits (letter g) s.value) (are_cells gs x) rest)) (same_member s.key f) refl
+    by (cells_kept gs x f v fit (both_back (fits (letter g) s.value) (are_cells gs x) rest)) (same_member s.key f) refl
   where
     rest : (fits (letter g) s.value && are_cells gs x) ≡ true
-    rest = both_right (same_member s.key g) (fits (letter g) s.value && are_cells gs x) e
+    rest = both_back (same_member s.key g) (fits (letter g) s.value && are_cells gs x) e
 
     first : same_member s.key g ≡ true
-    first = both_left (same_member s.key g) (fits (letter g) s.value && are_cells gs x) e
+    first = both_front (same_member s.key g) (fits (letter g) s.value && are_cells gs x) e
 
     by : are_cells gs (slots_with same_member x f v) ≡ true → (t : Bool) → same_member s.key f ≡ t
         → are_cells (g ∷ gs) (if t then record s { value = v } ∷ x else s ∷ slots_with same_member x f v) ≡ true
@@ -189,10 +191,10 @@ cells_kept (g ∷ gs) (s ∷ x) f v fit e =
         let same : f ≡ g = sym (member_tells s.key f h) ∙ member_tells s.key g first in
         ap (λ t. t && (fits (letter g) v && are_cells gs x)) first
         ∙ (ap (λ t. t && are_cells gs x) (ap (λ k. fits (letter k) v) (sym same) ∙ fit)
-        ∙ both_right (fits (letter g) s.value) (are_cells gs x) rest)
+        ∙ both_back (fits (letter g) s.value) (are_cells gs x) rest)
     by later false h =
         ap (λ t. t && (fits (letter g) s.value && are_cells gs (slots_with same_member x f v))) first
-        ∙ (ap (λ t. t && are_cells gs (slots_with same_member x f v)) (both_left (fits (letter g) s.value)
+        ∙ (ap (λ t. t && are_cells gs (slots_with same_member x f v)) (both_front (fits (letter g) s.value)
         (are_cells gs x) rest) ∙ later)
 
 -- ---- one field
@@ -202,10 +204,6 @@ halves n = omega arith
 
 is_even : (n : ℕ) → (2 * n % 2 == 0) ≡ true
 is_even n = grind (arith, nat_tests)
-
-length_map : {A B : Type 0} (f : A → B) (xs : List A) → length (map f xs) ≡ length xs
-length_map f [] = refl
-length_map f (x ∷ xs) = ap suc (length_map f xs)
 
 reference_value : (k : Letter) (v : Value) → k ≡ Reference → fits k v ≡ true → value_in (Some v) ≡ v
 reference_value k v is e = refl
@@ -297,12 +295,12 @@ module _ (o : Order) (order : IsOrder o) (x : Held) (s : MemberId) (all : AllHol
         (order.numbers s is) order.references) order.references
 
     back : offset_from 0 (fields o) s - 2 * length (map (value_of x) o.references) ≡ offset_from 0 o.numbers s
-    back = let len = length_map (value_of x) o.references in let e = offset_behind in omega (arith, len, e)
+    back = let len = length_mapped (value_of x) o.references in let e = offset_behind in omega (arith, len, e)
 
     bytes_there : bytes_at (image_of o x) (offset_from 0 (fields o) s)
         ≡ Some (drop (offset_from 0 o.numbers s) (bytes_of x o.numbers))
     bytes_there =
-        let len = length_map (value_of x) o.references in
+        let len = length_mapped (value_of x) o.references in
         let e = offset_behind in
         let le : nat_le (2 * length (map (value_of x) o.references)) (offset_from 0 (fields o) s) ≡ true =
         grind (arith, nat_tests, len, e) in
@@ -385,8 +383,8 @@ module _ (o : Order) (all : List MemberId) (has : HasCells o all) where
 
   accessed : (k : Letter) (f : MemberId) → may_access o k f ≡ true → (is_one_of f (fields o) ≡ true) × (letter f ≡ k)
   accessed k f e = (
-    both_left (is_one_of f (fields o)) (same_letter (letter f) k) e,
-    letter_tells (letter f) k (both_right (is_one_of f (fields o)) (same_letter (letter f) k) e),
+    both_front (is_one_of f (fields o)) (same_letter (letter f) k) e,
+    letter_tells (letter f) k (both_back (is_one_of f (fields o)) (same_letter (letter f) k) e),
   )
 
   get_there : (k : Letter) (f : MemberId) (x : Held) → may_access o k f ≡ true → are_cells all x ≡ true
@@ -421,9 +419,9 @@ module _ (o : Order) (all : List MemberId) (has : HasCells o all) where
   keys_are [] (s ∷ x) e = cc
   keys_are (g ∷ gs) [] e = cc
   keys_are (g ∷ gs) (s ∷ x) e =
-      let rest = both_right (fits (letter g) s.value) (are_cells gs x) (both_right (same_member s.key g)
+      let rest = both_back (fits (letter g) s.value) (are_cells gs x) (both_back (same_member s.key g)
       (fits (letter g) s.value && are_cells gs x) e) in
-      ap (λ k. k ∷ keys x) (member_tells s.key g (both_left (same_member s.key g) (fits (letter g) s.value
+      ap (λ k. k ∷ keys x) (member_tells s.key g (both_front (same_member s.key g) (fits (letter g) s.value
       && are_cells gs x) e)) ∙ ap (λ ks. g ∷ ks) (keys_are gs x rest)
 
   named : (gs : List MemberId) (x : Held) → map (shown_cell 0 (image_of o x ∷ [])) (cell_names o gs)

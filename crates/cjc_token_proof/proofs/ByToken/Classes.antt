@@ -2,6 +2,7 @@
 use Rattle.std.proofs.Common.{◌≡◌, ℕ, refl, sym, ap, ◌∙◌, true, List, [], ◌∷◌, map}
 use Rattle.std.specs.Prelude.{Option, Some, None, option_map}
 use Rattle.cjc_bytes.specs.declared.fault.MemberId.{MemberId}
+use Rattle.cjc_bytes.proofs.Bools.{both_front}
 use Rattle.cjc_script.specs.declared.value.Value.{Value}
 use Rattle.cjc_card_semantics.specs.Bytecode.Effects.{Letter, IsOperand, Slot, Object, slot_of}
 use Rattle.cjc_card_semantics.specs.Bytecode.Renaming.{option_as, keys, KnownHeapObject, object_known, AreAlike}
@@ -18,7 +19,6 @@ use Rattle.cjc_token_proof.specs.ByToken.Cells.{fields, cell_of, image_of, is_on
 use Rattle.cjc_token_proof.specs.ByToken.Cells.{same_letter, letter}
 use Rattle.cjc_token_proof.specs.ByToken.Objects.{slots_of, ObjectsAgree}
 use Rattle.cjc_token_proof.specs.ByToken.Classes.{Names, tests, SaysClasses}
-use Rattle.cjc_token_proof.proofs.ByToken.Members.{both_left}
 use Rattle.cjc_token_proof.proofs.ByToken.Cells.{cells_agree}
 use Rattle.cjc_token_proof.proofs.ByToken.Objects.{objects_agree}
 
@@ -31,7 +31,7 @@ module _ (n : Naming) (l : Named) (names : Names) (says : SaysClasses n l names)
   object c own is = objects_agree n names.field c own (says.objects c own is)
 
   cell : (k : Letter) (f : MemberId) → may_access names.order k f ≡ true → n.cell f ≡ cell_of names.order f
-  cell k f may = says.cell f (both_left (is_one_of f (fields names.order)) (same_letter (letter f) k) may)
+  cell k f may = says.cell f (both_front (is_one_of f (fields names.order)) (same_letter (letter f) k) may)
 
   made_there : (c : List ℕ) (held : List (Slot MemberId)) → names.class c ≡ true → fresh l c ≡ Some held
       → card.fresh n.loaded (n.class c) ≡ Some (slots_of n c held)

@@ -1,5 +1,5 @@
 -- Reading and putting a number or a reference in the static field image, where the field stands among fields in order.
-use Rattle.std.proofs.Common.{◌≡◌, ℕ, suc, ◌+◌, ◌*◌, ◌/◌, ◌%◌, refl, sym, ap, ◌∙◌, arith, Bool, true, false, List, []}
+use Rattle.std.proofs.Common.{◌≡◌, ℕ, suc, ◌+◌, refl, sym, ap, ◌∙◌, arith, Bool, true, false, List, []}
 use Rattle.std.proofs.Common.{◌∷◌, ◌++◌, length, drop, zero-add, add-zero, ℤ, pos, negsuc}
 use Rattle.std.specs.Prelude.{Some, map, slice_set, if◌then◌else◌, ◌&&◌, ◌||◌, not, FitsSigned, ◌≤ℤ◌}
 use Rattle.std.specs.Int.{w8, w16, w32, cast_signed, cast_unsigned}
@@ -8,6 +8,10 @@ use Rattle.std.proofs.lemmas.Int.{ints, to_z-of_z}
 use Rattle.cjc_card_semantics.specs.Range.Words.{low_word, low_byte}
 use Rattle.cjc_card_semantics.proofs.RangeWords as words
 use Rattle.cjc_bytes.specs.declared.fault.MemberId.{MemberId}
+use Rattle.cjc_bytes.proofs.Integers.{by_ends_32, le_true as true_le, above_if, by_ends_8}
+use Rattle.cjc_bytes.proofs.Bools.{both_front, both_back, or_right, hidden_closed}
+use Rattle.cjc_bytes.proofs.Numbers.{two_back, four_back}
+use Rattle.cjc_bytes.proofs.Gets.{get_drop_past}
 use Rattle.cjc_script.specs.declared.value.Value.{Value}
 use Rattle.cjc_script.specs.declared.value.Value.TheVariants.{Num, Null, Obj}
 use Rattle.cjc_card_semantics.specs.Bytecode.Numbers.{spelt_by}
@@ -17,7 +21,7 @@ use Rattle.cjc_card_semantics.specs.Machine.Statics.{number_bytes, number_in, ov
 use Rattle.cjc_ncode.specs.PoolOrder.{same_member}
 use Rattle.cjc_token_proof.specs.ByToken.Cells.{letter, width, is_number, offset_from, is_one_of, are_apart, lies_in}
 use Rattle.cjc_token_proof.specs.ByToken.Cells.{fits, value_in, value_of, bytes_of}
-use Rattle.cjc_token_proof.proofs.ByToken.Members.{both_left, both_right, member_tells, member_apart, negated}
+use Rattle.cjc_token_proof.proofs.ByToken.Members.{member_tells, member_apart}
 use Rattle.cjc_token_proof.proofs.ByToken.Members.{other_slot, own_slot, front_one, behind_one}
 
 abbrev pub Held : Type 0
@@ -25,34 +29,14 @@ Held = List (Slot MemberId)
 
 -- ---- numbers in bytes
 
-two_back : (n : ℕ) → 256 * (n / 256) + n % 256 ≡ n
-two_back n = omega arith
-
-four_back : (n : ℕ) → 16777216 * (n / 16777216) + 65536 * (n / 65536 % 256) + 256 * (n / 256 % 256) + n % 256 ≡ n
-four_back n = omega arith
-
-le_true : (a b : ℤ) → int_le a b ≡ true → a ≤ℤ b
-le_true a b e = grind (arith, ints)
-
-true_le : (a b : ℤ) → a ≤ℤ b → int_le a b ≡ true
-true_le a b h = grind (arith, ints)
-
 lies_true : (low high z : ℤ) → lies_in low high z ≡ true → (low ≤ℤ z) × (z ≤ℤ high)
 lies_true low high z e = (
-  le_true low z (both_left (int_le low z) (int_le z high) e),
-  le_true z high (both_right (int_le low z) (int_le z high) e),
+  above_if low z (both_front (int_le low z) (int_le z high) e),
+  above_if z high (both_back (int_le low z) (int_le z high) e),
 )
 
 true_lies : (low high z : ℤ) → low ≤ℤ z → z ≤ℤ high → lies_in low high z ≡ true
 true_lies low high z a b = ap (λ t. t && int_le z high) (true_le low z a) ∙ true_le z high b
-
-by_ends_8 : (z : ℤ) → negsuc 127 ≤ℤ z → z ≤ℤ pos 127 → FitsSigned w8 z
-by_ends_8 (pos n) a b = record { sfits = omega (arith, ints) }
-by_ends_8 (negsuc n) a b = record { sfits = omega (arith, ints) }
-
-by_ends_32 : (z : ℤ) → negsuc 2147483647 ≤ℤ z → z ≤ℤ pos 2147483647 → FitsSigned w32 z
-by_ends_32 (pos n) a b = record { sfits = omega (arith, ints) }
-by_ends_32 (negsuc n) a b = record { sfits = omega (arith, ints) }
 
 ends_8 : (z : ℤ) → FitsSigned w8 z → lies_in (negsuc 127) (pos 127) z ≡ true
 ends_8 (pos n) f = let h = f.sfits in true_lies (negsuc 127) (pos 127) (pos n) (omega (arith, ints)) (omega (
@@ -125,12 +109,6 @@ number_width Int Null num e = cc
 number_width Int (Obj k) num e = cc
 
 -- ---- overwriting
-
-drop_past : (front back : List ℕ) (n : ℕ) → drop (length front + n) (front ++ back) ≡ drop n back
-drop_past [] back n = ap (λ k. drop k back) (zero-add n)
-drop_past (x ∷ front) back n =
-    let e : suc (length front) + n ≡ suc (length front + n) = omega arith in
-    ap (λ k. drop k (x ∷ (front ++ back))) e ∙ drop_past front back n
 
 set_past : (front back : List ℕ) (n b : ℕ) → slice_set (front ++ back) (length front + n) b ≡ front
     ++ slice_set back n b
@@ -251,7 +229,7 @@ module _ (x : Held) (s : MemberId) where
           let wide : width (letter g) ≡ length (here g) = sym (here_width g h (nums g (front_one g fields))) in
           ap (λ k. number_in (letter s) (drop k (here g ++ bytes_of x fields))) (behind g fields s e
           ∙ ap (λ w. w + offset_from 0 fields s) wide)
-          ∙ (ap (number_in (letter s)) (drop_past (here g) (bytes_of x fields) (offset_from 0 fields s))
+          ∙ (ap (number_in (letter s)) (get_drop_past (here g) (bytes_of x fields) (offset_from 0 fields s))
           ∙ rest (first_is g s (is_one_of s fields) e is))
 
 -- ---- other cells
@@ -263,10 +241,6 @@ apart_first g s t e = by (same_member g s) e
     by true e = cc
     by false e = refl
 
-pub apart_rest : (u t : Bool) → (u || t) ≡ false → t ≡ false
-apart_rest true t e = cc
-apart_rest false t e = e
-
 module _ (x : Held) (s : MemberId) (v : Value) where
   pub other_bytes : (fields : List MemberId) → is_one_of s fields ≡ false
       → bytes_of (slots_with same_member x s v) fields ≡ bytes_of x fields
@@ -275,7 +249,7 @@ module _ (x : Held) (s : MemberId) (v : Value) where
       ap (λ o. number_bytes (letter f) (value_in o) ++ bytes_of (slots_with same_member x s v) fields)
       (other_slot s v x f (member_apart f s (apart_first f s (is_one_of s fields) e)))
       ∙ ap (λ bytes. number_bytes (letter f) (value_of x f)
-      ++ bytes) (other_bytes fields (apart_rest (same_member f s) (is_one_of s fields) e))
+      ++ bytes) (other_bytes fields (or_right (same_member f s) (is_one_of s fields) e))
 
   pub other_values : (fields : List MemberId) → is_one_of s fields ≡ false
       → map (value_of (slots_with same_member x s v)) fields ≡ map (value_of x) fields
@@ -283,7 +257,7 @@ module _ (x : Held) (s : MemberId) (v : Value) where
   other_values (f ∷ fields) e =
       ap (λ o. value_in o ∷ map (value_of (slots_with same_member x s v)) fields)
       (other_slot s v x f (member_apart f s (apart_first f s (is_one_of s fields) e)))
-      ∙ ap (λ vs. value_of x f ∷ vs) (other_values fields (apart_rest (same_member f s) (is_one_of s fields) e))
+      ∙ ap (λ vs. value_of x f ∷ vs) (other_values fields (or_right (same_member f s) (is_one_of s fields) e))
 
   pub number_put : (fields : List MemberId) → is_one_of s fields ≡ true → are_apart fields ≡ true
       → fits (letter s) v ≡ true → AllHold x fields → AllNumbers fields
@@ -291,11 +265,11 @@ module _ (x : Held) (s : MemberId) (v : Value) where
       ≡ bytes_of (slots_with same_member x s v) fields
   number_put [] is apart fit all nums = cc
   number_put (g ∷ fields) is apart fit all nums =
-      by (λ on. number_put fields on (both_right (not (is_one_of g fields)) (are_apart fields) apart) fit
+      by (λ on. number_put fields on (both_back (not (is_one_of g fields)) (are_apart fields) apart) fit
       (rest_holds x g fields all) (rest_numbers g fields nums)) (same_member g s) refl
     where
       alone : is_one_of g fields ≡ false
-      alone = negated (is_one_of g fields) (are_apart fields) apart
+      alone = hidden_closed (is_one_of g fields) (are_apart fields) apart
 
       by : (is_one_of s fields ≡ true → overwritten (bytes_of x fields) (offset_from 0 fields s)
           (number_bytes (letter s) v) ≡ bytes_of (slots_with same_member x s v) fields)

@@ -4,6 +4,7 @@ use Rattle.std.specs.Prelude.{ℕ, Some, if◌then◌else◌, ◌&&◌, ◌||◌
 use Rattle.std.specs.Str.{bytes_eq}
 use Rattle.std.proofs.lemmas.Slice.Eq.{bytes_eq-Decides}
 use Rattle.cjc_bytes.specs.declared.fault.MemberId.{MemberId}
+use Rattle.cjc_bytes.proofs.Bools.{both_front, both_back, hidden_closed}
 use Rattle.cjc_script.specs.declared.value.Value.{Value}
 use Rattle.cjc_script.specs.declared.report.FieldValue.{FieldValue}
 use Rattle.cjc_card_semantics.specs.Bytecode.Effects.{Slot, slot_of, slots_with}
@@ -11,20 +12,6 @@ use Rattle.cjc_card_semantics.specs.Bytecode.Renaming.{keys}
 use Rattle.cjc_ncode.specs.ByLabel.{shown_slot}
 use Rattle.cjc_ncode.specs.PoolOrder.{same_member}
 use Rattle.cjc_token_proof.specs.ByToken.Cells.{is_one_of, are_apart}
-
--- ---- conjunctions
-
-pub both_left : (a b : Bool) → (a && b) ≡ true → a ≡ true
-both_left true b e = refl
-both_left false b e = cc
-
-pub both_right : (a b : Bool) → (a && b) ≡ true → b ≡ true
-both_right true b e = e
-both_right false b e = cc
-
-pub negated : (a b : Bool) → (not a && b) ≡ true → a ≡ false
-negated true b e = cc
-negated false b e = refl
 
 -- ---- the same member
 
@@ -36,11 +23,11 @@ bytes_same x = grind (arith, bytes_eq-Decides)
 
 pub member_tells : (a b : MemberId) → same_member a b ≡ true → a ≡ b
 member_tells a b e =
-    let rest = both_right (bytes_eq a.class b.class) (bytes_eq a.name b.name && bytes_eq a.desc b.desc) e in
-    let c = bytes_tell a.class b.class (both_left (bytes_eq a.class b.class) (bytes_eq a.name b.name
+    let rest = both_back (bytes_eq a.class b.class) (bytes_eq a.name b.name && bytes_eq a.desc b.desc) e in
+    let c = bytes_tell a.class b.class (both_front (bytes_eq a.class b.class) (bytes_eq a.name b.name
     && bytes_eq a.desc b.desc) e) in
-    let n = bytes_tell a.name b.name (both_left (bytes_eq a.name b.name) (bytes_eq a.desc b.desc) rest) in
-    let d = bytes_tell a.desc b.desc (both_right (bytes_eq a.name b.name) (bytes_eq a.desc b.desc) rest) in
+    let n = bytes_tell a.name b.name (both_front (bytes_eq a.name b.name) (bytes_eq a.desc b.desc) rest) in
+    let d = bytes_tell a.desc b.desc (both_back (bytes_eq a.name b.name) (bytes_eq a.desc b.desc) rest) in
     ap (λ x. record { class = x; name = a.name; desc = a.desc }) c
     ∙ (ap (λ x. record { class = b.class; name = x; desc = a.desc }) n
     ∙ ap (λ x. record { class = b.class; name = b.name; desc = x }) d)
@@ -144,9 +131,9 @@ shown_all look [] apart h = refl
 shown_all look (s ∷ x) apart h =
     let here = h s.key s.value (front_one s.key (keys x)) (ap (λ t. if t then Some s.value
     else slot_of same_member x s.key) (member_same s.key)) in
-    let alone = negated (is_one_of s.key (keys x)) (are_apart (keys x)) apart in
+    let alone = hidden_closed (is_one_of s.key (keys x)) (are_apart (keys x)) apart in
     ap (λ v. v ∷ map look (keys x)) here
-    ∙ ap (λ vs. shown_slot s ∷ vs) (shown_all look x (both_right (not (is_one_of s.key (keys x))) (are_apart (keys x))
+    ∙ ap (λ vs. shown_slot s ∷ vs) (shown_all look x (both_back (not (is_one_of s.key (keys x))) (are_apart (keys x))
     apart)
     (λ f v is there. h f v (behind_one f s.key (keys x) is) (ap (λ t. if t then Some s.value
     else slot_of same_member x f) (other_one s.key (keys x) f alone is) ∙ there)))

@@ -4,6 +4,8 @@ use Rattle.std.proofs.Common.{◌∷◌, ◌++◌, pos}
 use Rattle.std.specs.Prelude.{Some, None, if◌then◌else◌, ◌==◌, ◌&&◌, option_map}
 use Rattle.std.proofs.lemmas.Bool.Decides.{nat_tests}
 use Rattle.cjc_bytes.specs.declared.fault.MemberId.{MemberId}
+use Rattle.cjc_bytes.proofs.Bools.{both_front, both_back}
+use Rattle.cjc_bytes.proofs.Numbers.{like_number, number_same}
 use Rattle.cjc_check_rules.specs.CapRead.declared.tree.ClassEntry.{ClassEntry}
 use Rattle.cjc_script.specs.declared.value.Value.{Value}
 use Rattle.cjc_script.specs.declared.value.Value.TheVariants.{Num, Null}
@@ -16,37 +18,31 @@ use Rattle.cjc_ncode.specs.PoolOrder.{same_member}
 use Rattle.cjc_ncode.specs.Lowering.Naming.{Naming, field}
 use Rattle.cjc_token_proof.specs.ByToken.Cells.{is_one_of}
 use Rattle.cjc_token_proof.specs.ByToken.Objects.{value_under, filled}
-use Rattle.cjc_token_proof.proofs.ByToken.Members.{both_left, both_right, member_tells, member_same, front_one}
+use Rattle.cjc_token_proof.proofs.ByToken.Members.{member_tells, member_same, front_one}
 use Rattle.cjc_token_proof.proofs.ByToken.Members.{behind_one}
 
 -- ---- sameness
 
-nat_tells : (a b : ℕ) → (a == b) ≡ true → a ≡ b
-nat_tells a b e = grind (arith, nat_tests)
-
-pub nat_same : (a : ℕ) → (a == a) ≡ true
-nat_same a = grind (arith, nat_tests)
-
 pub class_tells : (a b : Class) → same_class a b ≡ true → a ≡ b
-class_tells (Own p a) (Own q b) e = ap (λ x. Own x a) (nat_tells p q (both_left (p == q) (a == b) e))
-    ∙ ap (Own q) (nat_tells a b (both_right (p == q) (a == b) e))
-class_tells (External p a) (External q b) e = ap (λ x. External x a) (nat_tells p q (both_left (p == q) (a == b) e))
-    ∙ ap (External q) (nat_tells a b (both_right (p == q) (a == b) e))
+class_tells (Own p a) (Own q b) e = ap (λ x. Own x a) (number_same p q (both_front (p == q) (a == b) e))
+    ∙ ap (Own q) (number_same a b (both_back (p == q) (a == b) e))
+class_tells (External p a) (External q b) e = ap (λ x. External x a) (number_same p q (both_front (p == q) (a == b) e))
+    ∙ ap (External q) (number_same a b (both_back (p == q) (a == b) e))
 class_tells (Own p a) (External q b) e = cc
 class_tells (External p a) (Own q b) e = cc
 
 pub class_same : (a : Class) → same_class a a ≡ true
-class_same (Own p a) = ap (λ t. t && (a == a)) (nat_same p) ∙ nat_same a
-class_same (External p a) = ap (λ t. t && (a == a)) (nat_same p) ∙ nat_same a
+class_same (Own p a) = ap (λ t. t && (a == a)) (like_number p) ∙ like_number a
+class_same (External p a) = ap (λ t. t && (a == a)) (like_number p) ∙ like_number a
 
 pub field_tells : (a b : Field) → same_field a b ≡ true → a ≡ b
 field_tells a b e =
-    let c = class_tells a.class b.class (both_left (same_class a.class b.class) (a.token == b.token) e) in
-    let t = nat_tells a.token b.token (both_right (same_class a.class b.class) (a.token == b.token) e) in
+    let c = class_tells a.class b.class (both_front (same_class a.class b.class) (a.token == b.token) e) in
+    let t = number_same a.token b.token (both_back (same_class a.class b.class) (a.token == b.token) e) in
     ap (λ x. record { class = x; token = a.token }) c ∙ ap (λ x. record { class = b.class; token = x }) t
 
 pub field_same : (a : Field) → same_field a a ≡ true
-field_same a = ap (λ t. t && (a.token == a.token)) (class_same a.class) ∙ nat_same a.token
+field_same a = ap (λ t. t && (a.token == a.token)) (class_same a.class) ∙ like_number a.token
 
 pub field_apart : (a b : Field) → same_field a b ≡ false → same_field b a ≡ false
 field_apart a b e = by (same_field b a) refl
@@ -129,7 +125,7 @@ of_token class c from (suc n) token le lt = by (from == token) refl (λ h. of_to
         (class_same class)
         ∙ (ap (λ t. if t then Some (if is_reference_token c from then Null else Num (pos 0))
         else slot_of same_field (slots_from class c (from + 1) n) (record { class = class; token = token })) e
-        ∙ ap (λ k. Some (if is_reference_token c k then Null else Num (pos 0))) (nat_tells from token e))
+        ∙ ap (λ k. Some (if is_reference_token c k then Null else Num (pos 0))) (number_same from token e))
     by false e rest =
         let ne : from + 1 ≤ token = grind (arith, nat_tests) in
         ap (λ t. if t && (from == token) then Some (if is_reference_token c from then Null else Num (pos 0))

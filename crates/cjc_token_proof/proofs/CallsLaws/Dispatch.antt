@@ -35,13 +35,9 @@ use Rattle.cjc_token_proof.specs.Calls.Dispatching.{table_entry, event, selectio
 use Rattle.cjc_token_proof.specs.Calls.Dispatching.{of_file, DispatchAgrees}
 use Rattle.cjc_token_proof.specs.Calls.Dispatching as says
 use Rattle.cjc_token_proof.proofs.CallsLaws.Towers.{tower_on_card, card_package, card_file}
+use Rattle.cjc_bytes.proofs.Gets.{get_mapped}
 
 -- ---- entries
-
-get_mapped : {A B : Type 0} (f : A → B) (xs : List A) (k : ℕ) → slice_get (map f xs) k ≡ option_map f (slice_get xs k)
-get_mapped f [] k = refl
-get_mapped f (x ∷ xs) zero = refl
-get_mapped f (x ∷ xs) (suc k) = get_mapped f xs k
 
 -- entries are of the package
 own_entry : (o : Option Found) (g : Found) → of_package o ≡ Some g → g.imported ≡ false

@@ -5,24 +5,16 @@ use Rattle.std.specs.Prelude.{◌==◌, ◌&&◌, ◌||◌, not, if◌then◌els
 use Rattle.std.specs.List.{AllByRecursion}
 use Rattle.std.specs.Str.{bytes_eq}
 use Rattle.std.proofs.lemmas.Bool.Decides.{nat_tests}
+use Rattle.std.proofs.lemmas.Bool.{or_parts}
 use Rattle.cjc_world.specs.declared.found.Found.{Found}
 use Rattle.cjc_world.specs.Added.{added}
 use Rattle.cjc_world.specs.Classes.{Member, Class}
 use Rattle.cjc_world.specs.Lookup.{member_at}
 use Rattle.cjc_world.specs.Order.{and_then, in_order, is_in, is_of_kind, lined_up, may_stand, method_order}
 use Rattle.cjc_world.specs.Order.{methods_in_turn, methods_of_class, next, places, waits, written}
-
--- ---- lists
-
-each_weaker : {A : Type 0} (P Q : A → Type 0) (xs : List A) → ((x : A) → P x → Q x) → AllByRecursion P xs
-    → AllByRecursion Q xs
-each_weaker P Q [] f all = tt
-each_weaker P Q (x ∷ xs) f all = (f x all.0, each_weaker P Q xs f all.1)
-
-each_append : {A : Type 0} (P : A → Type 0) (xs ys : List A) → AllByRecursion P xs → AllByRecursion P ys
-    → AllByRecursion P (xs ++ ys)
-each_append P [] ys a b = b
-each_append P (x ∷ xs) ys a b = (a.0, each_append P xs ys a.1 b)
+use Rattle.cjc_bytes.proofs.Bools.{both_front}
+use Rattle.cjc_bytes.proofs.Quantified.{all_both, each_weaker}
+use Rattle.cjc_bytes.proofs.Numbers.{other_way}
 
 -- ---- the same member
 
@@ -61,7 +53,7 @@ apart_append : (xs ys : List Found) → AreApart xs → AreApart ys
     → AllByRecursion (λ f. AllByRecursion (λ g. is_same g f ≡ false) ys) xs → AreApart (xs ++ ys)
 apart_append [] ys a b across = b
 apart_append (x ∷ xs) ys a b across = (
-  each_append (λ g. is_same g x ≡ false) xs ys a.0 across.0,
+  all_both (λ g. is_same g x ≡ false) xs ys a.0 across.0,
   apart_append xs ys a.1 b across.1,
 )
 
@@ -158,7 +150,7 @@ module _ (c : Class) where
       let nm = length c.methods in
       let own = written c nf c.methods in
       let got = places c (nf + nm) (length (added w c)) in
-      each_append (IsOf c) own got (each_weaker (IsWithin c nf (nf + nm)) (IsOf c) own (λ f h. let from = h.from
+      all_both (IsOf c) own got (each_weaker (IsWithin c nf (nf + nm)) (IsOf c) own (λ f h. let from = h.from
       in (from.imported, from.class)) (written_within nf (nf + nm) c.methods (omega arith)))
       (each_weaker (IsFrom c (nf + nm)) (IsOf c) got (λ f h. (h.imported, h.class)) (places_from (nf + nm)
       (length (added w c))))
@@ -175,20 +167,12 @@ three true true false e = absurd cc
 three true false true e = absurd cc
 three true false false e = absurd cc
 
-neither : (a b : Bool) → (a || b) ≡ false → (a ≡ false) × (b ≡ false)
-neither true b e = absurd cc
-neither false b e = (refl, e)
-
-front_true : (a b : Bool) → (a && b) ≡ true → a ≡ true
-front_true true b e = refl
-front_true false b e = absurd cc
-
 -- neither among these nor the one behind them
-in_neither : (placed : List ℕ) (x n : ℕ) → is_in (placed ++ x ∷ []) n ≡ false → (is_in placed n ≡ false)
+pub in_neither : (placed : List ℕ) (x n : ℕ) → is_in (placed ++ x ∷ []) n ≡ false → (is_in placed n ≡ false)
     × ((x == n) ≡ false)
-in_neither [] x n e = (refl, (neither (x == n) false e).0)
+in_neither [] x n e = (refl, (or_parts (x == n) false e).0)
 in_neither (k ∷ placed) x n e =
-    let t = neither (k == n) (is_in (placed ++ x ∷ []) n) e in
+    let t = or_parts (k == n) (is_in (placed ++ x ∷ []) n) e in
     let r = in_neither placed x n t.1 in
     (ap (λ b. b || is_in placed n) t.0 ∙ r.0, r.1)
 
@@ -220,7 +204,7 @@ module _ (w : List Class) (interfaces : Bool) where
       by true f g rest =
           let same : d ≡ c = cc in
           let t = three d.is_imported (is_of_kind interfaces d) (is_in placed d.number)
-          (front_true (waits interfaces placed d) _ f) in
+          (both_front (waits interfaces placed d) _ f) in
           subst (IsPlaced interfaces placed) same (record { own = t.0; kind = t.1; later = t.2 })
       by false f g rest = rest g
 
@@ -272,7 +256,7 @@ in_turn_own : (w : List Class) (cs : List Class) → AllByRecursion (λ (c : Cla
     → AreOwn (methods_in_turn w cs)
 in_turn_own w [] all = tt
 in_turn_own w (c ∷ cs) all =
-    each_append IsOwn (methods_of_class w c) (methods_in_turn w cs) (each_weaker (IsOf c) IsOwn (methods_of_class w c)
+    all_both IsOwn (methods_of_class w c) (methods_in_turn w cs) (each_weaker (IsOf c) IsOwn (methods_of_class w c)
     (λ f h. h.0 ∙ all.0) (class_from c w)) (in_turn_own w cs all.1)
 
 -- it is of another class
@@ -283,13 +267,10 @@ of_others : (w : List Class) (c : Class) (cs : List Class) → AllByRecursion (H
     → AllByRecursion (IsOfOther c) (methods_in_turn w cs)
 of_others w c [] all = tt
 of_others w c (d ∷ cs) all =
-    each_append (IsOfOther c) (methods_of_class w d) (methods_in_turn w cs)
+    all_both (IsOfOther c) (methods_of_class w d) (methods_in_turn w cs)
     (each_weaker (IsOf d) (IsOfOther c) (methods_of_class w d) (λ g h. ap (λ n. c.number == n) h.1
     ∙ all.0) (class_from d w))
     (of_others w c cs all.1)
-
-turned : (m n : ℕ) → (m == n) ≡ false → (n == m) ≡ false
-turned m n e = grind (arith, nat_tests, e)
 
 in_turn_apart : (w : List Class) (cs : List Class) → AreNumbered cs → AreApart (methods_in_turn w cs)
 in_turn_apart w [] all = tt
@@ -298,7 +279,7 @@ in_turn_apart w (c ∷ cs) all =
     apart_append (methods_of_class w c) rest (class_apart c w) (in_turn_apart w cs all.1)
     (each_weaker (IsOf c) (λ f. AllByRecursion (Differs f) rest) (methods_of_class w c)
     (λ f h. each_weaker (IsOfOther c) (Differs f) rest (λ g e. other_class g f (ap (λ n. g.class == n) h.1
-    ∙ turned c.number g.class e)) (of_others w c cs all.0))
+    ∙ other_way c.number g.class e)) (of_others w c cs all.0))
     (class_from c w))
 
 pub order_own : (w : List Class) → AreOwn (method_order w)

@@ -1,7 +1,6 @@
 -- The size of a component by its items is the number of its bytes.
-use Rattle.std.proofs.Common.{◌≡◌, ℕ, ◌+◌, ◌*◌, List, [], ◌∷◌, length, refl, ap, ◌∙◌, arith, length-append}
+use Rattle.std.proofs.Common.{◌≡◌, ℕ, ◌+◌, ◌*◌, List, length, refl, ap, ◌∙◌, arith}
 use Rattle.std.specs.Prelude.{Option, Some, None, flat_map, sum_by}
-use Rattle.std.proofs.lemmas.List.Sums.{sum_by-cons}
 use Rattle.cjc_check_rules.specs.CapRead.declared.tree.Header.{Header}
 use Rattle.cjc_check_rules.specs.CapRead.declared.tree.Applet.{Applet}
 use Rattle.cjc_check_rules.specs.CapRead.declared.tree.Import.{Import}
@@ -37,16 +36,7 @@ use Rattle.cjc_check_rules.specs.Complete.{applet_size, package_size, interface_
 use Rattle.cjc_check_rules.specs.Complete.{exported_size, described_size, type_size, header_size, applets_size}
 use Rattle.cjc_check_rules.specs.Complete.{import_size, pool_size, class_info_size, method_size, statics_size}
 use Rattle.cjc_check_rules.specs.Complete.{locations_size, export_size, descriptor_size, size_of}
-
--- of items one behind the other
-pub each_size : {X Y : Type 0} (f : X → List Y) (size : X → ℕ) → ((x : X) → length (f x) ≡ size x) → (xs : List X)
-    → length (flat_map f xs) ≡ sum_by size xs
-each_size f size h [] = refl
-each_size f size h (x ∷ xs) =
-    let e : length (f x) ≡ size x = h x in
-    let r : length (flat_map f xs) ≡ sum_by size xs = each_size f size h xs in
-    let s : sum_by size (x ∷ xs) ≡ size x + sum_by size xs = sum_by-cons size x xs in
-    length-append (f x) (flat_map f xs) ∙ omega (arith, e, r, s)
+use Rattle.cjc_bytes.proofs.Lists.{each_size}
 
 -- of what may be absent
 pub part_size : {A : Type 0} (f : A → List ℕ) (size : A → ℕ) → ((x : A) → length (f x) ≡ size x) → (x : Option A)
@@ -68,7 +58,7 @@ import_is x = import_length x ∙ ap (λ n. 1 + n) (each_size imported_package_b
 pub pool_is : (x : ConstantPool) → length (pool_bytes x) ≡ pool_size x
 pool_is x = pool_length x
 
-class_is : (x : ClassEntry) → length (class_entry_bytes x) ≡ class_size x
+pub class_is : (x : ClassEntry) → length (class_entry_bytes x) ≡ class_size x
 class_is x =
     class_entry_length x ∙ ap (λ n. 10 + 2 * length x.public_methods + 2 * length x.package_methods + n)
     (each_size implemented_bytes map_size implemented_length x.interfaces)

@@ -1,10 +1,9 @@
 -- Where the infos of Class stand, whatever class_refs they hold, and what a class_ref to one of them is.
 use Rattle.std.proofs.Common.{◌≡◌, ℕ, zero, suc, ◌+◌, ◌*◌, true, false, List, [], ◌∷◌, ◌++◌, length, refl, sym, ap, ◌∙◌}
 use Rattle.std.proofs.Common.{arith, length-append}
-use Rattle.std.specs.Prelude.{Some, map, slice_get, sum_by, position, option_and_then, option_map, unwrap_or}
+use Rattle.std.specs.Prelude.{Some, map, slice_get, position, option_and_then, option_map, unwrap_or}
 use Rattle.std.specs.Str.{bytes_eq}
 use Rattle.std.proofs.lemmas.List.{length-map}
-use Rattle.std.proofs.lemmas.List.Sums.{sum_by-cons}
 use Rattle.cjc_check_rules.specs.CapRead.declared.tree.ClassRef.{ClassRef}
 use Rattle.cjc_check_rules.specs.CapRead.declared.tree.ClassRef.TheVariants.{Inside}
 use Rattle.cjc_card_semantics.specs.Machine.Classes.{Own, external_from, or_else}
@@ -19,6 +18,7 @@ use Rattle.cjc_components.specs.Package.{Package, world}
 use Rattle.cjc_components.specs.Class.{class_info, class_entry, interface_entry, interfaces_of, implemented}
 use Rattle.cjc_components.specs.Names.{class_ref, info_starts, ref_to}
 use Rattle.cjc_token_proof.specs.Components.OwnNames.{HaveOwnNames}
+use Rattle.cjc_bytes.proofs.Lists.{sums_same}
 
 -- ---- sizes alone say where items stand
 
@@ -29,15 +29,6 @@ starts_same size f g h at [] = refl
 starts_same size f g h at (x ∷ xs) =
     ap (λ n. at ∷ starts size (at + n) (map f xs)) (h x) ∙ ap (λ ys. at ∷ ys) (starts_same size f g h (at + size (g x))
     xs)
-
-sums_same : {X A : Type 0} (size : A → ℕ) (f g : X → A) → ((x : X) → size (f x) ≡ size (g x)) → (xs : List X)
-    → sum_by size (map f xs) ≡ sum_by size (map g xs)
-sums_same size f g h [] = refl
-sums_same size f g h (x ∷ xs) =
-    let e : size (f x) ≡ size (g x) = h x in
-    let r : sum_by size (map f xs) ≡ sum_by size (map g xs) = sums_same size f g h xs in
-    sum_by-cons size (f x) (map f xs) ∙ ap (λ n. n + sum_by size (map f xs)) e ∙ ap (λ n. size (g x) + n) r
-    ∙ sym (sum_by-cons size (g x) (map g xs))
 
 pub starts_long : {A : Type 0} (size : A → ℕ) (at : ℕ) (xs : List A) → length (starts size at xs) ≡ length xs
 unfolding placed

@@ -1,12 +1,11 @@
 -- Class infos and export files say of each class what stands above it.
-use Rattle.std.proofs.Common.{◌≡◌, ℕ, zero, suc, ◌+◌, refl, sym, ap, subst, ◌∙◌, arith, Bool, true, false, List, []}
+use Rattle.std.proofs.Common.{◌≡◌, ℕ, ◌+◌, refl, sym, ap, subst, ◌∙◌, arith, Bool, true, false, List, []}
 use Rattle.std.proofs.Common.{◌∷◌, ◌++◌, ⊎_elim}
 use Rattle.std.specs.Prelude.{map, not, Option, Some, None, is_some, option_and_then, option_map, option_to_list}
 use Rattle.std.specs.Prelude.{slice_get, unwrap_or, if◌then◌else◌}
 use Rattle.cjc_bytes.specs.AccessFlags.{is_interface}
 use Rattle.cjc_check_rules.specs.CapRead.declared.tree.ClassRef.{ClassRef}
-use Rattle.cjc_export.specs.declared.tree.ExportClass.{ExportClass}
-use Rattle.cjc_export.specs.declared.tree.ExportTree.{ExportTree}
+use Rattle.cjc_world.specs.ExportFile.declared.tree.ExportClass.{ExportClass}
 use Rattle.cjc_card_semantics.specs.Machine.Classes.{Class as CardClass, IsInterface, IsClass, Own, External}
 use Rattle.cjc_card_semantics.specs.Machine.Classes.{class_named as class_on_card, class_of, external_named, external}
 use Rattle.cjc_card_semantics.specs.Machine.Classes.{imported_class, number_of, object_class, offset_of, or_else}
@@ -33,7 +32,6 @@ use Rattle.cjc_token_proof.specs.ByToken.Supers.{of_file, of_package}
 use Rattle.cjc_components.specs.Package.{Package, world}
 use Rattle.cjc_components.specs.Class.{class_entry, implemented, interface_entry, superclass}
 use Rattle.cjc_components.specs.Names.{class_at, class_ref}
-use Rattle.cjc_components.specs.Paired.Naming.{files_from}
 use Rattle.cjc_token_proof.specs.Tables.Infos.{HasEntry, HasInfo}
 use Rattle.cjc_token_proof.specs.Tables.Kept.{KeepsRules}
 use Rattle.cjc_token_proof.specs.Tables.Loading.{loaded, naming, part}
@@ -44,6 +42,7 @@ use Rattle.cjc_token_proof.proofs.TablesLaws.Interfaces.{interface_has, interfac
 use Rattle.cjc_token_proof.proofs.TablesLaws.Lists.{lists_either, no_array, right_supers, supers_there}
 use Rattle.cjc_token_proof.proofs.TablesLaws.Named.{has_entry, has_info, has_none}
 use Rattle.cjc_token_proof.proofs.TablesLaws.Telling.{has_object}
+use Rattle.cjc_token_proof.proofs.WrittenCalls.Tables.{import_at}
 
 pub class_there : (w : List Class) (x : List ℕ) → has_class w x ≡ true → (c : Class) × (class_named w x ≡ Some c)
 class_there w x e = by (class_named w x) refl e
@@ -51,13 +50,6 @@ class_there w x e = by (class_named w x) refl e
     by : (o : Option Class) → class_named w x ≡ o → is_some o ≡ true → (c : Class) × (class_named w x ≡ Some c)
     by None f g = cc
     by (Some c) f g = (c, f)
-
-files_numbered : (n : ℕ) (trees : List ExportTree) (k : ℕ) (t : ExportTree) → slice_get trees k ≡ Some t
-    → slice_get (files_from n trees) k ≡ Some (OfFile (n + k))
-files_numbered n [] k t e = cc
-files_numbered n (u ∷ trees) zero t e = let z : n ≡ n + 0 = omega arith in ap (λ m. Some (OfFile m)) z
-files_numbered n (u ∷ trees) (suc k) t e = let s : n + 1 + k ≡ n + suc k = omega arith
-    in files_numbered (n + 1) trees k t e ∙ ap (λ m. Some (OfFile m)) s
 
 -- ---- names among names of classes
 
@@ -116,7 +108,7 @@ module _ (list : List ℕ) (p : Package) (sound : IsSound list p.files) where
           let token = (let q = r.entry in q.token) in
           let z : 0 + r.file ≡ r.file = omega arith in
           let import_is : slice_get (let q = part p in q.imports) r.file ≡ Some (OfFile r.file) =
-          files_numbered 0 (let files = p.files in files.exports) r.file r.tree r.in_list
+          import_at 0 (let files = p.files in files.exports) r.file r.tree r.in_list
           ∙ ap (λ m. Some (OfFile m)) z in
           subst (λ z. class_of (loaded p) 0 (class_ref p z) ≡ Some (class_at p z)) (class_named-name w y c e)
           (ap (class_of (loaded p) 0) r.ref ∙ ap (option_and_then (imported_class (loaded p) token)) import_is

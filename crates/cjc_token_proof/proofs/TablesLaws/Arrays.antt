@@ -1,6 +1,6 @@
 -- The arrays that are made before the first entry hold by token what they hold by name.
 use Rattle.std.proofs.Common.{◌≡◌, ℕ, zero, suc, refl, sym, ap, subst, ◌∙◌, arith, Bool, true, false, List, [], ◌∷◌}
-use Rattle.std.proofs.Common.{◌++◌, append-nil, ℤ, pos, negsuc}
+use Rattle.std.proofs.Common.{append-nil, ℤ, pos, negsuc}
 use Rattle.std.specs.Prelude.{◌&&◌, map, replicate, slice_set, Some, None, if◌then◌else◌, ◌==◌, ◌+◌, ◌*◌, ◌/◌, ◌%◌}
 use Rattle.std.specs.Int.{w8, w16, w32, cast_signed, cast_unsigned}
 use Rattle.std.specs.Int.RustNames.{int_le}
@@ -9,6 +9,8 @@ use Rattle.std.proofs.lemmas.Int.{ints}
 use Rattle.std.proofs.lemmas.List.Concat.{flat_map-cons}
 use Rattle.cjc_bytes.specs.declared.fault.MemberId.{MemberId}
 use Rattle.cjc_bytes.specs.declared.descriptor.Kind.{Kind}
+use Rattle.cjc_bytes.proofs.Bools.{both_front, both_back}
+use Rattle.cjc_bytes.proofs.Quantified.{all_both, all_same}
 use Rattle.cjc_bytes.specs.declared.descriptor.Kind.TheVariants as kinds
 use Rattle.cjc_card_semantics.specs.Bytecode.Effects.{HeapObject, Numbers}
 use Rattle.cjc_card_semantics.specs.Bytecode.Effects as letters
@@ -34,7 +36,6 @@ use Rattle.cjc_components.specs.Narrow.Rows.Package.{element_of_kind, first_memo
 use Rattle.cjc_components.specs.Narrow.Rows.Package as narrow
 use Rattle.cjc_token_proof.specs.ByToken.Objects.{slots_of}
 use Rattle.cjc_token_proof.proofs.ByToken.Image.{read_back}
-use Rattle.cjc_token_proof.proofs.ByToken.Members.{both_left, both_right}
 use Rattle.cjc_components.specs.Package.{Package}
 use Rattle.cjc_components.specs.Names.{class_at}
 use Rattle.cjc_components.specs.Statics.{array_init, element_bytes, type_number}
@@ -58,20 +59,11 @@ record IsGood (a : ArrayCell) : Type 0 where
   kind : is_item_kind a.kind ≡ true
   items : AllFit a.kind a.items
 
-all_both : {A : Type 0} (P : A → Type 0) (xs ys : List A) → AllByRecursion P xs → AllByRecursion P ys
-    → AllByRecursion P (xs ++ ys)
-all_both P [] ys a b = b
-all_both P (x ∷ xs) ys a b = (a.0, all_both P xs ys a.1 b)
-
 all_set : {A : Type 0} (P : A → Type 0) (xs : List A) (i : ℕ) (x : A) → AllByRecursion P xs → P x
     → AllByRecursion P (slice_set xs i x)
 all_set P [] i x a h = tt
 all_set P (y ∷ xs) zero x a h = (h, a.1)
 all_set P (y ∷ xs) (suc i) x a h = (a.0, all_set P xs i x a.1 h)
-
-all_same : {A : Type 0} (P : A → Type 0) (n : ℕ) (x : A) → P x → AllByRecursion P (replicate n x)
-all_same P zero x h = tt
-all_same P (suc n) x h = (h, all_same P n x h)
 
 stores_fit : (kind : Kind) (before after : List ℤ) (ops : List JOp) → Stores kind before ops after → AllFit kind before
     → AllFit kind after
@@ -133,8 +125,8 @@ all_good files before after codes arrays (one_code {code = code} {codes = more} 
 
 wider : (z : ℤ) → (int_le (pos 0) z && int_le z (pos 1)) ≡ true → (int_le (negsuc 127) z && int_le z (pos 127)) ≡ true
 wider z e =
-    let a = both_left (int_le (pos 0) z) (int_le z (pos 1)) e in
-    let b = both_right (int_le (pos 0) z) (int_le z (pos 1)) e in
+    let a = both_front (int_le (pos 0) z) (int_le z (pos 1)) e in
+    let b = both_back (int_le (pos 0) z) (int_le z (pos 1)) e in
     let low : int_le (negsuc 127) z ≡ true = grind (arith, ints, a) in
     let high : int_le z (pos 127) ≡ true = grind (arith, ints, b) in
     ap (λ q. q && int_le z (pos 127)) low ∙ high

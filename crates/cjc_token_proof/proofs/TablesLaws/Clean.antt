@@ -8,8 +8,9 @@ use Rattle.cjc_bytes.specs.Breaks.{broken_at, list_spot}
 use Rattle.cjc_bytes.specs.declared.order.FileKey.{FileKey}
 use Rattle.cjc_bytes.specs.declared.order.FileKey.TheVariants as keys
 use Rattle.cjc_bytes.specs.declared.settings.FileLine.{FileLine}
+use Rattle.cjc_bytes.proofs.Lists.{name_is, none_left, none_right}
 use Rattle.cjc_world.specs.ClassFile.declared.tree.ClassTree.{ClassTree}
-use Rattle.cjc_export.specs.declared.tree.ExportTree.{ExportTree}
+use Rattle.cjc_world.specs.ExportFile.declared.tree.ExportTree.{ExportTree}
 use Rattle.cjc_vtable.proofs.Filed.{Every, every-append, Has, at_front, behind}
 use Rattle.cjc_world.specs.Files.{Files}
 use Rattle.cjc_world.specs.Classes.{Class, Member, numbered, size, of_class_file, of_export_file, classes_from}
@@ -19,8 +20,7 @@ use Rattle.cjc_world.specs.Rules.{class_rules, classes_breaks, export_file_break
 use Rattle.cjc_world.specs.Rules.{is_desc_missing, is_of_package, is_other, is_own_super, is_second, is_second_package}
 use Rattle.cjc_world.specs.Rules.{is_twice, lists_missing, lists_wrong, member_rules, members, members_before}
 use Rattle.cjc_world.specs.Rules.{members_from, same_place, told, when}
-use Rattle.cjc_world.proofs.Settled.{bytes-refl}
-use Rattle.cjc_world.proofs.Unbroken.{nil_back, nil_front, nil_of_map, not_when}
+use Rattle.cjc_world.proofs.Unbroken.{nil_of_map, not_when}
 use Rattle.cjc_token_proof.specs.Tables.Kept.{KeepsRules}
 use Rattle.cjc_token_proof.specs.Tables.Sound.{IsSound}
 use Rattle.cjc_token_proof.proofs.TablesLaws.Filed.{one_class}
@@ -43,7 +43,7 @@ clean_classes prefix file name k w [] e = tt
 clean_classes prefix file name k w (c ∷ cs) e =
     let here = class_breaks prefix file name k w c in
     let rest = classes_breaks prefix file name (k + 1) w cs in
-    ((file, name, k, nil_front here rest e), clean_classes prefix file name (k + 1) w cs (nil_back here rest e))
+    ((file, name, k, none_left here rest e), clean_classes prefix file name (k + 1) w cs (none_right here rest e))
 
 clean_class_file : (files : Files) (file : FileKey) (name : List ℕ) (w : List Class) (n : ℕ) (o : Option ClassTree)
     → class_file_breaks files file name w n o ≡ [] → Every (IsClean files.package_name w) (of_class_file n o)
@@ -57,7 +57,7 @@ unfolding Every
 clean_export_file files file name w m n None e = tt
 clean_export_file files file name w m n (Some t) e =
     clean_classes files.package_name file name 1 w (numbered n t.classes)
-    (nil_back (map (λ rule. at_class file name 0 [] rule) (when (is_second_package files m t) 202))
+    (none_right (map (λ rule. at_class file name 0 [] rule) (when (is_second_package files m t) 202))
     (classes_breaks files.package_name file name 1 w (numbered n t.classes)) e)
 
 clean_lines : (files : Files) (w : List Class) (k c e i : ℕ) (lines : List FileLine) → breaks_from files w k c e i lines
@@ -89,15 +89,15 @@ clean_lines files w k c e i (line ∷ lines) p =
         let rest = breaks_from files w (k + 1) (c + 1) e i lines in
         every-append (IsClean files.package_name w) (of_class_file c (slice_get files.classes c))
         (classes_from files.classes files.exports (c + 1) e i lines)
-        (clean_class_file files (keys.Line k) line.name w c (slice_get files.classes c) (nil_front here rest q))
-        (r (nil_back here rest q))
+        (clean_class_file files (keys.Line k) line.name w c (slice_get files.classes c) (none_left here rest q))
+        (r (none_right here rest q))
     by false q r s =
         let here = export_file_breaks files (keys.Line k) line.name w e i (slice_get files.exports e) in
         let rest = breaks_from files w (k + 1) c (e + 1) (i + size (slice_get files.exports e)) lines in
         every-append (IsClean files.package_name w) (of_export_file i (slice_get files.exports e))
         (classes_from files.classes files.exports c (e + 1) (i + size (slice_get files.exports e)) lines)
-        (clean_export_file files (keys.Line k) line.name w e i (slice_get files.exports e) (nil_front here rest q))
-        (s (nil_back here rest q))
+        (clean_export_file files (keys.Line k) line.name w e i (slice_get files.exports e) (none_left here rest q))
+        (s (none_right here rest q))
 
 -- ---- what a class keeps
 
@@ -113,14 +113,15 @@ module _ (file : FileKey) (file_name : List ℕ) (place : ℕ) (w : List Class) 
       let same : x ≡ m = cc in
       let at = λ (rule : ℕ). at_member file file_name place c.name (members_before field c + i + 1)
       (told field x.name x.desc) rule in
-      let here : of_member i x ≡ [] = nil_of_map at (of_member i x) (nil_front (map at (of_member i x))
+      let here : of_member i x ≡ [] = nil_of_map at (of_member i x) (none_left (map at (of_member i x))
       (members_from file file_name place w c field (i + 1) ms) e) in
       let stay : i + 0 ≡ i = omega arith in
       ap (λ j. of_member j m) stay ∙ ap (of_member i) (sym same) ∙ here
   clean_members i (x ∷ ms) (suc k) m e is =
       let at = λ (rule : ℕ). at_member file file_name place c.name (members_before field c + i + 1)
       (told field x.name x.desc) rule in
-      let rest = clean_members (i + 1) ms k m (nil_back (map at (of_member i x)) (members_from file file_name place w c
+      let rest = clean_members (i + 1) ms k m (none_right (map at (of_member i x))
+      (members_from file file_name place w c
       field (i + 1) ms) e) is in
       let next : i + suc k ≡ i + 1 + k = omega arith in
       ap (λ j. of_member j m) next ∙ rest
@@ -132,7 +133,7 @@ module _ (file : FileKey) (file_name : List ℕ) (place : ℕ) (w : List Class) 
       let z : 0 + k ≡ k = omega arith in
       let here = subst (λ j. of_member j m ≡ []) z (clean_members 0 ms k m e is) in
       not_when (is_twice (members field c) k m.name m.desc) 202
-      (nil_front (when (is_twice (members field c) k m.name m.desc) 202) (when (not c.is_imported
+      (none_left (when (is_twice (members field c) k m.name m.desc) 202) (when (not c.is_imported
       && is_desc_missing w m.desc) 203) here)
 
 is_so : (a b : Bool) → (not a && not b) ≡ false → a ≡ false → b ≡ true
@@ -157,23 +158,23 @@ keeps prefix w c (file, file_name, k, e) =
     let R = map at (A ++ B ++ D ++ E ++ G) in
     let F = members_from file file_name k w c true 0 c.fields in
     let M = members_from file file_name k w c false 0 c.methods in
-    let own = nil_of_map at (A ++ B ++ D ++ E ++ G) (nil_front R F (nil_front (R ++ F) M e)) in
-    let three = nil_front (A ++ B ++ D) E (nil_front (A ++ B ++ D ++ E) G own) in
+    let own = nil_of_map at (A ++ B ++ D ++ E ++ G) (none_left R F (none_left (R ++ F) M e)) in
+    let three = none_left (A ++ B ++ D) E (none_left (A ++ B ++ D ++ E) G own) in
     record {
       of_package = is_so c.is_imported (is_of_package prefix c.name) (not_when (not c.is_imported
-          && not (is_of_package prefix c.name)) 201 (nil_front A B (nil_front (A ++ B) D three)));
-      once = not_when (is_second w c) 202 (nil_back A B (nil_front (A ++ B) D three));
+          && not (is_of_package prefix c.name)) 201 (none_left A B (none_left (A ++ B) D three)));
+      once = not_when (is_second w c) 202 (none_right A B (none_left (A ++ B) D three));
       there = neither c.is_imported (lists_missing w c) (gets_missing w c) (not_when (not c.is_imported
-          && (lists_missing w c || gets_missing w c)) 203 (nil_back (A ++ B) D three));
-      supers = not_when (lists_wrong w c) 208 (nil_back (A ++ B ++ D ++ E) G own);
-      fields = once_members file file_name k w c true c.fields (nil_back R F (nil_front (R ++ F) M e));
-      methods = once_members file file_name k w c false c.methods (nil_back (R ++ F) M e);
+          && (lists_missing w c || gets_missing w c)) 203 (none_right (A ++ B) D three));
+      supers = not_when (lists_wrong w c) 208 (none_right (A ++ B ++ D ++ E) G own);
+      fields = once_members file file_name k w c true c.fields (none_right R F (none_left (R ++ F) M e));
+      methods = once_members file file_name k w c false c.methods (none_right (R ++ F) M e);
     }
 
 named_has : (w : List Class) (c : Class) → Has c w → (d : Class) × (class_named w c.name ≡ Some d)
 unfolding class_named
 named_has [] c h = elim h [ ]
-named_has (b ∷ w) c at_front = (c, ap (λ t. if t then Some c else class_named w c.name) (bytes-refl c.name))
+named_has (b ∷ w) c at_front = (c, ap (λ t. if t then Some c else class_named w c.name) (name_is c.name))
 named_has (b ∷ w) c (behind h) = by (bytes_eq b.name c.name) (named_has w c h)
   where
     by : (named : Bool) → (d : Class) × (class_named w c.name ≡ Some d) → (d : Class)
@@ -210,7 +211,7 @@ module _ (list : List ℕ) (files : Files) (sound : IsSound list files) where
 
   all_clean : Every (IsClean files.package_name w) w
   unfolding breaks all_classes
-  all_clean = clean_lines files w 0 0 0 0 files.lines (nil_back (map (λ rule. broken_at (list_spot list) rule)
+  all_clean = clean_lines files w 0 0 0 0 files.lines (none_right (map (λ rule. broken_at (list_spot list) rule)
       (when (not (has_language w files.exports)) 207)) (breaks_from files w 0 0 0 0 files.lines) sound.unbroken)
 
   -- each class keeps its rules
@@ -220,7 +221,7 @@ module _ (list : List ℕ) (files : Files) (sound : IsSound list files) where
   -- 207
   pub language : has_language w files.exports ≡ true
   unfolding breaks
-  language = by (has_language w files.exports) (nil_front (map (λ rule. broken_at (list_spot list) rule)
+  language = by (has_language w files.exports) (none_left (map (λ rule. broken_at (list_spot list) rule)
       (when (not (has_language w files.exports)) 207)) (breaks_from files w 0 0 0 0 files.lines) sound.unbroken)
     where
       by : (b : Bool) → map (λ rule. broken_at (list_spot list) rule) (when (not b) 207) ≡ [] → b ≡ true

@@ -6,6 +6,8 @@ use Rattle.std.specs.Str.{bytes_eq}
 use Rattle.std.proofs.lemmas.Option.{slice_get-map}
 use Rattle.cjc_bytes.specs.AccessFlags.{is_static}
 use Rattle.cjc_bytes.specs.declared.fault.MemberId.{MemberId}
+use Rattle.cjc_bytes.proofs.Lists.{name_is}
+use Rattle.cjc_bytes.proofs.Gets.{in_front}
 use Rattle.cjc_world.specs.ClassFile.declared.tree.ClassTree.{ClassTree}
 use Rattle.cjc_world.specs.ClassFile.declared.tree.FieldTree.{FieldTree}
 use Rattle.cjc_card_semantics.specs.Machine.Loaded.{FieldName}
@@ -21,7 +23,7 @@ use Rattle.cjc_world.specs.Exported.{is_exported}
 use Rattle.cjc_world.specs.Supertypes.{supertypes}
 use Rattle.cjc_world.specs.Lookup.{field_in, find_field, is_called, member_at, or_else, own_field}
 use Rattle.cjc_world.specs.Rules.{is_earlier, is_twice}
-use Rattle.cjc_world.proofs.Settled.{bytes-refl, supertypes-known}
+use Rattle.cjc_world.proofs.Settled.{supertypes-known}
 use Rattle.cjc_world.proofs.Unbroken.{unbroken_is_acyclic}
 use Rattle.cjc_ncode.specs.PoolOrder.{same_member}
 use Rattle.cjc_jvm_semantics.specs.OnePackage.{instance_fields, member_of}
@@ -52,11 +54,6 @@ first_here p (y ∷ xs) (suc k) x e h once = position-cons p y xs
     by false None f rest = let none = rest refl in cc
     by false (Some j) f rest = let e : nat_lt j k ≡ nat_lt (suc j) (suc k) = grind arith
         in ap (option_map suc) (rest (e ∙ f))
-
-get_front : {A : Type 0} (xs ys : List A) (i : ℕ) (x : A) → slice_get xs i ≡ Some x → slice_get (xs ++ ys) i ≡ Some x
-get_front [] ys i x e = cc
-get_front (y ∷ xs) ys zero x e = e
-get_front (y ∷ xs) ys (suc i) x e = get_front xs ys i x e
 
 class_row : (w : List Class) (applets : Bool) (b k : ℕ) (ts : List ClassTree) (n : ℕ) (t : ClassTree)
     → slice_get ts n ≡ Some t → (a : ℕ) × (slice_get (classes_from w applets b k ts) n
@@ -145,7 +142,7 @@ module _ (list : List ℕ) (p : Package) (sound : IsSound list p.files) (n : ℕ
       (field_in (own_field f.name f.desc) (supertypes w c.supers)))) None) own
     where
       called : (name desc : List ℕ) → (bytes_eq name name && bytes_eq desc desc) ≡ true
-      called name desc = ap (λ b. b && bytes_eq desc desc) (bytes-refl name) ∙ bytes-refl desc
+      called name desc = ap (λ b. b && bytes_eq desc desc) (name_is name) ∙ name_is desc
 
   member_token : (i : ℕ) (f : FieldTree) → slice_get t.fields i ≡ Some f → is_instance f ≡ true
       → token_of_member (tokens p) (member_at c i) ≡ Some (instance_token t.fields i f)
@@ -157,7 +154,7 @@ module _ (list : List ℕ) (p : Package) (sound : IsSound list p.files) (n : ℕ
       let row = of_class w (has_applets p) r.0 n t in
       let exported = is_exported w (has_applets p) (declared n t) in
       let there : slice_get row.members i ≡ Some (field_token exported t.fields i f) =
-      get_front (field_tokens exported t.fields 0 t.fields) (method_tokens w exported (declared n t)) i
+      in_front (field_tokens exported t.fields 0 t.fields) (method_tokens w exported (declared n t)) i
       (field_token exported t.fields i f) (field_row exported t.fields 0 t.fields i f e
       ∙ ap (λ m. Some (field_token exported t.fields m f)) zi) in
       ap (option_and_then (λ (k : OfClass). joined (slice_get k.members i))) (r.1

@@ -1,16 +1,14 @@
 -- Which classes are in a world: those of the package's class files, and those of its export files.
-use Rattle.std.proofs.Common.{◌≡◌, ℕ, zero, suc, ◌+◌, ◌<◌, ◌≤◌, refl, sym, ap, subst, ◌∙◌, arith, Bool, true, false}
-use Rattle.std.proofs.Common.{List, [], ◌∷◌, ◌++◌, length, drop, add-one, get_or, inl, inr}
-use Rattle.std.specs.Prelude.{not, filter, cond, ◌⊎◌, Option, Some, None, slice_get, if◌then◌else◌}
+use Rattle.std.proofs.Common.{◌≡◌, ℕ, zero, suc, ◌+◌, ◌≤◌, refl, sym, ap, subst, ◌∙◌, arith, Bool, true, false}
+use Rattle.std.proofs.Common.{List, [], ◌∷◌, ◌++◌, length, drop}
+use Rattle.std.specs.Prelude.{not, filter, cond, Option, Some, None, slice_get, if◌then◌else◌}
 use Rattle.std.proofs.lemmas.List.Elements.{filter-append}
 use Rattle.std.proofs.lemmas.List.Sums.{sum_by-cons}
-use Rattle.std.proofs.lemmas.Option.{slice_get_within, slice_get_cases, get_or_from_slice_get}
-use Rattle.std.proofs.lemmas.Grind.{common_steps}
-use Rattle.std.proofs.Math.Seq.{drop-cons}
 use Rattle.cjc_bytes.specs.declared.settings.FileLine.{FileLine}
+use Rattle.cjc_bytes.proofs.Gets.{drop_past, get_past, drop_at}
 use Rattle.cjc_world.specs.ClassFile.declared.tree.ClassTree.{ClassTree}
-use Rattle.cjc_export.specs.declared.tree.ExportClass.{ExportClass}
-use Rattle.cjc_export.specs.declared.tree.ExportTree.{ExportTree}
+use Rattle.cjc_world.specs.ExportFile.declared.tree.ExportClass.{ExportClass}
+use Rattle.cjc_world.specs.ExportFile.declared.tree.ExportTree.{ExportTree}
 use Rattle.cjc_vtable.specs.Subset.Members.{imports}
 use Rattle.cjc_vtable.specs.ClassOrder.Classes.Numbers.{numbered_from, class_count}
 use Rattle.cjc_vtable.proofs.Filed.{Has, at_front, behind}
@@ -18,25 +16,9 @@ use Rattle.cjc_world.specs.Files.{Files}
 use Rattle.cjc_world.specs.Classes.{Class, declared, imported, numbered, size, of_class_file, of_export_file}
 use Rattle.cjc_world.specs.Classes.{classes_from, all_classes}
 use Rattle.cjc_token_proof.specs.Tables.Sound.{export_count}
+use Rattle.cjc_vtable.proofs.ClassOrderStanding.{class_count-cons}
 
 -- ---- lists
-
-past-all : {A : Type 0} (xs : List A) (k : ℕ) → length xs ≤ k → drop k xs ≡ []
-past-all xs k long = grind (arith, common_steps)
-
-past : {A : Type 0} (xs : List A) (k : ℕ) → slice_get xs k ≡ None → (drop k xs ≡ []) × (drop (k + 1) xs ≡ [])
-past {A = A} xs k e = by (slice_get_cases xs k).1
-  where
-    by : ((x : A) × (k < length xs) × (slice_get xs k ≡ Some x) × (get_or xs k x ≡ x))
-        ⊎ ((length xs ≤ k) × (slice_get xs k ≡ None)) → (drop k xs ≡ []) × (drop (k + 1) xs ≡ [])
-    by (inl s) = let no = s.2 in cc
-    by (inr n) = let long = n.0 in (past-all xs k long, past-all xs (k + 1) (omega arith))
-
-here : {A : Type 0} (xs : List A) (k : ℕ) (x : A) → slice_get xs k ≡ Some x → drop k xs ≡ x ∷ drop (k + 1) xs
-here xs k x e =
-    let within = slice_get_within xs k x e in
-    drop-cons xs k x within ∙ ap (λ q. q ∷ drop (suc k) xs) (get_or_from_slice_get xs k x x e)
-    ∙ ap (λ n. x ∷ drop n xs) (sym (add-one k))
 
 pub has-front : {A : Type 0} (x : A) (xs ys : List A) → Has x xs → Has x (xs ++ ys)
 has-front x [] ys h = elim h [ ]
@@ -76,11 +58,8 @@ is_own c = not c.is_imported
 abbrev is_import : Class → Bool
 is_import c = c.is_imported
 
-class_count-cons : (line : FileLine) (lines : List FileLine) → class_count (line ∷ lines) ≡ cond line.class_file 1 0 +
-    class_count lines
-class_count-cons line lines = sum_by-cons (λ (l : FileLine). cond l.class_file 1 0) line lines
-
-export_count-cons : (line : FileLine) (lines : List FileLine) → export_count (line ∷ lines) ≡ cond (not line.class_file)
+pub export_count-cons : (line : FileLine) (lines : List FileLine) → export_count (line ∷ lines) ≡ cond
+    (not line.class_file)
     1 0 + export_count lines
 export_count-cons line lines = sum_by-cons (λ (l : FileLine). cond (not l.class_file) 1 0) line lines
 
@@ -110,7 +89,7 @@ module _ (trees : List ClassTree) (exports : List ExportTree) where
   own-lines : (c e i : ℕ) (lines : List FileLine) → length trees ≤ c + class_count lines
       → filter is_own (classes_from trees exports c e i lines) ≡ numbered_from c (drop c trees)
   unfolding classes_from
-  own-lines c e i [] le = ap (numbered_from c) (sym (past-all trees c (omega (arith, le))))
+  own-lines c e i [] le = ap (numbered_from c) (sym (drop_past trees c (omega (arith, le))))
   own-lines c e i (line ∷ lines) le =
       by line.class_file (subst (λ q. length trees ≤ c + q) (class_count-cons line lines) le) (own-lines (c + 1) e i
       lines) (own-lines c (e + 1) (i + size (slice_get exports e)) lines)
@@ -119,8 +98,9 @@ module _ (trees : List ClassTree) (exports : List ExportTree) where
           ≡ numbered_from (c + 1) (drop (c + 1) trees)
           → filter is_own (of_class_file c o ++ classes_from trees exports (c + 1) e i lines)
           ≡ numbered_from c (drop c trees)
-      at None f rest = let p = past trees c f in rest ∙ ap (numbered_from (c + 1)) p.1 ∙ ap (numbered_from c) (sym p.0)
-      at (Some t) f rest = ap (λ q. declared c t ∷ q) rest ∙ ap (numbered_from c) (sym (here trees c t f))
+      at None f rest = let p = get_past trees c f in rest ∙ ap (numbered_from (c + 1)) p.1 ∙ ap (numbered_from c)
+          (sym p.0)
+      at (Some t) f rest = ap (λ q. declared c t ∷ q) rest ∙ ap (numbered_from c) (sym (drop_at trees c t f))
 
       by : (b : Bool) → length trees ≤ c + (cond b 1 0 + class_count lines)
           → (length trees ≤ c + 1 + class_count lines → filter is_own (classes_from trees exports (c + 1) e i lines)
@@ -143,7 +123,7 @@ module _ (trees : List ClassTree) (exports : List ExportTree) where
   import-lines : (c e i : ℕ) (lines : List FileLine) → length exports ≤ e + export_count lines
       → filter is_import (classes_from trees exports c e i lines) ≡ numbered i (imports (drop e exports))
   unfolding classes_from
-  import-lines c e i [] le = ap (λ ts. numbered i (imports ts)) (sym (past-all exports e (omega (arith, le))))
+  import-lines c e i [] le = ap (λ ts. numbered i (imports ts)) (sym (drop_past exports e (omega (arith, le))))
   import-lines c e i (line ∷ lines) le =
       by line.class_file (subst (λ q. length exports ≤ e + q) (export_count-cons line lines) le) (import-lines (c + 1) e
       i lines) (import-lines c (e + 1) (i + size (slice_get exports e)) lines)
@@ -153,7 +133,7 @@ module _ (trees : List ClassTree) (exports : List ExportTree) where
           ≡ numbered (i + size o) (imports (drop (e + 1) exports))
           → filter is_import (of_export_file i o ++ classes_from trees exports c (e + 1) (i + size o) lines)
           ≡ numbered i (imports (drop e exports))
-      at None f rest = let p = past exports e f in rest ∙ ap (λ ts. numbered (i + 0) (imports ts)) p.1
+      at None f rest = let p = get_past exports e f in rest ∙ ap (λ ts. numbered (i + 0) (imports ts)) p.1
           ∙ ap (λ ts. numbered i (imports ts)) (sym p.0)
       at (Some t) f rest =
           filter-append is_import (numbered i t.classes) (classes_from trees exports c (e + 1) (i + length t.classes)
@@ -162,7 +142,7 @@ module _ (trees : List ClassTree) (exports : List ExportTree) where
           (all-import i t.classes)
           ∙ ap (λ r. numbered i t.classes ++ r) rest
           ∙ sym (numbered-append i t.classes (imports (drop (e + 1) exports)))
-          ∙ ap (λ ts. numbered i (imports ts)) (sym (here exports e t f))
+          ∙ ap (λ ts. numbered i (imports ts)) (sym (drop_at exports e t f))
 
       by : (b : Bool) → length exports ≤ e + (cond (not b) 1 0 + export_count lines)
           → (length exports ≤ e + export_count lines → filter is_import (classes_from trees exports (c + 1) e i lines)

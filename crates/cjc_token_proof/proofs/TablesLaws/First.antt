@@ -35,7 +35,7 @@ use Rattle.cjc_ncode.specs.Lowering.Agreement.{Cells}
 use Rattle.cjc_token_proof.specs.ByToken.Cells.{HasCells, are_apart, bytes_of, image_of, is_number, is_one_of, letter}
 use Rattle.cjc_token_proof.specs.ByToken.Cells.{letter_by, value_in, value_of}
 use Rattle.cjc_token_proof.specs.ByToken.Objects.{slots_of}
-use Rattle.cjc_token_proof.proofs.ByToken.Members.{member_same, member_tells}
+use Rattle.cjc_token_proof.proofs.ByToken.Members.{member_tells, front_one, behind_one}
 use Rattle.cjc_components.specs.Names.{class_at}
 use Rattle.cjc_components.specs.Package.{Package}
 use Rattle.cjc_components.specs.Statics.{array_init, cell_size, size_of_field, value_by, value_bytes}
@@ -48,21 +48,11 @@ use Rattle.cjc_token_proof.proofs.TablesLaws.Statics.{has_cells}
 
 -- ---- lists of fields
 
-one_here : (m : MemberId) (fs : List MemberId) → is_one_of m (m ∷ fs) ≡ true
-one_here m fs = ap (λ q. q || is_one_of m fs) (member_same m)
-
-one_later : (m g : MemberId) (fs : List MemberId) → is_one_of m fs ≡ true → is_one_of m (g ∷ fs) ≡ true
-one_later m g fs e = by (same_member g m)
-  where
-    by : (b : Bool) → (b || is_one_of m fs) ≡ true
-    by true = refl
-    by false = e
-
 map_among : {B : Type 0} (g h : MemberId → B) (fs : List MemberId) → ((f : MemberId) → is_one_of f fs ≡ true
     → g f ≡ h f) → map g fs ≡ map h fs
 map_among g h [] k = refl
-map_among g h (f ∷ fs) k = ap (λ v. v ∷ map g fs) (k f (one_here f fs))
-    ∙ ap (λ vs. h f ∷ vs) (map_among g h fs (λ m e. k m (one_later m f fs e)))
+map_among g h (f ∷ fs) k = ap (λ v. v ∷ map g fs) (k f (front_one f fs))
+    ∙ ap (λ vs. h f ∷ vs) (map_among g h fs (λ m e. k m (behind_one m f fs e)))
 
 unfoldable pub bytes_with : (MemberId → Value) → List MemberId → List ℕ
 bytes_with g [] = []
@@ -72,8 +62,8 @@ bytes_among : (g h : MemberId → Value) (fs : List MemberId) → ((f : MemberId
     → bytes_with g fs ≡ bytes_with h fs
 unfolding bytes_with
 bytes_among g h [] k = refl
-bytes_among g h (f ∷ fs) k = ap (λ v. number_bytes (letter f) v ++ bytes_with g fs) (k f (one_here f fs))
-    ∙ ap (λ bs. number_bytes (letter f) (h f) ++ bs) (bytes_among g h fs (λ m e. k m (one_later m f fs e)))
+bytes_among g h (f ∷ fs) k = ap (λ v. number_bytes (letter f) v ++ bytes_with g fs) (k f (front_one f fs))
+    ∙ ap (λ bs. number_bytes (letter f) (h f) ++ bs) (bytes_among g h fs (λ m e. k m (behind_one m f fs e)))
 
 bytes_are : (x : Cells) (fs : List MemberId) → bytes_of x fs ≡ bytes_with (value_of x) fs
 unfolding bytes_with
@@ -110,7 +100,7 @@ not_head : (g f : MemberId) (fs : List MemberId) → is_one_of f (g ∷ fs) ≡ 
 not_head g f fs e = (by (is_same_field g f) refl, rest (same_member g f) e)
   where
     by : (b : Bool) → is_same_field g f ≡ b → b ≡ false
-    by true h = let clash : true ≡ false = sym (ap (λ m. is_one_of f (m ∷ fs)) (same-field g f h) ∙ one_here f fs) ∙ e
+    by true h = let clash : true ≡ false = sym (ap (λ m. is_one_of f (m ∷ fs)) (same-field g f h) ∙ front_one f fs) ∙ e
         in absurd (cc)
     by false h = refl
 
@@ -171,7 +161,7 @@ unfolding bytes_with
 others_bytes [] e t = refl
 others_bytes (v ∷ os) e t =
     let q = apart_parts v.field (value_fields os) e in
-    let h = t v.field (one_here v.field (value_fields os)) in
+    let h = t v.field (front_one v.field (value_fields os)) in
     ap (λ b. number_bytes (letter v.field) (or_zero v.field None (if b then Some (Num v.value)
     else number_place os v.field)) ++ bytes_with (λ f. or_zero f None (number_place (v ∷ os) f)) (value_fields os))
     (same-refl v.field)
@@ -181,7 +171,7 @@ others_bytes (v ∷ os) e t =
     (λ f. or_zero f None (number_place os f)) (value_fields os)
     (λ f k. ap (λ b. or_zero f None (if b then Some (Num v.value) else number_place os f))
     (differs v.field f (value_fields os) q.0 k))
-    ∙ others_bytes os q.1 (λ f k. t f (one_later f v.field (value_fields os) k)))
+    ∙ others_bytes os q.1 (λ f k. t f (behind_one f v.field (value_fields os) k)))
     ∙ sym (flat_map-cons value_bytes v os)
 
 abbrev pub no_bytes : ℕ → List ℕ
@@ -206,9 +196,9 @@ pub zeros_bytes : (fs : List MemberId) → ((f : MemberId) → is_one_of f fs �
 unfolding bytes_with
 zeros_bytes [] t = refl
 zeros_bytes (f ∷ fs) t =
-    let h = t f (one_here f fs) in
+    let h = t f (front_one f fs) in
     ap (λ bs. bs ++ bytes_with (λ f. Num (pos 0)) fs) (zero_spelt (field_sort f.desc) h.0 h.1)
-    ∙ ap (λ bs. no_bytes (size_of_field f) ++ bs) (zeros_bytes fs (λ g k. t g (one_later g f fs k)))
+    ∙ ap (λ bs. no_bytes (size_of_field f) ++ bs) (zeros_bytes fs (λ g k. t g (behind_one g f fs k)))
     ∙ replicate_both (size_of_field f) (sum_by size_of_field fs)
     ∙ ap no_bytes (sym (sum_by-cons size_of_field f fs))
 

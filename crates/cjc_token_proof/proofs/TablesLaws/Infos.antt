@@ -17,14 +17,13 @@ use Rattle.cjc_card_semantics.specs.Machine.Loaded.{ClassNames}
 use Rattle.cjc_check_rules.specs.Complete.{class_size, interface_size, map_size}
 use Rattle.cjc_check_rules.specs.Spots.{placed, starts}
 use Rattle.cjc_tokens.proofs.Facts.{position-cons}
-use Rattle.cjc_vtable.proofs.Filed.{Has, behind}
+use Rattle.cjc_vtable.proofs.Filed.{Has, behind, get-has}
 use Rattle.cjc_world.specs.Files.{Files}
 use Rattle.cjc_world.specs.Classes.{Class}
 use Rattle.cjc_world.specs.Order.{class_order}
 use Rattle.cjc_components.specs.Package.{Package, tokens, world}
 use Rattle.cjc_components.specs.Paired.Naming.{class_names}
 use Rattle.cjc_token_proof.specs.Tables.Loading.{loaded, part}
-use Rattle.cjc_token_proof.proofs.TablesLaws.Order.{get-has}
 
 -- ---- offsets of infos
 

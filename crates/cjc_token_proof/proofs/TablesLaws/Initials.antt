@@ -6,6 +6,8 @@ use Rattle.std.specs.Prelude.{option_map, if◌then◌else◌}
 use Rattle.std.proofs.lemmas.List.{map-append}
 use Rattle.std.proofs.lemmas.Option.{slice_get-map, slice_get_within}
 use Rattle.cjc_bytes.specs.declared.fault.MemberId.{MemberId}
+use Rattle.cjc_bytes.proofs.Numbers.{same_place}
+use Rattle.cjc_bytes.proofs.Gets.{set_same, set_other}
 use Rattle.cjc_world.specs.ClassFile.declared.tree.ClassTree.{ClassTree}
 use Rattle.cjc_world.specs.ClassFile.declared.tree.FieldTree.{FieldTree}
 use Rattle.cjc_world.specs.ClassFile.declared.tree.MethodTree.{MethodTree}
@@ -22,7 +24,7 @@ use Rattle.cjc_token_proof.specs.ByToken.Cells.{are_apart, is_one_of}
 use Rattle.cjc_components.specs.Package.{Package}
 use Rattle.cjc_token_proof.specs.Tables.Sound.{IsSound}
 use Rattle.cjc_token_proof.proofs.TablesLaws.Puts.{Puts, Right, apart_append, classes_once, fields_once, one_back}
-use Rattle.cjc_token_proof.proofs.TablesLaws.Puts.{one_either, one_front, place_or, puts_are, set_other, set_same}
+use Rattle.cjc_token_proof.proofs.TablesLaws.Puts.{one_either, one_front, puts_are}
 
 -- what the field at a place of a class holds
 unfoldable pub held_at : List (List Held) → (class place : ℕ) → Option Held
@@ -137,7 +139,7 @@ module _ (list : List ℕ) (p : Package) (sound : IsSound list p.files) where
           (one_either m here later e);
       kept = λ j k h e never. ⊎_elim
           (λ same. absurd (never (was_nothing k h (ap (λ q. held_at before q k) same ∙ e))))
-          (λ differs. rest.kept j k h (at_other j k differs ∙ e) never) (place_or n j);
+          (λ differs. rest.kept j k h (at_other j k differs ∙ e) never) (same_place n j);
       new = λ j t k g e f a. ⊎_elim
           (λ b. ⊎_elim
           (λ same. (let is = same_class j t same e in
@@ -147,14 +149,14 @@ module _ (list : List ℕ) (p : Package) (sound : IsSound list p.files) where
           (λ x. inr (one_front (field_id t.name g) here later (ap (λ (v : ClassTree). is_one_of (field_id v.name g)
           here) (sym is) ∙ x)))
           (puts.new k g (ap (λ (v : ClassTree). slice_get v.fields k) is ∙ f) put)))
-          (λ differs. inl (sym (at_other j k differs) ∙ b)) (place_or n j))
+          (λ differs. inl (sym (at_other j k differs) ∙ b)) (same_place n j))
           (λ b. inr (one_back (field_id t.name g) here later b)) (rest.new j t k g e f a);
       right = λ all j t k g h e f a. rest.right (λ i u l v x b d y. ⊎_elim
           (λ same. (let is = same_class i u same b in
           puts.right (λ q z o s r. all n c q z o is_class s (was q ∙ r)) l v x
           (ap (λ (v : ClassTree). slice_get v.fields l) is ∙ d) (sym (at_class l)
           ∙ ap (λ q. held_at (slice_set before n fs) q l) same ∙ y)))
-          (λ differs. all i u l v x b d (sym (at_other i l differs) ∙ y)) (place_or n i)) j t k g h e f a;
+          (λ differs. all i u l v x b d (sym (at_other i l differs) ∙ y)) (same_place n i)) j t k g h e f a;
     }
       where
         earlier : (j : ℕ) (t : ClassTree) (k : ℕ) (g : FieldTree) {m : MemberId} → IsAt j t k g m
@@ -163,7 +165,7 @@ module _ (list : List ℕ) (p : Package) (sound : IsSound list p.files) where
             (λ same. (let is = same_class j t same a.class in
             let lt = slice_get_within c.fields k g (ap (λ (v : ClassTree). slice_get v.fields k) is ∙ a.field) in
             ap (λ q. held_at before q k) (sym same) ∙ was k ∙ there_nothing (length c.fields) k lt))
-            (λ differs. sym (at_other j k differs) ∙ e) (place_or n j)
+            (λ differs. sym (at_other j k differs) ∙ e) (same_place n j)
 
         clash : (m : MemberId) → is_one_of m here ≡ true → is_one_of m later ≡ true → ⊥
         clash m e f =

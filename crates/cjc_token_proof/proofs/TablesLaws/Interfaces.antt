@@ -3,16 +3,16 @@ use Rattle.std.proofs.Common.{◌≡◌, ℕ, refl, sym, ap, subst, ◌∙◌, B
 use Rattle.std.proofs.Common.{⊎_elim}
 use Rattle.std.specs.Prelude.{◌||◌, ◌⊎◌, Option, Some, None, option_to_list, if◌then◌else◌}
 use Rattle.std.specs.Str.{bytes_eq}
-use Rattle.cjc_vtable.proofs.Filed.{Has, at_front, behind}
+use Rattle.cjc_vtable.proofs.Filed.{Has, at_front, behind, has-either}
 use Rattle.cjc_world.specs.Classes.{Class, class_named}
 use Rattle.cjc_world.specs.Interfaces.{Interface, each_once, gathered, is_among, known, where_listed}
 use Rattle.cjc_world.specs.Supertypes.{Above, directly, onwards, IsAcyclic, AreSupertypes, ends, unknown_here}
 use Rattle.cjc_world.specs.Supertypes.{known_here, Supertypes, Lists, foremost, after, supertypes}
 use Rattle.cjc_world.proofs.Cycles.{class_named-name}
-use Rattle.cjc_world.proofs.Settled.{bytes-true, supertypes-AreSupertypes, lists-behind, lists-front}
+use Rattle.cjc_world.proofs.Settled.{supertypes-AreSupertypes, lists-behind, lists-front}
 use Rattle.cjc_tokens.specs.Methods.{interfaces_at}
 use Rattle.cjc_token_proof.proofs.TablesLaws.Filed.{has-back, has-front}
-use Rattle.cjc_token_proof.proofs.TablesLaws.Order.{has-either}
+use Rattle.cjc_bytes.proofs.Lists.{bytes_true}
 
 -- ---- what is gathered
 
@@ -150,7 +150,7 @@ once_has seen (h ∷ is) i (behind g) e = by (is_among seen h.name) (bytes_eq h.
         → (j : Interface) × Has j (if b then each_once seen is else h ∷ each_once (seen ++ h ∷ []) is)
         × (j.name ≡ i.name)
     by true s f q r = q e
-    by false true f q r = (h, at_front, bytes-true h.name i.name f)
+    by false true f q r = (h, at_front, bytes_true h.name i.name f)
     by false false f q r = let k = r (among_more seen h i.name e f) in (k.0, behind k.1, k.2)
 
 known_in : (is : List Interface) (d : Class) → Has d (known is) → (i : Interface) × Has i is × (i.class ≡ Some d)

@@ -3,8 +3,9 @@ use Rattle.std.proofs.Common.{◌≡◌, ℕ, refl, ap, ◌∙◌, Bool, true, f
 use Rattle.std.specs.Prelude.{not, ◌&&◌, ◌||◌, ◌==◌, ◌⊎◌, drop, take, Option, Some, None, is_some}
 use Rattle.std.specs.List.{list_any}
 use Rattle.std.specs.Str.{bytes_eq}
-use Rattle.std.proofs.lemmas.Bool.{eqb-true}
+use Rattle.std.proofs.lemmas.Bool.{eqb-true, or_parts}
 use Rattle.cjc_bytes.specs.AccessFlags.{is_interface}
+use Rattle.cjc_bytes.proofs.Lists.{bytes_true}
 use Rattle.cjc_token_proof.specs.ByToken.Supers.{has_class}
 use Rattle.cjc_world.specs.Classes.{Class, class_named}
 use Rattle.cjc_world.specs.Supertypes.{Lists, foremost, after}
@@ -12,7 +13,6 @@ use Rattle.cjc_world.specs.Lookup.{object}
 use Rattle.cjc_world.specs.Rules.{is_class_of, is_interface_of, is_missing, is_none_of, is_of_class_file, is_of_package}
 use Rattle.cjc_world.specs.Rules.{is_part, is_slash_part, lists_missing, lists_wrong}
 use Rattle.cjc_world.specs.Subtype.{starts}
-use Rattle.cjc_world.proofs.Settled.{bytes-true}
 
 pub none_lists : (test : List ℕ → Bool) (xs : List (List ℕ)) → list_any test xs ≡ false → (y : List ℕ) → Lists y xs
     → test y ≡ false
@@ -33,11 +33,6 @@ lists_either [] ys y l = inr l
 lists_either (x ∷ xs) ys y foremost = inl foremost
 lists_either (x ∷ xs) ys y (after l) = ⊎_elim (λ m. inl (after m)) (λ m. inr m) (lists_either xs ys y l)
 
-neither : (a b : Bool) → (a || b) ≡ false → (a ≡ false) × (b ≡ false)
-neither false false e = (refl, refl)
-neither true b e = cc
-neither false true e = cc
-
 not_there : (w : List Class) (y : List ℕ) → is_missing w y ≡ false → has_class w y ≡ true
 not_there w y e = by (class_named w y) e
   where
@@ -50,13 +45,13 @@ pub supers_there : (w : List Class) (c : Class) → lists_missing w c ≡ false 
     → has_class w y ≡ true
 unfolding lists_missing
 supers_there w c e y l = not_there w y (none_lists (λ x. is_missing w x) c.supers
-    (neither (list_any (λ x. is_missing w x) c.supers) (list_any (λ x. is_missing w x) c.interfaces) e).0 y l)
+    (or_parts (list_any (λ x. is_missing w x) c.supers) (list_any (λ x. is_missing w x) c.interfaces) e).0 y l)
 
 pub interfaces_there : (w : List Class) (c : Class) → lists_missing w c ≡ false → (y : List ℕ) → Lists y c.interfaces
     → has_class w y ≡ true
 unfolding lists_missing
 interfaces_there w c e y l = not_there w y (none_lists (λ x. is_missing w x) c.interfaces
-    (neither (list_any (λ x. is_missing w x) c.supers) (list_any (λ x. is_missing w x) c.interfaces) e).1 y l)
+    (or_parts (list_any (λ x. is_missing w x) c.supers) (list_any (λ x. is_missing w x) c.interfaces) e).1 y l)
 
 -- 208
 pub record RightSupers (w : List Class) (c : Class) : Type 0 where
@@ -78,9 +73,9 @@ right_supers w c e =
     record {
       supers = λ y l. none_lists (λ x. is_interface_of (class_named w x)) c.supers r.0 y l;
       interfaces = λ y l. none_lists (λ x. is_class_of (class_named w x)) c.interfaces r.1 y l;
-      of_interface = λ i y l. bytes-true y object (opposite (bytes_eq y object)
+      of_interface = λ i y l. bytes_true y object (opposite (bytes_eq y object)
           (none_lists (λ x. not (bytes_eq x object)) c.supers (where_so (is_interface c.flags) C i r.2) y l));
-      of_import = λ i y l. (let q = neither D E (where_so c.is_imported (D || E) i r.3)
+      of_import = λ i y l. (let q = or_parts D E (where_so c.is_imported (D || E) i r.3)
           in either c.supers c.interfaces q.0 q.1 y l);
     }
   where

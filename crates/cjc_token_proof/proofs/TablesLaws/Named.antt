@@ -9,11 +9,12 @@ use Rattle.std.proofs.lemmas.Bool.Decides.{nat_tests}
 use Rattle.std.proofs.lemmas.List.Folds.{list_any-append}
 use Rattle.std.proofs.lemmas.Option.{slice_get-map}
 use Rattle.cjc_bytes.specs.AccessFlags.{is_interface}
+use Rattle.cjc_bytes.proofs.Lists.{name_is as bytes-refl, bytes_true, map_map}
 use Rattle.cjc_check_rules.specs.CapRead.declared.tree.ClassRef.TheVariants.{Inside}
-use Rattle.cjc_export.specs.ExportFile.{class_token, token_taken}
-use Rattle.cjc_export.specs.Writable.{ClassFits, EachAfter}
-use Rattle.cjc_export.specs.declared.tree.ExportClass.{ExportClass}
-use Rattle.cjc_export.specs.declared.tree.ExportTree.{ExportTree}
+use Rattle.cjc_world.specs.ExportFile.ExportFile.{class_token, token_taken}
+use Rattle.cjc_world.specs.ExportFile.Writable.{ClassFits, EachAfter}
+use Rattle.cjc_world.specs.ExportFile.declared.tree.ExportClass.{ExportClass}
+use Rattle.cjc_world.specs.ExportFile.declared.tree.ExportTree.{ExportTree}
 use Rattle.cjc_card_semantics.specs.Machine.Classes.{Class as CardClass, IsInterface, IsClass, Own, External}
 use Rattle.cjc_card_semantics.specs.Machine.Classes.{external_from, infos, number_of, offset_of, or_else, token_named}
 use Rattle.cjc_card_semantics.specs.Machine.Classes.{with_token}
@@ -22,7 +23,6 @@ use Rattle.cjc_vtable.proofs.Filed.{Has, at_front, behind, get-has, has-get, of-
 use Rattle.cjc_vtable.proofs.SlotNames.{position-at}
 use Rattle.cjc_world.specs.Classes.{Class, class_named, imported}
 use Rattle.cjc_world.specs.Order.{class_order, in_order}
-use Rattle.cjc_world.proofs.Settled.{bytes-refl, bytes-true}
 use Rattle.cjc_components.specs.Package.{Package, tokens, world}
 use Rattle.cjc_components.specs.Class.{class_entry, class_info, interface_entry}
 use Rattle.cjc_components.specs.Names.{class_at, class_offset, class_ref, info_starts, ref_to}
@@ -36,10 +36,6 @@ use Rattle.cjc_token_proof.proofs.TablesLaws.Filed.{has-back, has-front, import_
 use Rattle.cjc_token_proof.proofs.TablesLaws.Infos.{either_of, numbers_are, numbers_named, offsets_are}
 use Rattle.cjc_token_proof.proofs.TablesLaws.Order.{kind-in, order_has, order_in, own_names}
 
-maps : {A B C : Type 0} (f : B → C) (g : A → B) (xs : List A) → map f (map g xs) ≡ map (λ x. f (g x)) xs
-maps f g [] = refl
-maps f g (x ∷ xs) = ap (λ ys. f (g x) ∷ ys) (maps f g xs)
-
 -- ---- classes of export files by names and tokens
 
 token_found : (cs : List ExportClass) (x : List ℕ) (token : ℕ) → token_named cs x ≡ Some token → (e : ExportClass)
@@ -50,7 +46,7 @@ token_found (c ∷ cs) x token e = by (bytes_eq c.name x) refl e (token_found cs
     by : (b : Bool) → bytes_eq c.name x ≡ b → (if b then Some c.token else token_named cs x) ≡ Some token
         → (token_named cs x ≡ Some token → (e : ExportClass) × Has e cs × (e.name ≡ x) × (e.token ≡ token))
         → (e : ExportClass) × Has e (c ∷ cs) × (e.name ≡ x) × (e.token ≡ token)
-    by true f g rest = let is : c.token ≡ token = cc in (c, at_front, bytes-true c.name x f, is)
+    by true f g rest = let is : c.token ≡ token = cc in (c, at_front, bytes_true c.name x f, is)
     by false f g rest = let r = rest g in (r.0, behind r.1, r.2, r.3)
 
 token_there : (cs : List ExportClass) (e : ExportClass) → Has e cs → (token : ℕ) × (token_named cs e.name ≡ Some token)
@@ -210,8 +206,8 @@ module _ (list : List ℕ) (p : Package) (sound : IsSound list p.files) where
       let f = λ (d : Class). IsInterface (interface_entry (class_ref p) w d) in
       let g = λ (d : Class). IsClass (class_entry (class_ref p) p d) in
       ap (λ ys. slice_get (ys ++ map IsClass (map (class_entry (class_ref p) p) cs)) k)
-      (maps IsInterface (interface_entry (class_ref p) w) is)
-      ∙ ap (λ ys. slice_get (map f is ++ ys) k) (maps IsClass (class_entry (class_ref p) p) cs)
+      (map_map IsInterface (interface_entry (class_ref p) w) is)
+      ∙ ap (λ ys. slice_get (map f is ++ ys) k) (map_map IsClass (class_entry (class_ref p) p) cs)
       ∙ ⊎_elim (λ r. r.1 ∙ ap (λ b. Some (if b then f c else g c)) (sym (kind-in list p.files sound true c r.0).2))
       (λ r. r.1 ∙ ap (λ b. Some (if b then f c else g c))
       (sym (no_interface (is_interface c.flags) (kind-in list p.files sound false c r.0).2)))
@@ -274,7 +270,7 @@ module _ (list : List ℕ) (p : Package) (sound : IsSound list p.files) where
       by (Some k) f =
           let r = position-at (λ (d : Class). bytes_eq d.name x) (class_order w) k f in
           let i = order_in list p.files sound r.0 (get-has r.0 (class_order w) k r.1) in
-          absurd (none r.0 (ap (class_named w) (sym (bytes-true r.0.name x r.2)) ∙ own_name list p.files sound r.0 i.0)
+          absurd (none r.0 (ap (class_named w) (sym (bytes_true r.0.name x r.2)) ∙ own_name list p.files sound r.0 i.0)
           i.1)
 
   no_offset : (x : List ℕ) → position (λ d. bytes_eq d.name x) (class_order w) ≡ None → class_offset p x ≡ None

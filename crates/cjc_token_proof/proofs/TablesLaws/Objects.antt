@@ -17,7 +17,7 @@ use Rattle.cjc_card_semantics.specs.Machine.Classes.{superclass as superclass_on
 use Rattle.cjc_clinit.specs.Image.{field_id}
 use Rattle.cjc_script.specs.Sorts.{field_sort}
 use Rattle.cjc_tokens.specs.Fields.{instance_cells, instance_token, is_instance}
-use Rattle.cjc_vtable.proofs.Filed.{Has, at_front, behind}
+use Rattle.cjc_vtable.proofs.Filed.{Has, at_front, behind, has-either}
 use Rattle.cjc_world.specs.Classes.{Class, class_named, declared, field_of_class}
 use Rattle.cjc_world.specs.Supertypes.{AreSupertypes, ends, unknown_here, known_here, Supertypes, Lists, foremost}
 use Rattle.cjc_world.specs.Supertypes.{after, supertypes, line, upwards}
@@ -50,7 +50,7 @@ use Rattle.cjc_token_proof.proofs.TablesLaws.Filed.{own_filed}
 use Rattle.cjc_token_proof.proofs.TablesLaws.Infos.{some_bytes, not_before}
 use Rattle.cjc_token_proof.proofs.TablesLaws.Lists.{right_supers, supers_there}
 use Rattle.cjc_token_proof.proofs.TablesLaws.Named.{has_info}
-use Rattle.cjc_token_proof.proofs.TablesLaws.Order.{has-either, one_number, own_names, super_before}
+use Rattle.cjc_token_proof.proofs.TablesLaws.Order.{one_number, own_names, super_before}
 use Rattle.cjc_token_proof.proofs.TablesLaws.Spans.{no_cells, span_is, token_below, token_once}
 
 -- ---- fields of one class

@@ -7,24 +7,26 @@ use Rattle.std.specs.Prelude.{if◌then◌else◌}
 use Rattle.std.specs.List.{list_any}
 use Rattle.std.specs.Str.{bytes_eq}
 use Rattle.std.proofs.lemmas.Bool.{eqb-true}
-use Rattle.std.proofs.lemmas.Bool.Decides.{nat_tests}
 use Rattle.cjc_bytes.specs.AccessFlags.{is_interface}
+use Rattle.cjc_bytes.proofs.Lists.{name_is, bytes_true}
+use Rattle.cjc_bytes.proofs.Numbers.{like_number}
+use Rattle.cjc_bytes.proofs.Gets.{get_behind}
 use Rattle.cjc_vtable.proofs.ClassOrderStanding.{is_in-more}
 use Rattle.cjc_tokens.proofs.Facts.{position-cons}
-use Rattle.cjc_vtable.proofs.Filed.{Has, at_front, behind, has-get}
-use Rattle.cjc_vtable.proofs.SlotNames.{get-behind}
+use Rattle.cjc_vtable.proofs.Filed.{Has, at_front, behind, has-get, get-has, has-either}
 use Rattle.cjc_world.specs.Files.{Files}
 use Rattle.cjc_world.specs.Classes.{Class, all_classes, class_named}
 use Rattle.cjc_world.specs.Supertypes.{Lists, foremost, after}
 use Rattle.cjc_world.specs.Order.{and_then, class_order, in_order, is_in, is_of_kind, lined_up, may_stand}
 use Rattle.cjc_world.specs.Order.{names_waiting, next, waits}
-use Rattle.cjc_world.proofs.Settled.{Settles, nothing, something, bytes-refl, bytes-true, clear_settles, lists-behind}
+use Rattle.cjc_world.proofs.Settled.{Settles, nothing, something, clear_settles, lists-behind}
 use Rattle.cjc_world.proofs.Settled.{lists-front}
 use Rattle.cjc_world.proofs.Unbroken.{unbroken_is_acyclic}
 use Rattle.cjc_token_proof.specs.Components.OwnNames.{HaveOwnNames}
 use Rattle.cjc_token_proof.specs.Tables.Sound.{IsSound}
 use Rattle.cjc_token_proof.proofs.TablesLaws.Filed.{has-back, has-front, one_class}
 use Rattle.cjc_token_proof.proofs.TablesLaws.Clean.{has_named, own_name}
+use Rattle.cjc_vtable.proofs.ClassOrderStanding.{stands-waits}
 
 pub any-lists : (test : List ℕ → Bool) (xs : List (List ℕ)) → list_any test xs ≡ true → (y : List ℕ) × Lists y xs
     × (test y ≡ true)
@@ -36,25 +38,12 @@ any-lists test (x ∷ xs) e = by (test x) refl e (any-lists test xs)
     by true f g rest = (x, foremost, f)
     by false f g rest = let r = rest g in (r.0, after r.1, r.2)
 
-pub has-either : {A : Type 0} (x : A) (a b : List A) → Has x (a ++ b) → Has x a ⊎ Has x b
-has-either x [] b h = inr h
-has-either x (y ∷ a) b at_front = inl at_front
-has-either x (y ∷ a) b (behind h) = ⊎_elim (λ g. inl (behind g)) (λ g. inr g) (has-either x a b h)
-
-same_number : (n : ℕ) → (n == n) ≡ true
-same_number n = grind (arith, nat_tests)
-
 -- ---- each name once
 
 -- no later class has the name of an earlier one
 pub Once : List Class → Type 0
 Once [] = Unit {0}
 Once (c ∷ cs) = ((d : Class) → Has d cs → d.name ≡ c.name → ⊥) × Once cs
-
-pub get-has : {A : Type 0} (x : A) (xs : List A) (k : ℕ) → slice_get xs k ≡ Some x → Has x xs
-get-has x [] k e = cc
-get-has x (y ∷ xs) zero e = let is : y ≡ x = cc in subst (λ z. Has x (z ∷ xs)) (sym is) at_front
-get-has x (y ∷ xs) (suc k) e = behind (get-has x xs k e)
 
 once-position : (cs : List Class) (k : ℕ) (c : Class) → Once cs → slice_get cs k ≡ Some c
     → position (λ d. bytes_eq d.name c.name) cs ≡ Some k
@@ -64,14 +53,14 @@ once-position (x ∷ cs) zero c o e =
     let is : x ≡ c = cc in
     position-cons (λ (d : Class). bytes_eq d.name c.name) x cs ∙ ap (λ b. if b then Some 0
     else option_map suc (position (λ (d : Class). bytes_eq d.name c.name) cs))
-    (ap (λ (v : Class). bytes_eq v.name c.name) is ∙ bytes-refl c.name)
+    (ap (λ (v : Class). bytes_eq v.name c.name) is ∙ name_is c.name)
 once-position (x ∷ cs) (suc k) c o e =
     position-cons (λ (d : Class). bytes_eq d.name c.name) x cs
     ∙ by (bytes_eq x.name c.name) refl (once-position cs k c o.1 e)
   where
     by : (b : Bool) → bytes_eq x.name c.name ≡ b → position (λ d. bytes_eq d.name c.name) cs ≡ Some k
         → (if b then Some 0 else option_map suc (position (λ (d : Class). bytes_eq d.name c.name) cs)) ≡ Some (suc k)
-    by true f r = absurd (o.0 c (get-has c cs k e) (sym (bytes-true x.name c.name f)))
+    by true f r = absurd (o.0 c (get-has c cs k e) (sym (bytes_true x.name c.name f)))
     by false f r = ap (option_map suc) r
 
 once-append : (cs bs : List Class) → Once cs → Once bs → ((a b : Class) → Has a cs → Has b bs → b.name ≡ a.name → ⊥)
@@ -99,16 +88,6 @@ waits-by : (i : Bool) (placed : List ℕ) (c : Class) → c.is_imported ≡ fals
     → is_in placed c.number ≡ false → waits i placed c ≡ true
 waits-by i placed c e f g = ap (λ b. not b && is_of_kind i c && not (is_in placed c.number)) e
     ∙ ap (λ b. b && not (is_in placed c.number)) f ∙ ap not g
-
-stands-waits : (w : List Class) (i : Bool) (placed : List ℕ) (c : Class) → may_stand w i placed c ≡ true
-    → waits i placed c ≡ true
-unfolding may_stand
-stands-waits w i placed c e = by (waits i placed c) (not (list_any (λ x. names_waiting i placed (class_named w x))
-    c.supers || list_any (λ x. names_waiting i placed (class_named w x)) c.interfaces)) e
-  where
-    by : (a b : Bool) → (a && b) ≡ true → a ≡ true
-    by true b f = refl
-    by false b f = cc
 
 next-in : (w : List Class) (i : Bool) (placed : List ℕ) (cs : List Class) (c : Class) → next w i placed cs ≡ Some c
     → Has c cs × (may_stand w i placed c ≡ true)
@@ -221,7 +200,7 @@ out-more : (placed : List ℕ) (k n : ℕ) → is_in placed n ≡ false → (k =
 out-more placed k n e f = is_in-more placed k n ∙ ap (λ b. b || ((k == n) || false)) e ∙ ap (λ b. b || false) f
 
 in-it : (placed : List ℕ) (k : ℕ) → is_in (placed ++ k ∷ []) k ≡ true
-in-it placed k = is_in-more placed k k ∙ ap (λ b. is_in placed k || (b || false)) (same_number k) ∙ by (is_in placed k)
+in-it placed k = is_in-more placed k k ∙ ap (λ b. is_in placed k || (b || false)) (like_number k) ∙ by (is_in placed k)
   where
     by : (b : Bool) → (b || true) ≡ true
     by true = refl
@@ -529,7 +508,7 @@ module _ (list : List ℕ) (files : Files) (sound : IsSound list files) where
       by m g (inl h) = cc
       by m g (inr r) =
           let n = length (in_order w true) in
-          let at_c = one_number (n + m) k c (get-behind (in_order w true) (in_order w false) m ∙ g) e in
-          let at_d = one_number (n + r.0) j d (get-behind (in_order w true) (in_order w false) r.0 ∙ r.2) f in
+          let at_c = one_number (n + m) k c (get_behind (in_order w true) (in_order w false) m ∙ g) e in
+          let at_d = one_number (n + r.0) j d (get_behind (in_order w true) (in_order w false) r.0 ∙ r.2) f in
           let lt = r.1 in
           omega (arith, at_c, at_d, lt)

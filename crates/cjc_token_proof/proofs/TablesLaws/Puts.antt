@@ -1,13 +1,16 @@
 -- What static fields hold after initialisers, and which arrays are made: one for each field that holds one.
-use Rattle.std.proofs.Common.{◌≡◌, ℕ, zero, suc, refl, sym, ap, subst, ◌∙◌, arith, Bool, true, false, List, [], ◌∷◌}
+use Rattle.std.proofs.Common.{◌≡◌, ℕ, refl, sym, ap, subst, ◌∙◌, Bool, true, false, List, [], ◌∷◌}
 use Rattle.std.proofs.Common.{◌++◌, inl, inr, ⊎_elim}
-use Rattle.std.specs.Prelude.{not, ◌&&◌, ◌||◌, ◌==◌, ◌⊎◌, codes, map, Option, Some, None, slice_get, slice_set}
+use Rattle.std.specs.Prelude.{not, ◌&&◌, ◌||◌, ◌==◌, ◌⊎◌, codes, map, Some, None, slice_get, slice_set}
 use Rattle.std.specs.Prelude.{if◌then◌else◌, ℤ}
 use Rattle.std.specs.Str.{bytes_eq}
-use Rattle.std.proofs.lemmas.Bool.{eqb-true, eqb-false}
 use Rattle.std.proofs.lemmas.List.Folds.{list_any-append}
 use Rattle.cjc_bytes.specs.declared.fault.MemberId.{MemberId}
 use Rattle.cjc_bytes.specs.declared.descriptor.Kind.{Kind}
+use Rattle.cjc_bytes.proofs.Lists.{bytes_true}
+use Rattle.cjc_bytes.proofs.Numbers.{same_place}
+use Rattle.cjc_bytes.proofs.Options.{option_taken}
+use Rattle.cjc_bytes.proofs.Gets.{set_same, set_other}
 use Rattle.cjc_bytes.specs.declared.descriptor.Kind.TheVariants as kinds
 use Rattle.cjc_world.specs.ClassFile.declared.tree.ClassTree.{ClassTree}
 use Rattle.cjc_world.specs.ClassFile.declared.tree.FieldTree.{FieldTree}
@@ -18,7 +21,6 @@ use Rattle.cjc_world.specs.declared.image.StaticImage.{StaticImage}
 use Rattle.cjc_world.specs.Classes.{Class, class_named, declared}
 use Rattle.cjc_world.specs.Files.{Files}
 use Rattle.cjc_world.specs.Lookup.{find_field, member_at}
-use Rattle.cjc_world.proofs.Settled.{bytes-true}
 use Rattle.cjc_clinit.specs.declared.stage.Held.{Held}
 use Rattle.cjc_clinit.specs.declared.stage.Held.TheVariants as held
 use Rattle.cjc_clinit.specs.Fields.{Contents, ANumber, ANull, AnArray, array_desc, fits_kind, held_by, is_cell}
@@ -30,33 +32,12 @@ use Rattle.cjc_clinit.specs.Initialiser.Initialises.{ends, puts}
 use Rattle.cjc_world_proof.proofs.InitialisersLaws.Places.{IsField, place-field}
 use Rattle.cjc_ncode.specs.PoolOrder.{same_member}
 use Rattle.cjc_token_proof.specs.ByToken.Cells.{are_apart, is_one_of}
-use Rattle.cjc_token_proof.proofs.ByToken.Members.{member_same, member_tells}
+use Rattle.cjc_token_proof.proofs.ByToken.Members.{member_tells, front_one, behind_one}
 use Rattle.cjc_components.specs.Package.{Package, world}
 use Rattle.cjc_token_proof.specs.Tables.Sound.{IsSound}
 use Rattle.cjc_token_proof.proofs.TablesLaws.Fields.{field_found, named}
 
 -- ---- lists
-
-pub set_same : {A : Type 0} (xs : List A) (k : ℕ) (x y : A) → slice_get xs k ≡ Some y → slice_get (slice_set xs k x) k
-    ≡ Some x
-set_same [] k x y e = absurd (cc)
-set_same (z ∷ xs) zero x y e = refl
-set_same (z ∷ xs) (suc k) x y e = set_same xs k x y e
-
-pub set_other : {A : Type 0} (xs : List A) (k j : ℕ) (x : A) → (k ≡ j → ⊥) → slice_get (slice_set xs k x) j
-    ≡ slice_get xs j
-set_other [] k j x differs = refl
-set_other (z ∷ xs) zero zero x differs = absurd (differs refl)
-set_other (z ∷ xs) zero (suc j) x differs = refl
-set_other (z ∷ xs) (suc k) zero x differs = refl
-set_other (z ∷ xs) (suc k) (suc j) x differs = set_other xs k j x (λ e. differs (ap suc e))
-
-pub place_or : (k j : ℕ) → (k ≡ j) ⊎ (k ≡ j → ⊥)
-place_or k j = by (k == j) refl
-  where
-    by : (b : Bool) → (k == j) ≡ b → (k ≡ j) ⊎ (k ≡ j → ⊥)
-    by true e = inl (eqb-true k j e)
-    by false e = inr (λ f. (let ne = eqb-false k j e in omega (arith, ne, f)))
 
 one_or : (m : MemberId) (g : MemberId) (fs : List MemberId) → is_one_of m (g ∷ fs) ≡ true → (g ≡ m)
     ⊎ (is_one_of m fs ≡ true)
@@ -65,16 +46,6 @@ one_or m g fs e = by (same_member g m) refl e
     by : (b : Bool) → same_member g m ≡ b → (b || is_one_of m fs) ≡ true → (g ≡ m) ⊎ (is_one_of m fs ≡ true)
     by true t h = inl (member_tells g m t)
     by false t h = inr h
-
-one_here : (m : MemberId) (fs : List MemberId) → is_one_of m (m ∷ fs) ≡ true
-one_here m fs = ap (λ q. q || is_one_of m fs) (member_same m)
-
-one_later : (m g : MemberId) (fs : List MemberId) → is_one_of m fs ≡ true → is_one_of m (g ∷ fs) ≡ true
-one_later m g fs e = by (same_member g m)
-  where
-    by : (b : Bool) → (b || is_one_of m fs) ≡ true
-    by true = refl
-    by false = e
 
 pub one_front : (m : MemberId) (xs ys : List MemberId) → is_one_of m xs ≡ true → is_one_of m (xs ++ ys) ≡ true
 one_front m xs ys e = list_any-append (λ g. same_member g m) xs ys ∙ ap (λ b. b || is_one_of m ys) e
@@ -109,8 +80,8 @@ apart_append [] ys a b h = b
 apart_append (x ∷ xs) ys a b h =
     let parts = split (is_one_of x xs) (are_apart xs) a in
     apart_cons x (xs ++ ys) (λ e. ⊎_elim (λ f. (let never : true ≡ false = sym f ∙ parts.0 in cc))
-    (λ f. h x (one_here x xs) f) (one_either x xs ys e)) (apart_append xs ys parts.1 b
-    (λ m e f. h m (one_later m x xs e) f))
+    (λ f. h x (front_one x xs) f) (one_either x xs ys e)) (apart_append xs ys parts.1 b
+    (λ m e f. h m (behind_one m x xs e) f))
   where
     split : (q r : Bool) → (not q && r) ≡ true → (q ≡ false) × (r ≡ true)
     split false true e = (refl, refl)
@@ -128,8 +99,8 @@ Right desc held.Array = is_reference desc ≡ true
 number_is : (desc : List ℕ) (z : ℤ) → fits_kind (number_kind desc) z ≡ true → is_reference desc ≡ false
 number_is desc z e =
     by (bytes_eq desc (codes "Z")) (bytes_eq desc (codes "B")) (bytes_eq desc (codes "S")) (bytes_eq desc (codes "I"))
-    (bytes-true desc (codes "Z")) (bytes-true desc (codes "B")) (bytes-true desc (codes "S"))
-    (bytes-true desc (codes "I")) e
+    (bytes_true desc (codes "Z")) (bytes_true desc (codes "B")) (bytes_true desc (codes "S"))
+    (bytes_true desc (codes "I")) e
   where
     by : (a b c d : Bool) → (a ≡ true → desc ≡ codes "Z") → (b ≡ true → desc ≡ codes "B")
         → (c ≡ true → desc ≡ codes "S") → (d ≡ true → desc ≡ codes "I")
@@ -161,16 +132,12 @@ unfolding Right
 right_put made contents desc (of_number {z = z}) e = number_is desc z e
 right_put made contents desc of_null e = e
 right_put made contents desc (of_array {number = number} {kind = kind} le is stores) e =
-    ap is_reference (bytes-true desc (array_desc kind) e) ∙ array_is number kind is
+    ap is_reference (bytes_true desc (array_desc kind) e) ∙ array_is number kind is
 
 something_put : (contents : Contents) → held_by contents ≡ held.Nothing → ⊥
 something_put (ANumber z) e = cc
 something_put ANull e = cc
 something_put (AnArray kind items) e = cc
-
-taken : (b : Bool) (o : Option ℕ) (k : ℕ) → (if b then o else None) ≡ Some k → (b ≡ true) × (o ≡ Some k)
-taken true o k e = (refl, e)
-taken false o k e = absurd (cc)
 
 -- ---- one initialiser
 
@@ -200,7 +167,7 @@ module _ (files : Files) (image : StaticImage) (n : ℕ) (t : ClassTree) (fields
       put_kept j x e never = ⊎_elim
           (λ same. (let both : Some held.Nothing ≡ Some x = sym open_one.unput ∙ ap (slice_get before) same ∙ e
           in let is : x ≡ held.Nothing = cc in absurd (never is)))
-          (λ differs. rest.kept j x (set_other before k j h differs ∙ e) never) (place_or k j)
+          (λ differs. rest.kept j x (set_other before k j h differs ∙ e) never) (same_place k j)
 
       put_right : ((j : ℕ) (g : FieldTree) (x : Held) → slice_get t.fields j ≡ Some g → slice_get before j ≡ Some x
           → Right g.desc x) → (j : ℕ) (g : FieldTree) (x : Held) → slice_get t.fields j ≡ Some g
@@ -211,7 +178,7 @@ module _ (files : Files) (image : StaticImage) (n : ℕ) (t : ClassTree) (fields
           let helds : Some h ≡ Some y = sym put_here ∙ ap (slice_get (slice_set before k h)) same ∙ b in
           let what : h ≡ y = cc in
           subst (Right v.desc) what (subst (λ (q : FieldTree). Right q.desc h) is fits_in)))
-          (λ differs. all i v y a (sym (set_other before k i h differs) ∙ b)) (place_or k i)) j g x e f
+          (λ differs. all i v y a (sym (set_other before k i h differs) ∙ b)) (same_place k i)) j g x e f
 
       -- a field whose array is made later held nothing
       put_of : (m : MemberId) → is_one_of m made ≡ true → (j : ℕ) × (g : FieldTree) × (slice_get t.fields j ≡ Some g)
@@ -221,7 +188,7 @@ module _ (files : Files) (image : StaticImage) (n : ℕ) (t : ClassTree) (fields
           let r = rest.of m e in
           ⊎_elim (λ same. (let both : Some h ≡ Some held.Nothing = sym put_here ∙ ap (slice_get (slice_set before k h))
           same ∙ r.5 in let is : h ≡ held.Nothing = cc in absurd (some is)))
-          (λ differs. (r.0, r.1, r.2, r.3, r.4, sym (set_other before k r.0 h differs) ∙ r.5, r.6)) (place_or k r.0)
+          (λ differs. (r.0, r.1, r.2, r.3, r.4, sym (set_other before k r.0 h differs) ∙ r.5, r.6)) (same_place k r.0)
 
       plain_put : (h ≡ held.Array → ⊥) → Puts t before after made
       plain_put never = record {
@@ -231,7 +198,7 @@ module _ (files : Files) (image : StaticImage) (n : ℕ) (t : ClassTree) (fields
         new = λ j g e f. ⊎_elim
             (λ a. ⊎_elim (λ same. (let both : Some h ≡ Some held.Array = sym put_here
             ∙ ap (slice_get (slice_set before k h)) same ∙ a in let is : h ≡ held.Array = cc in absurd (never is)))
-            (λ differs. inl (sym (set_other before k j h differs) ∙ a)) (place_or k j))
+            (λ differs. inl (sym (set_other before k j h differs) ∙ a)) (same_place k j))
             (λ b. inr b) (rest.new j g e f);
         right = put_right;
       }
@@ -260,9 +227,9 @@ module _ (files : Files) (image : StaticImage) (n : ℕ) (t : ClassTree) (fields
             ∙ ap (slice_get t.fields) same ∙ e in
             let is : open_one.field ≡ g = cc in
             inr (subst (λ m. is_one_of m (own_field t id ∷ made) ≡ true) (sym open_one.named
-            ∙ ap (λ (v : FieldTree). field_id t.name v) is) (one_here (own_field t id) made))))
-            (λ differs. inl (sym (set_other before k j h differs) ∙ a)) (place_or k j))
-            (λ b. inr (one_later (field_id t.name g) (own_field t id) made b)) (rest.new j g e f);
+            ∙ ap (λ (v : FieldTree). field_id t.name v) is) (front_one (own_field t id) made))))
+            (λ differs. inl (sym (set_other before k j h differs) ∙ a)) (same_place k j))
+            (λ b. inr (behind_one (field_id t.name g) (own_field t id) made b)) (rest.new j g e f);
         right = put_right;
       }
 
@@ -308,7 +275,7 @@ module _ (list : List ℕ) (p : Package) (sound : IsSound list p.files) where
   }
   puts_are n t is_class before after ops ps (puts {made = made} {ops = more} {contents = contents} {id = id} {k = k}
       {rest = rest} makes place next) =
-      let q = taken (takes contents id.desc) (open_place p.files n t before id) k place in
+      let q = option_taken (takes contents id.desc) (open_place p.files n t before id) k place in
       let o = place-field p.files p.image n t before id k is_class q.1 in
       let fits_in = subst (λ d. Right d (held_by contents)) (sym o.desc) (right_put made contents id.desc makes q.0) in
       by contents o fits_in (puts_are n t is_class (slice_set before k (held_by contents)) after more rest next)

@@ -10,8 +10,9 @@ use Rattle.std.proofs.lemmas.List.Sums.{sum_by-cons}
 use Rattle.cjc_world.specs.ClassFile.declared.tree.FieldTree.{FieldTree}
 use Rattle.cjc_tokens.specs.Fields.{cells, cells_of, group, instance_cells, instance_token, is_instance, is_reference}
 use Rattle.cjc_tokens.specs.Members.{is_exposed}
-use Rattle.cjc_world.proofs.Settled.{bytes-true}
 use Rattle.cjc_components.specs.Class.{first_reference_token, is_reference_field, reference_count}
+use Rattle.cjc_bytes.proofs.Bools.{and_true}
+use Rattle.cjc_bytes.proofs.Lists.{bytes_true}
 
 -- ---- cells that pass a test
 
@@ -96,11 +97,6 @@ before k f = is_instance f && nat_lt (group f) k
 abbrev within : ℕ → FieldTree → Bool
 within k f = is_instance f && (group f == k)
 
-and_so : (a b : Bool) → (a && b) ≡ true → (a ≡ true) × (b ≡ true)
-and_so true true e = (refl, refl)
-and_so true false e = cc
-and_so false b e = cc
-
 in_within : (k : ℕ) (f : FieldTree) → is_instance f ≡ true → group f ≡ k → within k f ≡ true
 in_within k f e g = ap (λ b. b && (group f == k)) e ∙ ap (λ n. n == k) g
     ∙ (let s : (k == k) ≡ true = grind (arith, nat_tests) in s)
@@ -110,12 +106,12 @@ groups_rise : (k m : ℕ) → k < m → (fs : List FieldTree) → cells_of (befo
     (before m) fs
 groups_rise k m lt fs =
     both_within (before k) (within k) (before m)
-    (λ f e. (let r = and_so (is_instance f) (nat_lt (group f) k) e in (
+    (λ f e. (let r = and_true (is_instance f) (nat_lt (group f) k) e in (
       ap (λ b. b && nat_lt (group f) m) r.0
           ∙ (let t = r.1 in less f t),
       ap (λ b. b && (group f == k)) r.0 ∙ (let t = r.1 in other f t),
     )))
-    (λ f e. (let r = and_so (is_instance f) (group f == k) e in ap (λ b. b && nat_lt (group f) m) r.0
+    (λ f e. (let r = and_true (is_instance f) (group f == k) e in ap (λ b. b && nat_lt (group f) m) r.0
     ∙ (let t = eqb-true (group f) k r.1 in at f t))) fs
   where
     less : (f : FieldTree) → nat_lt (group f) k ≡ true → nat_lt (group f) m ≡ true
@@ -130,12 +126,12 @@ groups_rise k m lt fs =
 all_within : (k : ℕ) (fs : List FieldTree) → cells_of (before k) fs + cells_of (within k) fs ≤ instance_cells fs
 all_within k fs =
     both_within (before k) (within k) is_instance
-    (λ f e. (let r = and_so (is_instance f) (nat_lt (group f) k) e in (
+    (λ f e. (let r = and_true (is_instance f) (nat_lt (group f) k) e in (
       r.0,
       ap (λ b. b && (group f == k)) r.0
           ∙ (let t = r.1 in other f t),
     )))
-    (λ f e. (and_so (is_instance f) (group f == k) e).0) fs
+    (λ f e. (and_true (is_instance f) (group f == k) e).0) fs
   where
     other : (f : FieldTree) → nat_lt (group f) k ≡ true → (group f == k) ≡ false
     other f t = grind (arith, nat_tests, t)
@@ -234,7 +230,7 @@ one_cell f e = by (bytes_eq f.desc (codes "I")) refl
 
     by : (b : Bool) → bytes_eq f.desc (codes "I") ≡ b → two_or_one b ≡ 1
     by false g = refl
-    by true g = let clash : is_reference (codes "I") ≡ true = ap is_reference (sym (bytes-true f.desc (codes "I") g))
+    by true g = let clash : is_reference (codes "I") ≡ true = ap is_reference (sym (bytes_true f.desc (codes "I") g))
         ∙ e in cc
 
 references_counted : (fs : List FieldTree) → cells_of is_reference_field fs ≡ reference_count fs
@@ -245,11 +241,11 @@ references_counted (f ∷ fs) =
     ∙ sym (sum_by-cons (λ (g : FieldTree). cond (is_reference_field g) 1 0) f fs)
   where
     by : (b : Bool) → is_reference_field f ≡ b → if_so b (cells f) ≡ cond b 1 0
-    by true g = one_cell f (and_so (is_instance f) (is_reference f.desc) g).1
+    by true g = one_cell f (and_true (is_instance f) (is_reference f.desc) g).1
     by false g = refl
 
 zero_group : (fs : List FieldTree) → cells_of (before 1) fs ≤ cells_of (within 0) fs
-zero_group fs = one_within (before 1) (within 0) (λ f e. (let r = and_so (is_instance f) (nat_lt (group f) 1) e
+zero_group fs = one_within (before 1) (within 0) (λ f e. (let r = and_true (is_instance f) (nat_lt (group f) 1) e
     in in_within 0 f r.0 (let t = r.1 in at f t))) fs
   where
     at : (f : FieldTree) → nat_lt (group f) 1 ≡ true → group f ≡ 0
@@ -267,7 +263,8 @@ module _ (fs : List FieldTree) (i : ℕ) (f : FieldTree) (e : slice_get fs i ≡
       × (instance_token fs i f < start + reference_count fs)
   unfolding instance_token
   spanned k g one_or_two r =
-      let low = both_within (within 0) (λ v. false) (before k) (λ v h. (let q = and_so (is_instance v) (group v == 0) h
+      let low = both_within (within 0) (λ v. false) (before k) (λ v h. (let q = and_true (is_instance v)
+      (group v == 0) h
       in (ap (λ b. b && nat_lt (group v) k) q.0 ∙ early v (eqb-true (group v) 0 q.1), refl))) (λ v h. cc) fs in
       let a = with_own (within k) fs i f e (in_within k f t g) in
       let c = some_cell f in
@@ -343,7 +340,7 @@ module _ (fs : List FieldTree) (i : ℕ) (f : FieldTree) (e : slice_get fs i ≡
       let a = with_own (within 0) fs i f e (in_within 0 f t (g ∙ z)) in
       let c = some_cell f in
       let none : cells_of (before 0) fs ≤ cells_of (λ v. false) fs = one_within (before 0) (λ v. false)
-      (λ v h. (let q = and_so (is_instance v) (nat_lt (group v) 0) h in let no = none_less (group v) in cc)) fs in
+      (λ v h. (let q = and_true (is_instance v) (nat_lt (group v) 0) h in let no = none_less (group v) in cc)) fs in
       let empty = nothing_of fs in
       let token : instance_token fs i f ≡ cells_of (before 0) fs + cells_of (within 0) (take i fs) =
       ap (λ m. cells_of (before m) fs + cells_of (within m) (take i fs)) (g ∙ z) in
@@ -354,13 +351,13 @@ module _ (fs : List FieldTree) (i : ℕ) (f : FieldTree) (e : slice_get fs i ≡
       nothing_of (v ∷ gs) = cells-cons (λ u. false) v gs ∙ ap (λ n. 0 + n) (nothing_of gs)
   unspanned k g (inr z) =
       let low = both_within (within 0) is_reference_field (before 3)
-      (λ v h. (let q = and_so (is_instance v) (group v == 0) h in (
+      (λ v h. (let q = and_true (is_instance v) (group v == 0) h in (
         ap (λ b. b && nat_lt (group v) 3) q.0
             ∙ early v (eqb-true (group v) 0 q.1),
         ap (λ b. b && is_reference v.desc) q.0
             ∙ plain v (eqb-true (group v) 0 q.1),
       )))
-      (λ v h. (let q = and_so (is_instance v) (is_reference v.desc) h in ap (λ b. b && nat_lt (group v) 3) q.0
+      (λ v h. (let q = and_true (is_instance v) (is_reference v.desc) h in ap (λ b. b && nat_lt (group v) 3) q.0
       ∙ middle v (reference_group v q.1))) fs in
       let count = references_counted fs in
       let token : instance_token fs i f ≡ cells_of (before 3) fs + cells_of (within 3) (take i fs) =

@@ -5,11 +5,13 @@ use Rattle.std.specs.Prelude.{◌&&◌, ◌||◌, Some, if◌then◌else◌, cod
 use Rattle.std.specs.List.{list_any}
 use Rattle.std.specs.Str.{bytes_eq}
 use Rattle.cjc_bytes.specs.AccessFlags.{is_interface}
+use Rattle.cjc_bytes.proofs.Lists.{bytes_true}
+use Rattle.cjc_bytes.proofs.Bools.{both_front, both_back}
 use Rattle.cjc_card_semantics.specs.Bytecode.Calculations.{Fault, Arithmetic, NullPointer, IndexOutside, NegativeSize}
 use Rattle.cjc_card_semantics.specs.Bytecode.Calculations.{ClassCast, ArrayStore}
 use Rattle.cjc_card_semantics.specs.Machine.Classes.{fault_name}
-use Rattle.cjc_export.specs.declared.tree.ExportClass.{ExportClass}
-use Rattle.cjc_export.specs.declared.tree.ExportTree.{ExportTree}
+use Rattle.cjc_world.specs.ExportFile.declared.tree.ExportClass.{ExportClass}
+use Rattle.cjc_world.specs.ExportFile.declared.tree.ExportTree.{ExportTree}
 use Rattle.cjc_vtable.specs.Subset.Members.{imports}
 use Rattle.cjc_vtable.proofs.Filed.{Has, at_front, behind, has-get}
 use Rattle.cjc_world.specs.Classes.{Class, class_named, imported}
@@ -18,7 +20,6 @@ use Rattle.cjc_world.specs.Rules.{has_array_exceptions, has_class, has_exception
 use Rattle.cjc_world.specs.Rules.{has_other_exceptions, has_roots, throwable}
 use Rattle.cjc_world.specs.Lookup.{object}
 use Rattle.cjc_world.proofs.Cycles.{class_named-name}
-use Rattle.cjc_world.proofs.Settled.{bytes-true}
 use Rattle.cjc_components.specs.Package.{Package, world}
 use Rattle.cjc_token_proof.specs.ByToken.Names.{HasLang, IsImport, SaysFileName, SaysNames, SaysOwnName}
 use Rattle.cjc_token_proof.specs.Tables.Loading.{naming, part}
@@ -26,14 +27,6 @@ use Rattle.cjc_token_proof.specs.Tables.Sound.{IsSound}
 use Rattle.cjc_token_proof.proofs.TablesLaws.Clean.{has_named, language, own_name}
 use Rattle.cjc_token_proof.proofs.TablesLaws.Filed.{import_in}
 use Rattle.cjc_token_proof.proofs.TablesLaws.Named.{has_entry, has_imports, has_info, has_none}
-
-front : (a b : Bool) → (a && b) ≡ true → a ≡ true
-front true b e = refl
-front false b e = cc
-
-back : (a b : Bool) → (a && b) ≡ true → b ≡ true
-back true b e = e
-back false b e = cc
 
 entry_named : (cs : List ExportClass) (x : List ℕ) → list_any (λ c. bytes_eq c.name x) cs ≡ true → (e : ExportClass)
     × Has e cs × (e.name ≡ x)
@@ -43,7 +36,7 @@ entry_named (c ∷ cs) x e = by (bytes_eq c.name x) refl e (entry_named cs x)
     by : (b : Bool) → bytes_eq c.name x ≡ b → (b || list_any (λ d. bytes_eq d.name x) cs) ≡ true
         → (list_any (λ d. bytes_eq d.name x) cs ≡ true → (e : ExportClass) × Has e cs × (e.name ≡ x))
         → (e : ExportClass) × Has e (c ∷ cs) × (e.name ≡ x)
-    by true f g rest = (c, at_front, bytes-true c.name x f)
+    by true f g rest = (c, at_front, bytes_true c.name x f)
     by false f g rest = let r = rest g in (r.0, behind r.1, r.2)
 
 language_file : (w : List Class) (ts : List ExportTree) → has_language w ts ≡ true → (t : ExportTree) × Has t ts
@@ -85,8 +78,8 @@ module _ (list : List ℕ) (p : Package) (sound : IsSound list p.files) where
   unfolding has_needed has_roots
   has_object =
       let t = lang.0 in
-      is_import t object lang.1 (front (has_class t object) (has_class t throwable)
-      (front (has_roots t) (has_array_exceptions w t && has_other_exceptions w t) (regrouped (has_roots t)
+      is_import t object lang.1 (both_front (has_class t object) (has_class t throwable)
+      (both_front (has_roots t) (has_array_exceptions w t && has_other_exceptions w t) (regrouped (has_roots t)
       (has_array_exceptions w t) (has_other_exceptions w t) lang.2)))
     where
       regrouped : (a b c : Bool) → (a && b && c) ≡ true → (a && (b && c)) ≡ true
@@ -95,7 +88,7 @@ module _ (list : List ℕ) (p : Package) (sound : IsSound list p.files) where
       regrouped false b c e = cc
 
   exception : (t : ExportTree) (x : List ℕ) → Has t exports → has_exception w t x ≡ true → IsImport w x
-  exception t x h e = is_import t x h (front (has_class t x) (is_below w x throwable) e)
+  exception t x h e = is_import t x h (both_front (has_class t x) (is_below w x throwable) e)
 
   pub has_lang : HasLang w
   unfolding has_needed has_roots has_array_exceptions has_other_exceptions
@@ -110,7 +103,7 @@ module _ (list : List ℕ) (p : Package) (sound : IsSound list p.files) where
       (has_exception w t (codes "java/lang/ClassCastException"))
       (has_exception w t (codes "java/lang/NullPointerException")) parts.2 in
       record {
-        throwable = is_import t throwable h (back (has_class t object) (has_class t throwable) parts.0);
+        throwable = is_import t throwable h (both_back (has_class t object) (has_class t throwable) parts.0);
         faults = by (exception t (codes "java/lang/ArithmeticException") h others.0)
             (exception t (codes "java/lang/NullPointerException") h others.2)
             (exception t (codes "java/lang/ArrayIndexOutOfBoundsException") h arrays.0)

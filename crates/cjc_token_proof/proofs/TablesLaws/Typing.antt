@@ -1,13 +1,13 @@
 -- Where 301 is not broken, each field of a class file is of a type that values have.
 use Rattle.std.proofs.Common.{◌≡◌, ℕ, zero, suc, ◌+◌, ◌^◌, refl, sym, ap, subst, ◌∙◌, arith, Bool, true, false, List}
-use Rattle.std.proofs.Common.{[], ◌∷◌, ◌++◌, length, length-append, inl, inr, ⊎_elim, take}
-use Rattle.std.specs.Prelude.{not, ◌&&◌, ◌||◌, ◌==◌, ◌-◌, ◌⊎◌, Option, Some, None, is_some, option_and_then, slice_get}
+use Rattle.std.proofs.Common.{[], ◌∷◌, ◌++◌, length, inl, inr, ⊎_elim, take}
+use Rattle.std.specs.Prelude.{not, ◌&&◌, ◌||◌, ◌==◌, ◌⊎◌, Some, None, is_some, option_and_then, slice_get}
 use Rattle.std.specs.Prelude.{unwrap_or, if◌then◌else◌}
 use Rattle.std.proofs.lemmas.Bool.{eqb-true, lt-ltb}
-use Rattle.cjc_bytes.specs.Breaks.{Break, RulePlace, at, each_from}
+use Rattle.cjc_bytes.specs.Breaks.{Break, at, each_from}
 use Rattle.cjc_bytes.specs.Order.{file_of}
 use Rattle.cjc_bytes.specs.Descriptor.{IsClassName, IsDescriptor, IsName, IsType, Part, Parts, array, base, base_kind}
-use Rattle.cjc_bytes.specs.Descriptor.{field, is_name_byte, method, object, plain}
+use Rattle.cjc_bytes.specs.Descriptor.{field, method, object, plain}
 use Rattle.cjc_bytes.specs.Descriptor as spelling
 use Rattle.cjc_bytes.specs.Spots.{desc_of, part_of}
 use Rattle.cjc_bytes.specs.declared.descriptor.Kind.{Kind}
@@ -17,6 +17,12 @@ use Rattle.cjc_card_semantics.specs.Machine.ByToken.{letter_of}
 use Rattle.cjc_ncode.specs.Bytecode.declared.method_code.MethodCode.{MethodCode}
 use Rattle.cjc_bytes.specs.AccessFlags.{is_interface}
 use Rattle.cjc_bytes.specs.declared.settings.Settings.{Settings}
+use Rattle.cjc_bytes.proofs.Gets.{all_but_last}
+use Rattle.cjc_bytes.proofs.BrokenRules.{not_broken}
+use Rattle.cjc_bytes.proofs.Options.{some_shape}
+use Rattle.cjc_bytes.proofs.Lists.{none_left, none_right}
+use Rattle.cjc_bytes.proofs.Bools.{or_left}
+use Rattle.cjc_bytes.proofs.Numbers.{first_byte}
 use Rattle.cjc_script.specs.Sorts.{OfClass, OfReferences, array_by, array_of, reference_to, shape_named, sort_by}
 use Rattle.cjc_script.specs.Sorts.{sort_of, sort_or_none}
 use Rattle.cjc_vtable.specs.Subset.Checks.{check_breaks, class_breaks, code_breaks, field_breaks, list_breaks}
@@ -31,16 +37,7 @@ use Rattle.cjc_vtable.specs.Subset.Types.{is_unsupported_part, is_int_desc, is_o
 use Rattle.cjc_tokens.specs.Fields.{is_reference}
 use Rattle.cjc_token_proof.specs.ByToken.Objects.{is_reference as is_reference_sort}
 use Rattle.cjc_world.specs.Files.{Files}
-use Rattle.cjc_world.proofs.Unbroken.{nil_back, nil_front}
 use Rattle.cjc_token_proof.specs.Tables.Sound.{AreFieldDescs, AreTyped, IsFieldDesc, IsTyped}
-
-or_left : (a b : Bool) → (a || b) ≡ false → a ≡ false
-or_left true b e = cc
-or_left false b e = refl
-
-or_right : (a b : Bool) → (a || b) ≡ false → b ≡ false
-or_right true b e = cc
-or_right false b e = e
 
 -- ---- letters
 
@@ -119,16 +116,6 @@ record BeginsAsName (name : List ℕ) : Type 0 where
   is : name ≡ byte ∷ more
   no_array : (byte == 91) ≡ false
 
-first_byte : (b : ℕ) → is_name_byte b ≡ true → (b == 91) ≡ false
-first_byte b e = go (b == 46) (b == 59) (b == 91) (b == 47) refl e
-  where
-    go : (x y z u : Bool) → (b == 91) ≡ z → (if x then false else if y then false else if z then false else if u
-        then false else true) ≡ true → (b == 91) ≡ false
-    go true y z u is e = cc
-    go false true z u is e = cc
-    go false false true u is e = cc
-    go false false false u is e = is
-
 name_begins : (name : List ℕ) → IsName name → BeginsAsName name
 name_begins _ (spelling.last {b = b} e) = record { byte = b; more = []; is = refl; no_array = first_byte b e }
 name_begins _ (spelling.more {b = b} {name = name} e h) = record {
@@ -153,18 +140,10 @@ take_all : (name : List ℕ) → take (length name) (name ++ 59 ∷ []) ≡ name
 take_all [] = refl
 take_all (b ∷ name) = ap (λ n. b ∷ n) (take_all name)
 
-all_but_last : (name : List ℕ) → take (length (name ++ 59 ∷ []) - 1) (name ++ 59 ∷ []) ≡ name
-all_but_last name = let long = length-append name (59 ∷ []) in let less : length (name ++ 59 ∷ []) - 1 ≡ length name =
-    omega (arith, long) in ap (λ n. take n (name ++ 59 ∷ [])) less ∙ take_all name
-
 -- ---- types
 
 abbrev Typed : Part → List ℕ → Type 0
 Typed d bytes = (is_some (letter_of (sort_of d)) ≡ true) × (is_reference_sort (sort_of d) ≡ is_reference bytes)
-
-some_shape : {A : Type 0} (o : Option A) → is_some o ≡ true → (x : A) × (o ≡ Some x)
-some_shape None e = cc
-some_shape (Some x) e = (x, refl)
 
 array_typed : (bytes : List ℕ) → is_some (shape_named (91 ∷ bytes)) ≡ true
     → Typed (record { kind = kinds.Ref; class = 91 ∷ bytes }) (91 ∷ bytes)
@@ -235,13 +214,9 @@ each_none : {A : Type 0} (f : ℕ → A → List Break) (i : ℕ) (xs : List A) 
 unfolding each_from
 each_none f i [] e k x h = cc
 each_none f i (y ∷ xs) e zero x h = let is : y ≡ x = cc in let z : i + 0 ≡ i = omega arith in ap (λ j. f j x) z
-    ∙ ap (f i) (sym is) ∙ nil_front (f i y) (each_from f (i + 1) xs) e
+    ∙ ap (f i) (sym is) ∙ none_left (f i y) (each_from f (i + 1) xs) e
 each_none f i (y ∷ xs) e (suc k) x h = let s : i + suc k ≡ i + 1 + k = omega arith in ap (λ j. f j x) s
-    ∙ each_none f (i + 1) xs (nil_back (f i y) (each_from f (i + 1) xs) e) k x h
-
-not_at : (b : Bool) (s : RulePlace) (rule : ℕ) → at b s rule ≡ [] → b ≡ false
-not_at true s rule e = cc
-not_at false s rule e = refl
+    ∙ each_none f (i + 1) xs (none_right (f i y) (each_from f (i + 1) xs) e) k x h
 
 pub fields_typed : (list : List ℕ) (files : Files) (codes : List MethodCode) (settings : Settings) → AreFieldDescs files
     → check_breaks list files codes settings ≡ [] → AreTyped files
@@ -254,18 +229,18 @@ fields_typed list files codes settings read e n k c f is_class is_field =
     let y : 0 + k ≡ k = omega arith in
     let p = file_of files.lines n in
     let class = each_none (λ n c. class_breaks files settings (file_of files.lines n) n c) 0 files.classes
-    (nil_back A B (nil_front (A ++ B) C e)) n c is_class in
+    (none_right A B (none_left (A ++ B) C e)) n c is_class in
     let here : class_breaks files settings p n c ≡ [] = subst (λ m. class_breaks files settings (file_of files.lines m)
     m c ≡ []) z class in
     let O = own_breaks files settings p n c in
     let F = each_from (λ i m. field_breaks settings p c i m) 0 c.fields in
     let M = each_from (λ i m. method_breaks settings p c i m) 0 c.methods in
     let fields = each_none (λ i m. field_breaks settings p c i m) 0 c.fields
-    (nil_back O F (nil_front (O ++ F) M (nil_front (O ++ F ++ M) (overriding_breaks files p c) here))) k f is_field
+    (none_right O F (none_left (O ++ F) M (none_left (O ++ F ++ M) (overriding_breaks files p c) here))) k f is_field
     in
     let one : field_breaks settings p c k f ≡ [] = subst (λ m. field_breaks settings p c m f ≡ []) y fields in
     let X = at (is_unsupported_desc f.desc) (at_field p c k f) 301 in
     let Y = at (not settings.ints && is_int_desc f.desc) (at_field p c k f) 302 in
     let Z = at (is_unfit_field (is_interface c.flags) f.flags) (at_field p c k f) 304 in
-    desc_typed f.desc (read n k c f is_class is_field) (not_at (is_unsupported_desc f.desc) (at_field p c k f) 301
-    (nil_front X Y (nil_front (X ++ Y) Z one)))
+    desc_typed f.desc (read n k c f is_class is_field) (not_broken (is_unsupported_desc f.desc) (at_field p c k f) 301
+    (none_left X Y (none_left (X ++ Y) Z one)))

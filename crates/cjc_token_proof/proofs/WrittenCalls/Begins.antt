@@ -18,16 +18,7 @@ use Rattle.cjc_world.specs.Classes.{Class}
 use Rattle.cjc_world.specs.Order.{class_order, in_order, method_order, methods_in_turn, methods_of_class}
 use Rattle.cjc_token_proof.specs.Tables.Loading.{part}
 use Rattle.cjc_token_proof.specs.WrittenCalls.Standing.{ClassesStand}
-
-pub any_both : {A : Type 0} (test : A → Bool) (xs ys : List A) → list_any test (xs ++ ys) ≡ (list_any test xs
-    || list_any test ys)
-any_both test [] ys = refl
-any_both test (x ∷ xs) ys = by (test x) (any_both test xs ys)
-  where
-    by : (t : Bool) → list_any test (xs ++ ys) ≡ (list_any test xs || list_any test ys)
-        → (t || list_any test (xs ++ ys)) ≡ ((t || list_any test xs) || list_any test ys)
-    by true e = refl
-    by false e = e
+use Rattle.cjc_bytes.proofs.Quantified.{any_both}
 
 module _ (p : Package) (off count : ℕ) (some : 0 < off) (one : (g : Found) → method_offset p g ≡ off
     → (let e = extent_of p g in e.bytecode_count) ≡ count) where
@@ -124,17 +115,6 @@ module _ (p : Package) (off count : ℕ) (some : 0 < off) (one : (g : Found) →
       map_both f (x ∷ xs) ys = ap (λ zs. f x ∷ zs) (map_both f xs ys)
 
 -- ---- members
-
-pub any_at : {A : Type 0} (test : A → Bool) (xs : List A) (k : ℕ) (x : A) → slice_get xs k ≡ Some x → test x ≡ true
-    → list_any test xs ≡ true
-any_at test [] k x e is = absurd (cc)
-any_at test (y ∷ xs) zero x e is = let same : y ≡ x = cc in ap (λ z. test z || list_any test xs) same
-    ∙ ap (λ t. t || list_any test xs) is
-any_at test (y ∷ xs) (suc k) x e is = by (test y) (any_at test xs k x e is)
-  where
-    by : (t : Bool) → list_any test xs ≡ true → (t || list_any test xs) ≡ true
-    by true rest = refl
-    by false rest = rest
 
 pub get_member : (ms : List LaidMethod) (k : ℕ) (m : LaidMethod) → slice_get ms k ≡ Some m
     → slice_get (map (λ (o : LaidMethod). o.member) ms) k ≡ Some m.member

@@ -2,12 +2,13 @@
 use Rattle.std.proofs.Common.{◌≡◌, ℕ, zero, suc, ◌+◌, ◌-◌, refl, sym, ap, subst, ◌∙◌, arith, Bool, true, false, List}
 use Rattle.std.proofs.Common.{[], ◌∷◌, ◌++◌, length}
 use Rattle.std.specs.Prelude.{Option, Some, None, slice_get, map, option_map, option_and_then, unwrap_or, not, position}
-use Rattle.std.specs.Prelude.{◌==◌, ◌&&◌, ◌||◌, if◌then◌else◌, codes}
+use Rattle.std.specs.Prelude.{◌&&◌, ◌||◌, if◌then◌else◌, codes}
 use Rattle.std.specs.Str.{bytes_eq}
-use Rattle.std.proofs.lemmas.Bool.Decides.{nat_tests}
 use Rattle.cjc_bytes.specs.AccessFlags.{has, is_interface, is_private, is_static, acc_abstract, acc_final, acc_private}
 use Rattle.cjc_bytes.specs.AccessFlags.{acc_protected, acc_public}
 use Rattle.cjc_bytes.specs.declared.fault.MemberId.{MemberId}
+use Rattle.cjc_bytes.proofs.Numbers.{like_number, number_same}
+use Rattle.cjc_bytes.proofs.Gets.{in_front}
 use Rattle.cjc_card_semantics.specs.Bytecode.Alike.{start_as}
 use Rattle.cjc_card_semantics.specs.Bytecode.Machine.{Start}
 use Rattle.cjc_card_semantics.specs.Bytecode.Renaming.{option_as}
@@ -40,15 +41,15 @@ use Rattle.cjc_tokens.specs.Members.{is_constructor}
 use Rattle.cjc_world.specs.declared.found.Found.{Found}
 use Rattle.cjc_world.specs.Files.{Files}
 use Rattle.cjc_world.specs.Added.{added}
-use Rattle.cjc_world.specs.Classes.{Class, Member, class_at as world_class_at, class_named}
+use Rattle.cjc_world.specs.Classes.{Class, Member, class_named}
 use Rattle.cjc_world.specs.Lookup.{is_called, member_at, own_method}
 use Rattle.cjc_world.specs.Order.{class_order, in_order, places, written}
 use Rattle.cjc_token_proof.specs.ByToken.Names.{NamesAgree}
 use Rattle.cjc_token_proof.specs.WrittenCalls.Calls.{NoStaticMethods}
 use Rattle.cjc_token_proof.proofs.WrittenCalls.Facts.{Facts}
-use Rattle.cjc_token_proof.proofs.WrittenCalls.Files.{get_front}
 use Rattle.cjc_token_proof.proofs.WrittenCalls.Found.{Own as OwnMethod, own_is, stands_in_method}
 use Rattle.cjc_token_proof.proofs.WrittenCalls.Orders.{order_own}
+use Rattle.cjc_world_proof.proofs.CallsLaws.Scripts.{alone}
 
 -- ---- flags
 
@@ -137,27 +138,13 @@ own_same : (c : Class) (id : MemberId) → option_map (λ j. member_at c (length
 unfolding own_method
 own_same c id = refl
 
-number_same : (a b : ℕ) → (a == b) ≡ true → a ≡ b
-number_same a b e = grind (arith, nat_tests, e)
-
-same_number : (a : ℕ) → (a == a) ≡ true
-same_number a = grind (arith, nat_tests)
-
-itself : (c : Class) → world_class_at (c ∷ []) c.is_imported c.number ≡ Some c
-unfolding world_class_at
-itself c = ap (λ t. if t then Some c else None) (by c.is_imported c.number)
-  where
-    by : (b : Bool) (n : ℕ) → ((if b then b else not b) && (n == n)) ≡ true
-    by true n = same_number n
-    by false n = same_number n
-
 -- what a look-up found in a class
 hit_is : (c : Class) (i : ℕ) (m : Member) → slice_get c.methods i ≡ Some m
     → method_hit (c ∷ []) (member_at c (length c.fields + i)) ≡ Some (record { owner = c; flags = m.flags })
 hit_is c i m e =
     let left : length c.fields + i - length c.fields ≡ i = omega arith in
     ap (option_and_then (λ (d : Class). option_map (λ (q : Member). record { owner = d; flags = q.flags })
-    (slice_get d.methods (length c.fields + i - length d.fields)))) (itself c)
+    (slice_get d.methods (length c.fields + i - length d.fields)))) (alone c)
     ∙ ap (λ j. option_map (λ (q : Member). record { owner = c; flags = q.flags }) (slice_get c.methods j)) left
     ∙ ap (option_map (λ (q : Member). record { owner = c; flags = q.flags })) e
 
@@ -297,7 +284,7 @@ module _ (p : Package) (facts : Facts p) where
   own_in c j m e =
       let z : length c.fields + j - length c.fields ≡ j = omega arith in
       ap (λ i. unwrap_or (slice_get (methods_with_added w c) i) no_member) z
-      ∙ ap (λ o. unwrap_or o no_member) (get_front c.methods (map as_added (added w c)) j m e)
+      ∙ ap (λ o. unwrap_or o no_member) (in_front c.methods (map as_added (added w c)) j m e)
 
   -- an initialiser is among none of them
   initialiser_none : (c : Class) (id : MemberId) → is_initialiser id.name ≡ true → (at : ℕ) (ms : List Member)
@@ -362,7 +349,7 @@ module _ (p : Package) (facts : Facts p) where
 
     descriptor_there : class_among (map (class_descriptor p) (class_order w)) info.offset ≡ Some (class_descriptor p c)
     descriptor_there = class_found info.offset c (class_order w) info.number info.ordered
-        (ap (λ ref. is_inside ref info.offset) info.ref ∙ same_number info.offset) one_class
+        (ap (λ ref. is_inside ref info.offset) info.ref ∙ like_number info.offset) one_class
 
     -- what the class declares under a name, if it is not the initialiser's
     pub declared_is : (id : MemberId) → declared (loaded p) (class_at p c.name) id ≡ option_map (λ m. record {

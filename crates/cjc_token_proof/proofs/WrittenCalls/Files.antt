@@ -1,6 +1,6 @@
 -- The export files of an imported class and of its supers have each virtual method by its token.
 use Rattle.std.proofs.Common.{◌≡◌, ℕ, zero, suc, ◌+◌, ◌-◌, refl, sym, ap, subst, ◌∙◌, arith, Bool, true, false, List}
-use Rattle.std.proofs.Common.{[], ◌∷◌, ◌++◌, length, ◌⊎◌, inl, inr, ⊎_elim}
+use Rattle.std.proofs.Common.{[], ◌∷◌, ◌++◌, length, ⊎_elim}
 use Rattle.std.specs.Prelude.{Option, Some, None, slice_get, map, option_map, option_and_then, position, cond, get_or}
 use Rattle.std.specs.Prelude.{find, not, nat_lt, ◌==◌, ◌&&◌, ◌||◌, if◌then◌else◌}
 use Rattle.std.specs.List.{AllByRecursion}
@@ -8,16 +8,20 @@ use Rattle.std.specs.Str.{bytes_eq}
 use Rattle.std.proofs.lemmas.Bool.Decides.{nat_tests}
 use Rattle.std.proofs.lemmas.List.Quantifiers.{position-Some}
 use Rattle.std.proofs.lemmas.Option.{slice_get-get_or}
+use Rattle.std.proofs.lemmas.Bool.{and_from}
 use Rattle.cjc_bytes.specs.AccessFlags.{is_interface, is_private, is_static}
+use Rattle.cjc_bytes.proofs.Bools.{and_true}
+use Rattle.cjc_bytes.proofs.Gets.{find_got, in_front as get_front}
+use Rattle.cjc_bytes.proofs.Numbers.{number_same, number_same_number}
 use Rattle.cjc_token_proof.specs.Calls.Dispatching.{SaysFile, event}
 use Rattle.cjc_card_semantics.specs.Machine.Dispatch.{Outward, dispatched_outward, exported_line, in_files, outward}
 use Rattle.cjc_components.specs.Names.{class_at as card_class}
 use Rattle.cjc_components.specs.Package.{Package, world}
-use Rattle.cjc_export.specs.declared.tree.ExportClass.{ExportClass}
-use Rattle.cjc_export.specs.declared.tree.ExportMethod.{ExportMethod}
-use Rattle.cjc_export.specs.Supers.{IsAtOrAbove, at, above, is_one_of, upwards, virtual_method}
-use Rattle.cjc_export.specs.Supers as exports
-use Rattle.cjc_export.proofs.Upwards.{all_found, each_own, found_is}
+use Rattle.cjc_world.specs.ExportFile.declared.tree.ExportClass.{ExportClass}
+use Rattle.cjc_world.specs.ExportFile.declared.tree.ExportMethod.{ExportMethod}
+use Rattle.cjc_world.specs.ExportFile.Supers.{IsAtOrAbove, at, above, is_one_of, upwards, virtual_method}
+use Rattle.cjc_world.specs.ExportFile.Supers as exports
+use Rattle.cjc_world.proofs.ExportFileUpwards.{all_found, each_own, found_is}
 use Rattle.cjc_token_proof.specs.Tables.Infos.{HasEntry}
 use Rattle.cjc_token_proof.specs.Tables.Loading.{loaded, naming}
 use Rattle.cjc_tokens.specs.Members.{In, Signature, all_methods, first_of, is_constructor, is_initialiser, is_virtual}
@@ -25,6 +29,8 @@ use Rattle.cjc_tokens.specs.Members.{later, signature_of}
 use Rattle.cjc_vtable.specs.Calls.{IsOneToOne}
 use Rattle.cjc_vtable.specs.Dispatch.{own_by_token}
 use Rattle.cjc_vtable.specs.Naming.{member_named, method_named, named}
+use Rattle.cjc_vtable.proofs.Told.{In-front, In-behind}
+use Rattle.cjc_vtable.proofs.Given.{In-split}
 use Rattle.cjc_world.specs.declared.found.Found.{Found}
 use Rattle.cjc_world.specs.Added.{added}
 use Rattle.cjc_world.specs.Classes.{Class, Member, class_at, class_named, imported, method_of_export}
@@ -32,9 +38,9 @@ use Rattle.cjc_world.specs.Supertypes.{AreSupertypes, Supertypes, Known, Lists, 
 use Rattle.cjc_world.specs.Supertypes.{known_here, unknown_here}
 use Rattle.cjc_world.specs.Supertypes as supertype_trees
 use Rattle.cjc_world.specs.Lookup.{first, member_at, or_else}
+use Rattle.cjc_world.proofs.Cycles.{class_named-name}
 use Rattle.cjc_token_proof.proofs.ByToken.Members.{bytes_same, bytes_tell}
 use Rattle.cjc_token_proof.proofs.WrittenCalls.Facts.{Facts, exported}
-use Rattle.cjc_token_proof.proofs.WrittenCalls.SupertypeTrees.{name_is}
 
 -- ---- names and members in lists
 
@@ -56,28 +62,15 @@ one_lists y (x ∷ xs) e = by (bytes_eq x y) refl e (one_lists y xs)
     by true is h rest = subst (λ z. Lists y (z ∷ xs)) (sym (bytes_tell x y is)) foremost
     by false is h rest = after (rest h)
 
-in_front : (m : Member) (xs ys : List Member) → In m xs → In m (xs ++ ys)
-in_front m [] ys h = elim h [ ]
-in_front m (x ∷ xs) ys first_of = first_of
-in_front m (x ∷ xs) ys (later h) = later (in_front m xs ys h)
-
-in_back : (m : Member) (xs ys : List Member) → In m ys → In m (xs ++ ys)
-in_back m [] ys h = h
-in_back m (x ∷ xs) ys h = later (in_back m xs ys h)
-
-in_either : (m : Member) (xs ys : List Member) → In m (xs ++ ys) → In m xs ⊎ In m ys
-in_either m [] ys h = inr h
-in_either m (x ∷ xs) ys first_of = inl first_of
-in_either m (x ∷ xs) ys (later h) = ⊎_elim (λ a. inl (later a)) (λ b. inr b) (in_either m xs ys h)
-
 methods_front : (m : Member) (cs ds : List Class) → In m (all_methods cs) → In m (all_methods (cs ++ ds))
 methods_front m [] ds h = elim h [ ]
-methods_front m (c ∷ cs) ds h = ⊎_elim (λ a. in_front m c.methods (all_methods (cs ++ ds)) a) (λ b. in_back m c.methods
-    (all_methods (cs ++ ds)) (methods_front m cs ds b)) (in_either m c.methods (all_methods cs) h)
+methods_front m (c ∷ cs) ds h = ⊎_elim (λ a. In-front m c.methods (all_methods (cs ++ ds)) a)
+    (λ b. In-behind m c.methods
+    (all_methods (cs ++ ds)) (methods_front m cs ds b)) (In-split m c.methods (all_methods cs) h)
 
 methods_back : (m : Member) (cs ds : List Class) → In m (all_methods ds) → In m (all_methods (cs ++ ds))
 methods_back m [] ds h = h
-methods_back m (c ∷ cs) ds h = in_back m c.methods (all_methods (cs ++ ds)) (methods_back m cs ds h)
+methods_back m (c ∷ cs) ds h = In-behind m c.methods (all_methods (cs ++ ds)) (methods_back m cs ds h)
 
 pub in_at : (ms : List Member) (k : ℕ) (m : Member) → slice_get ms k ≡ Some m → In m ms
 in_at [] k m e = absurd (cc)
@@ -94,16 +87,6 @@ pub position_has : {A : Type 0} (test : A → Bool) (xs : List A) (i : ℕ) (d :
 position_has test xs i d e =
     let r = position-Some test xs i d e in
     (get_or xs i d, slice_get-get_or xs i d r.0, r.1)
-
-find_has : {A : Type 0} (test : A → Bool) (xs : List A) (x : A) → find test xs ≡ Some x → (k : ℕ)
-    × (slice_get xs k ≡ Some x) × (test x ≡ true)
-find_has test [] x e = absurd (cc)
-find_has {A = A} test (y ∷ xs) x e = by (test y) refl e (find_has test xs x)
-  where
-    by : (t : Bool) → test y ≡ t → cond t (Some y) (find test xs) ≡ Some x → (find test xs ≡ Some x → (k : ℕ)
-        × (slice_get xs k ≡ Some x) × (test x ≡ true)) → (k : ℕ) × (slice_get (y ∷ xs) k ≡ Some x) × (test x ≡ true)
-    by true is h rest = let same : y ≡ x = cc in (0, ap Some same, sym (ap test same) ∙ is)
-    by false is h rest = let r = rest h in (suc r.0, r.1, r.2)
 
 find_there : {A : Type 0} (test : A → Bool) (xs : List A) (k : ℕ) (x : A) → slice_get xs k ≡ Some x → test x ≡ true
     → (y : A) × (find test xs ≡ Some y)
@@ -142,26 +125,6 @@ pub export_from : (ms : List ExportMethod) (k : ℕ) (m : Member) → slice_get 
 export_from [] k m e = absurd (cc)
 export_from (n ∷ ms) zero m e = (n, refl, cc)
 export_from (n ∷ ms) (suc k) m e = export_from ms k m e
-
-pub and_true : (a b : Bool) → (a && b) ≡ true → (a ≡ true) × (b ≡ true)
-and_true true b e = (refl, e)
-and_true false b e = absurd (cc)
-
-both_true : (a b : Bool) → a ≡ true → b ≡ true → (a && b) ≡ true
-both_true true b x y = y
-both_true false b x y = absurd (cc)
-
-number_same : (a b : ℕ) → (a == b) ≡ true → a ≡ b
-number_same a b e = grind (arith, nat_tests, e)
-
-same_number : (a b : ℕ) → a ≡ b → (a == b) ≡ true
-same_number a b e = grind (arith, nat_tests, e)
-
-pub get_front : {A : Type 0} (xs ys : List A) (k : ℕ) (x : A) → slice_get xs k ≡ Some x → slice_get (xs ++ ys) k
-    ≡ Some x
-get_front [] ys k x e = absurd (cc)
-get_front (z ∷ xs) ys zero x e = e
-get_front (z ∷ xs) ys (suc k) x e = get_front xs ys k x e
 
 pub some_member : Member
 some_member = record { flags = 0; name = []; desc = []; token = 0 }
@@ -228,7 +191,7 @@ module _ (p : Package) (facts : Facts p) where
       {next = next} e ks ki kn) start own =
       let is = own x c foremost e in
       let file = facts.in_file x c e is in
-      let name = name_is w x c e in (
+      let name = class_named-name w x c e in (
         record {
           imported = is;
           known = ap (class_named w) name ∙ e;
@@ -258,12 +221,12 @@ module _ (p : Package) (facts : Facts p) where
       subst (λ q. In m (c.methods ++ all_methods (supertype_trees.upwards q))) supertypes_same
       (subst (λ (q : Class). In m (q.methods ++ all_methods (supertype_trees.upwards (supertypes w q.supers)))) same
       there) in
-      ⊎_elim (λ a. in_front m c.methods (all_methods (supertype_trees.upwards supers ++ supertype_trees.upwards next))
-      a) (λ b. in_back m c.methods (all_methods (supertype_trees.upwards supers ++ supertype_trees.upwards next))
-      (methods_front m (supertype_trees.upwards supers) (supertype_trees.upwards next) b)) (in_either m c.methods
+      ⊎_elim (λ a. In-front m c.methods (all_methods (supertype_trees.upwards supers ++ supertype_trees.upwards next))
+      a) (λ b. In-behind m c.methods (all_methods (supertype_trees.upwards supers ++ supertype_trees.upwards next))
+      (methods_front m (supertype_trees.upwards supers) (supertype_trees.upwards next) b)) (In-split m c.methods
       (all_methods (supertype_trees.upwards supers)) here)
   within xs k (known_here {c = c} {supers = supers} {next = next} known ks ki kn) y d (after h) e m there =
-      in_back m c.methods (all_methods (supertype_trees.upwards supers ++ supertype_trees.upwards next))
+      In-behind m c.methods (all_methods (supertype_trees.upwards supers ++ supertype_trees.upwards next))
       (methods_back m (supertype_trees.upwards supers) (supertype_trees.upwards next) (within _ _ kn y d h e m
       there))
 
@@ -283,7 +246,7 @@ module _ (p : Package) (facts : Facts p) where
       let r = reached_in names x below own (imported up.0 u) up.1 in
       let listed : Lists y u.supers = one_lists y u.supers is in (
         facts.rules.apart x y (imported up.0 u) d up.1 refl listed e,
-        λ m h. r.1 m (in_back m (imported up.0 u).methods
+        λ m h. r.1 m (In-behind m (imported up.0 u).methods
             (all_methods (supertype_trees.upwards (supertypes w u.supers))) (within u.supers (supertypes w u.supers)
             (facts.are_supertypes u.supers) y d listed e m h)),
       )
@@ -301,12 +264,12 @@ module _ (p : Package) (facts : Facts p) where
           × Reached names d × (own d ≡ Some f) × ((m : Member) → In m d.methods → In m (all_methods cs)))
           → (d : Class) × Reached names d × (own d ≡ Some f) × ((m : Member) → In m d.methods
           → In m (c.methods ++ all_methods cs))
-      by None is h rest = let r = rest h in (r.0, r.1, r.2, λ m i. in_back m c.methods (all_methods cs) (r.3 m i))
+      by None is h rest = let r = rest h in (r.0, r.1, r.2, λ m i. In-behind m c.methods (all_methods cs) (r.3 m i))
       by (Some g) is h rest = let same : g ≡ f = cc in (
         c,
         all.0,
         is ∙ ap Some same,
-        λ m i. in_front m c.methods (all_methods cs) i,
+        λ m i. In-front m c.methods (all_methods cs) i,
       )
 
   -- ---- one export file after the other
@@ -344,7 +307,7 @@ module _ (p : Package) (facts : Facts p) where
   method_says : (t : ℕ) (k : ℕ) (e : ExportClass) (m : ExportMethod) → IsPlain e → virtual_method t e ≡ Some m
       → In (method_of_export m) (imported k e).methods × (is_virtual (method_of_export m) ≡ true) × (m.token ≡ t)
   method_says t k e m plain is =
-      let r = find_has (λ (x : ExportMethod). exports.is_virtual x && (x.token == t)) e.methods m is in
+      let r = find_got (λ (x : ExportMethod). exports.is_virtual x && (x.token == t)) e.methods m is in
       let two = and_true (exports.is_virtual m) (m.token == t) r.2 in (
         in_at (map method_of_export e.methods) r.0 (method_of_export m) (export_at e.methods r.0 m r.1),
         sym (export_virtual m (plain r.0 m r.1)) ∙ two.0,
@@ -413,8 +376,8 @@ module _ (p : Package) (facts : Facts p) where
     exported_method t i k e m plain at_i virtual token =
         let r = export_from e.methods i m at_i in
         find_there (λ (q : ExportMethod). exports.is_virtual q && (q.token == t)) e.methods i r.0 r.1
-        (both_true (exports.is_virtual r.0) (r.0.token == t) (export_virtual r.0 (plain i r.0 r.1) ∙ ap is_virtual r.2
-        ∙ virtual) (same_number r.0.token t (ap (λ (q : Member). q.token) r.2 ∙ token)))
+        (and_from (exports.is_virtual r.0) (r.0.token == t) (export_virtual r.0 (plain i r.0 r.1) ∙ ap is_virtual r.2
+        ∙ virtual) (number_same_number r.0.token t (ap (λ (q : Member). q.token) r.2 ∙ token)))
 
     -- what is found from an imported class is imported
     pub first_imported_found : (own : Class → Option Found) → ((d : Class) (f : Found) → own d ≡ Some f
@@ -453,9 +416,9 @@ module _ (p : Package) (facts : Facts p) where
           let d = facts.of_file e.name e known in
           let r = reached_in c.supers e.name (up e.name (ap (λ q. q || is_one_of (map (λ (u : ExportClass). u.name) us)
           e.name) (bytes_same e.name))) own_supers (imported d.0 e) d.1 in (
-            says_same t m there virtual token d.0 e (facts.plain e.name e known) (λ o h. in_back o c.methods
+            says_same t m there virtual token d.0 e (facts.plain e.name e known) (λ o h. In-behind o c.methods
                 (all_methods (supertype_trees.upwards (supertypes w c.supers)))
-                (r.1 o (in_front o (imported d.0 e).methods
+                (r.1 o (In-front o (imported d.0 e).methods
                 (all_methods (supertype_trees.upwards (supertypes w e.supers))) h))),
             all_say t m there virtual token us (λ k u h. own (suc k) u h) (λ y h. up y (later_name y h)),
           )
@@ -476,13 +439,14 @@ module _ (p : Package) (facts : Facts p) where
       event_by t s m there virtual token names k e o at_k finds =
           let head : Says t (signature_of m) has.entry = says_same t m there virtual token has.number has.entry
           entry_plain
-          (λ q h. in_front q c.methods (all_methods (supertype_trees.upwards (supertypes w c.supers)))
+          (λ q h. In-front q c.methods (all_methods (supertype_trees.upwards (supertypes w c.supers)))
           (subst (λ (d : Class). In q d.methods) (sym has.class) h)) in
           let tail : AllSay t (signature_of m) ups = all_say t m there virtual token ups
           (own_at es ups (each_own es has.entry.supers))
           (λ y h. subst (λ ns. IsAtOrAbove es ns y) (sym supers_same) (found_is es has.entry.supers y h).0) in
           outward_first t (signature_of m) has.entry.name (has.entry ∷ ups) (head, tail) k e o at_k finds
-          ∙ ap (λ q. Outward (event q (signature_of m))) (sym (ap (λ (q : Class). q.name) has.class) ∙ name_is w x c is)
+          ∙ ap (λ q. Outward (event q (signature_of m))) (sym (ap (λ (q : Class). q.name) has.class)
+          ∙ class_named-name w x c is)
           ∙ ap (λ q. Outward (event x q)) names
 
       found_event : (t : ℕ) (f : Found) (s : Signature) → first (own_by_token t) line ≡ Some f → named w f ≡ Some s
@@ -498,7 +462,7 @@ module _ (p : Package) (facts : Facts p) where
               let r = own_token t c f s (own ∙ ap Some same) (facts.placed x c is) names in
               let o = exported_method t r.0 has.number has.entry r.1 entry_plain
               (ap (λ (q : Class). slice_get q.methods r.0) (sym has.class) ∙ r.2) r.3 r.4 in
-              event_by t s r.1 (in_front r.1 c.methods (all_methods (supertype_trees.upwards (supertypes w c.supers)))
+              event_by t s r.1 (In-front r.1 c.methods (all_methods (supertype_trees.upwards (supertypes w c.supers)))
               (in_at c.methods r.0 r.1 r.2)) r.3 r.4 r.5 0 has.entry o.0 refl o.1
           by None own h =
               let d = first_reached (own_by_token t) c.supers (supertype_trees.upwards (supertypes w c.supers)) f
@@ -514,7 +478,7 @@ module _ (p : Package) (facts : Facts p) where
               ∙ ap (exports.class_named es) u.3 ∙ file.2 in cc in
               let o = exported_method t r.0 file.0 file.1 r.1 (facts.plain d.0.name file.1 file.2)
               (ap (λ (q : Class). slice_get q.methods r.0) (sym file.3) ∙ r.2) r.3 r.4 in
-              event_by t s r.1 (in_back r.1 c.methods (all_methods (supertype_trees.upwards (supertypes w c.supers)))
+              event_by t s r.1 (In-behind r.1 c.methods (all_methods (supertype_trees.upwards (supertypes w c.supers)))
               (d.3 r.1 (in_at d.0.methods r.0 r.1 r.2))) r.3 r.4 r.5 (suc u.0) u.1 o.0 u.2 (ap (virtual_method t)
               same ∙ o.1)
 
@@ -523,7 +487,7 @@ module _ (p : Package) (facts : Facts p) where
         tree = has.file;
         token = has.entry.token;
         entry = has.entry;
-        on_card = sym (ap (card_class p) (name_is w x c is)) ∙ has.on_card;
+        on_card = sym (ap (card_class p) (class_named-name w x c is)) ∙ has.on_card;
         there = has.there;
         imported = λ t f e. first_imported_found (own_by_token t) (own_kind t) f e;
         methods = found_event;

@@ -26,9 +26,9 @@ use Rattle.cjc_world.specs.Added.{added}
 use Rattle.cjc_world.specs.Classes.{Class, class_named}
 use Rattle.cjc_world.specs.Supertypes.{supertypes, upwards}
 use Rattle.cjc_world.specs.Lookup.{find_method}
+use Rattle.cjc_world.proofs.Cycles.{class_named-name}
 use Rattle.cjc_token_proof.specs.WrittenCalls.Calls.{KeepsTokens}
 use Rattle.cjc_token_proof.proofs.WrittenCalls.Facts.{Facts}
-use Rattle.cjc_token_proof.proofs.WrittenCalls.SupertypeTrees.{name_is}
 use Rattle.cjc_token_proof.proofs.WrittenCalls.Tables.{class_meant}
 
 -- a token that is there is the one that is taken
@@ -73,19 +73,19 @@ module _ (p : Package) (facts : Facts p) (tokens : KeepsTokens (world p)) where
   token_means m d known class_here = by d.is_imported refl
     where
       name : d.name ≡ m.class
-      name = name_is w m.class d known
+      name = class_named-name w m.class d known
 
       by : (t : Bool) → d.is_imported ≡ t → token_of (class_at p m.class) (virtual_token p m)
           ≡ Some (unwrap_or (token_of (class_at p m.class) (virtual_token p m)) (Open 0))
       by true import =
           let h = facts.file m.class d known import in
-          let at = sym (ap (class_at p) (name_is w m.class d known)) ∙ h.on_card in
+          let at = sym (ap (class_at p) (class_named-name w m.class d known)) ∙ h.on_card in
           ap (λ k. token_of k (virtual_token p m)) at ∙ file_taken h.file h.entry.token (virtual_token p m)
           (token_low m d known class_here import)
           ∙ ap (λ k. Some (unwrap_or (token_of k (virtual_token p m)) (Open 0))) (sym at)
       by false own =
           let h = facts.own m.class d known own in
-          let at = sym (ap (class_at p) (name_is w m.class d known)) ∙ h.on_card in
+          let at = sym (ap (class_at p) (class_named-name w m.class d known)) ∙ h.on_card in
           ap (λ k. token_of k (virtual_token p m)) at ∙ own_taken 0 h.offset (virtual_token p m)
           ∙ ap (λ k. Some (unwrap_or (token_of k (virtual_token p m)) (Open 0))) (sym at)
 
@@ -102,7 +102,7 @@ module _ (p : Package) (facts : Facts p) (tokens : KeepsTokens (world p)) where
       → IsFixed (naming p) on m
   fixed_means on m c known own =
       let h = facts.own m.class c known own in
-      let at = sym (ap (class_at p) (name_is w m.class c known)) ∙ h.on_card in
+      let at = sym (ap (class_at p) (class_named-name w m.class c known)) ∙ h.on_card in
       ap (λ k. Rattle.cjc_card_semantics.specs.Machine.Operations.static_method (naming p).loaded 0 on
       (member_ref k (offset_where p (find_method w m.class m.name m.desc))
       (member_token p (find_method w m.class m.name m.desc)))) at

@@ -7,7 +7,11 @@ use Rattle.std.specs.Prelude.{if◌then◌else◌, codes}
 use Rattle.std.specs.List.{list_any}
 use Rattle.std.specs.Str.{bytes_eq}
 use Rattle.std.proofs.lemmas.Bool.Decides.{nat_tests}
+use Rattle.std.proofs.lemmas.Map.Keys.{any_passes_from_place}
 use Rattle.cjc_bytes.specs.AccessFlags.{is_interface}
+use Rattle.cjc_bytes.proofs.Bools.{and_true}
+use Rattle.cjc_bytes.proofs.Gets.{in_front}
+use Rattle.cjc_bytes.proofs.Quantified.{any_both}
 use Rattle.cjc_jvm_semantics.specs.OnePackage.{is_initialiser}
 use Rattle.cjc_token_proof.proofs.ByToken.Members.{bytes_tell}
 use Rattle.cjc_token_proof.specs.Calls.Reaching.{is_in_method, is_same}
@@ -20,10 +24,10 @@ use Rattle.cjc_world.specs.Supertypes.{Supertypes, End, Known, Unknown, supertyp
 use Rattle.cjc_world.specs.Lookup.{first, is_called, is_wanted, member_at, or_else, own_method}
 use Rattle.cjc_world.specs.Order.{class_order, in_order, method_order, methods_in_turn, methods_of_class, places}
 use Rattle.cjc_world.specs.Order.{written}
-use Rattle.cjc_token_proof.proofs.WrittenCalls.Files.{and_true, get_front, position_has, some_member}
+use Rattle.cjc_token_proof.proofs.WrittenCalls.Files.{position_has, some_member}
 use Rattle.cjc_token_proof.proofs.WrittenCalls.SupertypeTrees.{SupertypesFine, supertypes_fine}
 use Rattle.cjc_token_proof.proofs.WrittenCalls.Orders.{order_own}
-use Rattle.cjc_token_proof.proofs.WrittenCalls.Begins.{any_at, any_both, same_itself}
+use Rattle.cjc_token_proof.proofs.WrittenCalls.Begins.{same_itself}
 
 module _ (w : List Class) where
   -- found by their names
@@ -102,7 +106,7 @@ module _ (w : List Class) where
       ap (option_and_then (member_named w (length d.fields + i))) placed
       ∙ ap (λ b. if b then None else method_named w d (length d.fields + i - length d.fields)) past
       ∙ ap (method_named w d) left
-      ∙ ap (option_map signature_of) (get_front d.methods (added w d) i m there)
+      ∙ ap (option_map signature_of) (in_front d.methods (added w d) i m there)
 
   pub own_named : (b : Bool) (name desc : List ℕ) (d : Class) (f : Found) → class_at w d.is_imported d.number ≡ Some d
       → Own b name desc d f → named w f ≡ Some (record { name = name; desc = desc })
@@ -170,7 +174,7 @@ module _ (w : List Class) where
       in
       let r = written_has c (length c.fields) c.methods i m there plain in
       turn_has (member_at c (length c.fields + i)) (in_order w false) j.0 c j.1
-      (any_at (is_same (member_at c (length c.fields + i))) (methods_of_class w c) r.0
-      (member_at c (length c.fields + i)) (get_front (written c (length c.fields) c.methods)
+      (any_passes_from_place (is_same (member_at c (length c.fields + i))) (methods_of_class w c) r.0
+      (member_at c (length c.fields + i)) (in_front (written c (length c.fields) c.methods)
       (places c (length c.fields + length c.methods) (length (added w c))) r.0 (member_at c (length c.fields + i))
       r.1) (same_itself (member_at c (length c.fields + i)) own))

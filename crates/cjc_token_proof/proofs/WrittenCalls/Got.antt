@@ -1,13 +1,18 @@
 -- The class of the package that a token's method is found in, which declares the method or got it from an interface.
 use Rattle.std.proofs.Common.{◌≡◌, ℕ, zero, suc, ◌+◌, ◌-◌, ◌<◌, refl, sym, ap, subst, ◌∙◌, arith, Bool, true, false}
-use Rattle.std.proofs.Common.{List, [], ◌∷◌, ◌++◌, length, inl, inr}
+use Rattle.std.proofs.Common.{List, [], ◌∷◌, length, inl, inr}
 use Rattle.std.specs.Prelude.{Option, Some, None, slice_get, map, option_map, option_and_then, position, not, unwrap_or}
 use Rattle.std.specs.Prelude.{◌&&◌, ◌||◌, ◌⊎◌, if◌then◌else◌}
 use Rattle.std.specs.List.{list_any}
 use Rattle.std.specs.Str.{bytes_eq}
 use Rattle.std.proofs.lemmas.List.{length-map}
 use Rattle.std.proofs.lemmas.Option.{slice_get-map, slice_get_past}
+use Rattle.std.proofs.lemmas.Bool.{or_right}
+use Rattle.std.proofs.lemmas.Map.Keys.{any_passes_from_place}
 use Rattle.cjc_bytes.specs.AccessFlags.{is_interface}
+use Rattle.cjc_bytes.proofs.Bools.{and_true}
+use Rattle.cjc_bytes.proofs.Gets.{get_behind, get_below}
+use Rattle.cjc_bytes.proofs.Quantified.{any_both}
 use Rattle.cjc_jvm_semantics.specs.OnePackage.{method_at, method_by, method_in}
 use Rattle.cjc_token_proof.proofs.ByToken.Members.{bytes_tell}
 use Rattle.cjc_token_proof.specs.Calls.Reaching.{is_in_method, is_same}
@@ -31,9 +36,9 @@ use Rattle.cjc_world.specs.Supertypes.{End, AreSupertypes, Supertypes, Known, Un
 use Rattle.cjc_world.specs.Supertypes.{unknown_here, upwards}
 use Rattle.cjc_world.specs.Lookup.{first, is_called, is_selectable, member_at, or_else}
 use Rattle.cjc_world.specs.Order.{class_order, in_order, method_order, places, written}
-use Rattle.cjc_token_proof.proofs.WrittenCalls.Begins.{any_at, any_both, same_itself}
+use Rattle.cjc_token_proof.proofs.WrittenCalls.Begins.{same_itself}
 use Rattle.cjc_token_proof.proofs.WrittenCalls.Facts.{Facts}
-use Rattle.cjc_token_proof.proofs.WrittenCalls.Files.{and_true, first_imported_found, position_has, some_member}
+use Rattle.cjc_token_proof.proofs.WrittenCalls.Files.{first_imported_found, position_has, some_member}
 use Rattle.cjc_token_proof.proofs.WrittenCalls.Found.{Own, among_classes, turn_has}
 use Rattle.cjc_token_proof.proofs.WrittenCalls.Orders.{order_own}
 
@@ -96,20 +101,6 @@ places_at c i zero k lt = absurd (omega (arith, lt))
 places_at c i (suc n) zero lt = let z : i ≡ i + 0 = omega arith in ap (λ j. Some (member_at c j)) z
 places_at c i (suc n) (suc k) lt = let next : i + 1 + k ≡ i + suc k = omega arith
     in places_at c (i + 1) n k (omega (arith, lt)) ∙ ap (λ j. Some (member_at c j)) next
-
-length_at : {A : Type 0} (xs : List A) (k : ℕ) (x : A) → slice_get xs k ≡ Some x → k < length xs
-length_at [] k x e = absurd (cc)
-length_at (y ∷ xs) zero x e = omega arith
-length_at (y ∷ xs) (suc k) x e = let lt = length_at xs k x e in omega (arith, lt)
-
-get_back : {A : Type 0} (xs ys : List A) (k : ℕ) → slice_get (xs ++ ys) (length xs + k) ≡ slice_get ys k
-get_back [] ys k = let z : 0 + k ≡ k = omega arith in ap (slice_get ys) z
-get_back (x ∷ xs) ys k = let z : suc (length xs) + k ≡ suc (length xs + k) = omega arith
-    in ap (slice_get (x ∷ xs ++ ys)) z ∙ get_back xs ys k
-
-or_second : (a b : Bool) → b ≡ true → (a || b) ≡ true
-or_second true b e = refl
-or_second false b e = e
 
 module _ (p : Package) (facts : Facts p) where
   abbrev w : List Class
@@ -190,12 +181,12 @@ module _ (p : Package) (facts : Facts p) where
         let j = among_classes w (in_order w true) (in_order w false) i.number d (λ n c h. (order_own w true n c h).1)
         i.ordered class_here in
         let from = length d.fields + length d.methods in
-        let at = places_at d from (length (added w d)) g.place (length_at (added w d) g.place g.method g.there) in
+        let at = places_at d from (length (added w d)) g.place (get_below (added w d) g.place g.method g.there) in
         turn_has w f (in_order w false) j.0 d j.1
         (any_both (is_same f) (written d (length d.fields) d.methods) (places d from (length (added w d)))
-        ∙ or_second (list_any (is_same f) (written d (length d.fields) d.methods))
+        ∙ or_right (list_any (is_same f) (written d (length d.fields) d.methods))
         (list_any (is_same f) (places d from (length (added w d))))
-        (any_at (is_same f) (places d from (length (added w d))) g.place f (at ∙ ap Some (sym g.is))
+        (any_passes_from_place (is_same f) (places d from (length (added w d))) g.place f (at ∙ ap Some (sym g.is))
         (same_itself f (ap (λ (q : Found). q.imported) g.is ∙ own_class))))
 
     -- it has the words of its descriptor, and a receiver
@@ -209,7 +200,7 @@ module _ (p : Package) (facts : Facts p) where
         ∙ ap (λ n. (let m = unwrap_or (slice_get (methods_with_added w d) n) no_member
         in argument_words m.flags m.desc)) past
         ∙ ap (λ o. (let m = unwrap_or o no_member in argument_words m.flags m.desc))
-        (get_back d.methods (map as_added (added w d)) g.place ∙ slice_get-map as_added (added w d) g.place
+        (get_behind d.methods (map as_added (added w d)) g.place ∙ slice_get-map as_added (added w d) g.place
         ∙ ap (option_map as_added) g.there)
         ∙ ap (λ y. 1 + parameter_words (sorts.signature_of y)) g.desc_is
 

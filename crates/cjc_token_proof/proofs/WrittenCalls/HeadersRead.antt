@@ -1,7 +1,6 @@
 -- Headers are read as their methods say, those of abstract methods too.
 use Rattle.std.proofs.Common.{◌≡◌, ℕ, ◌+◌, ◌*◌, ◌/◌, ◌%◌, ◌<◌, refl, ap, ◌∙◌, arith, Bool, true, false, List, ◌∷◌}
-use Rattle.std.specs.Prelude.{Some, ◌==◌, ◌&&◌, nat_lt, if◌then◌else◌}
-use Rattle.std.proofs.lemmas.Bool.Decides.{nat_tests}
+use Rattle.std.specs.Prelude.{Some, ◌==◌, nat_lt, if◌then◌else◌}
 use Rattle.cjc_check_rules.specs.CapRead.MethodHeader.{is_extended, is_abstract, short_header, extended_header}
 use Rattle.cjc_check_rules.specs.CapRead.MethodHeader.{method_header}
 use Rattle.cjc_check_rules.proofs.CapReadHeaders.{short_read}
@@ -11,6 +10,8 @@ use Rattle.cjc_components.specs.Emit.Emitted.{is_short}
 use Rattle.cjc_ncode.specs.Lowering.Placed as placed
 use Rattle.cjc_ncode.specs.Lowering.Placed.{IsHeader}
 use Rattle.cjc_ncode.specs.declared.narrow.NMethod.{NMethod}
+use Rattle.cjc_bytes.proofs.Bools.{both_front, both_back}
+use Rattle.cjc_bytes.proofs.Numbers.{number_below}
 
 abstract_read : (stack nargs locals : ℕ) (rest : List ℕ) → stack < 16 → nargs < 16 → locals < 16
     → method_header ((0x40 + stack) ∷ (16 * nargs + locals) ∷ rest) ≡ Some (record {
@@ -48,29 +49,20 @@ abstract_read stack nargs locals rest hs hn hl =
     ∙ ap (λ t. Some (record { max_stack = stack; nargs = t; max_locals = second % 16; is_abstract = true; size = 2 })) n
     ∙ ap (λ t. Some (record { max_stack = stack; nargs = nargs; max_locals = t; is_abstract = true; size = 2 })) l
 
-first_of : (a b : Bool) → (a && b) ≡ true → a ≡ true
-first_of true b e = refl
-first_of false b e = e
-
-second_of : (a b : Bool) → (a && b) ≡ true → b ≡ true
-second_of true b e = e
-second_of false b e = absurd (cc)
-
-below : (n m : ℕ) → nat_lt n m ≡ true → n < m
-below n m e = grind (arith, nat_tests, e)
-
 read_by : (a s : Bool) (m : NMethod) → is_short m ≡ s
     → IsHeader a m (if a then with_abstract (if s then placed.short_header m else placed.extended_header m)
     else (if s then placed.short_header m else placed.extended_header m))
 read_by true true m e behind =
-    let more = second_of (nat_lt m.max_stack 16) _ e in
-    abstract_read m.max_stack m.nargs m.max_locals behind (below m.max_stack 16 (first_of _ _ e))
-    (below m.nargs 16 (first_of _ _ more)) (below m.max_locals 16 (second_of (nat_lt m.nargs 16) _ more))
+    let more = both_back (nat_lt m.max_stack 16) _ e in
+    abstract_read m.max_stack m.nargs m.max_locals behind (number_below m.max_stack 16 (both_front _ _ e))
+    (number_below m.nargs 16 (both_front _ _ more)) (number_below m.max_locals 16 (both_back
+    (nat_lt m.nargs 16) _ more))
 read_by true false m e behind = refl
 read_by false true m e behind =
-    let more = second_of (nat_lt m.max_stack 16) _ e in
-    short_read m.max_stack m.nargs m.max_locals behind (below m.max_stack 16 (first_of _ _ e))
-    (below m.nargs 16 (first_of _ _ more)) (below m.max_locals 16 (second_of (nat_lt m.nargs 16) _ more))
+    let more = both_back (nat_lt m.max_stack 16) _ e in
+    short_read m.max_stack m.nargs m.max_locals behind (number_below m.max_stack 16 (both_front _ _ e))
+    (number_below m.nargs 16 (both_front _ _ more)) (number_below m.max_locals 16 (both_back
+    (nat_lt m.nargs 16) _ more))
 read_by false false m e behind = refl
 
 pub header_read : (m : LaidMethod) → IsHeader m.is_abstract (in_table_order m.code) (header_of m)

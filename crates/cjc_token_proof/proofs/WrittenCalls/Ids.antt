@@ -7,6 +7,7 @@ use Rattle.std.specs.List.{list_any}
 use Rattle.std.specs.Str.{bytes_eq}
 use Rattle.std.proofs.lemmas.List.{length-map}
 use Rattle.cjc_bytes.specs.declared.fault.MemberId.{MemberId}
+use Rattle.cjc_bytes.proofs.Bools.{and_true}
 use Rattle.cjc_jvm_semantics.specs.Linked.{Method}
 use Rattle.cjc_jvm_semantics.specs.OnePackage.{method_at, method_by, method_in}
 use Rattle.cjc_token_proof.proofs.ByToken.Members.{bytes_same, bytes_tell}
@@ -20,7 +21,7 @@ use Rattle.cjc_token_proof.proofs.TablesLaws.Above.{rules_of}
 use Rattle.cjc_token_proof.proofs.TablesLaws.Clean.{own_name}
 use Rattle.cjc_token_proof.proofs.TablesLaws.Fields.{first_here}
 use Rattle.cjc_token_proof.proofs.TablesLaws.Filed.{own_filed}
-use Rattle.cjc_token_proof.proofs.TablesLaws.Order.{get-has, kind-in}
+use Rattle.cjc_token_proof.proofs.TablesLaws.Order.{kind-in}
 use Rattle.cjc_world.specs.declared.found.Found.{Found}
 use Rattle.cjc_world.specs.Added.{added}
 use Rattle.cjc_world.specs.Classes.{Class, Member, class_named, declared, field_of_class, method_of_class}
@@ -29,8 +30,8 @@ use Rattle.cjc_world.specs.Order.{in_order, method_order, methods_in_turn, metho
 use Rattle.cjc_world.specs.Rules.{is_twice}
 use Rattle.cjc_token_proof.specs.WrittenCalls.Standing.{HaveOwnIds}
 use Rattle.cjc_token_proof.proofs.WrittenCalls.Begins.{same_found}
-use Rattle.cjc_token_proof.proofs.WrittenCalls.Files.{and_true}
 use Rattle.cjc_token_proof.proofs.WrittenCalls.Orders.{method_own}
+use Rattle.cjc_vtable.proofs.Filed.{get-has}
 
 module _ (w : List Class) where
   -- a method at a place of one of these classes

@@ -30,8 +30,9 @@ use Rattle.cjc_token_proof.specs.WrittenCalls.Calls.{IsNamed, Receives, fixed, n
 use Rattle.cjc_token_proof.specs.WrittenCalls.Calls.{on_super, one_of, references}
 use Rattle.cjc_token_proof.proofs.WrittenCalls.Facts.{Facts}
 use Rattle.cjc_token_proof.proofs.WrittenCalls.Reached.{find_first}
-use Rattle.cjc_token_proof.proofs.WrittenCalls.Receivers.{first_step, found_stands, not_array}
+use Rattle.cjc_token_proof.proofs.WrittenCalls.Receivers.{first_step, found_stands}
 use Rattle.cjc_token_proof.proofs.WrittenCalls.Towers.{line_is}
+use Rattle.cjc_world_proof.proofs.CallsLaws.Types.{receiver_class}
 
 -- told apart from a method that begins
 IsNowhere : Reached Placed → Type 0
@@ -100,7 +101,7 @@ module _ (p : Package) (facts : Facts p) (kinds : SaysKinds (world p) (naming p)
   received : (kind : Shape (List ℕ)) → Receives w (Some kind) → HasClass kind
   received kind (one_of {x = x} c e not_interface made) = record {
     class = c;
-    known = ap (class_named w) (not_array x (kinds.no_array x (ap is_some e))) ∙ e;
+    known = ap (class_named w) (receiver_class x (kinds.no_array x (ap is_some e))) ∙ e;
     class_here = not_interface;
   }
   received kind (numbers {element = Booleans}) = let c = facts.object_class in record {
@@ -180,7 +181,7 @@ module _ (p : Package) (facts : Facts p) (kinds : SaysKinds (world p) (naming p)
       let both : Some up.0 ≡ Some d = sym up.1 ∙ super_is in
       let same : up.0 ≡ d = cc in
       let class_here : is_interface d.flags ≡ false = sym (ap (λ (q : Class). is_interface q.flags) same) ∙ up.2 in
-      let itself : receiver super ≡ super = not_array super (kinds.no_array super (ap is_some super_is)) in
+      let itself : receiver super ≡ super = receiver_class super (kinds.no_array super (ap is_some super_is)) in
       let first_one : first_super (class_named w m.class) ≡ Some super = ap first_super known
       ∙ ap (λ ss. slice_get ss 0) supers in
       selected_placed super m d plain (ap (class_named w) itself ∙ super_is) class_here start

@@ -14,43 +14,37 @@ use Rattle.std.proofs.Common.{length, ◌+◌, ◌-◌}
 use Rattle.std.specs.Prelude.{Option, Some, None, slice_get, not, ◌==◌, ◌&&◌, if◌then◌else◌, option_map}
 use Rattle.std.specs.Prelude.{option_and_then, map}
 use Rattle.std.specs.Str.{bytes_eq}
-use Rattle.std.proofs.lemmas.Bool.Decides.{nat_tests}
 use Rattle.cjc_bytes.specs.AccessFlags.{is_interface}
+use Rattle.cjc_bytes.proofs.Numbers.{like_number, number_same}
 use Rattle.cjc_token_proof.proofs.ByToken.Members.{bytes_same, bytes_tell}
 use Rattle.cjc_card_semantics.specs.Machine.Classes.{IsClass, IsInterface}
 use Rattle.cjc_card_semantics.specs.Machine.Methods.{is_class_at, is_class_info}
 use Rattle.cjc_components.specs.Class.{class_entry, interface_entry}
 use Rattle.cjc_components.specs.Names.{class_ref}
 use Rattle.cjc_components.specs.Package.{Package, world}
-use Rattle.cjc_export.specs.declared.tree.ExportClass.{ExportClass}
-use Rattle.cjc_export.specs.Supers.{classes_of}
-use Rattle.cjc_export.specs.Supers as exports
+use Rattle.cjc_world.specs.ExportFile.declared.tree.ExportClass.{ExportClass}
+use Rattle.cjc_world.specs.ExportFile.Supers.{classes_of}
+use Rattle.cjc_world.specs.ExportFile.Supers as exports
 use Rattle.cjc_token_proof.specs.Tables.Loading.{part}
 use Rattle.cjc_token_proof.specs.Tables.Sound.{IsSound}
 use Rattle.cjc_token_proof.proofs.TablesLaws.Above.{class_there, entry_of_name, info_of_name, rules_of}
 use Rattle.cjc_token_proof.proofs.TablesLaws.Clean.{has_named, own_name}
 use Rattle.cjc_token_proof.proofs.TablesLaws.Filed.{import_filed, import_in, one_class, own_filed}
 use Rattle.cjc_token_proof.proofs.TablesLaws.Lists.{right_supers, supers_there}
-use Rattle.cjc_token_proof.proofs.TablesLaws.Order.{get-has, kind-in, super_before}
+use Rattle.cjc_token_proof.proofs.TablesLaws.Order.{kind-in, super_before}
 use Rattle.cjc_token_proof.proofs.TablesLaws.Telling.{has_object}
-use Rattle.cjc_vtable.proofs.Filed.{Has, at_front, behind}
+use Rattle.cjc_vtable.proofs.Filed.{Has, at_front, behind, get-has}
 use Rattle.cjc_vtable.specs.Kept.{Keeps}
 use Rattle.cjc_vtable.specs.Laws.{InterfaceCallsAgree, TokensAreOnce, VirtualCallsAgree}
 use Rattle.cjc_world.specs.Classes.{Class, class_at, class_named, imported, is_at, Member, method_of_class}
 use Rattle.cjc_world.specs.Classes.{field_of_class}
 use Rattle.cjc_world.specs.Supertypes.{AreSupertypes, Supertypes, Lists, foremost, supertypes}
 use Rattle.cjc_world.specs.Order.{class_order, in_order}
+use Rattle.cjc_world.proofs.Cycles.{class_named-name}
 use Rattle.cjc_token_proof.specs.WrittenCalls.Calls.{ExportsKeep}
 use Rattle.cjc_token_proof.specs.WrittenCalls.Standing.{ClassesStand, FitsMethod}
 use Rattle.cjc_token_proof.proofs.WrittenCalls.Facts.{Facts}
-use Rattle.cjc_token_proof.proofs.WrittenCalls.SupertypeTrees.{name_is}
 use Rattle.cjc_token_proof.proofs.WrittenCalls.Orders.{order_own}
-
-number_same : (a b : ℕ) → (a == b) ≡ true → a ≡ b
-number_same a b e = grind (arith, nat_tests, e)
-
-same_number : (a : ℕ) → (a == a) ≡ true
-same_number a = grind (arith, nat_tests)
 
 -- where a class stands, its kind and number find one
 at_there : (w : List Class) (c : Class) → Has c w → (d : Class) × (class_at w c.is_imported c.number ≡ Some d) × Has d w
@@ -67,8 +61,8 @@ at_there (d ∷ w) c at_front = (
 )
   where
     itself : (b : Bool) (n : ℕ) → ((if b then b else not b) && (n == n)) ≡ true
-    itself true n = same_number n
-    itself false n = same_number n
+    itself true n = like_number n
+    itself false n = like_number n
 at_there (d ∷ w) c (behind h) = by (is_at c.is_imported c.number d) refl (at_there w c h)
   where
     told : (a b q : Bool) → ((if a then b else not b) && q) ≡ true → (b ≡ a) × (q ≡ true)
@@ -158,7 +152,7 @@ module _ (list : List ℕ) (p : Package) (sound : IsSound list p.files) where
       × (exports.class_named es y ≡ Some e) × (d ≡ imported k e)
   in_file y d e import =
       let f = import_filed p.files sound.classes sound.exports d (has_named w y d e) import in
-      let name : f.1.name ≡ y = sym (ap (λ (q : Class). q.name) f.3) ∙ name_is w y d e in
+      let name : f.1.name ≡ y = sym (ap (λ (q : Class). q.name) f.3) ∙ class_named-name w y d e in
       let u = export_named es f.0 f.1 f.2 in
       let known : exports.class_named es y ≡ Some u.0 = ap (exports.class_named es) (sym name) ∙ u.1 in
       let here = of_file y u.0 known in
@@ -196,7 +190,7 @@ module _ (list : List ℕ) (p : Package) (sound : IsSound list p.files) where
             ∙ ap (option_map (λ (q : MethodTree). method_by tree q q.code)) r.1,
         id_by tree r.0 r.0.code
             ∙ ap (λ (y : List ℕ). member_id y (method_of_class r.0)) (sym (ap (λ (q : Class). q.name) f.3)
-            ∙ name_is w x c e)
+            ∙ class_named-name w x c e)
             ∙ ap (member_id x) r.2,
       )
 

@@ -1,13 +1,12 @@
 -- Each method of a class file that stands in Method begins at its offset.
 use Rattle.std.proofs.Common.{◌≡◌, ℕ, ◌<◌, refl, sym, ap, subst, ◌∙◌, arith, Bool, true, false}
-use Rattle.std.specs.Prelude.{Option, Some, None, slice_get, option_and_then, ◌==◌, ◌&&◌, if◌then◌else◌}
+use Rattle.std.specs.Prelude.{Option, Some, None, slice_get, option_and_then, ◌==◌, if◌then◌else◌}
 use Rattle.std.specs.List.{list_any}
-use Rattle.std.specs.Str.{bytes_eq}
 use Rattle.std.proofs.lemmas.Bool.Decides.{nat_tests}
-use Rattle.cjc_bytes.specs.declared.fault.MemberId.{MemberId}
+use Rattle.std.proofs.lemmas.Map.Keys.{any_passes_from_place}
 use Rattle.cjc_jvm_semantics.specs.Linked.{Method}
 use Rattle.cjc_jvm_semantics.specs.OnePackage.{method_at, method_in}
-use Rattle.cjc_token_proof.proofs.ByToken.Members.{bytes_same}
+use Rattle.cjc_token_proof.proofs.ByToken.Members.{member_same}
 use Rattle.cjc_token_proof.specs.Calls.Reaching.{BeginsAtOffsets, is_in_method, is_same}
 use Rattle.cjc_card_semantics.specs.Machine.Methods.{start_of}
 use Rattle.cjc_components.specs.Methods.{bytecode_count, extent_of, first_method, handler_count, is_member}
@@ -26,16 +25,10 @@ use Rattle.cjc_token_proof.specs.Tables.Loading.{naming, part}
 use Rattle.cjc_token_proof.specs.WrittenCalls.Standing.{AreMethods, AreReady, ClassesStand, HaveOwnIds, is_method_of}
 use Rattle.cjc_token_proof.specs.WrittenCalls.Standing.{place}
 use Rattle.cjc_token_proof.proofs.WrittenCalls.Extents.{Stands, Tells, offset_in, same_extent, stands}
-use Rattle.cjc_token_proof.proofs.WrittenCalls.Begins.{any_at, any_member, get_member, same_found, same_itself, told}
+use Rattle.cjc_token_proof.proofs.WrittenCalls.Begins.{any_member, get_member, same_found, same_itself, told}
 use Rattle.cjc_token_proof.proofs.WrittenCalls.HeadersRead.{header_read}
 use Rattle.cjc_token_proof.proofs.WrittenCalls.Held.{FormsLaw, OffsetsLaw, count_same, methods_held}
 use Rattle.cjc_token_proof.proofs.WrittenCalls.Orders.{method_own}
-
-member_itself : (id : MemberId) → same_member id id ≡ true
-member_itself id =
-    ap (λ t. t && (bytes_eq id.name id.name && bytes_eq id.desc id.desc)) (bytes_same id.class)
-    ∙ ap (λ t. t && bytes_eq id.desc id.desc) (bytes_same id.name)
-    ∙ bytes_same id.desc
 
 module _ (forms : FormsLaw) (offsets : OffsetsLaw) (p : Package) (ready : AreReady p) (methods : AreMethods p)
     (own : HaveOwnIds p) (classes : ClassesStand p) where
@@ -48,7 +41,7 @@ module _ (forms : FormsLaw) (offsets : OffsetsLaw) (p : Package) (ready : AreRea
   is_own j t e = method_own (world p) j t.member (in_order_at j t e)
 
   in_method : (j : ℕ) (t : LaidMethod) → slice_get p.methods j ≡ Some t → is_in_method (world p) t.member ≡ true
-  in_method j t e = any_at (is_same t.member) (method_order (world p)) j t.member (in_order_at j t e)
+  in_method j t e = any_passes_from_place (is_same t.member) (method_order (world p)) j t.member (in_order_at j t e)
       (same_itself t.member (is_own j t e))
 
   module _ (f : Found) (f_own : f.imported ≡ false) (is_there : is_in_method (world p) f ≡ true) where
@@ -79,7 +72,8 @@ module _ (forms : FormsLaw) (offsets : OffsetsLaw) (p : Package) (ready : AreRea
     member_is = same_found f stood.method.member f_own (is_own stood.number stood.method stood.there) stood.is
 
     among : list_any (λ g. method_offset p g == stood.offset) (method_order (world p)) ≡ true
-    among = any_at (λ g. method_offset p g == stood.offset) (method_order (world p)) stood.number stood.method.member
+    among = any_passes_from_place (λ g. method_offset p g == stood.offset) (method_order
+        (world p)) stood.number stood.method.member
         (in_order_at stood.number stood.method stood.there)
         (ap (λ g. method_offset p g == stood.offset) member_is ∙ ap (λ x. x == stood.offset) at_offset
         ∙ same_number stood.offset)
@@ -150,7 +144,7 @@ module _ (forms : FormsLaw) (offsets : OffsetsLaw) (p : Package) (ready : AreRea
         by true is =
             let one : t.member ≡ f = same_found f t.member f_own (is_own j t e) is in
             sym (ap (λ g. is_method_of m.id (method_at p.files g)) one ∙ ap (is_method_of m.id) is_method
-            ∙ member_itself m.id)
+            ∙ member_same m.id)
         by false is = other (method_at p.files t.member) refl is
 
     abbrev here : Stands (first_method p.methods) 0 p.methods f

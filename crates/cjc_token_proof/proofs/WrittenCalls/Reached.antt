@@ -4,6 +4,7 @@ use Rattle.std.specs.Prelude.{Option, Some, slice_get, map, position, is_some, n
 use Rattle.std.specs.Prelude.{if◌then◌else◌}
 use Rattle.cjc_bytes.specs.AccessFlags.{is_abstract, is_interface}
 use Rattle.cjc_bytes.specs.declared.fault.MemberId.{MemberId}
+use Rattle.cjc_bytes.proofs.Bools.{and_true}
 use Rattle.cjc_card_semantics.specs.Bytecode.Alike.{IsFound, reached_as}
 use Rattle.cjc_card_semantics.specs.Bytecode.Machine.{Reached, Nowhere}
 use Rattle.cjc_card_semantics.specs.Bytecode.Renaming.{option_as, shape_as}
@@ -48,18 +49,19 @@ use Rattle.cjc_world.specs.Classes.{Class, class_named}
 use Rattle.cjc_world.specs.Supertypes.{Lists, foremost, supertypes, line, upwards}
 use Rattle.cjc_world.specs.Lookup.{find_method, first, object, or_else, own_method, receiver, selected}
 use Rattle.cjc_world.specs.Subtype.{array_is, element, is_element, is_subclass, is_subtype, starts}
+use Rattle.cjc_world.proofs.Cycles.{class_named-name as name_is}
 use Rattle.cjc_token_proof.specs.WrittenCalls.Calls.{ExportsKeep, IsNamed, KeepsSubtypes, KeepsTokens, Receives, fixed}
 use Rattle.cjc_token_proof.specs.WrittenCalls.Calls.{got, hidden, none, shown, numbers, on_interface, on_object}
 use Rattle.cjc_token_proof.specs.WrittenCalls.Calls.{on_super, one_of, references}
 use Rattle.cjc_token_proof.proofs.WrittenCalls.Facts.{Facts}
-use Rattle.cjc_token_proof.proofs.WrittenCalls.Files.{and_true, position_has}
-use Rattle.cjc_token_proof.proofs.WrittenCalls.SupertypeTrees.{name_is}
-use Rattle.cjc_token_proof.proofs.WrittenCalls.Receivers.{first_step, found_stands, line_found, not_array}
+use Rattle.cjc_token_proof.proofs.WrittenCalls.Files.{position_has}
+use Rattle.cjc_token_proof.proofs.WrittenCalls.Receivers.{first_step, found_stands, line_found}
 use Rattle.cjc_token_proof.proofs.WrittenCalls.Receivers.{receiver_says}
 use Rattle.cjc_token_proof.proofs.WrittenCalls.Found.{Own, own_is, stands_in_method}
 use Rattle.cjc_token_proof.proofs.WrittenCalls.Tokens.{dispatched_hidden, dispatched_shown, token_says}
 use Rattle.cjc_token_proof.proofs.WrittenCalls.Towers.{class_stands, height_fits, line_is, super_fits}
 use Rattle.cjc_token_proof.proofs.WrittenCalls.Tables.{tables}
+use Rattle.cjc_world_proof.proofs.CallsLaws.Types.{receiver_class}
 
 pub find_first : (w : List Class) (x name desc : List ℕ) (f : Found) → first (own_method false name desc) (line w x)
     ≡ Some f → find_method w x name desc ≡ Some f
@@ -431,7 +433,7 @@ module _ (p : Package) (facts : Facts p) (subtypes : KeepsSubtypes (world p)) (t
     pub super_says : SaysSuper w n m super (let s = class_stands p facts super d super_is super_class in s.foot)
     super_says =
         let s = class_stands p facts super d super_is super_class in
-        let itself_there : receiver super ≡ super = not_array super (kinds.no_array super (ap is_some super_is)) in
+        let itself_there : receiver super ≡ super = receiver_class super (kinds.no_array super (ap is_some super_is)) in
         record {
           known = (d, super_is);
           first_one = ap first_super known ∙ ap (λ ss. slice_get ss 0) supers;

@@ -1,6 +1,6 @@
 -- Classes whose objects receive calls.
 use Rattle.std.proofs.Common.{◌≡◌, ℕ, refl, sym, ap, subst, ◌∙◌, Bool, true, false, List, [], ◌∷◌}
-use Rattle.std.specs.Prelude.{Option, Some, None, is_some, if◌then◌else◌}
+use Rattle.std.specs.Prelude.{Option, Some, None, is_some}
 use Rattle.cjc_bytes.specs.AccessFlags.{is_interface}
 use Rattle.cjc_jvm_semantics.specs.OnePackage.{is_initialiser}
 use Rattle.cjc_token_proof.specs.ByToken.Supers.{SaysKinds}
@@ -13,12 +13,13 @@ use Rattle.cjc_world.specs.declared.found.Found.{Found}
 use Rattle.cjc_world.specs.Classes.{Class, class_named}
 use Rattle.cjc_world.specs.Supertypes.{AreSupertypes, Supertypes, Known, Unknown, End, supertypes, known_here, line}
 use Rattle.cjc_world.specs.Supertypes.{unknown_here, upwards}
-use Rattle.cjc_world.specs.Lookup.{first, object, or_else, own_method, receiver}
-use Rattle.cjc_world.specs.Subtype.{is_subtype, starts}
+use Rattle.cjc_world.specs.Lookup.{first, or_else, own_method}
+use Rattle.cjc_world.specs.Subtype.{is_subtype}
 use Rattle.cjc_token_proof.proofs.WrittenCalls.Facts.{Facts}
 use Rattle.cjc_token_proof.proofs.WrittenCalls.Files.{first_imported_found}
 use Rattle.cjc_token_proof.proofs.WrittenCalls.Found.{first_own, line_named, own_is, own_named, stands_in_method}
 use Rattle.cjc_token_proof.proofs.WrittenCalls.Towers.{class_stands, line_is, line_of_names}
+use Rattle.cjc_world_proof.proofs.CallsLaws.Types.{receiver_class}
 
 own_kind : (b : Bool) (name desc : List ℕ) (w : List Class) (d : Class) (f : Found) → own_method b name desc d ≡ Some f
     → f.imported ≡ d.is_imported
@@ -28,10 +29,6 @@ pub first_step : (own : Class → Option Found) (c : Class) (cs : List Class)
     → first own (c ∷ cs) ≡ or_else (own c) (first own cs)
 unfolding first
 first_step own c cs = refl
-
-pub not_array : (x : List ℕ) → starts 91 x ≡ false → receiver x ≡ x
-not_array [] e = refl
-not_array (b ∷ bs) e = ap (λ t. if t then object else b ∷ bs) e
 
 module _ (p : Package) (facts : Facts p) where
   abbrev w : List Class
@@ -101,7 +98,7 @@ module _ (p : Package) (facts : Facts p) where
       (class_here : is_interface c.flags ≡ false) → SaysReceiver w x (let s = class_stands p facts x c e class_here
       in s.foot)
   receiver_says climbs kinds x c e class_here = record {
-    itself = not_array x (kinds.no_array x (ap is_some e));
+    itself = receiver_class x (kinds.no_array x (ap is_some e));
     imported = (let s = class_stands p facts x c e class_here in s.imported);
     climbs = λ y d f not_interface sub. climbs x y c d e class_here f not_interface sub;
     found = λ m f h. line_found true m.name m.desc x f h;

@@ -1,28 +1,16 @@
 -- Classes that stand in the trees of what is above some names are found by their names.
-use Rattle.std.proofs.Common.{◌≡◌, ℕ, zero, suc, refl, sym, ap, subst, ◌∙◌, Bool, true, false, List, [], ◌∷◌, ◌++◌}
+use Rattle.std.proofs.Common.{◌≡◌, ℕ, zero, suc, refl, ap, subst, ◌∙◌, Bool, true, false, List, [], ◌∷◌, ◌++◌}
 use Rattle.std.proofs.Common.{length}
 use Rattle.std.specs.Prelude.{Option, Some, None, slice_get, option_to_list, if◌then◌else◌}
-use Rattle.std.specs.Str.{bytes_eq}
-use Rattle.cjc_token_proof.proofs.ByToken.Members.{bytes_tell}
 use Rattle.cjc_world.specs.Classes.{Class, class_named}
 use Rattle.cjc_world.specs.Interfaces.{Interface, each_once, gathered, is_among, known, where_listed}
 use Rattle.cjc_world.specs.Supertypes.{Supertypes, End, Unknown, Known, supertypes_within, in_a_row, supertypes}
 use Rattle.cjc_world.specs.Supertypes.{known_as}
+use Rattle.cjc_world.proofs.Cycles.{class_named-name}
 use Rattle.cjc_tokens.specs.Methods.{interfaces_at}
 
--- the name that finds a class is its own
-pub name_is : (w : List Class) (x : List ℕ) (c : Class) → class_named w x ≡ Some c → c.name ≡ x
-unfolding class_named
-name_is [] x c e = absurd (cc)
-name_is (d ∷ w) x c e = by (bytes_eq d.name x) refl e (name_is w x c)
-  where
-    by : (t : Bool) → bytes_eq d.name x ≡ t → (if t then Some d else class_named w x) ≡ Some c
-        → (class_named w x ≡ Some c → c.name ≡ x) → c.name ≡ x
-    by true is h rest = let same : d ≡ c = cc in sym (ap (λ (a : Class). a.name) same) ∙ bytes_tell d.name x is
-    by false is h rest = rest h
-
 pub by_own_name : (w : List Class) (x : List ℕ) (c : Class) → class_named w x ≡ Some c → class_named w c.name ≡ Some c
-by_own_name w x c e = ap (class_named w) (name_is w x c e) ∙ e
+by_own_name w x c e = ap (class_named w) (class_named-name w x c e) ∙ e
 
 module _ (w : List Class) where
   -- found by its name

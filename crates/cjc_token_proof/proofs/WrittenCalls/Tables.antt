@@ -12,7 +12,7 @@ use Rattle.cjc_components.specs.Class.{class_entry, interface_entry}
 use Rattle.cjc_components.specs.Methods.{method_offset}
 use Rattle.cjc_components.specs.Names.{class_at, class_ref, ref_to}
 use Rattle.cjc_components.specs.Package.{Package, world}
-use Rattle.cjc_export.specs.declared.tree.ExportTree.{ExportTree}
+use Rattle.cjc_world.specs.ExportFile.declared.tree.ExportTree.{ExportTree}
 use Rattle.cjc_ncode.specs.Lowering.Naming.{IsClass as Means}
 use Rattle.cjc_components.specs.Paired.Naming.{files_from}
 use Rattle.cjc_token_proof.specs.Tables.Infos.{HasEntry, HasInfo}
@@ -24,12 +24,13 @@ use Rattle.cjc_vtable.specs.declared.table.InterfaceMap.{InterfaceMap}
 use Rattle.cjc_vtable.specs.Tables.{interface_map}
 use Rattle.cjc_world.specs.Classes.{Class, class_named}
 use Rattle.cjc_world.specs.Interfaces.{known}
+use Rattle.cjc_world.proofs.Cycles.{class_named-name}
 use Rattle.cjc_token_proof.proofs.WrittenCalls.Facts.{Facts}
-use Rattle.cjc_token_proof.proofs.WrittenCalls.SupertypeTrees.{interfaces_fine, name_is}
+use Rattle.cjc_token_proof.proofs.WrittenCalls.SupertypeTrees.{interfaces_fine}
 
 -- ---- class_refs mean classes
 
-import_at : (k : ℕ) (trees : List ExportTree) (j : ℕ) (t : ExportTree) → slice_get trees j ≡ Some t
+pub import_at : (k : ℕ) (trees : List ExportTree) (j : ℕ) (t : ExportTree) → slice_get trees j ≡ Some t
     → slice_get (files_from k trees) j ≡ Some (OfFile (k + j))
 import_at k [] j t e = absurd (cc)
 import_at k (u ∷ trees) zero t e = let z : k ≡ k + 0 = omega arith in ap (λ n. Some (OfFile n)) z
@@ -56,8 +57,8 @@ module _ (p : Package) (facts : Facts p) where
   class_meant x c e = by c.is_imported refl
     where
       by : (t : Bool) → c.is_imported ≡ t → Means (naming p) x
-      by true is = subst (Means (naming p)) (name_is (world p) x c e) (ref_of_file c (facts.file x c e is))
-      by false is = subst (Means (naming p)) (name_is (world p) x c e) (ref_of_own c (facts.own x c e is))
+      by true is = subst (Means (naming p)) (class_named-name (world p) x c e) (ref_of_file c (facts.file x c e is))
+      by false is = subst (Means (naming p)) (class_named-name (world p) x c e) (ref_of_own c (facts.own x c e is))
 
   -- ---- tables
 
@@ -88,7 +89,7 @@ module _ (p : Package) (facts : Facts p) where
       record {
         at = h.offset;
         entry = class_entry (class_ref p) p c;
-        on_card = sym (ap (class_at p) (name_is (world p) x c e)) ∙ h.on_card;
+        on_card = sym (ap (class_at p) (class_named-name (world p) x c e)) ∙ h.on_card;
         there = entry_there x c e own class_here;
         superclass = ap (λ ss. class_of (loaded p) 0 (class_ref p (unwrap_or (slice_get ss 0) []))) supers
             ∙ class_meant s d.0 d.1;

@@ -17,9 +17,9 @@ use Rattle.cjc_world.specs.Classes.{Class, class_named}
 use Rattle.cjc_world.specs.Supertypes.{AreSupertypes, Supertypes, Known, Unknown, End, supertypes, known_here, line}
 use Rattle.cjc_world.specs.Supertypes.{unknown_here, upwards}
 use Rattle.cjc_world.specs.Order.{class_order, in_order}
+use Rattle.cjc_world.proofs.Cycles.{class_named-name}
 use Rattle.cjc_tokens.proofs.Walks.{supertypes-known}
 use Rattle.cjc_token_proof.proofs.WrittenCalls.Facts.{Facts}
-use Rattle.cjc_token_proof.proofs.WrittenCalls.SupertypeTrees.{name_is}
 use Rattle.cjc_token_proof.proofs.WrittenCalls.Files.{file_says}
 use Rattle.cjc_token_proof.proofs.WrittenCalls.Tables.{tables}
 
@@ -54,7 +54,7 @@ module _ (p : Package) (facts : Facts p) where
     foot = x;
     tower = of_file c e import (file_says p facts x c e import class_here);
     imported = ap first_imported (line_is x c e) ∙ ap (λ t. if t then c.name
-        else first_imported (upwards (supertypes w c.supers))) import ∙ name_is w x c e;
+        else first_imported (upwards (supertypes w c.supers))) import ∙ class_named-name w x c e;
     low = λ d k f g. omega arith;
     flat = λ d f g. refl;
   }

@@ -4,6 +4,7 @@ use Rattle.std.proofs.Common.{inl, ⊎_elim}
 use Rattle.std.specs.Prelude.{Option, Some, None, slice_get, option_map, option_and_then, not, if◌then◌else◌}
 use Rattle.cjc_bytes.specs.AccessFlags.{is_interface, is_private, is_static}
 use Rattle.cjc_bytes.specs.declared.fault.MemberId.{MemberId}
+use Rattle.cjc_bytes.proofs.Bools.{and_true}
 use Rattle.cjc_card_semantics.specs.Bytecode.Arguments.{widths}
 use Rattle.cjc_card_semantics.specs.Bytecode.Machine.{Start}
 use Rattle.cjc_jvm_semantics.specs.Linked.{Method}
@@ -43,16 +44,15 @@ use Rattle.cjc_world.specs.Classes.{Class, Member, class_at, class_named}
 use Rattle.cjc_world.specs.Files.{Files}
 use Rattle.cjc_world.specs.Supertypes.{supertypes, line, upwards}
 use Rattle.cjc_world.specs.Lookup.{first, member_at, or_else, own_method, receiver, selected}
+use Rattle.cjc_world.proofs.Cycles.{class_named-name as name_is}
 use Rattle.cjc_token_proof.specs.WrittenCalls.Calls.{ExportsKeep, IsNamed, IsSought, KeepsSubtypes, KeepsTokens}
 use Rattle.cjc_token_proof.specs.WrittenCalls.Calls.{TakesWords, fixed, fixed_words, got, hidden, on_interface}
 use Rattle.cjc_token_proof.specs.WrittenCalls.Calls.{on_object, on_super, shown, super_words, virtual_words}
 use Rattle.cjc_token_proof.specs.WrittenCalls.Standing.{AreMethods, AreReady, ClassesStand, HaveOwnIds, place}
 use Rattle.cjc_token_proof.proofs.WrittenCalls.Facts.{Facts}
-use Rattle.cjc_token_proof.proofs.WrittenCalls.Files.{and_true}
 use Rattle.cjc_token_proof.proofs.WrittenCalls.Found.{Own, first_own, line_named, own_is, stands_in_method}
 use Rattle.cjc_token_proof.proofs.WrittenCalls.Got.{Got, Holder, got_in_method, got_is, got_words, holder, shown_is}
 use Rattle.cjc_token_proof.proofs.WrittenCalls.Held.{FormsLaw, OffsetsLaw}
-use Rattle.cjc_token_proof.proofs.WrittenCalls.SupertypeTrees.{name_is}
 use Rattle.cjc_token_proof.proofs.WrittenCalls.Offsets.{added_starts, place_has, stood, stood_has}
 use Rattle.cjc_token_proof.proofs.WrittenCalls.Reached.{agrees, find_first, fixed_is, hidden_own, super_class}
 use Rattle.cjc_token_proof.proofs.WrittenCalls.Reached.{super_says}

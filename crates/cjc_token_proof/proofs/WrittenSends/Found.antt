@@ -33,6 +33,7 @@ use Rattle.cjc_vtable.specs.Calls.{any_method, finds_hidden, finds_shown, passes
 use Rattle.cjc_vtable.specs.Dispatch as tables
 use Rattle.cjc_vtable.specs.Dispatch.{tower_of}
 use Rattle.cjc_vtable.specs.Laws.{ImportedCallsAgree, Under, below, itself, selection}
+use Rattle.cjc_vtable.proofs.Told.{In-front, In-behind}
 use Rattle.cjc_world.specs.Added.{added}
 use Rattle.cjc_world.specs.Classes.{Class, Member, class_at, class_named}
 use Rattle.cjc_world.specs.Supertypes.{AreSupertypes, Supertypes, Lists, Unknown, End, after, ends, foremost}
@@ -40,39 +41,19 @@ use Rattle.cjc_world.specs.Supertypes.{supertypes, known_here, line, unknown_her
 use Rattle.cjc_world.specs.Lookup.{first, is_called, is_wanted, member_at, own_method}
 use Rattle.cjc_world.specs.Lookup as lookup
 use Rattle.cjc_world.specs.declared.found.Found.{Found}
+use Rattle.cjc_world.proofs.Cycles.{class_named-name}
 use Rattle.cjc_token_proof.proofs.WrittenCalls.Called.{declared_is}
 use Rattle.cjc_token_proof.proofs.WrittenCalls.Facts.{Facts, exported}
 use Rattle.cjc_token_proof.proofs.WrittenCalls.Files.{some_member, position_has}
 use Rattle.cjc_token_proof.proofs.WrittenCalls.Found as founds
-use Rattle.cjc_token_proof.proofs.WrittenCalls.SupertypeTrees.{name_is}
 use Rattle.cjc_token_proof.proofs.WrittenCalls.Receivers.{first_step, line_found}
 use Rattle.cjc_token_proof.proofs.WrittenCalls.Towers.{class_stands, height_fits, line_is, line_of_names}
 use Rattle.cjc_token_proof.specs.WrittenCalls.Calls.{KeepsTokens}
 use Rattle.cjc_token_proof.proofs.WrittenSends.Order.{class_token, classes_token, listed_is, upwards_token}
 use Rattle.cjc_token_proof.proofs.WrittenSends.Tokens.{bound_described, chosen_first, hidden_described, shown_described}
+use Rattle.cjc_world_proof.proofs.CallsLaws.Own.{is_found}
 
 -- ---- lists
-
-pub position_there : {A : Type 0} (test : A → Bool) (xs : List A) (i : ℕ) (x : A) → slice_get xs i ≡ Some x
-    → test x ≡ true → (j : ℕ) × (position test xs ≡ Some j)
-position_there test [] i x e is = absurd (cc)
-position_there test (y ∷ xs) zero x e is =
-    let same : y ≡ x = cc in (
-      0,
-      Rattle.cjc_tokens.proofs.Facts.position-cons test y xs ∙ ap (λ t. if t then Some 0
-          else option_map suc (position test xs)) (ap test same ∙ is),
-    )
-position_there {A = A} test (y ∷ xs) (suc i) x e is =
-    let r = by (test y) (position_there test xs i x e is) in (
-      r.0,
-      Rattle.cjc_tokens.proofs.Facts.position-cons test y
-          xs ∙ r.1,
-    )
-  where
-    by : (t : Bool) → (j : ℕ) × (position test xs ≡ Some j) → (j : ℕ)
-        × ((if t then Some 0 else option_map suc (position test xs)) ≡ Some j)
-    by true r = (0, refl)
-    by false r = (suc r.0, ap (option_map suc) r.1)
 
 first_nothing : (own : Class → Option Found) → first own [] ≡ None
 unfolding first
@@ -102,15 +83,6 @@ pub first_after : (own : Class → Option Found) (cs ds : List Class) (f : Found
     × (first own (cs ++ ds) ≡ Some g)
 first_after own [] ds f e = (f, e)
 first_after own (c ∷ cs) ds f e = let r = first_after own cs ds f e in first_behind own c (cs ++ ds) r.0 r.1
-
-in_front : (m : Member) (xs ys : List Member) → In m xs → In m (xs ++ ys)
-in_front m [] ys h = elim h [ ]
-in_front m (x ∷ xs) ys first_of = first_of
-in_front m (x ∷ xs) ys (later h) = later (in_front m xs ys h)
-
-in_back : (m : Member) (xs ys : List Member) → In m ys → In m (xs ++ ys)
-in_back m [] ys h = h
-in_back m (x ∷ xs) ys h = later (in_back m xs ys h)
 
 in_at : (ms : List Member) (k : ℕ) (m : Member) → slice_get ms k ≡ Some m → In m ms
 in_at [] k m e = absurd (cc)
@@ -266,7 +238,7 @@ module _ (list : List ℕ) (p : Package) (sound : IsSound list p.files) (facts :
       ∙ ap (λ t. t && Rattle.std.specs.Str.bytes_eq id.desc id.desc)
       (Rattle.cjc_token_proof.proofs.ByToken.Members.bytes_same id.name)
       ∙ Rattle.cjc_token_proof.proofs.ByToken.Members.bytes_same id.desc in
-      let r = position_there (λ (q : Member). is_wanted true q.flags && is_called id.name id.desc q) c.methods i m there
+      let r = is_found (λ (q : Member). is_wanted true q.flags && is_called id.name id.desc q) c.methods i m there
       (ap (λ t. t && is_called id.name id.desc m) open_one ∙ called) in
       (member_at c (length c.fields + r.0), ap (option_map (λ j. member_at c (length c.fields + j))) r.1)
     where
@@ -419,7 +391,7 @@ module _ (list : List ℕ) (p : Package) (sound : IsSound list p.files) (facts :
             says = ap (λ c. or_else (option_map (λ (m : Member). if is_virtual m then Some m.token else None) c)
                 (classes_token id ds)) none ∙ r.says;
             sends = r.sends;
-            among = in_back r.method d.methods (all_methods ds) r.among;
+            among = In-behind r.method d.methods (all_methods ds) r.among;
             chosen_is = chosen_past s d.methods (all_methods ds) none ∙ r.chosen_is;
             names = r.names;
             selected = λ virtual. (let g = r.selected virtual in first_behind selects d ds g.0 g.1);
@@ -433,7 +405,7 @@ module _ (list : List ℕ) (p : Package) (sound : IsSound list p.files) (facts :
             says = ap (λ o. or_else (option_map (λ (q : Member). if is_virtual q then Some q.token else None) o)
                 (classes_token id ds)) c.6;
             sends = sends_of d c.1 m f all.0 c.2 c.4 (sym same ∙ c.3);
-            among = in_front m d.methods (all_methods ds) (in_at d.methods c.1 m c.2);
+            among = In-front m d.methods (all_methods ds) (in_at d.methods c.1 m c.2);
             chosen_is = chosen_front s d.methods (all_methods ds) m c.6;
             names = ap (λ x. record { name = x; desc = m.desc }) c.4 ∙ ap (λ x. record { name = id.name; desc = x })
                 c.5;
@@ -467,21 +439,23 @@ module _ (list : List ℕ) (p : Package) (sound : IsSound list p.files) (facts :
       h = Rattle.cjc_token_proof.proofs.WrittenCalls.Files.has p facts x c known import
 
       on_card : n.class x ≡ card.External h.file h.entry.token
-      on_card = sym (ap (card_class p) (name_is w x c known)) ∙ h.on_card
+      on_card = sym (ap (card_class p) (class_named-name w x c known)) ∙ h.on_card
 
       supers_are : h.entry.supers ≡ c.supers
       supers_are = ap (λ (q : Class). q.supers) (sym h.class)
 
-      entry_plain : (j : ℕ) (m : Rattle.cjc_export.specs.declared.tree.ExportMethod.ExportMethod)
+      entry_plain : (j : ℕ) (m : Rattle.cjc_world.specs.ExportFile.declared.tree.ExportMethod.ExportMethod)
           → slice_get h.entry.methods j ≡ Some m → members.is_initialiser m.name ≡ true → is_static m.flags ≡ true
       entry_plain = Rattle.cjc_token_proof.proofs.WrittenCalls.Files.entry_plain p facts x c known import
 
       listed : token_in_files (exported_line n.loaded (Some h.entry)) id ≡ classes_token id (c
           ∷ upwards (supertypes w c.supers))
       listed =
-          ap (λ o. or_else o (token_in_files (Rattle.cjc_export.specs.Supers.upwards (exported p) h.entry.supers) id))
+          ap (λ o. or_else o (token_in_files (Rattle.cjc_world.specs.ExportFile.Supers.upwards
+          (exported p) h.entry.supers) id))
           (listed_is id h.number h.entry entry_plain ∙ ap (class_token id) (sym h.class))
-          ∙ ap (λ ss. or_else (class_token id c) (token_in_files (Rattle.cjc_export.specs.Supers.upwards (exported p)
+          ∙ ap (λ ss. or_else (class_token id c) (token_in_files (Rattle.cjc_world.specs.ExportFile.Supers.upwards
+          (exported p)
           ss) id)) supers_are
           ∙ ap (or_else (class_token id c)) (upwards_token p facts id c.supers (λ y d l e. facts.rules.apart x y c d
           known import l e))
@@ -555,7 +529,7 @@ module _ (list : List ℕ) (p : Package) (sound : IsSound list p.files) (facts :
       ∙ ap (λ o. token_or (declared n.loaded (Own 0 t.at) id) (found_token n.loaded (suc k) o id))
       (ap (superclass_by n.loaded 0) t.there ∙ t.superclass)
       ∙ ap (λ q. token_or (declared n.loaded q id) (found_token n.loaded (suc k) (Some (n.class super)) id))
-      (sym t.on_card ∙ sym (ap (card_class p) (name_is w x c known)))
+      (sym t.on_card ∙ sym (ap (card_class p) (class_named-name w x c known)))
       ∙ ap (λ o. token_or o (found_token n.loaded (suc k) (Some (n.class super)) id)) (declared_is p facts x c known own
       id)
 
@@ -581,7 +555,7 @@ module _ (list : List ℕ) (p : Package) (sound : IsSound list p.files) (facts :
             subst (λ t. Told x (Some f) (Some t)) (sym (bound_described list p sound facts x c known own class_here i m
             there (fixed (is_static m.flags) (is_private m.flags) (is_constructor m.name) (members.is_initialiser
             m.name) not_one (ap is_initialiser name ∙ plain))))
-            (bound (subst (Sends f) not_one (sends_of c i m f (ap (class_named w) (name_is w x c known)
+            (bound (subst (Sends f) not_one (sends_of c i m f (ap (class_named w) (class_named-name w x c known)
             ∙ known) there name at)))
           where
             fixed : (st pr k i : Bool) → ((not pr && not st) && not (k || i)) ≡ false → i ≡ false
@@ -598,7 +572,7 @@ module _ (list : List ℕ) (p : Package) (sound : IsSound list p.files) (facts :
                 desc
 
             sends : Sends f true
-            sends = subst (Sends f) is_one (sends_of c i m f (ap (class_named w) (name_is w x c known)
+            sends = subst (Sends f) is_one (sends_of c i m f (ap (class_named w) (class_named-name w x c known)
                 ∙ known) there name at)
 
             chosen_one : (g : Found) × (selects c ≡ Some g)

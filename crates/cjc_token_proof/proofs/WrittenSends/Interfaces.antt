@@ -9,6 +9,7 @@ use Rattle.std.proofs.lemmas.List.Folds.{find_at}
 use Rattle.std.specs.Str.{bytes_eq}
 use Rattle.cjc_bytes.specs.AccessFlags.{is_abstract, is_interface}
 use Rattle.cjc_bytes.specs.declared.fault.MemberId.{MemberId}
+use Rattle.cjc_bytes.proofs.Bools.{or_cases}
 use Rattle.cjc_jvm_semantics.specs.Linked.{Method}
 use Rattle.cjc_jvm_semantics.specs.OnePackage.{is_constructor, is_initialiser, of_class}
 use Rattle.cjc_token_proof.proofs.ByToken.Subtypes.{supers_from}
@@ -27,8 +28,8 @@ use Rattle.cjc_card_semantics.specs.Machine.Loaded.{ClassNames, Loaded, MethodNa
 use Rattle.cjc_components.specs.Methods.{method_offset}
 use Rattle.cjc_components.specs.Names.{class_at as card_class}
 use Rattle.cjc_components.specs.Package.{Package, world}
-use Rattle.cjc_export.specs.declared.tree.ExportClass.{ExportClass}
-use Rattle.cjc_export.specs.declared.tree.ExportMethod.{ExportMethod}
+use Rattle.cjc_world.specs.ExportFile.declared.tree.ExportClass.{ExportClass}
+use Rattle.cjc_world.specs.ExportFile.declared.tree.ExportMethod.{ExportMethod}
 use Rattle.cjc_ncode.specs.Lowering.Naming.{Naming}
 use Rattle.cjc_ncode.specs.Lowering.Placed.{Placed}
 use Rattle.cjc_script.specs.Sorts.{OfClass}
@@ -38,13 +39,14 @@ use Rattle.cjc_tokens.proofs.Facts.{same-refl, same-true}
 use Rattle.cjc_tokens.specs.Members.{In, Signature, chosen, first_of, has, is_virtual, later, same, signature_of}
 use Rattle.cjc_tokens.specs.Members as members
 use Rattle.cjc_tokens.specs.Methods.{interface_methods, interfaces_at}
-use Rattle.cjc_vtable.proofs.Asked.{Among, at_head, further, has-here, method-asked, named-among}
+use Rattle.cjc_vtable.proofs.Asked.{Among, at_head, further, has-here, method-asked, named-among, has-In}
 use Rattle.cjc_vtable.proofs.Given.{In-split}
 use Rattle.cjc_vtable.proofs.Stood.{in-interface}
 use Rattle.cjc_vtable.specs.Calls.{any_method, is_special}
 use Rattle.cjc_vtable.specs.Calls as calls
 use Rattle.cjc_vtable.specs.Laws.{ImportedCallsAgree, selection}
-use Rattle.cjc_world.specs.Added.{asked_by, by_token, own_methods, with_token, without_initialiser}
+use Rattle.cjc_vtable.proofs.Keeping.{by_token-in}
+use Rattle.cjc_world.specs.Added.{asked_by, by_token, own_methods, without_initialiser}
 use Rattle.cjc_world.specs.Classes.{Class, Member, class_named, imported, method_of_export}
 use Rattle.cjc_world.specs.Interfaces.{Interface, gathered, known, where_listed}
 use Rattle.cjc_world.specs.Supertypes.{AreSupertypes, Supertypes, Known, End, Lists, after, ends, foremost, supertypes}
@@ -53,17 +55,18 @@ use Rattle.cjc_world.specs.Lookup.{first, is_called, is_selectable, object, own_
 use Rattle.cjc_world.specs.Lookup as lookup
 use Rattle.cjc_world.specs.Subtype.{array_is, element, is_element, is_subclass, is_subtype, starts}
 use Rattle.cjc_world.specs.declared.found.Found.{Found}
+use Rattle.cjc_world.proofs.Cycles.{class_named-name}
 use Rattle.cjc_token_proof.proofs.WrittenCalls.Facts.{Facts}
 use Rattle.cjc_token_proof.proofs.WrittenCalls.Files.{position_has}
-use Rattle.cjc_token_proof.proofs.WrittenCalls.SupertypeTrees.{name_is}
 use Rattle.cjc_token_proof.proofs.WrittenCalls.Placed.{placed_by_name}
 use Rattle.cjc_token_proof.proofs.WrittenCalls.Reached.{agrees, says_interface}
 use Rattle.cjc_token_proof.proofs.WrittenCalls.Receivers.{first_step, line_found}
 use Rattle.cjc_token_proof.proofs.WrittenCalls.Towers.{class_stands}
 use Rattle.cjc_token_proof.specs.WrittenCalls.Calls.{ExportsKeep, KeepsSubtypes, KeepsTokens}
-use Rattle.cjc_token_proof.proofs.WrittenSends.Found.{first_after, first_front, position_there}
+use Rattle.cjc_token_proof.proofs.WrittenSends.Found.{first_after, first_front}
 use Rattle.cjc_token_proof.proofs.WrittenSends.Order.{class_token, listed_is}
 use Rattle.cjc_token_proof.specs.WrittenSends.Sends.{ExportsSend, InterfacesAsk}
+use Rattle.cjc_world_proof.proofs.CallsLaws.Own.{is_found}
 
 -- a signature that a position finds is the one that is sought
 pub position_is : (ss : List Signature) (s : Signature) (k : ℕ) → position (λ t. same t s) ss ≡ Some k
@@ -154,45 +157,18 @@ without_in (x ∷ ms) m h = by (bytes_eq x.name (codes "<clinit>")) h (without_i
     by true i rest = later (rest i)
     by false i rest = in_either m x (without_initialiser ms) ms i rest
 
-token_in : (t : ℕ) (ms : List Member) (m : Member) → In m (with_token t ms) → In m ms
-token_in t [] m h = h
-token_in t (x ∷ ms) m h = by (x.token == t) h (token_in t ms m)
-  where
-    nothing : In m [] → In m ms
-    nothing i = elim i [ ]
-
-    by : (b : Bool) → In m (if b then x ∷ [] else with_token t ms) → (In m (with_token t ms) → In m ms) → In m (x ∷ ms)
-    by true i rest = in_either m x [] ms i nothing
-    by false i rest = later (rest i)
-
-tokens_in : (count t : ℕ) (ms : List Member) (m : Member) → In m (by_token count t ms) → In m ms
-tokens_in zero t ms m h = elim h [ ]
-tokens_in (suc count) t ms m h = ⊎_elim (λ i. token_in t ms m i) (λ i. tokens_in count (t + 1) ms m i)
-    (In-split m (with_token t ms) (by_token count (t + 1) ms) h)
-
 own_in : (c : Class) (m : Member) → In m (own_methods c) → In m c.methods
 unfolding own_methods
 own_in c m h = by c.is_imported (without_in (if c.is_imported then by_token (length c.methods) 0 c.methods
     else c.methods) m h)
   where
     by : (t : Bool) → In m (if t then by_token (length c.methods) 0 c.methods else c.methods) → In m c.methods
-    by true i = tokens_in (length c.methods) 0 c.methods m i
+    by true i = by_token-in (length c.methods) 0 c.methods m i
     by false i = i
 
 in_place : (m : Member) (ms : List Member) → In m ms → (k : ℕ) × (slice_get ms k ≡ Some m)
 in_place m ms (first_of {ms = ns}) = (0, refl)
 in_place m ms (later {ms = ns} i) = let r = in_place m ns i in (suc r.0, r.1)
-
-has_member : (ms : List Member) (s : Signature) → has (map signature_of ms) s ≡ true → (m : Member) × In m ms
-    × (signature_of m ≡ s)
-has_member [] s e = absurd (cc)
-has_member (n ∷ ms) s e = by (same (signature_of n) s) refl e (has_member ms s)
-  where
-    by : (b : Bool) → same (signature_of n) s ≡ b → (b || has (map signature_of ms) s) ≡ true
-        → (has (map signature_of ms) s ≡ true → (m : Member) × In m ms × (signature_of m ≡ s)) → (m : Member)
-        × In m (n ∷ ms) × (signature_of m ≡ s)
-    by true is h rest = (n, first_of, same-true (signature_of n) s is)
-    by false is h rest = let r = rest h in (r.0, later r.1, r.2)
 
 pub or_left : (a b : Bool) → a ≡ true → (a || b) ≡ true
 or_left true b e = refl
@@ -201,10 +177,6 @@ or_left false b e = absurd (cc)
 pub or_right : (a b : Bool) → b ≡ true → (a || b) ≡ true
 or_right true b e = refl
 or_right false b e = e
-
-or_split : (a b : Bool) → (a || b) ≡ true → (a ≡ true) ⊎ (b ≡ true)
-or_split true b e = inl refl
-or_split false b e = inr e
 
 -- the class that an id names is not asked
 place_any : (names : List MethodName) (y : List ℕ) (id : MemberId) → place_named names (of_class y id)
@@ -216,7 +188,8 @@ listed_any : (ms : List ExportMethod) (y : List ℕ) (id : MemberId) → listed_
     ≡ listed_token ms id
 listed_any [] y id = refl
 listed_any (m ∷ ms) y id = ap (λ o. if bytes_eq m.name id.name && bytes_eq m.desc id.desc
-    then Some (if Rattle.cjc_export.specs.Supers.is_virtual m then Some m.token else None) else o) (listed_any ms y id)
+    then Some (if Rattle.cjc_world.specs.ExportFile.Supers.is_virtual m then Some m.token else None) else o)
+    (listed_any ms y id)
 
 token_any : (l : Loaded) (k : card.Class) (y : List ℕ) (id : MemberId) → interface_token l k (of_class y id)
     ≡ interface_token l k id
@@ -362,7 +335,7 @@ module _ (list : List ℕ) (p : Package) (sound : IsSound list p.files) (facts :
       itself_told false all h = elim h [ ]
       itself_told true all h =
           let same = Rattle.cjc_vtable.proofs.Asked.among-one z c h in
-          let named_c : class_named w c.name ≡ Some c = ap (class_named w) (name_is w x c e) ∙ e in (
+          let named_c : class_named w c.name ≡ Some c = ap (class_named w) (class_named-name w x c e) ∙ e in (
             ap (λ (q : Class). is_interface q.flags) same ∙ all refl x c foremost e,
             subst (λ (q : Class). class_named w q.name ≡ Some q) (sym same) named_c,
             or_left ((bytes_eq c.name z.name || stands z.name su) || stands z.name it) (stands z.name next)
@@ -410,7 +383,7 @@ module _ (list : List ℕ) (p : Package) (sound : IsSound list p.files) (facts :
   interface_member i h =
       let ms = if i.is_imported then own_methods i else asked_by (supertypes w i.supers) (supertypes w i.interfaces)
       ++ own_methods i in
-      let r = has_member ms s (Rattle.cjc_tokens.proofs.Held.new-offered [] (map signature_of ms) s h) in
+      let r = has-In ms s (Rattle.cjc_tokens.proofs.Held.new-offered [] (map signature_of ms) s h) in
       (r.0, r.2, by i.is_imported r.0 r.1)
     where
       by : (b : Bool) (m : Member) → In m (if b then own_methods i
@@ -425,7 +398,7 @@ module _ (list : List ℕ) (p : Package) (sound : IsSound list p.files) (facts :
   own_finds z m i names =
       let k = in_place m z.methods (own_in z m i) in
       let called : is_called id.name id.desc m ≡ true = ap (λ v. same v s) names ∙ same-refl s in
-      let at = position_there (λ (q : Member). is_called id.name id.desc q) z.methods k.0 m k.1 called in (
+      let at = is_found (λ (q : Member). is_called id.name id.desc q) z.methods k.0 m k.1 called in (
         lookup.member_at z (length z.fields + at.0),
         ap (option_map (λ j. lookup.member_at z (length z.fields + j)))
             at.1,
@@ -475,15 +448,16 @@ module _ (list : List ℕ) (p : Package) (sound : IsSound list p.files) (facts :
       lacks (Some t) is =
           let r = interface_member i (has-here (interface_methods w i) t s (position_is (interface_methods w i) s t is))
           in
-          let known_name : class_named w i.name ≡ Some i = ap (class_named w) (name_is w y i known_i) ∙ known_i in
+          let known_name : class_named w i.name ≡ Some i = ap (class_named w) (class_named-name w y i known_i)
+          ∙ known_i in
           absurd (⊎_elim (λ j. none_own i r.0 known_name here j r.1) (λ j. none_asked r.0 j r.1) r.2)
 
       by : (t : Bool) → i.is_imported ≡ t → interface_token n.loaded (n.class y) id ≡ None
       by false own = sym (token_any n.loaded (n.class y) y id)
-          ∙ placed_by_name p (of_class y id) i (facts.own y i known_i own) (name_is w y i known_i) here
+          ∙ placed_by_name p (of_class y id) i (facts.own y i known_i own) (class_named-name w y i known_i) here
           ∙ lacks (place_in i) refl
       by true import =
-          ap (λ c. interface_token n.loaded c id) (sym (ap (card_class p) (name_is w y i known_i)) ∙ h.on_card)
+          ap (λ c. interface_token n.loaded c id) (sym (ap (card_class p) (class_named-name w y i known_i)) ∙ h.on_card)
           ∙ ap (option_and_then (λ (c : ExportClass). option_and_then (λ t. t) (listed_token c.methods id))) h.there
           ∙ ap (option_and_then (λ t. t)) (listed_is id h.number h.entry
           (Rattle.cjc_token_proof.proofs.WrittenCalls.Files.entry_plain p facts y i known_i import)
@@ -605,9 +579,10 @@ module _ (list : List ℕ) (p : Package) (sound : IsSound list p.files) (facts :
       where
         by : (t : Bool) → i.is_imported ≡ t → interface_token n.loaded (n.class y) id ≡ place_in i
         by false own = sym (token_any n.loaded (n.class y) y id)
-            ∙ placed_by_name p (of_class y id) i (facts.own y i known_i own) (name_is w y i known_i) here
+            ∙ placed_by_name p (of_class y id) i (facts.own y i known_i own) (class_named-name w y i known_i) here
         by true import =
-            ap (λ c. interface_token n.loaded c id) (sym (ap (card_class p) (name_is w y i known_i)) ∙ h.on_card)
+            ap (λ c. interface_token n.loaded c id) (sym (ap (card_class p) (class_named-name w y i known_i))
+            ∙ h.on_card)
             ∙ ap (option_and_then (λ (c : ExportClass). option_and_then (λ t. t) (listed_token c.methods id))) h.there
             ∙ ap (option_and_then (λ t. t)) (listed_is id h.number h.entry
             (Rattle.cjc_token_proof.proofs.WrittenCalls.Files.entry_plain p facts y i known_i import)
@@ -630,9 +605,9 @@ module _ (list : List ℕ) (p : Package) (sound : IsSound list p.files) (facts :
                 ap (λ (q : Class). slice_get (interface_methods w q) k) (sym h.class)
                 ∙ position_is (interface_methods w i) s k is in
                 let r = keep.methods y h.number h.entry entry_known entry_here k s there in
-                let j = position_or_len (λ (m : ExportMethod). Rattle.cjc_export.specs.Supers.is_virtual m
+                let j = position_or_len (λ (m : ExportMethod). Rattle.cjc_world.specs.ExportFile.Supers.is_virtual m
                 && (m.token == k)) h.entry.methods in
-                let found = sym (find_at (λ (m : ExportMethod). Rattle.cjc_export.specs.Supers.is_virtual m
+                let found = sym (find_at (λ (m : ExportMethod). Rattle.cjc_world.specs.ExportFile.Supers.is_virtual m
                 && (m.token == k)) h.entry.methods) ∙ r.1 in
                 let at = ap (λ (q : Class). slice_get q.methods j) h.class
                 ∙ Rattle.cjc_token_proof.proofs.WrittenCalls.Files.export_at h.entry.methods j r.0 found in
@@ -909,7 +884,7 @@ module _ (list : List ℕ) (p : Package) (sound : IsSound list p.files) (facts :
           (object_has (Known c su it End) (known_here (ap (class_named w) (sym (only x foremost)) ∙ e) ks ki ends)
           (or_left ((bytes_eq c.name y || stands y su) || stands y it) false front))))
           (λ more. has_behind (A ++ B ++ []) R (objects_have rest next kn (λ s l. only s (after l)) more))
-          (or_split ((bytes_eq c.name y || stands y su) || stands y it) (stands y next) st)
+          (or_cases ((bytes_eq c.name y || stands y su) || stands y it) (stands y next) st)
 
       -- or it is the interface, or stands above it
       step_has : (x : List ℕ) (c : Class) (su it next : Supertypes) → class_named w x ≡ Some c
@@ -930,11 +905,11 @@ module _ (list : List ℕ) (p : Package) (sound : IsSound list p.files) (facts :
           (λ name. itself_has name)
           (λ h. has_front (A
           ++ B) H (has_front A B (objects_have c.supers su ks (λ s l. only_object x s c e c_here l) h)))
-          (or_split (bytes_eq c.name y) (stands y su) side))
+          (or_cases (bytes_eq c.name y) (stands y su) side))
           (λ h. has_front (A ++ B) H (has_behind A B (on_it h)))
-          (or_split (bytes_eq c.name y || stands y su) (stands y it) front)))
+          (or_cases (bytes_eq c.name y || stands y su) (stands y it) front)))
           (λ more. has_behind (A ++ B ++ H) R (on_next more))
-          (or_split ((bytes_eq c.name y || stands y su) || stands y it) (stands y next) st)
+          (or_cases ((bytes_eq c.name y || stands y su) || stands y it) (stands y next) st)
         where
           trees_same : i ≡ c → known (gathered false (supertypes w i.supers)
               ++ gathered true (supertypes w i.interfaces)) ≡ known (gathered false su ++ gathered true it)
@@ -954,7 +929,7 @@ module _ (list : List ℕ) (p : Package) (sound : IsSound list p.files) (facts :
           itself_has name =
               let both : Some i ≡ Some c = sym known_i
               ∙ ap (class_named w) (sym (Rattle.cjc_token_proof.proofs.ByToken.Members.bytes_tell c.name y name)
-              ∙ name_is w x c e) ∙ e in
+              ∙ class_named-name w x c e) ∙ e in
               let one : i ≡ c = cc in
               ⊎_elim
               (λ f. has_behind (gathered false su ++ gathered true it) (where_listed true (record {
@@ -978,7 +953,7 @@ module _ (list : List ℕ) (p : Package) (sound : IsSound list p.files) (facts :
           ∙ ap (class_named w) (Rattle.cjc_token_proof.proofs.ByToken.Members.bytes_tell x y name) ∙ known_i
           in absurd (cc)))
           (λ more. listed_has rest next kn (λ z d l. all z d (after l)) more)
-          (or_split (bytes_eq x y) (stands y next) st)
+          (or_cases (bytes_eq x y) (stands y next) st)
       listed_has xs k (known_here {x = x} {xs = rest} {c = c} {supers = su} {interfaces = it} {next = next} e ks ki kn)
           all st =
           step_has x c su it next e ks ki (all x c foremost e) (λ h. listed_has rest next kn
@@ -1006,20 +981,20 @@ module _ (list : List ℕ) (p : Package) (sound : IsSound list p.files) (facts :
               (λ name.
               (let both : Some i ≡ Some d = sym known_i
               ∙ ap (class_named w) (sym (Rattle.cjc_token_proof.proofs.ByToken.Members.bytes_tell d.name y name)
-              ∙ name_is w y0 d named) ∙ named in
+              ∙ class_named-name w y0 d named) ∙ named in
               let one : i ≡ d = cc in
               let clash : Some t ≡ None = sym is ∙ ap place_in one ∙ lacks in absurd (cc)))
               (λ h. has_front (gathered false (supertypes w d.supers)) (gathered true (supertypes w d.interfaces))
               (objects_have d.supers (supertypes w d.supers) (facts.are_supertypes d.supers)
               (λ s l. only_object y0 s d named named_here l) h))
-              (or_split (bytes_eq d.name y) (stands y (supertypes w d.supers)) side))
+              (or_cases (bytes_eq d.name y) (stands y (supertypes w d.supers)) side))
               (λ h. has_behind (gathered false (supertypes w d.supers)) (gathered true (supertypes w d.interfaces))
               (listed_has d.interfaces (supertypes w d.interfaces) (facts.are_supertypes d.interfaces)
               (λ z c l g. facts.interfaces.listed y0 z d c named l g) h))
-              (or_split (bytes_eq d.name y || stands y (supertypes w d.supers)) (stands y (supertypes w d.interfaces))
+              (or_cases (bytes_eq d.name y || stands y (supertypes w d.supers)) (stands y (supertypes w d.interfaces))
               front))
               (λ more. absurd (cc))
-              (or_split ((bytes_eq d.name y || stands y (supertypes w d.supers))
+              (or_cases ((bytes_eq d.name y || stands y (supertypes w d.supers))
               || stands y (supertypes w d.interfaces)) false st)
 
     module _ (y0 : List ℕ) (d : Class) (named : class_named w y0 ≡ Some d) (x : List ℕ) (c : Class) (e : class_named w x

@@ -1,6 +1,6 @@
 -- Objects that are there are of classes that receive calls.
 use Rattle.std.proofs.Common.{◌≡◌, ℕ, refl, sym, ap, subst, ◌∙◌, Bool, true, false, List}
-use Rattle.std.specs.Prelude.{Option, Some, None, not, ◌&&◌, ◌||◌, if◌then◌else◌}
+use Rattle.std.specs.Prelude.{Option, Some, None, not, ◌||◌, if◌then◌else◌}
 use Rattle.std.specs.List.{list_any}
 use Rattle.std.specs.Str.{bytes_eq}
 use Rattle.cjc_card_semantics.specs.Bytecode.Alike.{KnownKind, KnownThing}
@@ -10,6 +10,7 @@ use Rattle.cjc_card_semantics.specs.Bytecode.Effects.{HeapObject, shape}
 use Rattle.cjc_card_semantics.specs.Bytecode.Renaming.{KnownHeapObject, numbers_known, object_known, references_known}
 use Rattle.cjc_bytes.specs.AccessFlags.{is_abstract, is_interface}
 use Rattle.cjc_bytes.specs.declared.fault.MemberId.{MemberId}
+use Rattle.cjc_bytes.proofs.Bools.{and_true}
 use Rattle.cjc_token_proof.proofs.ByToken.Members.{bytes_tell}
 use Rattle.cjc_components.specs.Package.{Package, world}
 use Rattle.cjc_token_proof.specs.ByToken.Classes.{memories}
@@ -21,13 +22,9 @@ use Rattle.cjc_token_proof.specs.Tables.Known.{is_holder, is_own_exception, know
 use Rattle.cjc_token_proof.specs.Tables.Loading.{naming}
 use Rattle.cjc_jvm_semantics.specs.OnePackage.{object_fields}
 use Rattle.cjc_world.specs.Classes.{Class, class_named}
-use Rattle.cjc_token_proof.proofs.WrittenCalls.SupertypeTrees.{name_is}
+use Rattle.cjc_world.proofs.Cycles.{class_named-name}
 use Rattle.cjc_token_proof.specs.WrittenCalls.Calls.{Receives, numbers, one_of, references}
 use Rattle.cjc_token_proof.specs.WrittenSends.Named.{FaultsAreClasses, is_called, known, known_tests}
-
-and_true : (a b : Bool) → (a && b) ≡ true → (a ≡ true) × (b ≡ true)
-and_true true b e = (refl, e)
-and_true false b e = absurd (cc)
 
 module _ (p : Package) (faults : FaultsAreClasses (world p)) where
   abbrev w : List Class
@@ -96,7 +93,7 @@ module _ (p : Package) (faults : FaultsAreClasses (world p)) where
       by true is g =
           let two = and_true c.is_imported (list_any (λ name. bytes_eq name c.name) own_exceptions) g in
           let named : list_any (λ name. bytes_eq name x) own_exceptions ≡ true =
-          ap (λ y. list_any (λ name. bytes_eq name y) own_exceptions) (sym (name_is w x c e)) ∙ two.1 in
+          ap (λ y. list_any (λ name. bytes_eq name y) own_exceptions) (sym (class_named-name w x c e)) ∙ two.1 in
           let clash : true ≡ false = sym is ∙ (fault_of x named c e).1 in absurd (cc)
       by false is g = one_of c e is (λ own. made c.is_imported (is_abstract c.flags) g own)
 

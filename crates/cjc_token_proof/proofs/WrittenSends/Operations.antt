@@ -1,12 +1,13 @@
 -- What the operations of narrow code name is known.
-use Rattle.std.proofs.Common.{◌≡◌, ℕ, zero, suc, ◌+◌, refl, sym, ap, subst, ◌∙◌, arith, Bool, true, false, List, []}
+use Rattle.std.proofs.Common.{◌≡◌, ℕ, zero, suc, ◌+◌, refl, sym, ap, subst, ◌∙◌, Bool, true, false, List, []}
 use Rattle.std.proofs.Common.{◌∷◌, ◌++◌}
 use Rattle.std.specs.Prelude.{Option, Some, None, flat_map, nat_le, slice_get, ◌==◌, ◌&&◌, ◌||◌, if◌then◌else◌, ℤ, pos}
 use Rattle.std.specs.Prelude.{negsuc}
 use Rattle.std.specs.List.{list_any}
-use Rattle.std.proofs.lemmas.Bool.Decides.{nat_tests}
 use Rattle.cjc_bytes.specs.AccessFlags.{is_private}
 use Rattle.cjc_bytes.specs.declared.fault.MemberId.{MemberId}
+use Rattle.cjc_bytes.proofs.Gets.{any_at, any_flat}
+use Rattle.cjc_bytes.proofs.Numbers.{like_number, number_same}
 use Rattle.cjc_card_semantics.specs.Bytecode.Effects.{Call, Letter}
 use Rattle.cjc_card_semantics.specs.Bytecode.Effects as letters
 use Rattle.cjc_card_semantics.specs.Bytecode.Meanings.{Meaning, Plain, Branches, Ranged, Paired, Touches, Uses}
@@ -14,7 +15,7 @@ use Rattle.cjc_card_semantics.specs.Bytecode.Meanings.{CallsInterface, MakesNumb
 use Rattle.cjc_card_semantics.specs.Bytecode.Renaming.{KnownOperation}
 use Rattle.cjc_jvm_semantics.specs.Linked.{Method}
 use Rattle.cjc_jvm_semantics.specs.OnePackage.{ResolvedMember, is_constructor, method_at, of_class}
-use Rattle.cjc_token_proof.proofs.ByToken.Members.{bytes_same, member_tells}
+use Rattle.cjc_token_proof.proofs.ByToken.Members.{member_tells, member_same}
 use Rattle.cjc_token_proof.specs.ByToken.Cells.{fields, is_one_of, letter, letter_by, may_access, same_letter}
 use Rattle.cjc_token_proof.specs.ByToken.Supers.{HasShape, has_class}
 use Rattle.cjc_card_semantics.specs.Machine.ByToken.{letter_of}
@@ -53,70 +54,21 @@ use Rattle.cjc_token_proof.specs.WrittenSends.Named.{CallsAreNamed, IsTypeThere,
 use Rattle.cjc_token_proof.specs.WrittenSends.Named.{InstructionsNameWhatIsThere, callee_in, calls_in, calls_of}
 use Rattle.cjc_token_proof.specs.WrittenSends.Named.{is_called, known, known_tests, same_call}
 
--- ---- lists
-
-any_here : {A : Type 0} (test : A → Bool) (xs : List A) (k : ℕ) (x : A) → slice_get xs k ≡ Some x → test x ≡ true
-    → list_any test xs ≡ true
-any_here test [] k x e is = absurd (cc)
-any_here test (y ∷ xs) zero x e is = let same : y ≡ x = cc in ap (λ t. t || list_any test xs) (ap test same ∙ is)
-any_here test (y ∷ xs) (suc k) x e is = by (test y) (any_here test xs k x e is)
-  where
-    by : (t : Bool) → list_any test xs ≡ true → (t || list_any test xs) ≡ true
-    by true h = refl
-    by false h = h
-
-any_front : {A : Type 0} (test : A → Bool) (xs ys : List A) → list_any test xs ≡ true → list_any test (xs ++ ys) ≡ true
-any_front test [] ys e = absurd (cc)
-any_front test (x ∷ xs) ys e = by (test x) e (any_front test xs ys)
-  where
-    by : (t : Bool) → (t || list_any test xs) ≡ true → (list_any test xs ≡ true → list_any test (xs ++ ys) ≡ true)
-        → (t || list_any test (xs ++ ys)) ≡ true
-    by true h rest = refl
-    by false h rest = rest h
-
-any_behind : {A : Type 0} (test : A → Bool) (xs ys : List A) → list_any test ys ≡ true → list_any test (xs ++ ys) ≡ true
-any_behind test [] ys e = e
-any_behind test (x ∷ xs) ys e = by (test x) (any_behind test xs ys e)
-  where
-    by : (t : Bool) → list_any test (xs ++ ys) ≡ true → (t || list_any test (xs ++ ys)) ≡ true
-    by true h = refl
-    by false h = h
-
-any_among : {A B : Type 0} (test : B → Bool) (f : A → List B) (xs : List A) (k : ℕ) (x : A) → slice_get xs k ≡ Some x
-    → list_any test (f x) ≡ true → list_any test (flat_map f xs) ≡ true
-any_among test f [] k x e is = absurd (cc)
-any_among test f (y ∷ xs) zero x e is = let same : y ≡ x = cc in any_front test (f y) (flat_map f xs)
-    (ap (λ z. list_any test (f z)) same ∙ is)
-any_among test f (y ∷ xs) (suc k) x e is = any_behind test (f y) (flat_map f xs) (any_among test f xs k x e is)
-
 -- ---- calls
 
-member_itself : (m : MemberId) → same_member m m ≡ true
-member_itself m = ap (λ t. t && (bytes m.name && bytes m.desc)) (bytes_same m.class)
-    ∙ ap (λ t. t && bytes m.desc) (bytes_same m.name) ∙ bytes_same m.desc
-  where
-    bytes : List ℕ → Bool
-    bytes x = Rattle.std.specs.Str.bytes_eq x x
-
-same_number : (a : ℕ) → (a == a) ≡ true
-same_number a = grind (arith, nat_tests)
-
-number_tells : (a b : ℕ) → (a == b) ≡ true → a ≡ b
-number_tells a b e = grind (arith, nat_tests, e)
-
 call_itself : (m : Callee) → same_call m m ≡ true
-call_itself (Fixed true m) = member_itself m
-call_itself (Fixed false m) = member_itself m
-call_itself (OnObject m) = member_itself m
-call_itself (OnSuper m) = member_itself m
-call_itself (OnInterface words m) = ap (λ t. t && same_member m m) (same_number words) ∙ member_itself m
+call_itself (Fixed true m) = member_same m
+call_itself (Fixed false m) = member_same m
+call_itself (OnObject m) = member_same m
+call_itself (OnSuper m) = member_same m
+call_itself (OnInterface words m) = ap (λ t. t && same_member m m) (like_number words) ∙ member_same m
 
 -- a call of a method that is written is one of the package
 call_known : (p : Package) (k j : ℕ) (m : LaidMethod) (i : NInsn) → slice_get p.methods k ≡ Some m
     → slice_get m.code.insns j ≡ Some i → (c : Callee) → operation i ≡ Call c → is_called p c ≡ true
 call_known p k j m i there at c is =
-    any_among (same_call c) (λ (l : LaidMethod). calls_in l.code.insns) p.methods k m there
-    (any_among (same_call c) (λ (n : NInsn). callee_in (operation n)) m.code.insns j i at
+    any_flat (same_call c) (λ (l : LaidMethod). calls_in l.code.insns) p.methods k m there
+    (any_flat (same_call c) (λ (n : NInsn). callee_in (operation n)) m.code.insns j i at
     (ap (λ o. list_any (same_call c) (callee_in o)) is ∙ ap (λ t. t || false) (call_itself c)))
 
 -- the same call is one
@@ -131,7 +83,7 @@ call_tells (OnInterface words m) (OnInterface count k) e = by (words == count) r
   where
     by : (t : Bool) → (words == count) ≡ t → (t && same_member m k) ≡ true → OnInterface words m ≡ OnInterface count k
     by false is h = absurd (cc)
-    by true is h = let same : words ≡ count = number_tells words count is in ap (λ n. OnInterface n m) same
+    by true is h = let same : words ≡ count = number_same words count is in ap (λ n. OnInterface n m) same
         ∙ ap (OnInterface count) (member_tells m k h)
 call_tells (Fixed on m) (OnObject k) e = absurd (cc)
 call_tells (Fixed on m) (OnSuper k) e = absurd (cc)
@@ -146,23 +98,11 @@ call_tells (OnInterface words m) (Fixed on k) e = absurd (cc)
 call_tells (OnInterface words m) (OnObject k) e = absurd (cc)
 call_tells (OnInterface words m) (OnSuper k) e = absurd (cc)
 
--- one of these passes the test
-any_there : {A : Type 0} (test : A → Bool) (xs : List A) → list_any test xs ≡ true → (k : ℕ) × (x : A)
-    × (slice_get xs k ≡ Some x) × (test x ≡ true)
-any_there test [] e = absurd (cc)
-any_there {A = A} test (y ∷ xs) e = by (test y) refl e (any_there test xs)
-  where
-    by : (t : Bool) → test y ≡ t → (t || list_any test xs) ≡ true → (list_any test xs ≡ true → (k : ℕ) × (x : A)
-        × (slice_get xs k ≡ Some x) × (test x ≡ true)) → (k : ℕ) × (x : A) × (slice_get (y ∷ xs) k ≡ Some x)
-        × (test x ≡ true)
-    by true is h rest = (0, y, refl, is)
-    by false is h rest = let r = rest h in (suc r.0, r.1, r.2, r.3)
-
 -- what the package calls is named
 pub call_named : (p : Package) → CallsAreNamed p → (m : Callee) → IsKnownCall (known_tests p) m → IsNamed (world p) m
     × TakesWords (world p) m
 call_named p named m is =
-    let r = any_there (same_call m) (calls_of p) is in
+    let r = any_at (same_call m) (calls_of p) is in
     let same = call_tells m r.1 r.3 in
     named r.0 m (r.2 ∙ ap Some (sym same))
 

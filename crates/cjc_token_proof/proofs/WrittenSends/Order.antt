@@ -6,26 +6,29 @@ use Rattle.std.proofs.Common.{[], ◌∷◌, ◌++◌, length, inl, inr}
 use Rattle.std.specs.Prelude.{◌⊎◌, Option, Some, None, option_map, ◌&&◌, ◌||◌, if◌then◌else◌}
 use Rattle.std.specs.Str.{bytes_eq}
 use Rattle.std.proofs.lemmas.List.{append-nil, length-append}
+use Rattle.std.proofs.lemmas.Bool.{or_left, or_right}
 use Rattle.cjc_bytes.specs.AccessFlags.{is_static}
 use Rattle.cjc_bytes.specs.declared.fault.MemberId.{MemberId}
+use Rattle.cjc_bytes.proofs.Bools.{or_cases}
 use Rattle.cjc_token_proof.proofs.ByToken.Members.{bytes_same, bytes_tell}
 use Rattle.cjc_token_proof.specs.Calls.Selecting.{signature}
 use Rattle.cjc_card_semantics.specs.Machine.Calls.{listed_token, token_in_files}
 use Rattle.cjc_card_semantics.specs.Machine.Classes.{or_else}
 use Rattle.cjc_components.specs.Package.{Package, world}
-use Rattle.cjc_export.specs.declared.tree.ExportClass.{ExportClass}
-use Rattle.cjc_export.specs.declared.tree.ExportMethod.{ExportMethod}
-use Rattle.cjc_export.specs.Supers.{is_one_of, super_count, upwards_from, with_class}
-use Rattle.cjc_export.specs.Supers as exports
+use Rattle.cjc_world.specs.ExportFile.declared.tree.ExportClass.{ExportClass}
+use Rattle.cjc_world.specs.ExportFile.declared.tree.ExportMethod.{ExportMethod}
+use Rattle.cjc_world.specs.ExportFile.Supers.{is_one_of, super_count, upwards_from, with_class}
+use Rattle.cjc_world.proofs.ExportFileUpwards.{one_cases, one_here}
+use Rattle.cjc_world.specs.ExportFile.Supers as exports
 use Rattle.cjc_tokens.specs.Members.{chosen, is_initialiser, is_virtual}
 use Rattle.cjc_vtable.specs.Calls.{any_method}
 use Rattle.cjc_world.specs.Classes.{Class, Member, class_named, imported, method_of_export}
 use Rattle.cjc_world.specs.Supertypes.{Above, AreSupertypes, Supertypes, End, Known, Lists, Unknown, after, directly}
 use Rattle.cjc_world.specs.Supertypes.{ends, foremost, supertypes, known_here, onwards, stands_by_supers, unknown_here}
+use Rattle.cjc_world.proofs.Cycles.{class_named-name}
 use Rattle.cjc_world.specs.Supertypes as supertype_trees
 use Rattle.cjc_token_proof.proofs.WrittenCalls.Facts.{Facts, exported}
 use Rattle.cjc_token_proof.proofs.WrittenCalls.Files.{export_virtual}
-use Rattle.cjc_token_proof.proofs.WrittenCalls.SupertypeTrees.{name_is}
 
 -- ---- options and tests
 
@@ -40,32 +43,6 @@ else_none (Some x) = refl
 both_none : {A : Type 0} (a b : Option A) → or_else a b ≡ None → (a ≡ None) × (b ≡ None)
 both_none None b e = (refl, e)
 both_none (Some x) b e = absurd (cc)
-
-or_right : (a b : Bool) → b ≡ true → (a || b) ≡ true
-or_right true b e = refl
-or_right false b e = e
-
-or_left : (a b : Bool) → a ≡ true → (a || b) ≡ true
-or_left true b e = refl
-or_left false b e = absurd (cc)
-
-or_cases : (a b : Bool) → (a || b) ≡ true → (a ≡ true) ⊎ (b ≡ true)
-or_cases true b e = inl refl
-or_cases false b e = inr e
-
--- the name in front, or one behind it
-one_cases : (x : List ℕ) (names : List (List ℕ)) (y : List ℕ) → is_one_of (x ∷ names) y ≡ true → (x ≡ y)
-    ⊎ (is_one_of names y ≡ true)
-one_cases x names y e = elim (or_cases (bytes_eq x y) (is_one_of names y) e) [
-  | inl h ↦ inl (bytes_tell x y h)
-  | inr h ↦ inr h
-]
-
-one_here : (x : List ℕ) (names : List (List ℕ)) → is_one_of (x ∷ names) x ≡ true
-one_here x names = or_left (bytes_eq x x) (is_one_of names x) (bytes_same x)
-
-one_more : (x : List ℕ) (names : List (List ℕ)) (y : List ℕ) → is_one_of names y ≡ true → is_one_of (x ∷ names) y ≡ true
-one_more x names y h = or_right (bytes_eq x y) (is_one_of names y) h
 
 -- ---- how many supers are left, of classes whose names were not passed
 
@@ -210,7 +187,7 @@ module _ (p : Package) (facts : Facts p) (id : MemberId) where
         | inl h ↦ elim (or_cases (bytes_eq c.name z) (stands_by_supers z supers) h) [
           | inl same ↦ (
               let named_z : class_named w z ≡ Some c = ap (class_named w) (sym (bytes_tell c.name z same)
-              ∙ name_is w x c e) ∙ e in
+              ∙ class_named-name w x c e) ∙ e in
               known_alone z c supers interfaces named_z ks ki ∙ ap (λ o. or_else o (tree_token supers)) parts.0 ∙ two.0)
           | inr g ↦ subtree c.supers supers ks two.0 z g
         ]
@@ -236,7 +213,8 @@ module _ (p : Package) (facts : Facts p) (id : MemberId) where
       ks ki kn) z s =
       elim (or_cases (bytes_eq c.name z || stands_by_supers z supers) (stands_by_supers z next) s) [
         | inl h ↦ elim (or_cases (bytes_eq c.name z) (stands_by_supers z supers) h) [
-          | inl same ↦ inl (subst (λ v. Lists v (x ∷ xs')) (sym (name_is w x c e) ∙ bytes_tell c.name z same) foremost)
+          | inl same ↦ inl (subst (λ v. Lists v (x ∷ xs')) (sym (class_named-name w x c e)
+              ∙ bytes_tell c.name z same) foremost)
           | inr g ↦ elim (stands_above c.supers supers ks z g) [
             | inl listed ↦ inr (x, foremost, directly c e (lists_front z c.supers c.interfaces listed))
             | inr up ↦ inr (x, foremost, onwards c e (lists_front up.0 c.supers c.interfaces up.1) up.2)
@@ -379,7 +357,8 @@ module _ (p : Package) (facts : Facts p) (id : MemberId) where
 
       itself : stands_by_supers x (Known c supers interfaces next) ≡ true
       itself = or_left (bytes_eq c.name x || stands_by_supers x supers) (stands_by_supers x next)
-          (or_left (bytes_eq c.name x) (stands_by_supers x supers) (ap (bytes_eq c.name) (sym (name_is w x c e))
+          (or_left (bytes_eq c.name x) (stands_by_supers x supers) (ap (bytes_eq c.name) (sym
+          (class_named-name w x c e))
           ∙ bytes_same c.name))
 
       itself_at : (z : List ℕ) → x ≡ z → stands_by_supers z (Known c supers interfaces next) ≡ true

@@ -2,6 +2,7 @@
 use Rattle.std.proofs.Common.{◌≡◌, ℕ, refl, sym, ap, ◌∙◌, Bool, true, false, List}
 use Rattle.std.specs.Prelude.{Option, Some, None, is_some, not, option_map, slice_get, ◌&&◌, ◌||◌}
 use Rattle.std.proofs.lemmas.Option.{slice_get-map}
+use Rattle.std.proofs.lemmas.Bool.{or_parts}
 use Rattle.cjc_bytes.specs.AccessFlags.{acc_native, acc_strict, acc_synchronized, has, is_abstract, is_interface}
 use Rattle.cjc_bytes.specs.AccessFlags.{is_private, is_static}
 use Rattle.cjc_bytes.specs.declared.settings.Settings.{Settings}
@@ -20,10 +21,6 @@ use Rattle.cjc_world.specs.Lookup.{is_selectable}
 use Rattle.cjc_token_proof.specs.WrittenCalls.Calls.{NoStaticMethods}
 use Rattle.cjc_token_proof.specs.WrittenSends.Sends.{InterfacesAsk}
 
-neither : (a b : Bool) → (a || b) ≡ false → (a ≡ false) × (b ≡ false)
-neither true b e = absurd (cc)
-neither false b e = (refl, e)
-
 not_static : (private static : Bool) → (not private && not static) ≡ true → static ≡ false
 not_static private false e = refl
 not_static true true e = absurd (cc)
@@ -37,17 +34,17 @@ fit : (native synchronized strict twice abstract constructor initialiser static 
     || ((true && code) && not initialiser)) ≡ false
     → (abstract ≡ false → native ≡ false → code ≡ true) → (not private && not static) ≡ true
 fit native synchronized strict twice abstract constructor initialiser static private code plain off coded =
-    let k1 = neither ((((((native || synchronized) || strict) || twice) || (abstract && (static || private)))
+    let k1 = or_parts ((((((native || synchronized) || strict) || twice) || (abstract && (static || private)))
     || (abstract && (constructor || initialiser))) || (initialiser && not static)) ((true && code)
     && not initialiser) off in
-    let k2 = neither (((((native || synchronized) || strict) || twice) || (abstract && (static || private)))
+    let k2 = or_parts (((((native || synchronized) || strict) || twice) || (abstract && (static || private)))
     || (abstract && (constructor || initialiser))) (initialiser && not static) k1.0 in
-    let k3 = neither ((((native || synchronized) || strict) || twice) || (abstract && (static || private))) (abstract
+    let k3 = or_parts ((((native || synchronized) || strict) || twice) || (abstract && (static || private))) (abstract
     && (constructor || initialiser)) k2.0 in
-    let k4 = neither (((native || synchronized) || strict) || twice) (abstract && (static || private)) k3.0 in
-    let k5 = neither ((native || synchronized) || strict) twice k4.0 in
-    let k6 = neither (native || synchronized) strict k5.0 in
-    let k7 = neither native synchronized k6.0 in
+    let k4 = or_parts (((native || synchronized) || strict) || twice) (abstract && (static || private)) k3.0 in
+    let k5 = or_parts ((native || synchronized) || strict) twice k4.0 in
+    let k6 = or_parts (native || synchronized) strict k5.0 in
+    let k7 = or_parts native synchronized k6.0 in
     by abstract static private code initialiser k4.1 k1.1 plain (λ a. coded a k7.0)
   where
     by : (a s p h i : Bool) → (a && (s || p)) ≡ false → ((true && h) && not i) ≡ false → i ≡ false

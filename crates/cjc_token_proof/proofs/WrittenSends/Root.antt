@@ -1,41 +1,27 @@
 -- Over superclasses java/lang/Object stands above an interface, and nothing else does.
-use Rattle.std.proofs.Common.{◌≡◌, ℕ, refl, sym, ap, ◌∙◌, Bool, true, false, List, [], ◌∷◌, ◌++◌, inl, inr, ⊎_elim}
-use Rattle.std.specs.Prelude.{◌⊎◌, ◌||◌, Option, Some, None}
+use Rattle.std.proofs.Common.{◌≡◌, ℕ, refl, sym, ap, ◌∙◌, true, false, List, [], ◌∷◌, ◌++◌, ⊎_elim}
+use Rattle.std.specs.Prelude.{◌||◌, Option, Some, None}
 use Rattle.std.specs.Str.{bytes_eq}
+use Rattle.std.proofs.lemmas.Bool.{or_left, or_right}
 use Rattle.cjc_bytes.specs.AccessFlags.{is_interface}
+use Rattle.cjc_bytes.proofs.Bools.{or_cases}
 use Rattle.cjc_components.specs.Package.{Package, world}
-use Rattle.cjc_export.proofs.Rooted.{has_root}
+use Rattle.cjc_world.proofs.ExportFileRooted.{has_root}
 use Rattle.cjc_token_proof.proofs.TablesLaws.Above.{rules_of}
 use Rattle.cjc_token_proof.proofs.TablesLaws.Lists.{right_supers}
 use Rattle.cjc_token_proof.proofs.TablesLaws.Rooted.{import_root}
 use Rattle.cjc_token_proof.proofs.WrittenCalls.Facts.{Facts}
-use Rattle.cjc_token_proof.proofs.WrittenCalls.SupertypeTrees.{name_is}
 use Rattle.cjc_token_proof.proofs.WrittenCalls.Towers.{line_is}
 use Rattle.cjc_token_proof.specs.Tables.Sound.{IsSound}
 use Rattle.cjc_vtable.proofs.Filed.{IsFiled, filed, in_class_file, in_export_file}
-use Rattle.cjc_world.proofs.Rising.{first-append}
+use Rattle.cjc_world.proofs.Rising.{first-append, or_else-none}
 use Rattle.cjc_world.specs.Classes.{Class, class_named, declared, imported}
 use Rattle.cjc_world.specs.Lookup.{first, object, or_else}
 use Rattle.cjc_world.specs.Supertypes.{AreSupertypes, Lists, Supertypes, after, ends, foremost, known_here, line}
 use Rattle.cjc_world.specs.Supertypes.{stands}
 use Rattle.cjc_world.specs.Supertypes.{supertypes, unknown_here, upwards}
 use Rattle.cjc_world.specs.declared.found.Found.{Found}
-
-or_front : (a b : Bool) → a ≡ true → (a || b) ≡ true
-or_front true b e = refl
-or_front false b e = absurd cc
-
-or_back : (a b : Bool) → b ≡ true → (a || b) ≡ true
-or_back true b e = refl
-or_back false b e = e
-
-or_split : (a b : Bool) → (a || b) ≡ true → (a ≡ true) ⊎ (b ≡ true)
-or_split true b e = inl refl
-or_split false b e = inr e
-
-or_none : (o : Option Found) → or_else o None ≡ o
-or_none None = refl
-or_none (Some f) = refl
+use Rattle.cjc_world.proofs.Cycles.{class_named-name}
 
 or_same : (o : Option Found) → or_else o o ≡ o
 or_same None = refl
@@ -46,17 +32,17 @@ root_stands : (w : List Class) (xs : List (List ℕ)) (k : Supertypes) → AreSu
     → stands object k ≡ true
 root_stands w xs k ends h = absurd cc
 root_stands w xs k (unknown_here {x = x} {xs = rest} {next = next} none n) h = ⊎_elim
-    (λ e. or_front (bytes_eq x object) (stands object next) e)
-    (λ e. or_back (bytes_eq x object) (stands object next) (root_stands w rest next n e))
-    (or_split (bytes_eq x object) (has_root rest) h)
+    (λ e. or_left (bytes_eq x object) (stands object next) e)
+    (λ e. or_right (bytes_eq x object) (stands object next) (root_stands w rest next n e))
+    (or_cases (bytes_eq x object) (has_root rest) h)
 root_stands w xs k (known_here {x = x} {xs = rest} {c = c} {supers = s} {interfaces = i} {next = next} f sk ik n) h =
     ⊎_elim
-    (λ e. or_front ((bytes_eq c.name object || stands object s) || stands object i) (stands object next)
-    (or_front (bytes_eq c.name object || stands object s) (stands object i)
-    (or_front (bytes_eq c.name object) (stands object s) (ap (λ y. bytes_eq y object) (name_is w x c f) ∙ e))))
-    (λ e. or_back ((bytes_eq c.name object || stands object s) || stands object i) (stands object next)
+    (λ e. or_left ((bytes_eq c.name object || stands object s) || stands object i) (stands object next)
+    (or_left (bytes_eq c.name object || stands object s) (stands object i)
+    (or_left (bytes_eq c.name object) (stands object s) (ap (λ y. bytes_eq y object) (class_named-name w x c f) ∙ e))))
+    (λ e. or_right ((bytes_eq c.name object || stands object s) || stands object i) (stands object next)
     (root_stands w rest next n e))
-    (or_split (bytes_eq x object) (has_root rest) h)
+    (or_cases (bytes_eq x object) (has_root rest) h)
 
 module _ (list : List ℕ) (p : Package) (sound : IsSound list p.files) (facts : Facts p) where
   abbrev w : List Class
@@ -79,7 +65,8 @@ module _ (list : List ℕ) (p : Package) (sound : IsSound list p.files) (facts :
       by _ (in_export_file n t at) f there =
           let o = facts.object_class in
           ⊎_elim
-          (λ same. absurd (clash o.0 (sym o.1 ∙ ap (class_named w) (sym same ∙ name_is w y (imported n t) f) ∙ f) o.3
+          (λ same. absurd (clash o.0 (sym o.1 ∙ ap (class_named w) (sym same ∙ class_named-name w y (imported n t) f)
+          ∙ f) o.3
           there))
           (λ h. h)
           (import_root p.files (let r = sound.read in r.exports) n t at)
@@ -125,7 +112,7 @@ module _ (list : List ℕ) (p : Package) (sound : IsSound list p.files) (facts :
     more_objects : (xs : List (List ℕ)) (k : Supertypes) → AreSupertypes w xs k → ((s : List ℕ) → Lists s xs → s
         ≡ object) → or_else top (first own (upwards k)) ≡ top
     unfolding first
-    more_objects xs k ends only = or_none top
+    more_objects xs k ends only = or_else-none top
     more_objects xs k (unknown_here {x = x} none n) only = unknown x none (only x foremost)
     more_objects xs k (known_here {x = x} {xs = rest} {c = c} {supers = s} {next = next} f sk ik n) only =
         ap (or_else top) (step x c s next f (only x foremost) sk (more_objects rest next n (λ y l. only y (after l))))

@@ -8,6 +8,7 @@ use Rattle.std.specs.Prelude.{if◌then◌else◌}
 use Rattle.cjc_bytes.specs.AccessFlags.{is_abstract, is_interface}
 use Rattle.cjc_card_semantics.specs.Bytecode.Renaming.{shape_as}
 use Rattle.cjc_bytes.specs.declared.fault.MemberId.{MemberId}
+use Rattle.cjc_bytes.proofs.Bools.{or_true}
 use Rattle.cjc_jvm_semantics.specs.Linked.{Method}
 use Rattle.cjc_jvm_semantics.specs.OnePackage.{ResolvedMember, is_constructor, is_initialiser, is_sendable, method_at}
 use Rattle.cjc_jvm_semantics.specs.OnePackage.{method_hit, select_in, sent_named}
@@ -44,9 +45,9 @@ use Rattle.cjc_world.specs.Lookup.{find_method, first, is_selectable, object, ow
 use Rattle.cjc_world.specs.Lookup as lookup
 use Rattle.cjc_world.specs.Subtype.{is_subtype}
 use Rattle.cjc_world.specs.declared.found.Found.{Found}
+use Rattle.cjc_world.proofs.Cycles.{class_named-name}
 use Rattle.cjc_token_proof.proofs.WrittenCalls.Facts.{Facts}
 use Rattle.cjc_token_proof.proofs.WrittenCalls.Found.{line_named}
-use Rattle.cjc_token_proof.proofs.WrittenCalls.SupertypeTrees.{name_is}
 use Rattle.cjc_token_proof.proofs.WrittenCalls.Receivers.{first_step}
 use Rattle.cjc_token_proof.proofs.WrittenCalls.Towers.{class_stands, height_fits, line_is}
 use Rattle.cjc_token_proof.specs.WrittenCalls.Calls.{ExportsKeep, KeepsSubtypes, KeepsTokens, Receives, numbers, one_of}
@@ -56,10 +57,6 @@ use Rattle.cjc_token_proof.proofs.WrittenSends.Interfaces as interfaces
 use Rattle.cjc_token_proof.proofs.WrittenSends.Root.{above_interface, object_above, only_object}
 use Rattle.cjc_token_proof.proofs.WrittenSends.Sent as sends
 use Rattle.cjc_token_proof.specs.WrittenSends.Sends.{ExportsSend, InterfacesAsk}
-
-or_true : (b : Bool) → (b || true) ≡ true
-or_true true = refl
-or_true false = refl
 
 module _ (list : List ℕ) (p : Package) (sound : IsSound list p.files) (facts : Facts p) (subtypes : KeepsSubtypes
     (world p)) (tokens : KeepsTokens (world p)) (keep : ExportsKeep p) (kinds : SaysKinds (world p) (naming p))
@@ -246,7 +243,7 @@ module _ (list : List ℕ) (p : Package) (sound : IsSound list p.files) (facts :
         module _ (d : Class) (named : class_named w id.class ≡ Some d) (named_here : is_interface d.flags ≡ true)
             (sub : is_subtype w x id.class ≡ true) where
           own_known : class_named w d.name ≡ Some d
-          own_known = ap (class_named w) (name_is w id.class d named) ∙ named
+          own_known = ap (class_named w) (class_named-name w id.class d named) ∙ named
 
           line_here : first finds (line w id.class) ≡ lookup.or_else (finds d) (first finds (line w object))
           line_here =

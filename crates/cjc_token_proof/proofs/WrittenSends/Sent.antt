@@ -28,9 +28,9 @@ use Rattle.cjc_card_semantics.specs.Machine.Methods.{Code}
 use Rattle.cjc_components.specs.Methods.{method_offset}
 use Rattle.cjc_components.specs.Names.{class_at as card_class}
 use Rattle.cjc_components.specs.Package.{Package, world}
-use Rattle.cjc_export.specs.declared.tree.ExportClass.{ExportClass}
-use Rattle.cjc_export.specs.declared.tree.ExportMethod.{ExportMethod}
-use Rattle.cjc_export.specs.Supers.{virtual_method}
+use Rattle.cjc_world.specs.ExportFile.declared.tree.ExportClass.{ExportClass}
+use Rattle.cjc_world.specs.ExportFile.declared.tree.ExportMethod.{ExportMethod}
+use Rattle.cjc_world.specs.ExportFile.Supers.{virtual_method}
 use Rattle.cjc_ncode.specs.Lowering.Naming.{Naming}
 use Rattle.cjc_ncode.specs.Lowering.Placed.{Placed, code_of, offset_of}
 use Rattle.cjc_script.specs.Sorts.{Element, Booleans, Bytes, Shorts, Ints, Shape, OfClass, OfNumbers, OfReferences}
@@ -45,13 +45,14 @@ use Rattle.cjc_world.specs.Lookup.{find_method, first, object, own_method, recei
 use Rattle.cjc_world.specs.Lookup as lookup
 use Rattle.cjc_world.specs.Subtype.{array_is, element, is_element, is_subtype, starts}
 use Rattle.cjc_world.specs.declared.found.Found.{Found}
+use Rattle.cjc_world.proofs.Cycles.{class_named-name}
 use Rattle.cjc_token_proof.proofs.WrittenCalls.Facts.{Facts}
 use Rattle.cjc_token_proof.proofs.WrittenCalls.Files.{first_imported_found}
 use Rattle.cjc_token_proof.proofs.WrittenCalls.Found.{first_own, line_named, own_is}
-use Rattle.cjc_token_proof.proofs.WrittenCalls.SupertypeTrees.{name_is}
-use Rattle.cjc_token_proof.proofs.WrittenCalls.Receivers.{found_stands, not_array}
+use Rattle.cjc_token_proof.proofs.WrittenCalls.Receivers.{found_stands}
 use Rattle.cjc_token_proof.proofs.WrittenCalls.Towers.{line_is}
 use Rattle.cjc_token_proof.specs.WrittenCalls.Calls.{KeepsSubtypes, KeepsTokens, Receives, numbers, one_of, references}
+use Rattle.cjc_world_proof.proofs.CallsLaws.Types.{receiver_class}
 
 -- ---- objects of imported classes: no method of the package
 
@@ -178,11 +179,11 @@ module _ (list : List ℕ) (p : Package) (sound : IsSound list p.files) (facts :
       by : (t : Bool) → d.is_imported ≡ t → card.is_interface n.loaded (n.class y) ≡ is_interface d.flags
       by true import =
           let h = facts.file y d known import in
-          ap (card.is_interface n.loaded) (sym (ap (card_class p) (name_is w y d known)) ∙ h.on_card)
+          ap (card.is_interface n.loaded) (sym (ap (card_class p) (class_named-name w y d known)) ∙ h.on_card)
           ∙ ap card.is_interface_file h.there ∙ ap (λ (q : Class). is_interface q.flags) (sym h.class)
       by false own =
           let h = facts.own y d known own in
-          ap (card.is_interface n.loaded) (sym (ap (card_class p) (name_is w y d known)) ∙ h.on_card)
+          ap (card.is_interface n.loaded) (sym (ap (card_class p) (class_named-name w y d known)) ∙ h.on_card)
           ∙ ap card.is_interface_info h.info ∙ info_kind (is_interface d.flags)
 
   -- ---- by name
@@ -248,7 +249,7 @@ module _ (list : List ℕ) (p : Package) (sound : IsSound list p.files) (facts :
     there = e;
     import = import;
     on_card = refl;
-    named = not_array x (kinds.no_array x (ap is_some e));
+    named = receiver_class x (kinds.no_array x (ap is_some e));
   }
   outside_received kind (of_references {x = x}) = let o = facts.object_class in record {
     class = o.0;
@@ -297,7 +298,7 @@ module _ (list : List ℕ) (p : Package) (sound : IsSound list p.files) (facts :
     token_nothing named =
         let h = facts.file r.name r.class r.there r.import in
         let here : n.class r.name ≡ External h.file h.entry.token =
-        sym (ap (card_class p) (name_is w r.name r.class r.there)) ∙ h.on_card in
+        sym (ap (card_class p) (class_named-name w r.name r.class r.there)) ∙ h.on_card in
         ap (λ q. start_selected n.loaded (sent_to n.loaded q named id)) (r.on_card ∙ ap Some here)
         ∙ sent_nothing n.loaded h.file h.entry.token named id
 
@@ -353,7 +354,7 @@ module _ (list : List ℕ) (p : Package) (sound : IsSound list p.files) (facts :
     pub itself_selected : select_in w x id ≡ selection w x (signature id)
     unfolding selected
     itself_selected = ap (λ y. first (own_method true id.name id.desc) (line w y))
-        (not_array x (kinds.no_array x (ap is_some e)))
+        (receiver_class x (kinds.no_array x (ap is_some e)))
 
   -- ---- what a script sends
 
@@ -368,7 +369,7 @@ module _ (list : List ℕ) (p : Package) (sound : IsSound list p.files) (facts :
         then start_selected n.loaded (sent_to n.loaded (shape_class n.loaded (shape_as n.class kind)) c id)
         else None))
         (names_agree.class_named id.class ∙ ap (λ o. option_as (card_class p) (option_map (λ (q : Class). q.name) o))
-        known ∙ ap (λ y. Some (card_class p y)) (name_is w id.class d known))
+        known ∙ ap (λ y. Some (card_class p y)) (class_named-name w id.class d known))
         ∙ ap (λ t. if t then start_selected n.loaded (sent_to n.loaded (shape_class n.loaded (shape_as n.class kind))
         (n.class id.class) id) else None) (kind_is kind receives id.class d known)
 

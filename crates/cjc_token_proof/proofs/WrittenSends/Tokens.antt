@@ -6,6 +6,7 @@ use Rattle.std.specs.Prelude.{nat_lt, ◌&&◌, ◌||◌, if◌then◌else◌}
 use Rattle.std.proofs.lemmas.Bool.Decides.{nat_tests}
 use Rattle.std.proofs.lemmas.List.{length-map}
 use Rattle.cjc_bytes.specs.AccessFlags.{is_interface, is_private, is_static}
+use Rattle.cjc_bytes.proofs.Gets.{in_front, get_behind}
 use Rattle.cjc_card_semantics.specs.Machine.Calls.{Described, described_token}
 use Rattle.cjc_card_semantics.specs.Machine.Dispatch.{Hidden, Open, Token}
 use Rattle.cjc_world.specs.ClassFile.declared.tree.ClassTree.{ClassTree}
@@ -54,16 +55,6 @@ fields_long : (exported : Bool) (fs : List FieldTree) (k : ℕ) (rest : List Fie
 unfolding field_tokens
 fields_long exported fs k [] = refl
 fields_long exported fs k (f ∷ rest) = ap suc (fields_long exported fs (k + 1) rest)
-
-get_past : {A : Type 0} (xs ys : List A) (k : ℕ) → slice_get (xs ++ ys) (length xs + k) ≡ slice_get ys k
-get_past [] ys k = ap (slice_get ys) (omega arith)
-get_past (x ∷ xs) ys k = let z : length (x ∷ xs) + k ≡ suc (length xs + k) = omega arith
-    in ap (slice_get (x ∷ (xs ++ ys))) z ∙ get_past xs ys k
-
-get_front : {A : Type 0} (xs ys : List A) (k : ℕ) (x : A) → slice_get xs k ≡ Some x → slice_get (xs ++ ys) k ≡ Some x
-get_front [] ys k x e = absurd (cc)
-get_front (z ∷ xs) ys zero x e = e
-get_front (z ∷ xs) ys (suc k) x e = get_front xs ys k x e
 
 module _ (exported : Bool) (shown : Signature → Option ℕ) (hidden : Slots) (ms : List Member) where
   method_row : (k : ℕ) (rest : List Member) (i : ℕ) (m : Member) → slice_get rest i ≡ Some m
@@ -166,9 +157,9 @@ module _ (list : List ℕ) (p : Package) (sound : IsSound list p.files) (facts :
         let in_row : slice_get row.members (length d.fields + i) ≡ Some (class_method_token exported shown hidden
         d.methods i m) =
         ap (λ l. slice_get row.members (l + i)) long
-        ∙ get_past (field_tokens exported t.fields 0 t.fields) (method_tokens w exported d) i
+        ∙ get_behind (field_tokens exported t.fields 0 t.fields) (method_tokens w exported d) i
         ∙ ap (λ xs. slice_get xs i) tail
-        ∙ get_front (class_method_tokens exported shown hidden d.methods 0 d.methods)
+        ∙ in_front (class_method_tokens exported shown hidden d.methods 0 d.methods)
         (map (λ q. shown (signature_of q)) (added w d)) i (class_method_token exported shown hidden d.methods
         i m)
         (method_row exported shown hidden d.methods 0 d.methods i m here

@@ -1,7 +1,7 @@
 -- The names of classes in the class files and export files, and what they name on the card.
 use Rattle.std.specs.Prelude.{◌≡◌, ℕ, List, [], ◌∷◌, Some, None, true, false, codes}
 use Rattle.cjc_bytes.specs.AccessFlags.{is_interface}
-use Rattle.cjc_export.specs.declared.tree.ExportClass.{ExportClass}
+use Rattle.cjc_world.specs.ExportFile.declared.tree.ExportClass.{ExportClass}
 use Rattle.cjc_card_semantics.specs.Bytecode.Calculations.{Fault}
 use Rattle.cjc_card_semantics.specs.Bytecode.Renaming.{option_as}
 use Rattle.cjc_card_semantics.specs.Machine.Calls.{imported, throwable}

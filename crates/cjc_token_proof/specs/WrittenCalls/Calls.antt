@@ -7,10 +7,10 @@ use Rattle.cjc_bytes.specs.declared.fault.MemberId.{MemberId}
 use Rattle.cjc_jvm_semantics.specs.OnePackage.{is_initialiser, of_class}
 use Rattle.cjc_token_proof.specs.Calls.Selecting.{signature}
 use Rattle.cjc_components.specs.Package.{Package, world}
-use Rattle.cjc_export.specs.declared.tree.ExportClass.{ExportClass}
-use Rattle.cjc_export.specs.declared.tree.ExportMethod.{ExportMethod}
-use Rattle.cjc_export.specs.Supers.{classes_of, virtual_method}
-use Rattle.cjc_export.specs.Supers as exports
+use Rattle.cjc_world.specs.ExportFile.declared.tree.ExportClass.{ExportClass}
+use Rattle.cjc_world.specs.ExportFile.declared.tree.ExportMethod.{ExportMethod}
+use Rattle.cjc_world.specs.ExportFile.Supers.{classes_of, virtual_method}
+use Rattle.cjc_world.specs.ExportFile.Supers as exports
 use Rattle.cjc_ncode.specs.ByLabel.{Callee, Fixed, OnObject, OnSuper, OnInterface}
 use Rattle.cjc_components.specs.Narrow.Rows.Package.{flags_of}
 use Rattle.cjc_components.specs.Narrow.Rows.Resolved.{method_found}

@@ -1,21 +1,21 @@
 -- Each token of an interface means a method that is found.
 use Rattle.std.proofs.Common.{◌≡◌, ◌⊎◌, ℕ, zero, suc, ◌+◌, ◌<◌, ◌&&◌, ◌||◌, Bool, true, false, cond, List, [], ◌∷◌}
 use Rattle.std.proofs.Common.{◌++◌, map, length, slice_get, Option, Some, None, option_map, position, codes, ◌==◌}
-use Rattle.std.proofs.Common.{append_assoc, refl, sym, ap, subst, ◌∙◌, append-nil, inl, inr, arith}
-use Rattle.std.specs.Prelude.{option_to_list}
+use Rattle.std.proofs.Common.{refl, sym, ap, subst, ◌∙◌, append-nil, inl, inr, arith}
 use Rattle.std.specs.List.{Contains}
 use Rattle.std.specs.Str.{bytes_eq}
 use Rattle.std.proofs.lemmas.List.Elements.{Contains-append_cases}
 use Rattle.std.proofs.lemmas.Option.{same_Some}
-use Rattle.std.proofs.lemmas.Slice.Eq.{bytes_eq-Decides}
 use Rattle.cjc_world.specs.ClassFile.declared.tree.ClassTree.{ClassTree}
 use Rattle.cjc_bytes.specs.AccessFlags.{is_interface}
+use Rattle.cjc_bytes.proofs.Lists.{name_is}
+use Rattle.cjc_bytes.proofs.Bools.{or_cases}
 use Rattle.cjc_fixpoint.specs.Working.Edges.{contains_head, contains_tail, contains_cons}
 use Rattle.cjc_world.specs.declared.found.Found.{Found}
 use Rattle.cjc_world.specs.Added.{with_token, by_token, without_initialiser, own_methods, methods_of, asked_by}
 use Rattle.cjc_world.specs.Classes.{Class, Member, all_classes, class_named, declared}
 use Rattle.cjc_world.specs.Files.{Files}
-use Rattle.cjc_world.specs.Interfaces.{Interface, gathered, known}
+use Rattle.cjc_world.specs.Interfaces.{gathered, known}
 use Rattle.cjc_world.specs.Supertypes.{Supertypes, End, Known, IsAcyclic, supertypes}
 use Rattle.cjc_world.specs.Lookup.{or_else, first, is_called, is_wanted, own_method, own_of, method_of_interface}
 use Rattle.cjc_world.specs.Lookup.{member_at}
@@ -24,7 +24,7 @@ use Rattle.cjc_tokens.specs.Members.{Signature, signature_of, same}
 use Rattle.cjc_tokens.specs.Methods.{interface_methods}
 use Rattle.cjc_tokens.specs.Slots.{Slots, holds, has_slot, new_in}
 use Rattle.cjc_tokens.specs.Tokens.{assigned, method_of_token}
-use Rattle.cjc_tokens.proofs.Facts.{position-cons}
+use Rattle.cjc_tokens.proofs.Facts.{position-cons, same-true}
 use Rattle.cjc_tokens.proofs.Means.{token-means}
 
 -- ---- signatures that are new
@@ -122,14 +122,11 @@ placed p (x ∷ ms) m h is = go (p x) refl (contains_cons x ms m h) (λ there. p
     go false e (inl alike) rest = absurd (let no : true ≡ false = sym is ∙ sym (ap p alike) ∙ e in cc)
     go false e (inr there) rest = let r = later (p x) (rest there) in (r.0, position-cons p x ms ∙ r.1)
 
-itself : (x : List ℕ) → bytes_eq x x ≡ true
-itself x = (bytes_eq-Decides x x).1 refl
-
 declared_found : (c : Class) (m : Member) → Contains c.methods m → IsFound (own_method false m.name m.desc c)
 unfolding own_method
 declared_found c m h =
-    let called : is_called m.name m.desc m ≡ true = ap (λ b. b && bytes_eq m.desc m.desc) (itself m.name)
-    ∙ itself m.desc in
+    let called : is_called m.name m.desc m ≡ true = ap (λ b. b && bytes_eq m.desc m.desc) (name_is m.name)
+    ∙ name_is m.desc in
     let r = placed (λ (n : Member). is_wanted false n.flags && is_called m.name m.desc n) c.methods m h called in
     (member_at c (length c.fields + r.0), ap (option_map (λ i. member_at c (length c.fields + i))) r.1)
 
@@ -147,13 +144,7 @@ first_found own (c ∷ cs) d is h = go (own c) refl (contains_cons c cs d is) (f
 
 -- ---- the superinterfaces of a class
 
-known_append : (xs ys : List Interface) → known (xs ++ ys) ≡ known xs ++ known ys
-unfolding known
-known_append [] ys = refl
-known_append (x ∷ xs) ys = ap (λ cs. option_to_list x.class ++ cs) (known_append xs ys)
-    ∙ sym (append_assoc (option_to_list x.class) (known xs) (known ys))
-
-above : (c : Class) (supers interfaces : Supertypes) → gathered false (Known c supers interfaces End)
+pub above : (c : Class) (supers interfaces : Supertypes) → gathered false (Known c supers interfaces End)
     ≡ gathered false supers ++ gathered true interfaces
 unfolding gathered
 above c supers interfaces = append-nil ((gathered false supers ++ gathered true interfaces) ++ [])
@@ -229,22 +220,6 @@ found_by_token applets files n c acyclic named there interface t s low e =
 
 -- ---- each method has a token
 
-same_is : (s t : Signature) → same s t ≡ true → s ≡ t
-same_is s t e =
-    let names = both (bytes_eq s.name t.name) (bytes_eq s.desc t.desc) e in
-    let name : s.name ≡ t.name = (bytes_eq-Decides s.name t.name).0 names.0 in
-    let desc : s.desc ≡ t.desc = (bytes_eq-Decides s.desc t.desc).0 names.1 in
-    let make : List ℕ → List ℕ → Signature = λ n d. record { name = n; desc = d } in
-    ap (λ n. make n s.desc) name ∙ ap (λ d. make t.name d) desc
-  where
-    both : (a b : Bool) → (a && b) ≡ true → (a ≡ true) × (b ≡ true)
-    both true b e = (refl, e)
-    both false b e = absurd cc
-
-or_cases : (a b : Bool) → (a || b) ≡ true → (a ≡ true) ⊎ (b ≡ true)
-or_cases true b e = inl refl
-or_cases false b e = inr e
-
 slot_behind : (slots : Slots) (x s : Signature) → has_slot (slots ++ Some x ∷ []) s ≡ (has_slot slots s
     || (same x s || false))
 slot_behind [] x s = refl
@@ -264,7 +239,7 @@ slot_cases slots x s e = go (or_cases (has_slot slots s) (same x s || false) (sy
     go (inr new) = last (or_cases (same x s) false new)
       where
         last : (same x s ≡ true) ⊎ (false ≡ true) → (has_slot slots s ≡ true) ⊎ (x ≡ s)
-        last (inl is) = inr (same_is x s is)
+        last (inl is) = inr (same-true x s is)
         last (inr other) = absurd cc
 
 -- each is new, or was there

@@ -1,16 +1,18 @@
 -- The names of a method are among those of its file's texts.
 use Rattle.std.proofs.Common.{◌≡◌, ℕ, ◌+◌, ◌*◌, ◌≤◌, ◌^◌, ◌==◌, Bool, true, false, cond, nat_lt, List, [], ◌∷◌, ◌++◌}
-use Rattle.std.proofs.Common.{map, length, codes, slice_get, Option, Some, None, Ok, IfSome, Contains, refl, sym, ap}
+use Rattle.std.proofs.Common.{map, length, codes, slice_get, Option, Some, None, Ok, IfSome, refl, sym, ap}
 use Rattle.std.proofs.Common.{subst, ◌∙◌, inl, inr, arith}
 use Rattle.std.proofs.lemmas.Bool.{leb-true}
-use Rattle.std.proofs.lemmas.Option.{slice_get-map, slice_get-get_or}
+use Rattle.std.proofs.lemmas.Option.{slice_get-map}
 use Rattle.std.specs.List.{AllByRecursion}
-use Rattle.cjc_bytes.proofs.Inverse.{InBytes, all_at, mapped}
+use Rattle.cjc_bytes.proofs.Inverse.{InBytes}
 use Rattle.cjc_bytes.specs.AccessFlags.{is_static}
 use Rattle.cjc_bytes.specs.Format.{FileSpells}
 use Rattle.cjc_bytes.specs.Descriptor.{Part, Parts}
 use Rattle.cjc_bytes.specs.Spots.{begins_method, gathered, part_of, types, parts_of, where_none, desc_of}
 use Rattle.cjc_bytes.specs.declared.descriptor.Kind.{Kind}
+use Rattle.cjc_bytes.proofs.Gets.{all_at, contains_at}
+use Rattle.cjc_bytes.proofs.Options.{option_mapped}
 use Rattle.cjc_bytes.specs.declared.descriptor.Kind.TheVariants as kinds
 use Rattle.cjc_classfile.specs.ClassFile.{class_file}
 use Rattle.cjc_classfile.specs.Code.{CodeTree}
@@ -172,9 +174,6 @@ module _ (ts names : List (List ℕ)) (h : AreNamesOf ts names) where
 
 -- ---- those of a method
 
-contains_at : {X : Type 0} (xs : List X) (x : X) → Contains xs x → (k : ℕ) × (slice_get xs k ≡ Some x)
-contains_at xs x (k, lt, e) = (k, slice_get-get_or xs k x lt ∙ ap Some e)
-
 arguments_among : (ts names : List (List ℕ)) (b : Body) → AreNamesOf ts names → In b.class ts → In b.desc ts
     → AreAmong names (arguments b)
 arguments_among ts names b h class desc = append_among names _ _ (go (is_static b.flags)) (parts_there ts names h b.desc
@@ -190,7 +189,7 @@ insn_named : (ts : List (List ℕ)) (class : ClassTree) (method : MethodTree) (t
 insn_named ts class method tree insns named found place i e =
     let are = (decoded_is class method tree insns found).insns_are in
     let there = slice_get-map (with_names class.pool) (cut tree.bytes).insns place in
-    let raw = mapped (with_names class.pool) (slice_get (cut tree.bytes).insns place) i (sym there
+    let raw = option_mapped (with_names class.pool) (slice_get (cut tree.bytes).insns place) i (sym there
     ∙ ap (λ (xs : List JInsn). slice_get xs place) (sym are) ∙ e) in
     let m = cut_row place 0 tree.bytes (cut tree.bytes).insns (cut tree.bytes).stop (is_cut tree.bytes) raw.0 raw.1 in
     let is = row_named ts m.0 class.pool raw.0.at raw.0.opcode raw.0.numbers (λ x there. named.items _ x there) in

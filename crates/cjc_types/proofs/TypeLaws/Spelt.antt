@@ -1,6 +1,6 @@
 -- The texts of a class file: all together they are no longer than the file, and each name of its class is one of them.
 use Rattle.std.proofs.Common.{◌≡◌, ℕ, zero, suc, ◌+◌, ◌-◌, ◌≤◌, Bool, true, false, List, [], ◌∷◌, Option, Some, None}
-use Rattle.std.proofs.Common.{IfSome, Ok, length, slice_get, option_and_then, refl, sym, ap, subst, ◌∙◌, inl, inr}
+use Rattle.std.proofs.Common.{IfSome, Ok, length, slice_get, refl, sym, ap, subst, ◌∙◌, inl, inr}
 use Rattle.std.proofs.Common.{arith}
 use Rattle.std.specs.Prelude.{option_map, ◌==◌, nat_lt, cond}
 use Rattle.std.proofs.lemmas.Option.{same_Some}
@@ -10,6 +10,7 @@ use Rattle.cjc_bytes.specs.Format.{u2}
 use Rattle.cjc_bytes.specs.Found.{kept, all_of}
 use Rattle.cjc_bytes.specs.declared.fault.MemberId.{MemberId}
 use Rattle.cjc_bytes.proofs.Inverse.{InBytes, inner, given, found_is, u2_is, raw_is, number8, number16}
+use Rattle.cjc_bytes.proofs.Options.{then_some}
 use Rattle.cjc_classfile.specs.declared.tree.Catch.{Catch}
 use Rattle.cjc_classfile.specs.declared.tree.MethodTree.{MethodTree}
 use Rattle.cjc_classfile.specs.declared.tree.ClassTree.{ClassTree}
@@ -24,6 +25,7 @@ use Rattle.cjc_classfile.specs.Members.{desc_field, class_field, attribute, fiel
 use Rattle.cjc_classfile.specs.CodeAttribute.{catch_class_at, catch_class, catch, code_content, code}
 use Rattle.cjc_classfile.specs.Methods.{method_content, method_attribute, needs_code, method_tree}
 use Rattle.cjc_classfile.specs.ClassFile.{front_part, back_part, class_file}
+use Rattle.cjc_classfile.proofs.Fitting.{not_empty_is, all_fit}
 use Rattle.cjc_types.specs.Names.{In}
 use Rattle.cjc_types.proofs.TypeLaws.Results.{bound, kept_is, each_from}
 use Rattle.cjc_types.proofs.TypeLaws.Chains.{pick}
@@ -162,11 +164,6 @@ pool_size n at pool bytes ok h =
 
 -- ---- what is found among them
 
-found : {A B : Type 0} (f : A → Option B) (o : Option A) (b : B) → option_and_then f o ≡ Some b → (a : A) × (o ≡ Some a)
-    × (f a ≡ Some b)
-found f None b e = absurd cc
-found f (Some a) b e = (a, refl, e)
-
 in_more : (o : Option (List ℕ)) (t : List ℕ) (ts : List (List ℕ)) → In t ts → In t (cons_option o ts)
 in_more None t ts h = h
 in_more (Some u) t ts h = inr h
@@ -188,10 +185,6 @@ as_desc_of_text : (is_method : Bool) (e : Entry) (t : List ℕ) → as_desc_of i
 as_desc_of_text true (text b (Some true)) t e = e
 as_desc_of_text false (text b (Some false)) t e = e
 as_desc_of_text _ _ t e = absurd cc
-
-not_empty_is : (a b : List ℕ) → not_empty a ≡ Some b → a ≡ b
-not_empty_is [] b e = absurd cc
-not_empty_is (x ∷ xs) b e = cc
 
 -- the names of an item are among these texts
 abbrev pub IsItemNamed : List (List ℕ) → PoolItem → Type 0
@@ -216,44 +209,30 @@ pub record IsClassNamed (ts : List (List ℕ)) (c : ClassTree) : Type 0 where
   pub methods : AllByRecursion (IsMethodNamed ts) c.methods
   pub items : (k : ℕ) (x : PoolItem) → slice_get c.pool k ≡ Some x → IsItemNamed ts x
 
-all_so : {A : Type 0} (p : Format A) (P : A → Type 0) → ((at : ℕ) (a : A) (bytes : List ℕ) → InBytes bytes
-    → Spells p at a bytes → P a)
-    → (n at : ℕ) (xs : List A) (bytes : List ℕ) → InBytes bytes → Spells (repeated n p) at xs bytes
-    → AllByRecursion P xs
-unfolding repeated
-all_so p P one zero at xs bytes ok h = subst (AllByRecursion P) (given _ _ _ _ h).0 tt
-all_so p P one (suc n) at xs bytes ok h =
-    let x = inner _ _ _ _ _ ok h in
-    let ys = inner _ _ _ _ _ x.backs x.rest in
-    subst (AllByRecursion P) (given _ _ _ _ ys.rest).0 (
-      one _ x.x x.front x.fronts x.one,
-      all_so p P one n _ ys.x ys.front ys.fronts ys.one,
-    )
-
 module _ (pool : List Entry) where
   text_in : (i : ℕ) (t : List ℕ) → text_at pool i ≡ Some t → In t (texts pool)
   unfolding text_at
-  text_in i t e = let f = found as_text (slice_get pool i) t e in in_texts pool i f.0 t f.1 f.2
+  text_in i t e = let f = then_some as_text (slice_get pool i) t e in in_texts pool i f.0 t f.1 f.2
 
   desc_in : (i : ℕ) (t : List ℕ) → desc_at pool i ≡ Some t → In t (texts pool)
   unfolding desc_at
-  desc_in i t e = let f = found as_desc (slice_get pool i) t e in in_texts pool i f.0 t f.1 (as_desc_text f.0 t f.2)
+  desc_in i t e = let f = then_some as_desc (slice_get pool i) t e in in_texts pool i f.0 t f.1 (as_desc_text f.0 t f.2)
 
   desc_of_in : (is_method : Bool) (i : ℕ) (t : List ℕ) → desc_of_at pool is_method i ≡ Some t → In t (texts pool)
   unfolding desc_of_at
-  desc_of_in is_method i t e = let f = found (as_desc_of is_method) (slice_get pool i) t e
+  desc_of_in is_method i t e = let f = then_some (as_desc_of is_method) (slice_get pool i) t e
       in in_texts pool i f.0 t f.1 (as_desc_of_text is_method f.0 t f.2)
 
   class_text_in : (i : ℕ) (t : List ℕ) → class_text_at pool i ≡ Some t → In t (texts pool)
   unfolding class_text_at
   class_text_in i t e =
-      let g = found not_empty (text_at pool i) t e in
+      let g = then_some not_empty (text_at pool i) t e in
       subst (λ (u : List ℕ). In u (texts pool)) (not_empty_is g.0 t g.2) (text_in i g.0 g.1)
 
   class_in : (i : ℕ) (t : List ℕ) → class_name_at pool i ≡ Some t → In t (texts pool)
   unfolding class_name_at
   class_in i t e =
-      let f = found (λ name. class_text_at pool name.to) (class_at pool i) t e in
+      let f = then_some (λ name. class_text_at pool name.to) (class_at pool i) t e in
       class_text_in f.0.to t f.2
 
   -- ---- items
@@ -356,7 +335,7 @@ module _ (pool : List Entry) where
       let catches = inner _ _ _ _ _ count.backs count.rest in
       let free_count = inner _ _ _ _ _ catches.backs catches.rest in
       let free = inner _ _ _ _ _ free_count.backs free_count.rest in
-      subst AreNamed (given _ _ _ _ free.rest).0 (all_so (catch pool size.x) (IsCatchNamed (texts pool))
+      subst AreNamed (given _ _ _ _ free.rest).0 (all_fit (catch pool size.x) (IsCatchNamed (texts pool))
       (catch_in size.x) count.x _ catches.x catches.front catches.fronts catches.one)
 
   code_in : (at : ℕ) (c : CodeTree) (bytes : List ℕ) → InBytes bytes → Spells (code pool) at c bytes → AreNamed c
@@ -442,7 +421,7 @@ module _ (pool : List Entry) where
       let free = inner _ _ _ _ _ attribute_count.backs attribute_count.rest in
       subst (IsClassNamed (texts pool)) (given _ _ _ _ free.rest).0 (record {
         name = is;
-        methods = all_so (method_tree pool) (IsMethodNamed (texts pool)) method_in method_count.x _ methods.x
+        methods = all_fit (method_tree pool) (IsMethodNamed (texts pool)) method_in method_count.x _ methods.x
             methods.front methods.fronts methods.one;
         items = its;
       })

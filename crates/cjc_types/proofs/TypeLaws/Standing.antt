@@ -4,8 +4,7 @@ use Rattle.std.proofs.Common.{[], ◌∷◌, map, length, slice_get, Some, None,
 use Rattle.std.proofs.Common.{subst, ◌∙◌, inl, inr, arith}
 use Rattle.std.specs.List.{Contains, list_all}
 use Rattle.std.proofs.lemmas.Bool.{ltb-true, ltb-false, leb-false}
-use Rattle.std.proofs.lemmas.Option.{same_Some, slice_get-map, slice_get-get_or, slice_get_within}
-use Rattle.std.proofs.lemmas.Option.{get_or_from_slice_get}
+use Rattle.std.proofs.lemmas.Option.{same_Some, slice_get-map, slice_get_within}
 use Rattle.std.proofs.lemmas.List.{length-map}
 use Rattle.std.proofs.lemmas.List.Elements.{All-contains}
 use Rattle.cjc_classfile.specs.Code.{CodeTree}
@@ -24,7 +23,6 @@ use Rattle.cjc_code.specs.Rules.{wrong_target}
 use Rattle.cjc_code.specs.Unfit.{starts, is_start, has_wrong_jump, has_wrong_local, is_from, may_go_on}
 use Rattle.cjc_code.proofs.Decided.{decoded_is}
 use Rattle.cjc_code.proofs.OneCut.{is_cut}
-use Rattle.cjc_code.proofs.RuleLaws.{is_not}
 use Rattle.cjc_code.proofs.StartLaws.{start_is}
 use Rattle.cjc_world.specs.Files.{Files}
 use Rattle.cjc_types.specs.Flow.{place_at}
@@ -34,17 +32,11 @@ use Rattle.cjc_types.proofs.Ascending.{insns_ascend}
 use Rattle.cjc_types.proofs.Indexing.{own_place}
 use Rattle.cjc_types.specs.TypeLaws.Places.{HasPlace, local_of}
 use Rattle.cjc_types.proofs.TypeLaws.Shapes.{Agrees, cut_agrees, stops_within}
+use Rattle.cjc_bytes.proofs.Quantified.{contains_later}
+use Rattle.cjc_bytes.proofs.Bools.{not_true, not_false, true_or_false}
+use Rattle.cjc_bytes.proofs.Gets.{contains_at, contained}
 
 -- ---- lists
-
-contains_at : {X : Type 0} (xs : List X) (x : X) → Contains xs x → (k : ℕ) × (slice_get xs k ≡ Some x)
-contains_at xs x (k, lt, e) = (k, slice_get-get_or xs k x lt ∙ ap Some e)
-
-at_contains : {X : Type 0} (xs : List X) (k : ℕ) (x : X) → slice_get xs k ≡ Some x → Contains xs x
-at_contains xs k x e = (k, slice_get_within xs k x e, get_or_from_slice_get xs k x x e)
-
-contains_later : {X : Type 0} (x y : X) (xs : List X) → Contains xs y → Contains (x ∷ xs) y
-contains_later x y xs (k, lt, e) = (suc k, omega (arith, lt), e)
 
 of_mapped : {X : Type 0} (f : X → ℕ) (xs : List X) (k : ℕ) → Contains (map f xs) k → (x : X) × Contains xs x × (f x ≡ k)
 of_mapped f [] k (n, lt, e) = absurd (omega (arith, lt))
@@ -64,14 +56,6 @@ passes p (y ∷ ys) x e (suc n, lt, is) = passes p ys x (rest (p y) e) (n, omega
     rest : (b : Bool) → (b && list_all p ys) ≡ true → list_all p ys ≡ true
     rest true e = e
     rest false e = absurd cc
-
-is_or_not : (b : Bool) → (b ≡ true) ⊎ (b ≡ false)
-is_or_not true = inl refl
-is_or_not false = inr refl
-
-not_false : (b : Bool) → not b ≡ false → b ≡ true
-not_false true e = refl
-not_false false e = absurd cc
 
 -- ---- a method
 
@@ -100,9 +84,9 @@ module _ (files : Files) (code : MethodCode) (class : ClassTree) (method : Metho
       (local i.family i.numbers)
   agrees k i e = cut_agrees k 0 tree.bytes (cut tree.bytes).insns (cut tree.bytes).stop (is_cut tree.bytes) i e
       class.pool
-      (is_not (is_unsupported class.pool i.family i.numbers)
+      (not_true (is_unsupported class.pool i.family i.numbers)
       (All-contains (λ r. not (is_unsupported class.pool r.family r.numbers) ≡ true) (cut tree.bytes).insns i
-      decoded.fine (at_contains (cut tree.bytes).insns k i e)))
+      decoded.fine (contained (cut tree.bytes).insns k i e)))
 
   -- where an instruction was cut, one stands
   placed : (k : ℕ) (i : _) (offset : ℕ) → slice_get (cut tree.bytes).insns k ≡ Some i → i.at ≡ offset
@@ -146,7 +130,7 @@ module _ (files : Files) (code : MethodCode) (class : ClassTree) (method : Metho
   jumps_right : (i : _) → Contains (cut tree.bytes).insns i
       → list_all (λ z. is_start (starts (cut tree.bytes) (length tree.bytes)) (target i.at z))
       (offsets i.family i.numbers) ≡ true
-  jumps_right i inside = elim (is_or_not (has_wrong_jump (starts (cut tree.bytes) (length tree.bytes)) i)) [
+  jumps_right i inside = elim (true_or_false (has_wrong_jump (starts (cut tree.bytes) (length tree.bytes)) i)) [
     | inl wrong ↦ absurd (decoded.fit i.at (wrong_jump i inside wrong))
     | inr fine ↦ not_false _ fine
   ]
@@ -161,10 +145,10 @@ module _ (files : Files) (code : MethodCode) (class : ClassTree) (method : Metho
       led there) in
       subst (HasPlace code.insns) from.2
       (lands i.at from.0 (passes (λ z. is_start (starts (cut tree.bytes) (length tree.bytes)) (target i.at z))
-      (offsets i.family i.numbers) from.0 (jumps_right i (at_contains (cut tree.bytes).insns at i is_raw)) from.1))
+      (offsets i.family i.numbers) from.0 (jumps_right i (contained (cut tree.bytes).insns at i is_raw)) from.1))
 
   pub handler_placed : (c : Catch) → Contains tree.catches c → HasPlace code.insns c.target
-  handler_placed c there = go (is_or_not (starts_at tree c.target))
+  handler_placed c there = go (true_or_false (starts_at tree c.target))
     where
       go : (starts_at tree c.target ≡ true) ⊎ (starts_at tree c.target ≡ false) → HasPlace code.insns c.target
       go (inl e) = start_placed c.target e
@@ -207,7 +191,7 @@ module _ (files : Files) (code : MethodCode) (class : ClassTree) (method : Metho
   -- ---- locals
 
   locals_right : (i : _) → Contains (cut tree.bytes).insns i → has_wrong_local tree.max_locals i ≡ false
-  locals_right i inside = elim (is_or_not (has_wrong_local tree.max_locals i)) [
+  locals_right i inside = elim (true_or_false (has_wrong_local tree.max_locals i)) [
     | inl wrong ↦ absurd (decoded.fit i.at (wrong_local i inside wrong))
     | inr fine ↦ fine
   ]
@@ -219,5 +203,5 @@ module _ (files : Files) (code : MethodCode) (class : ClassTree) (method : Metho
       let here : local i.family i.numbers ≡ Some k = (agrees at i is_raw).local k (ap (λ (y : JInsn). local_of y.op)
       named ∙ names) in
       let few = leb-false tree.max_locals k (sym (ap (is_from tree.max_locals) here)
-      ∙ locals_right i (at_contains (cut tree.bytes).insns at i is_raw)) in
+      ∙ locals_right i (contained (cut tree.bytes).insns at i is_raw)) in
       omega (arith, few)

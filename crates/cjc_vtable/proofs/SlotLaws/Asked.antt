@@ -3,6 +3,7 @@ use Rattle.std.proofs.Common.{◌≡◌, ℕ, suc, zero, refl, sym, ap, subst, �
 use Rattle.std.proofs.Common.{append-nil, inl, inr, ⊎_elim}
 use Rattle.std.specs.Prelude.{Some, if◌then◌else◌, slice_get, map, not, ◌&&◌, ◌||◌, ◌⊎◌}
 use Rattle.std.specs.List.{list_any}
+use Rattle.std.proofs.lemmas.Bool.{or_right}
 use Rattle.cjc_bytes.specs.AccessFlags.{is_abstract, is_interface, is_private, is_static}
 use Rattle.cjc_world.specs.Classes.{Member, Class, class_named}
 use Rattle.cjc_world.specs.Interfaces.{gathered, known}
@@ -22,7 +23,7 @@ use Rattle.cjc_vtable.specs.Calls.{IsOneToOne, IsTold, is_special, selects}
 use Rattle.cjc_vtable.specs.Laws.{KeepsInterfaces, KeepsRules}
 use Rattle.cjc_vtable.proofs.Asked.{Among, among-split, at_head, further, has-here, method-asked, public-shown}
 use Rattle.cjc_vtable.proofs.Calls.{In-behind, In-front, token-some}
-use Rattle.cjc_vtable.proofs.Given.{In-split}
+use Rattle.cjc_vtable.proofs.Given.{In-split, any-In}
 use Rattle.cjc_vtable.proofs.Once.{listed_token}
 use Rattle.cjc_vtable.proofs.Stood.{gathered-interface, gathered-named, in-interface}
 use Rattle.cjc_vtable.proofs.SlotNames.{In-has}
@@ -32,15 +33,6 @@ use Rattle.cjc_vtable.proofs.Worlds.{line_of-declared, methods-behind, methods-f
 use Rattle.cjc_vtable.specs.Meant.{HaveOneAccess}
 
 -- ---- members of lists
-
-or_right : (a b : Bool) → b ≡ true → (a || b) ≡ true
-or_right true b e = refl
-or_right false b e = e
-
-any-In : (test : Member → Bool) (ms : List Member) (m : Member) → In m ms → test m ≡ true → list_any test ms ≡ true
-any-In test [] m i e = elim i [ ]
-any-In test (n ∷ ms) m first_of e = ap (λ b. b || list_any test ms) e
-any-In test (n ∷ ms) m (later i) e = or_right (test n) (list_any test ms) (any-In test ms m i e)
 
 any-one : (test : Member → Bool) (ms : List Member) → list_any test ms ≡ true → (m : Member) × In m ms × (test m ≡ true)
 any-one test [] e = absurd (cc)

@@ -4,6 +4,8 @@ use Rattle.std.proofs.Common.{inl, inr, ⊎_elim}
 use Rattle.std.specs.Prelude.{◌⊎◌, ◌||◌, Option, Some, None}
 use Rattle.std.specs.Str.{bytes_eq}
 use Rattle.cjc_bytes.specs.AccessFlags.{is_interface}
+use Rattle.cjc_bytes.proofs.Lists.{name_is, bytes_true}
+use Rattle.cjc_bytes.proofs.Bools.{true_or_false}
 use Rattle.cjc_world.specs.declared.found.Found.{Found}
 use Rattle.cjc_world.specs.Classes.{Class, class_named}
 use Rattle.cjc_world.specs.Interfaces.{gathered, has_interface, known, where_listed}
@@ -15,7 +17,7 @@ use Rattle.cjc_world.specs.Lookup.{field_in, find_field, find_method, first, obj
 use Rattle.cjc_world.specs.Subtype.{is_subclass}
 use Rattle.cjc_world.proofs.Cycles.{From, above-class, class_named-name, tree-above}
 use Rattle.cjc_world.proofs.Rising.{known-append}
-use Rattle.cjc_world.proofs.Settled.{bytes-refl, bytes-true, supertypes-AreSupertypes, lists-behind, lists-front}
+use Rattle.cjc_world.proofs.Settled.{supertypes-AreSupertypes, lists-behind, lists-front}
 use Rattle.cjc_world.proofs.Subtypes.{reaches}
 use Rattle.cjc_world.proofs.Trees.{lists-split}
 use Rattle.cjc_world.specs.Upwards.{Below, Has, IsOrdered, OnLine, after, foremost, here, up}
@@ -65,14 +67,10 @@ first_some own (d ∷ cs) c f (after h) e = by (own d) (first_some own cs c f h 
 
 -- ---- one class of a name
 
-true_or_false : (b : Bool) → (b ≡ true) ⊎ (b ≡ false)
-true_or_false true = inl refl
-true_or_false false = inr refl
-
-same_class : {c d : Class} → Some c ≡ Some d → c ≡ d
+pub same_class : {c d : Class} → Some c ≡ Some d → c ≡ d
 same_class e = cc
 
-no_list : {A : Type 0} {x : List ℕ} → Lists x [] → A
+pub no_list : {A : Type 0} {x : List ℕ} → Lists x [] → A
 no_list i = elim i [ ]
 
 module _ (w : List Class) where
@@ -519,7 +517,7 @@ named_among : (d : Class) (cs : List Class) → Has d cs → is_one_named cs d.n
 named_among d [] h = elim h [ ]
 named_among d (c ∷ cs) h = ⊎_elim
     (λ same. ap (λ b. b || is_one_named cs d.name) (ap (λ (v : Class). bytes_eq v.name d.name) (sym same)
-    ∙ bytes-refl d.name))
+    ∙ name_is d.name))
     (λ more. last (bytes_eq c.name d.name) (is_one_named cs d.name) (named_among d cs more))
     (has-cons d c cs h)
   where
@@ -540,7 +538,7 @@ module _ (w : List Class) where
 
       by : (b : Bool) → bytes_eq x y ≡ b → (b || stands_by_supers y next) ≡ true → (stands_by_supers y next ≡ true
           → (z : List ℕ) × Lists z rest × OnLine w z d) → (z : List ℕ) × Lists z (x ∷ rest) × OnLine w z d
-      by true h e more = absurd (clash (sym f ∙ ap (class_named w) (bytes-true x y h) ∙ g))
+      by true h e more = absurd (clash (sym f ∙ ap (class_named w) (bytes_true x y h) ∙ g))
       by false h e more = let r = more e in (r.0, supertypes.after r.1, r.2)
   stands_line xs k y d (known_here {x = x} {xs = rest} {c = c} {supers = s} {next = next} f sk ik n) e g =
       by (bytes_eq c.name y) (stands_by_supers y s) (stands_by_supers y next) refl refl refl e
@@ -552,7 +550,7 @@ module _ (w : List Class) where
           → (stands_by_supers y next ≡ true → (z : List ℕ) × Lists z rest × OnLine w z d) → (z : List ℕ)
           × Lists z (x ∷ rest) × OnLine w z d
       by true b o p q r e up_one next_one =
-          let same : x ≡ y = sym (class_named-name w x c f) ∙ bytes-true c.name y p in
+          let same : x ≡ y = sym (class_named-name w x c f) ∙ bytes_true c.name y p in
           (x, supertypes.foremost, subst (λ n. OnLine w n d) (sym same) (here g))
       by false true o p q r e up_one next_one = let t = up_one q in (x, supertypes.foremost, up c f t.1 t.2)
       by false false true p q r e up_one next_one = let t = next_one r in (t.0, supertypes.after t.1, t.2)
@@ -575,7 +573,7 @@ module _ (w : List Class) where
   line_stands x xs k d (known_here {c = c} {supers = s} {next = next} e sk ik n) supertypes.foremost (here f) =
       let same : d ≡ c = same_class (sym f ∙ e) in
       first_one (bytes_eq c.name d.name) (stands_by_supers d.name s) (stands_by_supers d.name next)
-      (ap (λ (v : Class). bytes_eq c.name v.name) same ∙ bytes-refl c.name)
+      (ap (λ (v : Class). bytes_eq c.name v.name) same ∙ name_is c.name)
     where
       first_one : (a b o : Bool) → a ≡ true → (a || b || o) ≡ true
       first_one true b o e = refl

@@ -1,68 +1,23 @@
 -- Members that a class declares, and what look-ups say of them.
 use Rattle.std.proofs.Common.{◌≡◌, ℕ, zero, suc, ◌+◌, ◌-◌, arith, refl, sym, ap, ◌∙◌, Bool, true, false, List, [], ◌∷◌}
-use Rattle.std.proofs.Common.{map, length, cond}
-use Rattle.std.specs.Prelude.{◌&&◌, Option, Some, None, option_map, option_and_then, position, slice_get, not, nat_lt}
+use Rattle.std.proofs.Common.{map, length}
+use Rattle.std.specs.Prelude.{◌&&◌, Option, Some, None, option_map, option_and_then, position, slice_get}
 use Rattle.std.specs.Prelude.{if◌then◌else◌}
 use Rattle.std.specs.Str.{bytes_eq}
 use Rattle.std.proofs.lemmas.List.{length-map}
-use Rattle.std.specs.List.{prefix_len}
 use Rattle.cjc_world.specs.ClassFile.declared.tree.ClassTree.{ClassTree}
 use Rattle.cjc_world.specs.ClassFile.declared.tree.MethodTree.{MethodTree}
 use Rattle.cjc_world.specs.declared.found.Found.{Found}
 use Rattle.cjc_world.specs.Classes.{Class, Member, class_at, declared, field_of_class}
 use Rattle.cjc_world.specs.Files.{Files}
 use Rattle.cjc_world.specs.Lookup.{is_called, is_wanted, member_at, own_field, own_method}
-use Rattle.cjc_world.proofs.Settled.{bytes-true}
 use Rattle.cjc_jvm_semantics.specs.OnePackage.{field_hit, method_at, method_by, method_hit, method_in}
+use Rattle.cjc_bytes.proofs.Lists.{bytes_true}
+use Rattle.cjc_bytes.proofs.Bools.{both_front, both_back}
+use Rattle.cjc_bytes.proofs.Gets.{position_there}
+use Rattle.cjc_vtable.proofs.TokensFacts.{position-cons}
 
 -- ---- the first place that passes
-
-more : (n l : ℕ) → nat_lt (1 + n) (suc l) ≡ nat_lt n l
-more n l = grind arith
-
-position-cons : {A : Type 0} (p : A → Bool) (x : A) (xs : List A) → position p (x ∷ xs) ≡ (if p x then Some 0
-    else option_map suc (position p xs))
-position-cons p x xs = by (p x)
-  where
-    at : (k l : ℕ) (b : Bool) → cond b (Some (1 + k)) None ≡ option_map suc (cond b (Some k) None)
-    at k l true = let h : 1 + k ≡ suc k = omega arith in ap (λ q. Some q) h
-    at k l false = refl
-
-    by : (b : Bool) → cond (nat_lt (cond (not b) (1 + prefix_len (λ y. not (p y)) xs) 0) (suc (length xs)))
-        (Some (cond (not b) (1 + prefix_len (λ y. not (p y)) xs) 0)) None ≡ (if b then Some 0
-        else option_map suc (position p xs))
-    by true = let lt : nat_lt 0 (suc (length xs)) ≡ true = grind arith in ap (λ b. cond b (Some 0) None) lt
-    by false =
-        ap (λ b. cond b (Some (1 + prefix_len (λ y. not (p y)) xs)) None) (more (prefix_len (λ y. not (p y)) xs)
-        (length xs))
-        ∙ at (prefix_len (λ y. not (p y)) xs) (length xs) (nat_lt (prefix_len (λ y. not (p y)) xs) (length xs))
-
-both_front : (a b : Bool) → (a && b) ≡ true → a ≡ true
-both_front true b e = refl
-both_front false b e = absurd cc
-
-both_back : (a b : Bool) → (a && b) ≡ true → b ≡ true
-both_back true b e = e
-both_back false b e = absurd cc
-
--- what stands at a place that is found passes
-pub found_at : {A : Type 0} (p : A → Bool) (xs : List A) (i : ℕ) → position p xs ≡ Some i → (x : A)
-    × (slice_get xs i ≡ Some x) × (p x ≡ true)
-found_at p [] i e = absurd cc
-found_at {A} p (y ∷ xs) i e = by (p y) refl i (sym (position-cons p y xs) ∙ e) (found_at p xs)
-  where
-    inner : (o : Option ℕ) → position p xs ≡ o → (i : ℕ) → option_map suc o ≡ Some i → ((i : ℕ) → position p xs ≡ Some i
-        → (x : A) × (slice_get xs i ≡ Some x) × (p x ≡ true)) → (x : A) × (slice_get (y ∷ xs) i ≡ Some x) × (p x ≡ true)
-    inner None f i e rest = absurd cc
-    inner (Some j) f zero e rest = absurd cc
-    inner (Some j) f (suc i) e rest = let same : j ≡ i = cc in rest i (f ∙ ap Some same)
-
-    by : (b : Bool) → p y ≡ b → (i : ℕ) → (if b then Some 0 else option_map suc (position p xs)) ≡ Some i
-        → ((i : ℕ) → position p xs ≡ Some i → (x : A) × (slice_get xs i ≡ Some x) × (p x ≡ true)) → (x : A)
-        × (slice_get (y ∷ xs) i ≡ Some x) × (p x ≡ true)
-    by true f zero e rest = (y, refl, f)
-    by true f (suc i) e rest = absurd cc
-    by false f i e rest = inner (position p xs) refl i e rest
 
 -- what passes is found, or one before it
 pub is_found : {A : Type 0} (p : A → Bool) (xs : List A) (k : ℕ) (x : A) → slice_get xs k ≡ Some x → p x ≡ true
@@ -114,7 +69,7 @@ own_at selecting name desc d f e = by (position P d.methods) refl e
         → IsAt selecting name desc d f
     by None g e = absurd cc
     by (Some i) g e =
-        let r = found_at P d.methods i g in
+        let r = position_there P d.methods i g in
         let called = both_back (is_wanted selecting (let m = r.0 in m.flags)) (is_called name desc r.0) r.2 in
         record {
           place = i;
@@ -122,9 +77,9 @@ own_at selecting name desc d f e = by (position P d.methods) refl e
           is_member = r.1;
           is = (let same : member_at d (length d.fields + i) ≡ f = cc in sym same);
           wanted = both_front (is_wanted selecting (let m = r.0 in m.flags)) (is_called name desc r.0) r.2;
-          has_name = bytes-true (let m = r.0 in m.name) name (both_front (bytes_eq (let m = r.0 in m.name) name)
+          has_name = bytes_true (let m = r.0 in m.name) name (both_front (bytes_eq (let m = r.0 in m.name) name)
               (bytes_eq (let m = r.0 in m.desc) desc) called);
-          has_desc = bytes-true (let m = r.0 in m.desc) desc (both_back (bytes_eq (let m = r.0 in m.name) name)
+          has_desc = bytes_true (let m = r.0 in m.desc) desc (both_back (bytes_eq (let m = r.0 in m.name) name)
               (bytes_eq (let m = r.0 in m.desc) desc) called);
         }
 
@@ -180,15 +135,15 @@ field_at name desc d f e = by (position (λ m. is_called name desc m) d.fields) 
         ≡ Some f → IsFieldAt name desc d f
     by None g e = absurd cc
     by (Some i) g e =
-        let r = found_at (λ (m : Member). is_called name desc m) d.fields i g in
+        let r = position_there (λ (m : Member). is_called name desc m) d.fields i g in
         record {
           place = i;
           member = r.0;
           is_member = r.1;
           is = (let same : member_at d i ≡ f = cc in sym same);
-          has_name = bytes-true (let m = r.0 in m.name) name (both_front (bytes_eq (let m = r.0 in m.name) name)
+          has_name = bytes_true (let m = r.0 in m.name) name (both_front (bytes_eq (let m = r.0 in m.name) name)
               (bytes_eq (let m = r.0 in m.desc) desc) r.2);
-          has_desc = bytes-true (let m = r.0 in m.desc) desc (both_back (bytes_eq (let m = r.0 in m.name) name)
+          has_desc = bytes_true (let m = r.0 in m.desc) desc (both_back (bytes_eq (let m = r.0 in m.name) name)
               (bytes_eq (let m = r.0 in m.desc) desc) r.2);
         }
 

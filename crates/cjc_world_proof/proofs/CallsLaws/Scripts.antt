@@ -1,10 +1,13 @@
 -- The methods that scripts call and send.
-use Rattle.std.proofs.Common.{◌≡◌, ℕ, ◌+◌, refl, sym, ap, subst, ◌∙◌, arith, Bool, true, false, List, [], ◌∷◌, length}
-use Rattle.std.proofs.Common.{inl, inr, ⊎_elim}
-use Rattle.std.specs.Prelude.{◌⊎◌, ◌==◌, ◌&&◌, not, Option, Some, None, option_and_then, option_map, slice_get}
+use Rattle.std.proofs.Common.{◌≡◌, ℕ, ◌+◌, refl, sym, ap, subst, ◌∙◌, Bool, true, false, List, [], ◌∷◌, length}
+use Rattle.std.proofs.Common.{⊎_elim}
+use Rattle.std.specs.Prelude.{◌==◌, ◌&&◌, not, Option, Some, None, option_and_then, option_map, slice_get}
 use Rattle.std.specs.Prelude.{if◌then◌else◌}
 use Rattle.cjc_bytes.specs.AccessFlags.{is_abstract, is_static}
 use Rattle.cjc_bytes.specs.declared.fault.MemberId.{MemberId}
+use Rattle.cjc_bytes.proofs.Options.{then_some, not_far}
+use Rattle.cjc_bytes.proofs.Bools.{both_front, both_back, not_true, true_or_false, true_not_false}
+use Rattle.cjc_bytes.proofs.Numbers.{like_number}
 use Rattle.cjc_world.specs.declared.found.Found.{Found}
 use Rattle.cjc_world.specs.Classes.{Class, Member, all_classes, class_at, class_named}
 use Rattle.cjc_world.specs.Files.{Files}
@@ -21,32 +24,6 @@ use Rattle.cjc_world_proof.proofs.CallsLaws.Own.{IsAt, hit_is, method_is, own_at
 use Rattle.cjc_world_proof.proofs.CallsLaws.Selects.{own_tree, selected_callee, selected_whole}
 use Rattle.cjc_world.specs.Upwards.{Below}
 
-both_front : (a b : Bool) → (a && b) ≡ true → a ≡ true
-both_front true b e = refl
-both_front false b e = absurd cc
-
-both_back : (a b : Bool) → (a && b) ≡ true → b ≡ true
-both_back true b e = e
-both_back false b e = absurd cc
-
-is_false : (b : Bool) → not b ≡ true → b ≡ false
-is_false true e = absurd cc
-is_false false e = refl
-
-true_or_false : (b : Bool) → (b ≡ true) ⊎ (b ≡ false)
-true_or_false true = inl refl
-true_or_false false = inr refl
-
-true_not_false : (b : Bool) → b ≡ true → b ≡ false → ⊥
-true_not_false true e f = cc
-true_not_false false e f = cc
-
--- what an option gives
-pub then_some : {A B : Type 0} (f : A → Option B) (o : Option A) (b : B) → option_and_then f o ≡ Some b → (a : A)
-    × (o ≡ Some a) × (f a ≡ Some b)
-then_some f None b e = absurd cc
-then_some f (Some a) b e = (a, refl, e)
-
 where_true : {A : Type 0} (b : Bool) (o : Option A) (a : A) → (if b then o else None) ≡ Some a → (b ≡ true)
     × (o ≡ Some a)
 where_true true o a e = (refl, e)
@@ -57,17 +34,10 @@ where_false : {A : Type 0} (b : Bool) (o : Option A) (a : A) → (if b then None
 where_false true o a e = absurd cc
 where_false false o a e = (refl, e)
 
-not_far : {A : Type 0} (b : Bool) (o : Option A) (a : A) → (if b then None else o) ≡ Some a → b ≡ false
-not_far true o a e = absurd cc
-not_far false o a e = refl
-
-same_number : (n : ℕ) → (n == n) ≡ true
-same_number n = grind arith
-
 -- a class is the one of its number among itself
-alone : (d : Class) → class_at (d ∷ []) d.is_imported d.number ≡ Some d
+pub alone : (d : Class) → class_at (d ∷ []) d.is_imported d.number ≡ Some d
 unfolding class_at
-alone d = by d.is_imported (d.number == d.number) (same_number d.number)
+alone d = by d.is_imported (d.number == d.number) (like_number d.number)
   where
     by : (x y : Bool) → y ≡ true → (if (if x then x else not x) && y then Some d else None) ≡ Some d
     by true true e = refl
@@ -111,7 +81,7 @@ module _ (files : Files) (solid : IsSolid files) where
       let three = where_true (is_sendable id h && is_subtype w type id.class) (option_and_then (method_at files)
       (select_in w type id)) m two.2 in
       let sendable = both_front (is_sendable id h) (is_subtype w type id.class) three.0 in
-      let plain = is_false (is_initialiser id.name) (both_back (is_selectable h.flags && not (is_constructor id.name))
+      let plain = not_true (is_initialiser id.name) (both_back (is_selectable h.flags && not (is_constructor id.name))
       (not (is_initialiser id.name)) sendable) in
       let four = then_some (method_at files) (select_in w type id) m three.1 in
       let s = selected_whole files solid x r id plain four.0 four.1 in

@@ -1,10 +1,12 @@
 -- What calls select on a receiver.
-use Rattle.std.proofs.Common.{◌≡◌, ℕ, ◌+◌, refl, sym, ap, subst, ◌∙◌, Bool, true, false, List, [], ◌∷◌, length, inl}
+use Rattle.std.proofs.Common.{◌≡◌, ℕ, ◌+◌, refl, sym, ap, subst, ◌∙◌, Bool, true, false, List, [], length, inl}
 use Rattle.std.proofs.Common.{inr, ⊎_elim}
-use Rattle.std.specs.Prelude.{◌⊎◌, ◌&&◌, not, codes, Some, option_map, option_and_then, slice_get, if◌then◌else◌}
+use Rattle.std.specs.Prelude.{◌⊎◌, ◌&&◌, not, Some, option_map, option_and_then, slice_get, if◌then◌else◌}
 use Rattle.std.specs.Str.{bytes_eq}
 use Rattle.cjc_bytes.specs.AccessFlags.{is_abstract, is_interface, is_private, is_static}
 use Rattle.cjc_bytes.specs.declared.fault.MemberId.{MemberId}
+use Rattle.cjc_bytes.proofs.Lists.{name_is}
+use Rattle.cjc_bytes.proofs.Bools.{true_or_false, true_not_false}
 use Rattle.cjc_world.specs.ClassFile.declared.tree.ClassTree.{ClassTree}
 use Rattle.cjc_world.specs.ClassFile.declared.tree.MethodTree.{MethodTree}
 use Rattle.cjc_world.specs.declared.found.Found.{Found}
@@ -12,8 +14,6 @@ use Rattle.cjc_world.specs.Classes.{Class, Member, all_classes, class_named, dec
 use Rattle.cjc_world.specs.Files.{Files}
 use Rattle.cjc_world.specs.Supertypes.{line}
 use Rattle.cjc_world.specs.Lookup.{first, is_called, is_selectable, member_at, own_method, receiver, selected}
-use Rattle.cjc_world.specs.Subtype.{starts}
-use Rattle.cjc_world.proofs.Settled.{bytes-refl}
 use Rattle.cjc_jvm_semantics.specs.Linked.{Abroad, Callee, Inside}
 use Rattle.cjc_jvm_semantics.specs.OnePackage.{ResolvedMember, callee_at, first_imported, interface_callee}
 use Rattle.cjc_jvm_semantics.specs.OnePackage.{is_initialiser, method_at, method_by, method_hit, of_class, select_in}
@@ -21,28 +21,14 @@ use Rattle.cjc_jvm_semantics.specs.OnePackage.{selected_from}
 use Rattle.cjc_world_proof.specs.Calls.Solid.{IsConcrete, IsOwn, IsSolid}
 use Rattle.cjc_world_proof.specs.Calls.Targets.{IsReceiver, IsTarget, abroad, inside}
 use Rattle.cjc_world_proof.proofs.CallsLaws.Own.{IsAt, hit_is, mapped_at, method_is, own_at, own_is}
+use Rattle.cjc_world_proof.proofs.CallsLaws.Types.{receiver_class}
 use Rattle.cjc_world.specs.Upwards.{Below, OnLine}
 use Rattle.cjc_world.proofs.UpwardLaws.Lines.{below_abroad, first_has, first_some, in_line, line_below, line_named}
-use Rattle.cjc_world.proofs.UpwardLaws.Lines.{of_line, on_line}
-
-same_class : {c d : Class} → Some c ≡ Some d → c ≡ d
-same_class e = cc
-
-true_not_false : (b : Bool) → b ≡ true → b ≡ false → ⊥
-true_not_false true e f = cc
-true_not_false false e f = cc
-
-true_or_false : (b : Bool) → (b ≡ true) ⊎ (b ≡ false)
-true_or_false true = inl refl
-true_or_false false = inr refl
-
-pub receiver_plain : (x : List ℕ) → starts 91 x ≡ false → receiver x ≡ x
-receiver_plain [] e = refl
-receiver_plain (b ∷ bs) e = ap (λ v. if v then codes "java/lang/Object" else b ∷ bs) e
+use Rattle.cjc_world.proofs.UpwardLaws.Lines.{of_line, on_line, same_class}
 
 pub called_by : (name desc : List ℕ) (m : Member) → m.name ≡ name → m.desc ≡ desc → is_called name desc m ≡ true
 called_by name desc m e f = ap (λ n. bytes_eq n name && bytes_eq m.desc desc) e
-    ∙ ap (λ b. b && bytes_eq m.desc desc) (bytes-refl name) ∙ ap (λ n. bytes_eq n desc) f ∙ bytes-refl desc
+    ∙ ap (λ b. b && bytes_eq m.desc desc) (name_is name) ∙ ap (λ n. bytes_eq n desc) f ∙ name_is desc
 
 selectable_static : (flags : ℕ) → is_selectable flags ≡ true → is_static flags ≡ false
 selectable_static flags e = by (is_private flags) (is_static flags) e
@@ -132,7 +118,7 @@ module _ (files : Files) (solid : IsSolid files) where
     c = r.class
 
     pub itself : receiver x ≡ x
-    itself = receiver_plain x (solid.plain x c r.named)
+    itself = receiver_class x (solid.plain x c r.named)
 
     concrete : c.is_imported ≡ false → IsConcrete c
     concrete own = record {

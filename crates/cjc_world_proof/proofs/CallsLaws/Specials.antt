@@ -4,13 +4,15 @@ use Rattle.std.proofs.Common.{⊎_elim}
 use Rattle.std.specs.Prelude.{◌⊎◌, not, ◌&&◌, Some, option_and_then, slice_get}
 use Rattle.cjc_bytes.specs.AccessFlags.{is_abstract, is_private, is_static}
 use Rattle.cjc_bytes.specs.declared.fault.MemberId.{MemberId}
+use Rattle.cjc_bytes.proofs.Bools.{true_or_false, true_not_false}
 use Rattle.cjc_jvm_semantics.specs.Linked.{Callee}
 use Rattle.cjc_jvm_semantics.specs.OnePackage.{ResolvedMember, callee_at, first_imported, first_super, is_constructor}
 use Rattle.cjc_jvm_semantics.specs.OnePackage.{method_hit, select_in, selected_from}
 use Rattle.cjc_world_proof.specs.Calls.Solid.{HasCode, IsOwn, IsSolid}
 use Rattle.cjc_world_proof.specs.Calls.Targets.{IsTarget}
 use Rattle.cjc_world_proof.proofs.CallsLaws.Own.{IsAt, hit_is, own_at}
-use Rattle.cjc_world_proof.proofs.CallsLaws.Selects.{own_tree, reaches, receiver_plain}
+use Rattle.cjc_world_proof.proofs.CallsLaws.Selects.{own_tree, reaches}
+use Rattle.cjc_world_proof.proofs.CallsLaws.Types.{receiver_class}
 use Rattle.cjc_world.specs.Upwards.{Below}
 use Rattle.cjc_world.proofs.UpwardLaws.Lines.{first_has, line_below, line_named, listed_below, of_line}
 use Rattle.cjc_world.specs.declared.found.Found.{Found}
@@ -20,14 +22,6 @@ use Rattle.cjc_world.specs.Supertypes.{Lists, foremost, line}
 use Rattle.cjc_world.specs.Supertypes as supertypes
 use Rattle.cjc_world.specs.Lookup.{is_selectable, own_method, receiver, selected}
 use Rattle.cjc_world.proofs.Settled.{lists-front}
-
-true_or_false : (b : Bool) → (b ≡ true) ⊎ (b ≡ false)
-true_or_false true = inl refl
-true_or_false false = inr refl
-
-true_not_false : (b : Bool) → b ≡ true → b ≡ false → ⊥
-true_not_false true e f = cc
-true_not_false false e f = cc
 
 module _ (files : Files) (solid : IsSolid files) where
   abbrev w : List Class
@@ -80,7 +74,7 @@ module _ (files : Files) (solid : IsSolid files) where
       × IsTarget files id (λ t k. (is_static k.flags ≡ false) × Below w holder.name t.name) callee
   unfolding selected
   above_callee holder super s named one there id code =
-      let plain = receiver_plain super (solid.plain super s there) in
+      let plain = receiver_class super (solid.plain super s there) in
       let x = receiver super in
       let r = first_has (own_method true id.name id.desc) (line w x) code.place code.found in
       let e = r.0 in

@@ -11,7 +11,7 @@ receiver_array : (x : List ℕ) → starts 91 x ≡ true → receiver x ≡ obje
 receiver_array [] e = absurd cc
 receiver_array (b ∷ bs) e = ap (λ v. if v then codes "java/lang/Object" else b ∷ bs) e
 
-receiver_class : (x : List ℕ) → starts 91 x ≡ false → receiver x ≡ x
+pub receiver_class : (x : List ℕ) → starts 91 x ≡ false → receiver x ≡ x
 receiver_class [] e = refl
 receiver_class (b ∷ bs) e = ap (λ v. if v then codes "java/lang/Object" else b ∷ bs) e
 

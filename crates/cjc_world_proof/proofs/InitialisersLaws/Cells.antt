@@ -6,6 +6,8 @@ use Rattle.std.specs.Prelude.{if◌then◌else◌, Option, Some, None, slice_get
 use Rattle.std.specs.Ordering.{int_eq}
 use Rattle.cjc_bytes.specs.declared.fault.MemberId.{MemberId}
 use Rattle.cjc_bytes.specs.declared.descriptor.Kind.{Kind}
+use Rattle.cjc_bytes.proofs.Lists.{map_append}
+use Rattle.cjc_bytes.proofs.Numbers.{none_behind}
 use Rattle.cjc_world.specs.ClassFile.declared.tree.ClassTree.{ClassTree}
 use Rattle.cjc_world.specs.ClassFile.declared.tree.FieldTree.{FieldTree}
 use Rattle.cjc_jvm_semantics.specs.Bytecode.declared.method_code.MethodCode.{MethodCode}
@@ -33,7 +35,7 @@ use Rattle.cjc_world_proof.specs.Initialisers.Packages.{AllHaveCells, AllReturn,
 use Rattle.cjc_world_proof.specs.Initialisers.Packages.{first_in, first_store, first_value, value_or}
 use Rattle.cjc_world_proof.specs.Initialisers.Values.{AllHold, AreApart, IsValue, StandOnce}
 use Rattle.cjc_world_proof.proofs.InitialisersLaws.Initialisers.{number-by, same-field}
-use Rattle.cjc_world_proof.proofs.InitialisersLaws.Packages.{image-arrays, map-append, same-refl}
+use Rattle.cjc_world_proof.proofs.InitialisersLaws.Packages.{image-arrays, same-refl}
 use Rattle.cjc_world_proof.proofs.InitialisersLaws.Values.{fields-told, names, of-class, of-classes, values-held}
 
 -- ---- the number of a field in an image
@@ -153,9 +155,6 @@ put_at puts n k = held_in (slice_get (fields_in (slice_get puts n)) k)
 none-before : (k : ℕ) → 0 + k ≡ k
 none-before k = omega arith
 
-none-behind : (m : ℕ) → m ≡ m + 0
-none-behind m = omega arith
-
 classes-place : (puts : List (List Held)) (m : ℕ) (cs : List ClassTree) (n : ℕ) (c : ClassTree) (k : ℕ) (f : FieldTree)
     → slice_get cs n ≡ Some c → ((i : ℕ) (d : ClassTree) → slice_get cs i ≡ Some d → d.name ≡ c.name → i ≡ n)
     → slice_get c.fields k ≡ Some f → Alone c.name c.fields k f → number_place (let i = of_classes puts m cs
@@ -170,7 +169,7 @@ classes-place puts m (d ∷ ds) zero c k f at one there alone =
     in i.others) (field_id c.name f) ≡ number_of (start_of f (put_at puts (m + 0) k))) (sym same)
     (fields-place c.name (fields_in (slice_get puts m)) 0 c.fields k f there alone
     ∙ ap (λ x. number_of (start_of f (held_in (slice_get (fields_in (slice_get puts m)) x)))) (none-before k)
-    ∙ ap (λ x. number_of (start_of f (put_at puts x k))) (none-behind m)))
+    ∙ ap (λ x. number_of (start_of f (put_at puts x k))) (none_behind m)))
     (classes-other puts (m + 1) ds (field_id c.name f) (λ i e there-e is. (let z : suc i ≡ 0 = one (suc i) e there-e is
     in omega arith)))
 classes-place puts m (d ∷ ds) (suc n) c k f at one there alone =
@@ -425,7 +424,7 @@ cells-classes : (image : StaticImage) (cs : List ClassTree) → map (cell_of ima
 cells-classes image [] = refl
 cells-classes image (c ∷ cs) =
     ap (map (cell_of image)) (names-append (first_in c.name c.fields) (first_cells cs))
-    ∙ map-append (cell_of image) (names (first_in c.name c.fields)) (names (first_cells cs))
+    ∙ map_append (cell_of image) (names (first_in c.name c.fields)) (names (first_cells cs))
     ∙ ap (λ q. q ++ map (cell_of image) (names (first_cells cs))) (cells-class image c.name c.fields)
     ∙ ap (λ q. cells_in image c.name c.fields ++ q) (cells-classes image cs)
 

@@ -5,6 +5,9 @@ use Rattle.std.specs.Prelude.{◌==◌, ◌&&◌, if◌then◌else◌, Option, S
 use Rattle.std.specs.Str.{bytes_eq}
 use Rattle.cjc_bytes.specs.declared.fault.MemberId.{MemberId}
 use Rattle.cjc_bytes.specs.declared.descriptor.Kind.{Kind}
+use Rattle.cjc_bytes.proofs.Bools.{and_true}
+use Rattle.cjc_bytes.proofs.Lists.{bytes_true}
+use Rattle.cjc_bytes.proofs.Options.{option_taken}
 use Rattle.cjc_bytes.specs.declared.descriptor.Kind.TheVariants as kinds
 use Rattle.cjc_world.specs.ClassFile.declared.tree.ClassTree.{ClassTree}
 use Rattle.cjc_world.specs.ClassFile.declared.tree.FieldTree.{FieldTree}
@@ -15,7 +18,6 @@ use Rattle.cjc_jvm_semantics.specs.Script.declared.value.Value.TheVariants.{Num,
 use Rattle.cjc_jvm_semantics.specs.Script.declared.report.FieldValue.{FieldValue}
 use Rattle.cjc_world.specs.declared.image.StaticImage.{StaticImage}
 use Rattle.cjc_world.specs.Files.{Files}
-use Rattle.cjc_world.proofs.Settled.{bytes-true}
 use Rattle.cjc_jvm_semantics.specs.ByName.{linked}
 use Rattle.cjc_jvm_semantics.specs.Effects.{Store, effect, is_kind, is_same_field, is_same_kind, value_in, values_with}
 use Rattle.cjc_jvm_semantics.specs.Linked.{Linked, Method}
@@ -29,7 +31,7 @@ use Rattle.cjc_clinit.specs.Initialiser.Makes.{of_number, of_null, of_array}
 use Rattle.cjc_world_proof.specs.Initialisers.Statements.{HaveRoomFor, Reaches, ops_from, store_with, value_by}
 use Rattle.cjc_world_proof.specs.Initialisers.Statements.Reaches.{here, goes}
 use Rattle.cjc_world_proof.specs.Initialisers.Initialisers.{HasCells, Returns, store_after}
-use Rattle.cjc_world_proof.proofs.InitialisersLaws.Places.{and-true, place-field}
+use Rattle.cjc_world_proof.proofs.InitialisersLaws.Places.{place-field}
 use Rattle.cjc_world_proof.proofs.InitialisersLaws.Statements.{fetched, statement}
 
 -- ---- kinds
@@ -54,10 +56,10 @@ number-by desc kind e = by (bytes_eq desc (codes "Z")) (bytes_eq desc (codes "B"
     by : (a b d f : Bool) → bytes_eq desc (codes "Z") ≡ a → bytes_eq desc (codes "B") ≡ b → bytes_eq desc (codes "S")
         ≡ d → bytes_eq desc (codes "I") ≡ f → (if a then Some kinds.Bool else if b then Some kinds.Byte else if d
         then Some kinds.Short else if f then Some kinds.Int else None) ≡ Some kind → is_reference desc ≡ false
-    by true b d f p q r s h = ap (λ x. is_reference x) (bytes-true desc (codes "Z") p)
-    by false true d f p q r s h = ap (λ x. is_reference x) (bytes-true desc (codes "B") q)
-    by false false true f p q r s h = ap (λ x. is_reference x) (bytes-true desc (codes "S") r)
-    by false false false true p q r s h = ap (λ x. is_reference x) (bytes-true desc (codes "I") s)
+    by true b d f p q r s h = ap (λ x. is_reference x) (bytes_true desc (codes "Z") p)
+    by false true d f p q r s h = ap (λ x. is_reference x) (bytes_true desc (codes "B") q)
+    by false false true f p q r s h = ap (λ x. is_reference x) (bytes_true desc (codes "S") r)
+    by false false false true p q r s h = ap (λ x. is_reference x) (bytes_true desc (codes "I") s)
     by false false false false p q r s h = absurd (cc)
 
 fitting : (o : Option Kind) (z : ℤ) → fits_kind o z ≡ true → (kind : Kind) × (o ≡ Some kind)
@@ -71,7 +73,7 @@ kind-put made contents desc n (of_number {z = z}) e = let k = fitting (number_ki
     in ap (λ b. is_kind b (Num z)) (number-by desc k.0 k.1)
 kind-put made contents desc n of_null e = ap (λ b. is_kind b Null) e
 kind-put made contents desc n (of_array {number = number} {kind = kind} le is fill) e =
-    ap (λ d. is_kind (is_reference d) (Obj n)) (bytes-true desc (array_desc kind) e)
+    ap (λ d. is_kind (is_reference d) (Obj n)) (bytes_true desc (array_desc kind) e)
     ∙ ap (λ b. is_kind b (Obj n)) (array-by (number == 4) (number == 8) (number == 9) (number == 10) kind is)
 
 same-kind : (r : Bool) (a b : Value) → is_kind r a ≡ true → is_kind r b ≡ true → is_same_kind a b ≡ true
@@ -89,11 +91,11 @@ id_of class name desc = record { class = class; name = name; desc = desc }
 
 pub same-field : (a b : MemberId) → is_same_field a b ≡ true → a ≡ b
 same-field a b e =
-    let h = and-true (bytes_eq a.class b.class && bytes_eq a.name b.name) (bytes_eq a.desc b.desc) e in
-    let g = and-true (bytes_eq a.class b.class) (bytes_eq a.name b.name) h.0 in
-    ap (λ q. id_of q a.name a.desc) (bytes-true a.class b.class g.0)
-    ∙ ap (λ q. id_of b.class q a.desc) (bytes-true a.name b.name g.1)
-    ∙ ap (id_of b.class b.name) (bytes-true a.desc b.desc h.1)
+    let h = and_true (bytes_eq a.class b.class && bytes_eq a.name b.name) (bytes_eq a.desc b.desc) e in
+    let g = and_true (bytes_eq a.class b.class) (bytes_eq a.name b.name) h.0 in
+    ap (λ q. id_of q a.name a.desc) (bytes_true a.class b.class g.0)
+    ∙ ap (λ q. id_of b.class q a.desc) (bytes_true a.name b.name g.1)
+    ∙ ap (id_of b.class b.name) (bytes_true a.desc b.desc h.1)
 
 -- a cell holds what is put into it, or what it held
 pub after-put : (xs : List FieldValue) (g h : MemberId) (v old : Value) → value_in xs h ≡ Some old
@@ -130,10 +132,6 @@ cells-put c d statics f v kind cells k other there is =
     )) (after-put statics (field_id c.name f) (field_id d.name other) v old.0 old.1)
 
 -- ---- one initialiser
-
-pub taken : (b : Bool) (o : Option ℕ) (k : ℕ) → (if b then o else None) ≡ Some k → (b ≡ true) × (o ≡ Some k)
-taken true o k e = (refl, e)
-taken false o k e = absurd (cc)
 
 module _ (l : Linked) (m : Method) (locals : List (Option Value)) where
   onwards : (at : ℕ) (stack : List Value) (before : Store) (mid : ℕ) (left : List Value) (between after : Store)
@@ -173,7 +171,7 @@ module _ (files : Files) (image : StaticImage) (number : ℕ) (c : ClassTree) (m
   initialiser before after ops ps (puts {made = made} {ops = more} {contents = contents} {id = id} {k = k} {rest = rest}
       makes place next) at s stands cells roomy =
       let parts = room-parts m.max_stack made (jop.Static true id ∷ more) roomy in
-      let p = taken (takes contents id.desc) (open_place files number c before id) k place in
+      let p = option_taken (takes contents id.desc) (open_place files number c before id) k place in
       let f = place-field files image number c before id k at-c p.1 in
       let size = length s.heap in
       let v = value_by size contents in

@@ -6,6 +6,7 @@ use Rattle.std.specs.Ordering.{int_eq}
 use Rattle.std.specs.Str.{bytes_eq}
 use Rattle.cjc_bytes.specs.declared.fault.MemberId.{MemberId}
 use Rattle.cjc_bytes.specs.declared.descriptor.Kind.{Kind}
+use Rattle.cjc_bytes.proofs.Lists.{name_is, map_append}
 use Rattle.cjc_world.specs.ClassFile.declared.tree.ClassTree.{ClassTree}
 use Rattle.cjc_world.specs.ClassFile.declared.tree.FieldTree.{FieldTree}
 use Rattle.cjc_world.specs.ClassFile.declared.tree.MethodTree.{MethodTree}
@@ -19,7 +20,6 @@ use Rattle.cjc_jvm_semantics.specs.Script.Sorts.{field_sort, zero_of}
 use Rattle.cjc_world.specs.declared.image.ArrayCell.{ArrayCell}
 use Rattle.cjc_world.specs.declared.image.StaticImage.{StaticImage}
 use Rattle.cjc_world.specs.Files.{Files}
-use Rattle.cjc_world.proofs.Settled.{bytes-refl}
 use Rattle.cjc_jvm_semantics.specs.ByName.{linked}
 use Rattle.cjc_jvm_semantics.specs.Effects.{Store, is_kind, is_same_field, value_in}
 use Rattle.cjc_jvm_semantics.specs.OnePackage.{method_by, static_array}
@@ -41,10 +41,6 @@ use Rattle.cjc_world_proof.proofs.InitialisersLaws.Initialisers.{initialiser, nu
 
 -- ---- the arrays
 
-pub map-append : {A B : Type 0} (f : A → B) (xs ys : List A) → map f (xs ++ ys) ≡ map f xs ++ map f ys
-map-append f [] ys = refl
-map-append f (x ∷ xs) ys = ap (λ q. f x ∷ q) (map-append f xs ys)
-
 -- what an initialiser makes stands behind what was there
 pub made-behind : (c : ClassTree) (s : Store) (ps : List Put) → (let t = store_after c s ps in t.heap) ≡ s.heap
     ++ map static_array (arrays_of c ps)
@@ -53,7 +49,7 @@ made-behind c s (p ∷ ps) =
     made-behind c (store_with s (own_field c p.field) p.contents) ps
     ∙ append_assoc s.heap (map static_array (array_in (own_field c p.field) p.contents))
     (map static_array (arrays_of c ps))
-    ∙ ap (λ q. s.heap ++ q) (sym (map-append static_array (array_in (own_field c p.field) p.contents) (arrays_of c ps)))
+    ∙ ap (λ q. s.heap ++ q) (sym (map_append static_array (array_in (own_field c p.field) p.contents) (arrays_of c ps)))
 
 start-arrays : (id : MemberId) (o : Option Start) → (let i = of_start id o in i.arrays) ≡ []
 start-arrays id None = refl
@@ -103,8 +99,8 @@ value-kind desc constant typed = by (number_kind desc) constant refl
     by (Some kind) (Some z) e = ap (λ b. is_kind b (Num z)) (number-by desc kind e)
 
 pub same-refl : (id : MemberId) → is_same_field id id ≡ true
-same-refl id = ap (λ b. b && bytes_eq id.name id.name && bytes_eq id.desc id.desc) (bytes-refl id.class)
-    ∙ ap (λ b. b && bytes_eq id.desc id.desc) (bytes-refl id.name) ∙ bytes-refl id.desc
+same-refl id = ap (λ b. b && bytes_eq id.name id.name && bytes_eq id.desc id.desc) (name_is id.class)
+    ∙ ap (λ b. b && bytes_eq id.desc id.desc) (name_is id.name) ∙ name_is id.desc
 
 -- each value is of the kind of its field's type
 abbrev AllKinds : List FieldValue → Type 0
@@ -273,7 +269,7 @@ module _ (files : Files) (image : StaticImage) where
         one c t.1 is t.2 e.0 r.1,
         r.2 ∙ ap (λ (q : List Thing). q ++ map static_array others) (made-behind c s ps)
             ∙ append_assoc s.heap (map static_array (arrays_of c ps)) (map static_array others)
-            ∙ ap (λ q. s.heap ++ q) (sym (map-append static_array (arrays_of c ps) others)),
+            ∙ ap (λ q. s.heap ++ q) (sym (map_append static_array (arrays_of c ps) others)),
         r.3,
       )
 

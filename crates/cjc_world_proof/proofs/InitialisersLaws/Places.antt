@@ -1,15 +1,18 @@
 -- The field that a statement puts into, by the look-ups of the machine by name.
-use Rattle.std.proofs.Common.{◌≡◌, ◌∙◌, refl, sym, ap, subst, ℕ, suc, zero, ◌<◌, List, [], ◌∷◌, length, map, get_or}
-use Rattle.std.proofs.Common.{Bool, true, false, arith, ⊎_elim, ◌⊎◌, inl, inr}
-use Rattle.std.proofs.lemmas.Bool.Decides.{nat_tests}
-use Rattle.std.proofs.lemmas.Option.{slice_get-map, slice_get-get_or}
-use Rattle.std.proofs.lemmas.List.Sums.{passes_at_first}
-use Rattle.std.specs.Prelude.{◌==◌, ◌&&◌, not, if◌then◌else◌, cond, Option, Some, None, option_map, option_and_then}
-use Rattle.std.specs.Prelude.{nat_lt, slice_get, is_some, ℤ}
-use Rattle.std.specs.List.{position, position_or_len}
+use Rattle.std.proofs.Common.{◌≡◌, ◌∙◌, refl, sym, ap, subst, ℕ, suc, zero, List, [], ◌∷◌, length, map}
+use Rattle.std.proofs.Common.{Bool, true, false, ⊎_elim, ◌⊎◌, inl, inr}
+use Rattle.std.proofs.lemmas.Option.{slice_get-map}
+use Rattle.std.specs.Prelude.{◌==◌, ◌&&◌, not, if◌then◌else◌, Option, Some, None, option_map, option_and_then}
+use Rattle.std.specs.Prelude.{slice_get, is_some, ℤ}
+use Rattle.std.specs.List.{position}
 use Rattle.std.specs.Str.{bytes_eq}
 use Rattle.cjc_bytes.specs.declared.fault.MemberId.{MemberId}
 use Rattle.cjc_bytes.specs.AccessFlags.{is_static}
+use Rattle.cjc_bytes.proofs.Options.{option_mapped}
+use Rattle.cjc_bytes.proofs.Bools.{and_true, not_true}
+use Rattle.cjc_bytes.proofs.Lists.{bytes_true}
+use Rattle.cjc_bytes.proofs.Numbers.{number_same}
+use Rattle.cjc_bytes.proofs.Gets.{position_there}
 use Rattle.cjc_world.specs.ClassFile.declared.tree.ClassTree.{ClassTree}
 use Rattle.cjc_world.specs.ClassFile.declared.tree.FieldTree.{FieldTree}
 use Rattle.cjc_world.specs.ExportFile.Members.{may_be_constant}
@@ -19,7 +22,6 @@ use Rattle.cjc_world.specs.Files.{Files}
 use Rattle.cjc_world.specs.Classes.{Class, Member, all_classes, class_at, class_named, declared, field_of_class}
 use Rattle.cjc_world.specs.Supertypes.{Supertypes, supertypes_within, in_a_row, supertypes, known_as}
 use Rattle.cjc_world.specs.Lookup.{field_in, find_field, is_called, member_at, or_else, own_field}
-use Rattle.cjc_world.proofs.Settled.{bytes-true}
 use Rattle.cjc_vtable.proofs.TokensSupers.{class_at-number}
 use Rattle.cjc_vtable.proofs.Numbers.{named-number}
 use Rattle.cjc_jvm_semantics.specs.Linked.{Static, Instance}
@@ -72,41 +74,6 @@ found-named w class name desc f e = in-supertypes_within w (own_field name desc)
 
 -- ---- the member at a place
 
-position-there : {X : Type 0} (p : X → Bool) (xs : List X) (k : ℕ) → position p xs ≡ Some k → (x : X)
-    × (slice_get xs k ≡ Some x) × (p x ≡ true)
-position-there {X} p [] k e = absurd (cc)
-position-there {X} p (y ∷ ys) k e = by (nat_lt (position_or_len p (y ∷ ys)) (length (y ∷ ys))) refl e
-  where
-    by : (b : Bool) → nat_lt (position_or_len p (y ∷ ys)) (length (y ∷ ys)) ≡ b
-        → cond b (Some (position_or_len p (y ∷ ys))) None ≡ Some k → (x : X) × (slice_get (y ∷ ys) k ≡ Some x)
-        × (p x ≡ true)
-    by true t h =
-        let is : position_or_len p (y ∷ ys) ≡ k = cc in
-        let lt : position_or_len p (y ∷ ys) < length (y ∷ ys) = grind (arith, nat_tests) in
-        subst (λ n. (x : X) × (slice_get (y ∷ ys) n ≡ Some x) × (p x ≡ true)) is (
-          get_or (y ∷ ys) (position_or_len p (y ∷ ys)) y,
-          slice_get-get_or (y ∷ ys) (position_or_len p (y ∷ ys)) y lt,
-          passes_at_first p (y ∷ ys) y lt,
-        )
-    by false t h = absurd (cc)
-
-mapped : {A B : Type 0} (f : A → B) (o : Option A) (y : B) → option_map f o ≡ Some y → (x : A) × (o ≡ Some x)
-    × (f x ≡ y)
-mapped f None y e = absurd (cc)
-mapped f (Some x) y e = (x, refl, (let g : f x ≡ y = cc in g))
-
-pub and-true : (a b : Bool) → (a && b) ≡ true → (a ≡ true) × (b ≡ true)
-and-true true true e = (refl, refl)
-and-true true false e = absurd (cc)
-and-true false b e = absurd (cc)
-
-not-true : (a : Bool) → not a ≡ true → a ≡ false
-not-true true e = absurd (cc)
-not-true false e = refl
-
-same-number : (a b : ℕ) → (a == b) ≡ true → a ≡ b
-same-number a b e = grind (arith, nat_tests)
-
 -- what an own place is of
 owned : (number : ℕ) (o : Option Found) (k : ℕ) → own_place number o ≡ Some k → (f : Found) × (o ≡ Some f)
     × (f.imported ≡ false) × (f.class ≡ number) × (f.member ≡ k)
@@ -115,8 +82,8 @@ owned number (Some f) k e = by (not f.imported && (f.class == number)) refl e
   where
     by : (b : Bool) → (not f.imported && (f.class == number)) ≡ b → (if b then Some f.member else None) ≡ Some k
         → (g : Found) × (Some f ≡ Some g) × (g.imported ≡ false) × (g.class ≡ number) × (g.member ≡ k)
-    by true t h = let p = and-true (not f.imported) (f.class == number) t in let m : f.member ≡ k = cc
-        in (f, refl, not-true f.imported p.0, same-number f.class number p.1, m)
+    by true t h = let p = and_true (not f.imported) (f.class == number) t in let m : f.member ≡ k = cc
+        in (f, refl, not_true f.imported p.0, number_same f.class number p.1, m)
     by false t h = absurd (cc)
 
 opened : (c : ClassTree) (fields : List Held) (n k : ℕ) → open_in c fields n ≡ Some k → (n ≡ k) × (f : FieldTree)
@@ -188,7 +155,7 @@ place-field files image number c fields id k at e =
     let b = owned number o k a.0 in
     let n = found-named w id.class id.name id.desc b.0 b.1 in
     let d = n.1 in
-    let p = mapped (λ i. member_at d i) (position (λ f. is_called id.name id.desc f) d.fields) b.0 n.3 in
+    let p = option_mapped (λ i. member_at d i) (position (λ f. is_called id.name id.desc f) d.fields) b.0 n.3 in
     let im : d.is_imported ≡ false = ap (λ (q : Found). q.imported) p.2 ∙ b.2 in
     let num : d.number ≡ number = ap (λ (q : Found). q.class) p.2 ∙ b.3 in
     let place : p.0 ≡ k = ap (λ (q : Found). q.member) p.2 ∙ b.4 in
@@ -196,17 +163,17 @@ place-field files image number c fields id k at e =
     let some : Some t.0 ≡ Some c = sym t.1 ∙ ap (slice_get files.classes) num ∙ at in
     let same : t.0 ≡ c = cc in
     let is : d ≡ declared number c = t.2 ∙ ap (λ q. declared q t.0) num ∙ ap (declared number) same in
-    let m = position-there (λ f. is_called id.name id.desc f) d.fields p.0 p.1 in
+    let m = position_there (λ f. is_called id.name id.desc f) d.fields p.0 p.1 in
     let row : slice_get (map field_of_class c.fields) k ≡ Some (field_of_class a.1) =
     slice_get-map field_of_class c.fields k ∙ ap (option_map field_of_class) a.2 in
     let told : Some m.0 ≡ Some (field_of_class a.1) = sym m.1 ∙ ap (slice_get d.fields) place
     ∙ ap (λ (q : Class). slice_get q.fields k) is ∙ row in
     let member : m.0 ≡ field_of_class a.1 = cc in
-    let called = and-true (bytes_eq (let f = a.1 in f.name) id.name) (bytes_eq (let f = a.1 in f.desc) id.desc)
+    let called = and_true (bytes_eq (let f = a.1 in f.name) id.name) (bytes_eq (let f = a.1 in f.desc) id.desc)
     (ap (is_called id.name id.desc) (sym member) ∙ m.2) in
-    let name = bytes-true (let f = a.1 in f.name) id.name called.0 in
-    let desc = bytes-true (let f = a.1 in f.desc) id.desc called.1 in
-    let cell = and-true (let f = a.1 in is_static f.flags) (let f = a.1 in not (may_be_constant f.flags f.desc
+    let name = bytes_true (let f = a.1 in f.name) id.name called.0 in
+    let desc = bytes_true (let f = a.1 in f.desc) id.desc called.1 in
+    let cell = and_true (let f = a.1 in is_static f.flags) (let f = a.1 in not (may_be_constant f.flags f.desc
     && is_some f.constant)) a.4 in
     let found : b.0 ≡ member_at (declared number c) k = sym p.2 ∙ ap (λ q. member_at q p.0) is
     ∙ ap (member_at (declared number c)) place in

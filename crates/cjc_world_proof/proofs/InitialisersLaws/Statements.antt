@@ -3,14 +3,17 @@ use Rattle.std.proofs.Common.{◌≡◌, ◌∙◌, refl, sym, ap, subst, ℕ, s
 use Rattle.std.proofs.Common.{append-nil, length, drop, map, replicate, add-one, Bool, true, false, arith}
 use Rattle.std.proofs.lemmas.Bool.Decides.{nat_tests}
 use Rattle.std.proofs.lemmas.Int.{ints}
-use Rattle.std.specs.Int.{w8}
-use Rattle.std.specs.Prelude.{◌≤ℤ◌, FitsSigned, ◌==◌, ◌&&◌, if◌then◌else◌, Option, Some, None, nat_lt, nat_le}
+use Rattle.std.specs.Prelude.{◌≤ℤ◌, ◌==◌, if◌then◌else◌, Option, Some, None, nat_lt}
 use Rattle.std.specs.Prelude.{slice_get, slice_set, ℤ, pos, negsuc}
 use Rattle.std.specs.Int.RustNames.{int_le}
 use Rattle.cjc_bytes.specs.declared.fault.MemberId.{MemberId}
 use Rattle.cjc_bytes.specs.declared.descriptor.Kind.{Kind}
 use Rattle.cjc_bytes.specs.declared.descriptor.Kind.TheVariants as kinds
 use Rattle.cjc_bytes.specs.Spots.{after, bad_at, types_from, parts_of, desc_of}
+use Rattle.cjc_bytes.proofs.Bools.{and_true}
+use Rattle.cjc_bytes.proofs.Gets.{map_set, at_end}
+use Rattle.cjc_bytes.proofs.Numbers.{at_most}
+use Rattle.cjc_bytes.proofs.Integers.{above_if, by_ends_8}
 use Rattle.cjc_vtable.specs.Range.Words.{low_word, low_byte}
 use Rattle.cjc_vtable.proofs.RangeWords.{fits16, low_byte_fixed, low_word_fixed}
 use Rattle.cjc_jvm_semantics.specs.Bytecode.declared.insn.JInsn.{JInsn}
@@ -47,19 +50,9 @@ fetched [] (suc n) op ops e = absurd (cc)
 fetched (x ∷ xs) zero op ops e = (x, refl, (let p : x.op ≡ op = cc in p), (let p : ops_of xs ≡ ops = cc in p))
 fetched (x ∷ xs) (suc n) op ops e = fetched xs n op ops e
 
-last-there : {A : Type 0} (xs : List A) (y : A) → slice_get (xs ++ y ∷ []) (length xs) ≡ Some y
-last-there [] y = refl
-last-there (x ∷ xs) y = last-there xs y
-
 last-set : {A : Type 0} (xs : List A) (y z : A) → slice_set (xs ++ y ∷ []) (length xs) z ≡ xs ++ z ∷ []
 last-set [] y z = refl
 last-set (x ∷ xs) y z = ap (λ q. x ∷ q) (last-set xs y z)
-
-map-set : {A B : Type 0} (f : A → B) (xs : List A) (k : ℕ) (x : A) → slice_set (map f xs) k (f x)
-    ≡ map f (slice_set xs k x)
-map-set f [] k x = refl
-map-set f (y ∷ xs) zero x = refl
-map-set f (y ∷ xs) (suc k) x = ap (λ q. f y ∷ q) (map-set f xs k x)
 
 map-replicate : {A B : Type 0} (f : A → B) (n : ℕ) (x : A) → replicate n (f x) ≡ map f (replicate n x)
 map-replicate f zero x = refl
@@ -73,9 +66,6 @@ map-there f (x ∷ xs) (suc k) l = map-there f xs k (omega arith)
 
 room : (k n : ℕ) → k < n → nat_lt k n ≡ true
 room k n h = grind (arith, nat_tests)
-
-room-le : (k n : ℕ) → k ≤ n → nat_le k n ≡ true
-room-le k n h = grind (arith, nat_tests)
 
 -- ---- kinds
 
@@ -112,24 +102,12 @@ shape-by Ints = refl
 
 -- ---- numbers that fit
 
-le-true : (a b : ℤ) → int_le a b ≡ true → a ≤ℤ b
-le-true a b e = grind (arith, ints)
-
-and-true : (a b : Bool) → (a && b) ≡ true → (a ≡ true) × (b ≡ true)
-and-true true true e = (refl, refl)
-and-true true false e = absurd (cc)
-and-true false b e = absurd (cc)
-
 lies-true : (low high z : ℤ) → lies_in low high z ≡ true → (low ≤ℤ z) × (z ≤ℤ high)
-lies-true low high z e = let h = and-true (int_le low z) (int_le z high) e in (le-true low z h.0, le-true z high h.1)
-
-fits8 : (z : ℤ) → negsuc 127 ≤ℤ z → z ≤ℤ pos 127 → FitsSigned w8 z
-fits8 (pos n) a b = omega (arith, ints)
-fits8 (negsuc n) a b = omega (arith, ints)
+lies-true low high z e = let h = and_true (int_le low z) (int_le z high) e in (above_if low z h.0, above_if z high h.1)
 
 byte-kept : (low high z : ℤ) → negsuc 127 ≤ℤ low → high ≤ℤ pos 127 → lies_in low high z ≡ true → low_byte z ≡ z
 byte-kept low high z a b e = let h = lies-true low high z e in let x = h.0 in let y = h.1
-    in low_byte_fixed z (fits8 z (omega (arith, ints)) (omega (arith, ints)))
+    in low_byte_fixed z (by_ends_8 z (omega (arith, ints)) (omega (arith, ints)))
 
 short-kept : (z : ℤ) → lies_in (negsuc 32767) (pos 32767) z ≡ true → low_word z ≡ z
 short-kept z e = let h = lies-true (negsuc 32767) (pos 32767) z e in low_word_fixed z (fits16 z h.0 h.1)
@@ -220,7 +198,7 @@ module _ (l : Linked) (m : Method) (locals : List (Option Value)) where
   copy : (at : ℕ) (v : Value) (s : Store) → 2 ≤ m.max_stack → effect l m at locals s (jop.Stack dup) (v ∷ [])
       ≡ Go (at + 1) (v ∷ v ∷ []) locals s
   unfolding effect
-  copy at v s h = ap (λ b. only_if b (Go (at + 1) (v ∷ v ∷ []) locals s)) (room-le 2 m.max_stack h)
+  copy at v s h = ap (λ b. only_if b (Go (at + 1) (v ∷ v ∷ []) locals s)) (at_most 2 m.max_stack h)
 
   -- the heap with an array more
   abbrev pub with-array : Store → Kind → List ℤ → Store
@@ -269,14 +247,14 @@ module _ (l : Linked) (m : Method) (locals : List (Option Value)) where
       ∙ ap (λ o. with_some o (λ thing. with_array thing (λ d vs. only_if (serves t.moves (shape_named d))
       (item_at vs (pos i) (λ n old. with_heap l m at locals st
       (slice_set heap k (Array d (slice_set vs n (Num (cut t.moves z))))) (Obj k ∷ []))))))
-      (last-there s.heap (array kind items))
+      (at_end s.heap (array kind items))
       ∙ ap (λ o. only_if (serves t.moves o) (item_at numbers (pos i) (λ n old. keep desc numbers (cut t.moves z))))
       (ap shape_named t.name ∙ shape-by t.element)
       ∙ ap (λ b. only_if b (item_at numbers (pos i) (λ n old. keep desc numbers (cut t.moves z)))) t.serves
       ∙ ap (λ o. item_if o (λ old. keep desc numbers (cut t.moves z))) (map-there (λ (y : ℤ). Num y) items i inside).1
       ∙ ap (λ y. keep desc numbers y) t.kept
       ∙ ap (λ vs. Go (at + 1) (Obj k ∷ []) locals (record s { heap = slice_set heap k (Array desc vs) }))
-      (map-set (λ (y : ℤ). Num y) items i z)
+      (map_set (λ (y : ℤ). Num y) items i z)
       ∙ ap (λ h. Go (at + 1) (Obj k ∷ []) locals (record s { heap = h })) (last-set s.heap (array kind items)
       (array kind (slice_set items i z)))
 

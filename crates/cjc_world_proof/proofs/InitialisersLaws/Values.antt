@@ -1,10 +1,13 @@
 -- What the static cells hold after initialisers.
 use Rattle.std.proofs.Common.{◌≡◌, ◌∙◌, refl, sym, ap, subst, ℕ, suc, zero, ◌+◌, List, [], ◌∷◌, ◌++◌, append_assoc}
-use Rattle.std.proofs.Common.{append-nil, length, map, Bool, true, false, ◌⊎◌, inl, inr, ⊎_elim, arith}
-use Rattle.std.proofs.lemmas.Bool.Decides.{nat_tests}
+use Rattle.std.proofs.Common.{append-nil, length, map, Bool, true, false, ⊎_elim, arith}
 use Rattle.std.proofs.lemmas.Option.{slice_get-map}
-use Rattle.std.specs.Prelude.{◌==◌, if◌then◌else◌, Some, None, option_map, replicate, slice_get, slice_set}
+use Rattle.std.specs.Prelude.{if◌then◌else◌, Some, None, option_map, replicate, slice_get, slice_set}
 use Rattle.cjc_bytes.specs.declared.fault.MemberId.{MemberId}
+use Rattle.cjc_bytes.proofs.Gets.{set_length, set_same, set_other}
+use Rattle.cjc_bytes.proofs.Numbers.{same_place, length_replicated}
+use Rattle.cjc_bytes.proofs.Lists.{map_append, length_mapped}
+use Rattle.cjc_bytes.proofs.Options.{option_taken}
 use Rattle.cjc_world.specs.ClassFile.declared.tree.ClassTree.{ClassTree}
 use Rattle.cjc_world.specs.ClassFile.declared.tree.FieldTree.{FieldTree}
 use Rattle.cjc_jvm_semantics.specs.Bytecode.declared.insn.JOp.{JOp}
@@ -33,36 +36,9 @@ use Rattle.cjc_world_proof.specs.Initialisers.Packages.{first_in, first_store, f
 use Rattle.cjc_world_proof.specs.Initialisers.Packages.AllReturn.{none, other, one}
 use Rattle.cjc_world_proof.specs.Initialisers.Values.{AllHold, AreApart, HoldWhatIsPut, IsValue, StandOnce}
 use Rattle.cjc_world_proof.proofs.InitialisersLaws.Places.{place-field}
-use Rattle.cjc_world_proof.proofs.InitialisersLaws.Initialisers.{after-put, initialiser, same-field, taken}
+use Rattle.cjc_world_proof.proofs.InitialisersLaws.Initialisers.{after-put, initialiser, same-field}
 use Rattle.cjc_world_proof.proofs.InitialisersLaws.Packages.{append-either, class-of, class-there, first-cells}
-use Rattle.cjc_world_proof.proofs.InitialisersLaws.Packages.{has-classes, made-behind, map-append, same-refl}
-
--- ---- lists
-
-pub set-same : {A : Type 0} (xs : List A) (k : ℕ) (x y : A) → slice_get xs k ≡ Some y → slice_get (slice_set xs k x) k
-    ≡ Some x
-set-same [] k x y e = absurd (cc)
-set-same (z ∷ xs) zero x y e = refl
-set-same (z ∷ xs) (suc k) x y e = set-same xs k x y e
-
-pub set-other : {A : Type 0} (xs : List A) (k j : ℕ) (x : A) → (k ≡ j → ⊥) → slice_get (slice_set xs k x) j
-    ≡ slice_get xs j
-set-other [] k j x differs = refl
-set-other (z ∷ xs) zero zero x differs = absurd (differs refl)
-set-other (z ∷ xs) zero (suc j) x differs = refl
-set-other (z ∷ xs) (suc k) zero x differs = refl
-set-other (z ∷ xs) (suc k) (suc j) x differs = set-other xs k j x (λ e. differs (ap suc e))
-
-length-mapped : {A B : Type 0} (f : A → B) (xs : List A) → length (map f xs) ≡ length xs
-length-mapped f [] = refl
-length-mapped f (x ∷ xs) = ap suc (length-mapped f xs)
-
-same-place : (k j : ℕ) → (k ≡ j) ⊎ (k ≡ j → ⊥)
-same-place k j = by (k == j) refl
-  where
-    by : (b : Bool) → (k == j) ≡ b → (k ≡ j) ⊎ (k ≡ j → ⊥)
-    by true e = inl (grind (arith, nat_tests))
-    by false e = inr (λ f. grind (arith, nat_tests))
+use Rattle.cjc_world_proof.proofs.InitialisersLaws.Packages.{has-classes, made-behind, same-refl}
 
 -- ---- the place of an array
 
@@ -147,7 +123,7 @@ own-put : (c : ClassTree) (fields : List Held) (arrays : List ArrayCell) (static
     → HoldWhatIsPut c (slice_set fields k (held_by contents)) (arrays ++ array_in (field_id c.name f) contents)
     (values_with statics (field_id c.name f) (value_by size contents))
 own-put c fields arrays statics k f contents size is there cell unput apart holds j e h at cell-e put =
-    ⊎_elim same others (same-place k j)
+    ⊎_elim same others (same_place k j)
   where
     same : k ≡ j → (v : Value) × (value_in (values_with statics (field_id c.name f) (value_by size contents))
         (field_id c.name e) ≡ Some v) × IsValue (arrays ++ array_in (field_id c.name f) contents) (field_id c.name e) e
@@ -155,7 +131,7 @@ own-put c fields arrays statics k f contents size is there cell unput apart hold
     same p =
         let fields-same : Some f ≡ Some e = sym there ∙ ap (slice_get c.fields) p ∙ at in
         let field-same : f ≡ e = cc in
-        let put-same : Some (held_by contents) ≡ Some h = sym (set-same fields k (held_by contents) held.Nothing unput)
+        let put-same : Some (held_by contents) ≡ Some h = sym (set_same fields k (held_by contents) held.Nothing unput)
         ∙ ap (slice_get (slice_set fields k (held_by contents))) p ∙ put in
         let held-same : held_by contents ≡ h = cc in
         let old = holds k f held.Nothing there cell unput in
@@ -174,7 +150,7 @@ own-put c fields arrays statics k f contents size is there cell unput apart hold
         (field_id c.name e) ≡ Some v) × IsValue (arrays ++ array_in (field_id c.name f) contents) (field_id c.name e) e
         h v
     others differs = one-other c arrays statics (field_id c.name f) contents (value_by size contents) e h
-        (λ q. differs (apart j e at q)) (holds j e h at cell-e (sym (set-other fields k j (held_by contents) differs)
+        (λ q. differs (apart j e at q)) (holds j e h at cell-e (sym (set_other fields k j (held_by contents) differs)
         ∙ put))
 
 -- ---- the names of the cells
@@ -217,15 +193,15 @@ module _ (files : Files) (image : StaticImage) (apart : AreApart files) (number 
   )
   held-after before after ops ps (puts {ops = more} {contents = contents} {id = id} {k = k} {rest = rest} makes place
       next) arrays s heap =
-      let p = taken (takes contents id.desc) (open_place files number c before id) k place in
+      let p = option_taken (takes contents id.desc) (open_place files number c before id) k place in
       let f = place-field files image number c before id k at-c p.1 in
       let field = f.field in
       let size = length s.heap in
       let g = own_field c id in
       let t = store_with s g contents in
-      let is : size ≡ length arrays = ap length heap ∙ length-mapped static_array arrays in
+      let is : size ≡ length arrays = ap length heap ∙ length_mapped static_array arrays in
       let later : t.heap ≡ map static_array (arrays ++ array_in g contents) = ap (λ (q : List Thing). q
-      ++ map static_array (array_in g contents)) heap ∙ sym (map-append static_array arrays (array_in g contents))
+      ++ map static_array (array_in g contents)) heap ∙ sym (map_append static_array arrays (array_in g contents))
       in
       let r = held-after (slice_set before k (held_by contents)) after more rest next (arrays ++ array_in g contents) t
       later in
@@ -290,7 +266,7 @@ of-classes (c ∷ cs) id v e = ⊎_elim (λ p. let r = of-class c.name c.fields 
 )) (λ p. let r = of-classes cs id v p in (suc r.0, r.1, r.2, r.3, r.4, r.5, r.6, r.7, r.8))
     (append-either (first_in c.name c.fields) (first_cells cs) id v e)
 
-nothing-only : (n k : ℕ) (h : Held) → slice_get (replicate n held.Nothing) k ≡ Some h → held.Nothing ≡ h
+pub nothing-only : (n k : ℕ) (h : Held) → slice_get (replicate n held.Nothing) k ≡ Some h → held.Nothing ≡ h
 nothing-only zero k h e = absurd (cc)
 nothing-only (suc n) zero h e = cc
 nothing-only (suc n) (suc k) h e = nothing-only n k h e
@@ -307,8 +283,8 @@ first-held files apart n c at k f h there cell put =
     ∙ r.5 in
     let named-too : field_id c.name r.3 ≡ field_id c.name f = ap (λ (q : ClassTree). field_id q.name r.3)
     (sym class-same) ∙ r.7 in
-    let same-place : r.2 ≡ k = apart.fields n r.2 k c r.3 f at there-too there named-too in
-    let some-field : Some r.3 ≡ Some f = sym there-too ∙ ap (slice_get c.fields) same-place ∙ there in
+    let same_place : r.2 ≡ k = apart.fields n r.2 k c r.3 f at there-too there named-too in
+    let some-field : Some r.3 ≡ Some f = sym there-too ∙ ap (slice_get c.fields) same_place ∙ there in
     let field-same : r.3 ≡ f = cc in
     let value : old.0 ≡ first_value f = sym r.8 ∙ ap first_value field-same in
     subst (λ (q : Held). (v : Value) × (value_in (first_cells files.classes) (field_id c.name f) ≡ Some v)
@@ -360,14 +336,14 @@ module _ (files : Files) (image : StaticImage) (apart : AreApart files) where
       let kept = held-after files image apart code.class c t.0 (nothing_in c) fields (ops_of code.insns) ps does made s
       heap in
       let heap-mid : mid.heap ≡ map static_array new = made-behind c s ps ∙ ap (λ (q : List Thing). q
-      ++ map static_array (arrays_of c ps)) heap ∙ sym (map-append static_array made (arrays_of c ps)) in
+      ++ map static_array (arrays_of c ps)) heap ∙ sym (map_append static_array made (arrays_of c ps)) in
       let fresh-c = fresh 0 code c refl is in
       let here-same : (n : ℕ) (d : ClassTree) (held : List Held) → slice_get files.classes n ≡ Some d
       → slice_get (slice_set before code.class fields) n ≡ Some held → code.class ≡ n
       → HoldWhatIsPut d held new mid.statics = λ n d held at put p.
       (let some-c : Some c ≡ Some d = sym t.0 ∙ ap (slice_get files.classes) p ∙ at in
       let same-c : c ≡ d = cc in
-      let some-f : Some fields ≡ Some held = sym (set-same before code.class fields (nothing_in c) fresh-c)
+      let some-f : Some fields ≡ Some held = sym (set_same before code.class fields (nothing_in c) fresh-c)
       ∙ ap (slice_get (slice_set before code.class fields)) p ∙ put in
       let same-f : fields ≡ held = cc in
       subst (λ (q : ClassTree). HoldWhatIsPut q held new mid.statics) same-c
@@ -375,10 +351,10 @@ module _ (files : Files) (image : StaticImage) (apart : AreApart files) where
       (kept.0 (hold code.class c (nothing_in c) t.0 fresh-c)))) in
       let hold-mid : AllHold files (slice_set before code.class fields) new mid.statics = λ n d held at put.
       ⊎_elim (λ p. here-same n d held at put p) (λ differs. kept.1 d held (λ q. differs (apart.classes code.class n c d
-      t.0 at q)) (hold n d held at (sym (set-other before code.class n fields differs) ∙ put)))
-      (same-place code.class n) in
+      t.0 at q)) (hold n d held at (sym (set_other before code.class n fields differs) ∙ put)))
+      (same_place code.class n) in
       let fresh-later : Fresh (slice_set before code.class fields) rest = λ i other-code d there is-d.
-      set-other before code.class other-code.class fields (λ q. (let z : 0 ≡ suc i = once 0 (suc i) code other-code c d
+      set_other before code.class other-code.class fields (λ q. (let z : 0 ≡ suc i = once 0 (suc i) code other-code c d
       refl there is is-d q in omega arith)) ∙ fresh (suc i) other-code d there is-d in
       let r = all-held _ after rest others more mid new heap-mid (λ i j a b c d p q x y same. (let z : suc i
       ≡ suc j = once (suc i) (suc j) a b c d p q x y same in cc)) fresh-later (λ i code c m there. roomy (suc i)
@@ -409,21 +385,12 @@ module _ (files : Files) (image : StaticImage) (apart : AreApart files) where
 
 -- ---- each field stands in the record of what was put
 
-length-set : {A : Type 0} (xs : List A) (k : ℕ) (x : A) → length (slice_set xs k x) ≡ length xs
-length-set [] k x = refl
-length-set (y ∷ xs) zero x = refl
-length-set (y ∷ xs) (suc k) x = ap suc (length-set xs k x)
-
 put-length : (files : Files) (number : ℕ) (c : ClassTree) (before after : List Held) (ops : List JOp) (ps : List Put)
     → Initialises files number c before ops ps after → length after ≡ length before
 put-length files number c before after ops ps ends = refl
 put-length files number c before after ops ps (puts {ops = more} {contents = contents} {k = k} {rest = rest} makes place
     next) = put-length files number c (slice_set before k (held_by contents)) after more rest next
-    ∙ length-set before k (held_by contents)
-
-length-replicated : {A : Type 0} (n : ℕ) (x : A) → length (replicate n x) ≡ n
-length-replicated zero x = refl
-length-replicated (suc n) x = ap suc (length-replicated n x)
+    ∙ set_length before k (held_by contents)
 
 -- each class has a list as long as its fields
 abbrev Full : Files → List (List Held) → Type 0
@@ -433,7 +400,7 @@ Full files told = (n : ℕ) (c : ClassTree) → slice_get files.classes n ≡ So
 full-set : (files : Files) (before : List (List Held)) (k : ℕ) (c : ClassTree) (fields : List Held)
     → slice_get files.classes k ≡ Some c → length fields ≡ length c.fields → Full files before
     → Full files (slice_set before k fields)
-full-set files before k c fields at-c long full n d at = ⊎_elim same others (same-place k n)
+full-set files before k c fields at-c long full n d at = ⊎_elim same others (same_place k n)
   where
     same : k ≡ n → (held : List Held) × (slice_get (slice_set before k fields) n ≡ Some held)
         × (length held ≡ length d.fields)
@@ -442,14 +409,14 @@ full-set files before k c fields at-c long full n d at = ⊎_elim same others (s
         let is : c ≡ d = cc in
         let old = full k c at-c in (
           fields,
-          ap (slice_get (slice_set before k fields)) (sym p) ∙ set-same before k fields old.0 old.1,
+          ap (slice_get (slice_set before k fields)) (sym p) ∙ set_same before k fields old.0 old.1,
           long
               ∙ ap (λ (q : ClassTree). length q.fields) is,
         )
 
     others : (k ≡ n → ⊥) → (held : List Held) × (slice_get (slice_set before k fields) n ≡ Some held)
         × (length held ≡ length d.fields)
-    others differs = let old = full n d at in (old.0, set-other before k n fields differs ∙ old.1, old.2)
+    others differs = let old = full n d at in (old.0, set_other before k n fields differs ∙ old.1, old.2)
 
 full-after : (files : Files) (before after : List (List Held)) (codes : List MethodCode) (arrays : List ArrayCell)
     → AreInitialised files before codes arrays after → Full files before → Full files after
@@ -460,7 +427,7 @@ full-after files before after codes arrays (one_code {code = code} {codes = rest
     more) full =
     full-after files _ after rest others more (full-set files before code.class c fields (class-there code.method
     (slice_get files.classes code.class) c is).0 (put-length files code.class c (nothing_in c) fields
-    (ops_of code.insns) ps does ∙ length-replicated (length c.fields) held.Nothing) full)
+    (ops_of code.insns) ps does ∙ length_replicated (length c.fields) held.Nothing) full)
 
 pub fields-told : (files : Files) (codes : List MethodCode) (arrays : List ArrayCell) (fields : List (List Held))
     → AreInitialised files (map nothing_in files.classes) codes arrays fields → Full files fields
@@ -468,6 +435,6 @@ fields-told files codes arrays fields is =
     full-after files (map nothing_in files.classes) fields codes arrays is (λ n c at. (
       nothing_in c,
       slice_get-map nothing_in files.classes n ∙ ap (option_map nothing_in) at,
-      length-replicated (length c.fields)
+      length_replicated (length c.fields)
           held.Nothing,
     ))

@@ -13,17 +13,11 @@ use Rattle.cjc_world.specs.Supertypes.{End, Supertypes, Known, Unknown, is_below
 use Rattle.cjc_world.specs.Rules.{breaks, has_array_exceptions, has_class, has_exception, has_language, has_needed}
 use Rattle.cjc_world.specs.Rules.{has_other_exceptions, has_roots, throwable, when}
 use Rattle.cjc_world.specs.Subtype.{array_is, is_subclass, is_subtype, starts}
-use Rattle.cjc_world.proofs.Unbroken.{nil_front, nil_of_map, not_when}
+use Rattle.cjc_world.proofs.Unbroken.{nil_of_map, not_when}
 use Rattle.cjc_bytes.specs.Breaks.{broken_at, list_spot}
+use Rattle.cjc_bytes.proofs.Bools.{both_front, both_back}
+use Rattle.cjc_bytes.proofs.Lists.{none_left}
 use Rattle.cjc_world.specs.Rules.{breaks_from}
-
-front_of : (a b : Bool) → (a && b) ≡ true → a ≡ true
-front_of true b e = refl
-front_of false b e = absurd cc
-
-back_of : (a b : Bool) → (a && b) ≡ true → b ≡ true
-back_of true b e = e
-back_of false b e = absurd cc
 
 -- what stands in a tree by supers alone stands in it
 supers_stand : (y : List ℕ) (k : Supertypes) → stands_by_supers y k ≡ true → stands y k ≡ true
@@ -72,7 +66,7 @@ module _ (list : List ℕ) (files : Files) (unbroken : breaks list files ≡ [])
   unfolding breaks
   language = is_true (has_language w files.exports) (not_when (not (has_language w files.exports)) 207
       (nil_of_map (λ rule. broken_at (list_spot list) rule) (when (not (has_language w files.exports)) 207)
-      (nil_front (map (λ rule. broken_at (list_spot list) rule) (when (not (has_language w files.exports)) 207))
+      (none_left (map (λ rule. broken_at (list_spot list) rule) (when (not (has_language w files.exports)) 207))
       (breaks_from files w 0 0 0 0 files.lines) unbroken)))
     where
       is_true : (b : Bool) → not b ≡ false → b ≡ true
@@ -84,46 +78,46 @@ module _ (list : List ℕ) (files : Files) (unbroken : breaks list files ≡ [])
   unfolding has_needed has_array_exceptions has_other_exceptions
   below fault =
       let t = needed_there w files.exports language in
-      let others = back_of (has_roots t.0 && has_array_exceptions w t.0) (has_other_exceptions w t.0) t.1 in
-      let arrays = back_of (has_roots t.0) (has_array_exceptions w t.0) (front_of (has_roots t.0
+      let others = both_back (has_roots t.0 && has_array_exceptions w t.0) (has_other_exceptions w t.0) t.1 in
+      let arrays = both_back (has_roots t.0) (has_array_exceptions w t.0) (both_front (has_roots t.0
       && has_array_exceptions w t.0) (has_other_exceptions w t.0) t.1) in
       by t.0 arrays others fault
     where
       one : (t : ExportTree) (name : List ℕ) → has_exception w t name ≡ true → is_below w name throwable ≡ true
-      one t name e = back_of (has_class t name) (is_below w name throwable) e
+      one t name e = both_back (has_class t name) (is_below w name throwable) e
 
       by : (t : ExportTree) → has_array_exceptions w t ≡ true → has_other_exceptions w t ≡ true → (fault : Fault)
           → is_below w (exception_class fault) throwable ≡ true
       by t a o IndexOutside = one t (codes "java/lang/ArrayIndexOutOfBoundsException")
-          (front_of (has_exception w t (codes "java/lang/ArrayIndexOutOfBoundsException"))
+          (both_front (has_exception w t (codes "java/lang/ArrayIndexOutOfBoundsException"))
           (has_exception w t (codes "java/lang/ArrayStoreException"))
-          (front_of (has_exception w t (codes "java/lang/ArrayIndexOutOfBoundsException")
+          (both_front (has_exception w t (codes "java/lang/ArrayIndexOutOfBoundsException")
           && has_exception w t (codes "java/lang/ArrayStoreException"))
           (has_exception w t (codes "java/lang/NegativeArraySizeException")) a))
       by t a o ArrayStore = one t (codes "java/lang/ArrayStoreException")
-          (back_of (has_exception w t (codes "java/lang/ArrayIndexOutOfBoundsException"))
+          (both_back (has_exception w t (codes "java/lang/ArrayIndexOutOfBoundsException"))
           (has_exception w t (codes "java/lang/ArrayStoreException"))
-          (front_of (has_exception w t (codes "java/lang/ArrayIndexOutOfBoundsException")
+          (both_front (has_exception w t (codes "java/lang/ArrayIndexOutOfBoundsException")
           && has_exception w t (codes "java/lang/ArrayStoreException"))
           (has_exception w t (codes "java/lang/NegativeArraySizeException")) a))
       by t a o NegativeSize = one t (codes "java/lang/NegativeArraySizeException")
-          (back_of (has_exception w t (codes "java/lang/ArrayIndexOutOfBoundsException")
+          (both_back (has_exception w t (codes "java/lang/ArrayIndexOutOfBoundsException")
           && has_exception w t (codes "java/lang/ArrayStoreException"))
           (has_exception w t (codes "java/lang/NegativeArraySizeException")) a)
       by t a o Arithmetic = one t (codes "java/lang/ArithmeticException")
-          (front_of (has_exception w t (codes "java/lang/ArithmeticException"))
+          (both_front (has_exception w t (codes "java/lang/ArithmeticException"))
           (has_exception w t (codes "java/lang/ClassCastException"))
-          (front_of (has_exception w t (codes "java/lang/ArithmeticException")
+          (both_front (has_exception w t (codes "java/lang/ArithmeticException")
           && has_exception w t (codes "java/lang/ClassCastException"))
           (has_exception w t (codes "java/lang/NullPointerException")) o))
       by t a o ClassCast = one t (codes "java/lang/ClassCastException")
-          (back_of (has_exception w t (codes "java/lang/ArithmeticException"))
+          (both_back (has_exception w t (codes "java/lang/ArithmeticException"))
           (has_exception w t (codes "java/lang/ClassCastException"))
-          (front_of (has_exception w t (codes "java/lang/ArithmeticException")
+          (both_front (has_exception w t (codes "java/lang/ArithmeticException")
           && has_exception w t (codes "java/lang/ClassCastException"))
           (has_exception w t (codes "java/lang/NullPointerException")) o))
       by t a o NullPointer = one t (codes "java/lang/NullPointerException")
-          (back_of (has_exception w t (codes "java/lang/ArithmeticException")
+          (both_back (has_exception w t (codes "java/lang/ArithmeticException")
           && has_exception w t (codes "java/lang/ClassCastException"))
           (has_exception w t (codes "java/lang/NullPointerException")) o)
 

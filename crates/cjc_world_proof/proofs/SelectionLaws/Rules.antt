@@ -1,16 +1,20 @@
 -- What a package keeps that breaks none of 201 to 208 and 301 to 307, class by class.
-use Rattle.std.proofs.Common.{◌≡◌, ℕ, zero, suc, ◌+◌, refl, sym, ap, ◌∙◌, arith, Bool, true, false, List, [], ◌∷◌, ◌++◌}
+use Rattle.std.proofs.Common.{◌≡◌, ℕ, ◌+◌, refl, sym, ap, ◌∙◌, Bool, true, false, List, [], ◌∷◌, ◌++◌}
 use Rattle.std.proofs.Common.{⊎_elim}
 use Rattle.std.specs.Prelude.{map, not, ◌&&◌, ◌||◌, Option, Some, None, is_some, slice_get, if◌then◌else◌}
 use Rattle.std.specs.List.{list_any}
 use Rattle.std.specs.Str.{bytes_eq}
+use Rattle.std.proofs.lemmas.Bool.{or_parts}
 use Rattle.cjc_bytes.specs.AccessFlags.{is_interface}
-use Rattle.cjc_bytes.specs.Breaks.{Break, RulePlace, at, broken_at, each_from, list_spot}
+use Rattle.cjc_bytes.specs.Breaks.{Break, at, broken_at, each_from, list_spot}
 use Rattle.cjc_bytes.specs.Order.{FilePlace, file_of}
 use Rattle.cjc_bytes.specs.declared.order.FileKey.{FileKey}
 use Rattle.cjc_bytes.specs.declared.order.FileKey.TheVariants as keys
 use Rattle.cjc_bytes.specs.declared.settings.FileLine.{FileLine}
 use Rattle.cjc_bytes.specs.declared.settings.Settings.{Settings}
+use Rattle.cjc_bytes.proofs.Lists.{bytes_true, none_left, none_left as nil_front, none_right, none_right as nil_back}
+use Rattle.cjc_bytes.proofs.BrokenRules.{not_broken, each_at}
+use Rattle.cjc_bytes.proofs.Bools.{bool_four, both_true}
 use Rattle.cjc_world.specs.ClassFile.declared.tree.ClassTree.{ClassTree}
 use Rattle.cjc_world.specs.ClassFile.declared.tree.FieldTree.{FieldTree}
 use Rattle.cjc_world.specs.ClassFile.declared.tree.MethodTree.{MethodTree}
@@ -25,19 +29,19 @@ use Rattle.cjc_vtable.specs.Subset.Overriding.{supertype_breaks, lacks_code, ove
 use Rattle.cjc_vtable.specs.Subset.Places.{at_class, at_field, at_method}
 use Rattle.cjc_vtable.specs.Subset.Types.{is_unsupported_desc, is_int_desc}
 use Rattle.cjc_vtable.proofs.Filed.{Every, every-append, every-named}
+use Rattle.cjc_vtable.proofs.Ruled.{any-false}
 use Rattle.cjc_world.specs.Classes.{Class, all_classes, class_named, classes_from, declared, imported, numbered}
 use Rattle.cjc_world.specs.Classes.{of_class_file, of_export_file, size}
 use Rattle.cjc_world.specs.Files.{Files}
-use Rattle.cjc_world.specs.Supertypes.{Lists, after, foremost}
+use Rattle.cjc_world.specs.Supertypes.{Lists}
 use Rattle.cjc_world.specs.Lookup.{object}
 use Rattle.cjc_world.specs.Rules.{breaks, breaks_from, class_file_breaks, class_rules, classes_breaks}
 use Rattle.cjc_world.specs.Rules.{export_file_breaks, gets_missing, has_language, is_class_of, is_interface_of}
 use Rattle.cjc_world.specs.Rules.{is_of_class_file, is_of_package, is_own_super, is_second, is_second_package}
 use Rattle.cjc_world.specs.Rules.{lists_missing, lists_wrong, members_from, when}
 use Rattle.cjc_world.specs.Rules as world
-use Rattle.cjc_world.proofs.Settled.{bytes-true}
 use Rattle.cjc_world.proofs.Trees.{lists-split}
-use Rattle.cjc_world.proofs.Unbroken.{nil_back, nil_front, nil_of_map, not_when}
+use Rattle.cjc_world.proofs.Unbroken.{nil_of_map, not_when}
 
 -- ---- 201 to 208 of each class of the world
 
@@ -122,19 +126,6 @@ module _ (files : Files) (w : List Class) where
           (ruled_export_file (keys.Line k) line.name e i (slice_get files.exports e) (nil_front here rest q))
           (s (nil_back here rest q))
 
-any_false : (p : List ℕ → Bool) (xs : List (List ℕ)) (y : List ℕ) → list_any p xs ≡ false → Lists y xs → p y ≡ false
-any_false p [] y e l = elim l [ ]
-any_false p (x ∷ xs) y e foremost = by (p y) e
-  where
-    by : (b : Bool) → (b || list_any p xs) ≡ false → b ≡ false
-    by true e = absurd cc
-    by false e = refl
-any_false p (x ∷ xs) y e (after l) = any_false p xs y (by (p x) e) l
-  where
-    by : (b : Bool) → (b || list_any p xs) ≡ false → list_any p xs ≡ false
-    by true e = absurd cc
-    by false e = e
-
 -- 203 and 208 of a class
 pub record Keeps (w : List Class) (c : Class) : Type 0 where
   pub there : c.is_imported ≡ false → lists_missing w c ≡ false
@@ -143,22 +134,6 @@ pub record Keeps (w : List Class) (c : Class) : Type 0 where
   pub only_object : is_interface c.flags ≡ true → list_any (λ x. not (bytes_eq x object)) c.supers ≡ false
   pub abroad : c.is_imported ≡ true → (list_any (λ x. is_of_class_file (class_named w x)) c.supers ≡ false)
       × (list_any (λ x. is_of_class_file (class_named w x)) c.interfaces ≡ false)
-
-four : (a b c d : Bool) → (a || b || c || d) ≡ false → (a ≡ false) × (b ≡ false) × (c ≡ false) × (d ≡ false)
-four false false false false e = (refl, refl, refl, refl)
-four true b c d e = absurd cc
-four false true c d e = absurd cc
-four false false true d e = absurd cc
-four false false false true e = absurd cc
-
-and_false : (a b : Bool) → a ≡ true → (a && b) ≡ false → b ≡ false
-and_false true b e f = f
-and_false false b e f = absurd cc
-
-or_both : (a b : Bool) → (a || b) ≡ false → (a ≡ false) × (b ≡ false)
-or_both false false e = (refl, refl)
-or_both true b e = absurd cc
-or_both false true e = absurd cc
 
 keeps_by : (p : List ℕ) (w : List Class) (c : Class) → class_rules p w c ≡ [] → Keeps w c
 unfolding class_rules lists_wrong
@@ -171,19 +146,19 @@ keeps_by p w c e =
     let missing = not_when (not c.is_imported && (lists_missing w c || gets_missing w c)) 203 (nil_back (A
     ++ B) D (nil_front (A ++ B ++ D) E (nil_front (A ++ B ++ D ++ E) G e))) in
     let wrong = not_when (lists_wrong w c) 208 (nil_back (A ++ B ++ D ++ E) G e) in
-    let h = four (list_any (λ x. is_interface_of (class_named w x)) c.supers)
+    let h = bool_four (list_any (λ x. is_interface_of (class_named w x)) c.supers)
     (list_any (λ x. is_class_of (class_named w x)) c.interfaces) (is_interface c.flags
     && list_any (λ x. not (bytes_eq x object)) c.supers)
     (c.is_imported && (list_any (λ x. is_of_class_file (class_named w x)) c.supers
     || list_any (λ x. is_of_class_file (class_named w x)) c.interfaces)) wrong in
     record {
-      there = λ own. (or_both (lists_missing w c) (gets_missing w c) (and_false (not c.is_imported) (lists_missing w c
+      there = λ own. (or_parts (lists_missing w c) (gets_missing w c) (both_true (not c.is_imported) (lists_missing w c
           || gets_missing w c) (ap not own) missing)).0;
       supers = h.0;
       interfaces = h.1;
-      only_object = λ is. and_false (is_interface c.flags) (list_any (λ x. not (bytes_eq x object)) c.supers) is h.2;
-      abroad = λ imp. or_both (list_any (λ x. is_of_class_file (class_named w x)) c.supers)
-          (list_any (λ x. is_of_class_file (class_named w x)) c.interfaces) (and_false c.is_imported
+      only_object = λ is. both_true (is_interface c.flags) (list_any (λ x. not (bytes_eq x object)) c.supers) is h.2;
+      abroad = λ imp. or_parts (list_any (λ x. is_of_class_file (class_named w x)) c.supers)
+          (list_any (λ x. is_of_class_file (class_named w x)) c.interfaces) (both_true c.is_imported
           (list_any (λ x. is_of_class_file (class_named w x)) c.supers
           || list_any (λ x. is_of_class_file (class_named w x)) c.interfaces) imp h.3);
     }
@@ -207,12 +182,12 @@ module _ (list : List ℕ) (files : Files) (unbroken : breaks list files ≡ [])
   pub super_class : (x s : List ℕ) (c d : Class) → class_named w x ≡ Some c → Lists s c.supers
       → class_named w s ≡ Some d → is_interface d.flags ≡ false
   super_class x s c d e l f = let k = keeps x c e in ap is_interface_of (sym f)
-      ∙ any_false (λ z. is_interface_of (class_named w z)) c.supers s k.supers l
+      ∙ any-false (λ z. is_interface_of (class_named w z)) c.supers s k.supers l
 
   pub listed_interface : (x i : List ℕ) (c d : Class) → class_named w x ≡ Some c → Lists i c.interfaces
       → class_named w i ≡ Some d → is_interface d.flags ≡ true
   listed_interface x i c d e l f = let k = keeps x c e in by (is_interface d.flags) (ap is_class_of (sym f)
-      ∙ any_false (λ z. is_class_of (class_named w z)) c.interfaces i k.interfaces l)
+      ∙ any-false (λ z. is_class_of (class_named w z)) c.interfaces i k.interfaces l)
     where
       by : (b : Bool) → not b ≡ false → b ≡ true
       by true e = refl
@@ -221,10 +196,10 @@ module _ (list : List ℕ) (files : Files) (unbroken : breaks list files ≡ [])
   pub only_object : (x s : List ℕ) (c : Class) → class_named w x ≡ Some c → is_interface c.flags ≡ true
       → Lists s c.supers → s ≡ object
   only_object x s c e is l = let k = keeps x c e
-      in by (bytes_eq s object) refl (any_false (λ z. not (bytes_eq z object)) c.supers s (k.only_object is) l)
+      in by (bytes_eq s object) refl (any-false (λ z. not (bytes_eq z object)) c.supers s (k.only_object is) l)
     where
       by : (b : Bool) → bytes_eq s object ≡ b → not b ≡ false → s ≡ object
-      by true f e = bytes-true s object f
+      by true f e = bytes_true s object f
       by false f e = absurd cc
 
   pub listed_abroad : (x y : List ℕ) (c d : Class) → class_named w x ≡ Some c → c.is_imported ≡ true
@@ -233,8 +208,8 @@ module _ (list : List ℕ) (files : Files) (unbroken : breaks list files ≡ [])
       let k = keeps x c e in
       let both = k.abroad imp in
       by d.is_imported (ap is_of_class_file (sym f) ∙ ⊎_elim
-      (λ s. any_false (λ z. is_of_class_file (class_named w z)) c.supers y both.0 s)
-      (λ i. any_false (λ z. is_of_class_file (class_named w z)) c.interfaces y both.1 i)
+      (λ s. any-false (λ z. is_of_class_file (class_named w z)) c.supers y both.0 s)
+      (λ i. any-false (λ z. is_of_class_file (class_named w z)) c.interfaces y both.1 i)
       (lists-split y c.supers c.interfaces l))
     where
       by : (b : Bool) → not b ≡ false → b ≡ true
@@ -242,37 +217,6 @@ module _ (list : List ℕ) (files : Files) (unbroken : breaks list files ≡ [])
       by false e = absurd cc
 
 -- ---- 301 to 307 of the classes of the package
-
-none_left : {A : Type 0} (xs ys : List A) → xs ++ ys ≡ [] → xs ≡ []
-none_left [] ys e = refl
-none_left (x ∷ xs) ys e = absurd cc
-
-none_right : {A : Type 0} (xs ys : List A) → xs ++ ys ≡ [] → ys ≡ []
-none_right [] ys e = e
-none_right (x ∷ xs) ys e = absurd cc
-
-not_broken : (b : Bool) (s : RulePlace) (rule : ℕ) → at b s rule ≡ [] → b ≡ false
-not_broken true s rule e = absurd cc
-not_broken false s rule e = refl
-
-each_none : {A : Type 0} (breaks : ℕ → A → List Break) (n k : ℕ) (xs : List A) (x : A) → each_from breaks n xs ≡ []
-    → slice_get xs k ≡ Some x → breaks (n + k) x ≡ []
-unfolding each_from
-each_none breaks n k [] x e is = absurd cc
-each_none breaks n zero (y ∷ xs) x e is =
-    let same : y ≡ x = cc in
-    let here : breaks n y ≡ [] = none_left (breaks n y) (each_from breaks (n + 1) xs) e in
-    let place : n + 0 ≡ n = omega arith in
-    ap (λ m. breaks m x) place ∙ ap (breaks n) (sym same) ∙ here
-each_none breaks n (suc k) (y ∷ xs) x e is =
-    let rest = each_none breaks (n + 1) k xs x (none_right (breaks n y) (each_from breaks (n + 1) xs) e) is in
-    let place : n + suc k ≡ n + 1 + k = omega arith in
-    ap (λ m. breaks m x) place ∙ rest
-
-each_at : {A : Type 0} (breaks : ℕ → A → List Break) (k : ℕ) (xs : List A) (x : A) → each_from breaks 0 xs ≡ []
-    → slice_get xs k ≡ Some x → breaks k x ≡ []
-each_at breaks k xs x e is = let place : k ≡ 0 + k = omega arith in ap (λ m. breaks m x) place
-    ∙ each_none breaks 0 k xs x e is
 
 module _ (list : List ℕ) (files : Files) (codes : List MethodCode) (settings : Settings) (unbroken : check_breaks list
     files codes settings ≡ []) (n : ℕ) (t : ClassTree)

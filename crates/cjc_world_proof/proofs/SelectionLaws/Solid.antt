@@ -1,5 +1,5 @@
 -- A package that breaks no rule has code for what it declares and inherits.
-use Rattle.std.proofs.Common.{◌≡◌, ℕ, zero, suc, refl, sym, ap, subst, ◌∙◌, Bool, true, false, List, [], ◌∷◌, length}
+use Rattle.std.proofs.Common.{◌≡◌, ℕ, refl, sym, ap, subst, ◌∙◌, Bool, true, false, List, [], ◌∷◌, length}
 use Rattle.std.proofs.Common.{inl, inr, ⊎_elim}
 use Rattle.std.specs.Prelude.{◌⊎◌, not, ◌&&◌, ◌||◌, Option, Some, None, is_some, option_and_then, option_map, slice_get}
 use Rattle.std.specs.Prelude.{◌-◌}
@@ -8,6 +8,8 @@ use Rattle.std.specs.Str.{bytes_eq}
 use Rattle.cjc_bytes.specs.AccessFlags.{acc_native, acc_strict, acc_synchronized, acc_transient, acc_volatile, has}
 use Rattle.cjc_bytes.specs.AccessFlags.{is_abstract, is_interface, is_private, is_public, is_static}
 use Rattle.cjc_bytes.specs.declared.settings.Settings.{Settings}
+use Rattle.cjc_bytes.proofs.Lists.{bytes_true}
+use Rattle.cjc_bytes.proofs.Gets.{any_off}
 use Rattle.cjc_jvm_semantics.specs.OnePackage.{ResolvedMember as NameHit, is_constructor, is_initialiser}
 use Rattle.cjc_world_proof.specs.Calls.Solid.{HasCode, IsConcrete, IsOwn, IsSolid}
 use Rattle.cjc_world.specs.ClassFile.Code.{CodeTree}
@@ -38,7 +40,6 @@ use Rattle.cjc_world.specs.Lookup.{object, selected}
 use Rattle.cjc_world.specs.Rules.{is_missing, is_none_of, lists_missing}
 use Rattle.cjc_world.specs.Subtype.{starts}
 use Rattle.cjc_world.proofs.Cycles.{class_named-name}
-use Rattle.cjc_world.proofs.Settled.{bytes-true}
 use Rattle.cjc_world.proofs.Unbroken.{unbroken_is_acyclic}
 
 -- ---- 304 of a method
@@ -74,22 +75,6 @@ fits_method interface flags name code e = by (has flags acc_native) (has flags a
     by false false false false true true p c i k f p1 p2 p3 p4 p5 e = absurd cc
     by false false false false true false true c i k f p1 p2 p3 p4 p5 e = absurd cc
     by false false false false true false false true i k f p1 p2 p3 p4 p5 e = absurd cc
-
--- ---- lists of members
-
-any_false : {A : Type 0} (p : A → Bool) (xs : List A) (i : ℕ) (x : A) → list_any p xs ≡ false → slice_get xs i ≡ Some x
-    → p x ≡ false
-any_false p [] i x e g = absurd cc
-any_false p (y ∷ xs) zero x e g = let same : y ≡ x = cc in ap p (sym same) ∙ by (p y) (list_any p xs) e
-  where
-    by : (a b : Bool) → (a || b) ≡ false → a ≡ false
-    by true b e = absurd cc
-    by false b e = refl
-any_false p (y ∷ xs) (suc i) x e g = any_false p xs i x (by (p y) (list_any p xs) e) g
-  where
-    by : (a b : Bool) → (a || b) ≡ false → b ≡ false
-    by true b e = absurd cc
-    by false b e = e
 
 -- ---- 203: what is listed is there
 
@@ -268,7 +253,7 @@ module _ (list : List ℕ) (files : Files) (codes : List MethodCode) (settings :
   by_rule t d i m concrete off there asks plain_name =
       has_code t.name m.name m.desc (is_interface d.flags)
       (asked (is_abstract m.flags) (is_interface d.flags) d.is_imported (is_initialiser m.name) asks plain_name
-      (any_false (λ k. has_no_code w t d k) d.methods i m (only (is_abstract t.flags)
+      (any_off (λ k. has_no_code w t d k) d.methods i m (only (is_abstract t.flags)
       (list_any (λ k. has_no_code w t d k) d.methods) concrete off) there))
     where
       only : (a b : Bool) → a ≡ false → (not a && b) ≡ false → b ≡ false
@@ -318,7 +303,7 @@ module _ (list : List ℕ) (files : Files) (codes : List MethodCode) (settings :
           → IsFiled files d → HasCode w t.name m.name m.desc
       by t at flags is above true f filed_one =
           let same : c ≡ d = same_class (sym (ap (class_named w) (class_named-name w x c e) ∙ e)
-          ∙ ap (class_named w) (ap (λ (v : Class). v.name) is ∙ bytes-true t.name d.name f) ∙ named) in
+          ∙ ap (class_named w) (ap (λ (v : Class). v.name) is ∙ bytes_true t.name d.name f) ∙ named) in
           let members : slice_get (declared 0 t).methods i ≡ Some m = ap (λ (v : Class). slice_get v.methods i) (sym is
           ∙ same) ∙ there in
           by_rule t (declared 0 t) i m (sym (ap is_abstract flags) ∙ concrete.no_abstract) (own_coded list files codes

@@ -7,6 +7,9 @@ use Rattle.std.specs.Str.{bytes_eq}
 use Rattle.std.proofs.lemmas.Bool.Decides.{nat_tests}
 use Rattle.cjc_bytes.specs.AccessFlags.{is_abstract, is_interface, is_public, is_static}
 use Rattle.cjc_bytes.specs.declared.settings.AppletLine.{AppletLine}
+use Rattle.cjc_bytes.proofs.Bools.{and_true}
+use Rattle.cjc_bytes.proofs.Lists.{bytes_true}
+use Rattle.cjc_bytes.proofs.Gets.{any_at}
 use Rattle.cjc_check_rules.specs.Spots.{in_info, along}
 use Rattle.cjc_check_rules.specs.Complete.{applet_size}
 use Rattle.cjc_check_rules.specs.Members.{is_static_start}
@@ -34,7 +37,7 @@ use Rattle.cjc_token_proof.proofs.TablesLaws.Filed.{own_filed}
 use Rattle.cjc_token_proof.proofs.TablesLaws.Order.{own_names}
 use Rattle.cjc_check_proof.proofs.ClassesLaws.Installs.{static_start}
 use Rattle.cjc_check_proof.proofs.ClassesLaws.Supers.{in_place}
-use Rattle.cjc_check_proof.proofs.ClassesLaws.Lists.{bytes-true, none_along}
+use Rattle.cjc_check_proof.proofs.ClassesLaws.Lists.{none_along}
 use Rattle.cjc_check_proof.proofs.classes.install_methods_are_static.Goals as goal
 
 abbrev install : List ℕ
@@ -45,27 +48,11 @@ its_desc = codes "([BSB)V"
 
 -- ---- the method of the rule
 
-any_get : {A : Type 0} (test : A → Bool) (xs : List A) → list_any test xs ≡ true → (k : ℕ) × (x : A)
-    × (slice_get xs k ≡ Some x) × (test x ≡ true)
-any_get test [] e = absurd (cc)
-any_get test (x ∷ xs) e = by (test x) refl e (any_get test xs)
-  where
-    by : (b : Bool) → test x ≡ b → (b || list_any test xs) ≡ true → (list_any test xs ≡ true → (k : ℕ) × (y : _)
-        × (slice_get xs k ≡ Some y) × (test y ≡ true)) → (k : ℕ) × (y : _) × (slice_get (x ∷ xs) k ≡ Some y)
-        × (test y ≡ true)
-    by true f g rest = (0, x, refl, f)
-    by false f g rest = let r = rest g in (suc r.0, r.1, r.2, r.3)
-
 three : (a b c : Bool) → (a && b && c) ≡ true → (a ≡ true) × (c ≡ true)
 three true true true e = (refl, refl)
 three true true false e = absurd (cc)
 three true false c e = absurd (cc)
 three false b c e = absurd (cc)
-
-two : (a b : Bool) → (a && b) ≡ true → (a ≡ true) × (b ≡ true)
-two true true e = (refl, refl)
-two true false e = absurd (cc)
-two false b e = absurd (cc)
 
 fit : (a b c d : Bool) → (a || b || not c || not d) ≡ false → (a ≡ false) × (d ≡ true)
 fit false false true true e = (refl, refl)
@@ -105,9 +92,9 @@ only : (ms : List Member) (i : ℕ) (m : Member) → slice_get ms i ≡ Some m �
     → is_twice ms i m.name m.desc ≡ false → position (λ k. is_called install its_desc k) ms ≡ Some i
 unfolding is_twice
 only ms i m e called once =
-    let s = two (bytes_eq m.name install) (bytes_eq m.desc its_desc) called in
-    let name = bytes-true m.name install s.0 in
-    let desc = bytes-true m.desc its_desc s.1 in
+    let s = and_true (bytes_eq m.name install) (bytes_eq m.desc its_desc) called in
+    let name = bytes_true m.name install s.0 in
+    let desc = bytes_true m.desc its_desc s.1 in
     let r = position_upto (λ k. is_called install its_desc k) ms i m e called in
     let le = r.2 in
     let not_before : is_earlier (position (λ k. is_called install its_desc k) ms) i ≡ false =
@@ -140,7 +127,7 @@ module _ (list : List ℕ) (p : Package) (sound : IsSound list p.files) (methods
   starts x c e unfit kind =
       let h = has_named w x c e in
       let parts = fit c.is_imported (is_abstract c.flags) (is_applet w c) (list_any is_install c.methods) unfit in
-      let r = any_get is_install c.methods parts.1 in
+      let r = any_at is_install c.methods parts.1 in
       let m = r.1 in
       let q = three (is_called install its_desc m) (is_public m.flags) (is_static m.flags) r.3 in
       let k = kept list p.files sound c h in
@@ -148,7 +135,7 @@ module _ (list : List ℕ) (p : Package) (sound : IsSound list p.files) (methods
       let t = own_filed p.files sound.classes sound.exports c h parts.0 in
       let supers = ap (λ (v : Class). v.supers) t.3 in
       let found = found_at w x (let u = t.1 in u.superclass) c r.0 (up x (let u = t.1 in u.superclass) c e supers) at in
-      let name = bytes-true m.name install (two (bytes_eq m.name install) (bytes_eq m.desc its_desc) q.0).0 in
+      let name = bytes_true m.name install (and_true (bytes_eq m.name install) (bytes_eq m.desc its_desc) q.0).0 in
       let plain : bytes_eq m.name (codes "<clinit>") ≡ false = ap (λ n. bytes_eq n (codes "<clinit>")) name in
       ap (λ o. is_static_start (whole p) (offset_where p o)) found
       ∙ static_start p (own_names list p.files sound) methods c r.0 m (in_place list p sound c false h parts.0 kind) r.2

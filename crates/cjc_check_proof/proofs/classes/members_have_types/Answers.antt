@@ -28,9 +28,10 @@ use Rattle.cjc_token_proof.specs.Tables.Sound.{AreTyped, IsTyped}
 use Rattle.cjc_ncode.specs.CardSemantics.Machine.ByToken.{letter_of}
 use Rattle.cjc_token_proof.specs.ByToken.Objects.{is_reference as is_reference_sort}
 use Rattle.cjc_tokens.specs.Fields.{is_reference as begins_reference}
-use Rattle.cjc_check_proof.proofs.ClassesLaws.Lists.{get-front, get-behind, get-map, get-within, has-front, has-back}
+use Rattle.cjc_check_proof.proofs.ClassesLaws.Lists.{get-map, has-front, has-back}
 use Rattle.cjc_check_proof.proofs.ClassesLaws.Lists.{has-map, has-flat, none_along}
 use Rattle.cjc_check_proof.proofs.ClassesLaws.Types.{type_begins}
+use Rattle.cjc_bytes.proofs.Gets.{in_front, get_behind, get_inside}
 use Rattle.cjc_check_proof.proofs.classes.members_have_types.Goals as goal
 
 same_test : (desc : List ℕ) → is_reference desc ≡ begins_reference desc
@@ -147,15 +148,15 @@ module _ (p : Package) where
   class_methods c at h =
       let given = added (world p) c in
       own_typed c (places c (length c.fields + length c.methods) (length given)) (length c.fields) at c.methods
-      (λ m k e. placed_method c k m (get-front c.methods (map as_added given) k m e))
+      (λ m k e. placed_method c k m (in_front c.methods (map as_added given) k m e))
       (λ desc g. of_class c desc h (has-back desc (flat_map desc_of_field (fields_of p.files c)) _
       (has-front desc _ _ g)))
       (λ k. added_typed c (length c.fields + length c.methods) k (length given)
-      (λ j lt. let r = get-within given j lt in
+      (λ j lt. let r = get_inside given j lt in
       let sum : length c.fields + length c.methods + j ≡ length c.fields + (length c.methods + j) = omega arith in (
         as_added r.0,
         ap (method_in (world p) c) sum ∙ placed_method c (length c.methods + j) (as_added r.0)
-            (get-behind c.methods (map as_added given) j ∙ get-map as_added given j r.0 r.1),
+            (get_behind c.methods (map as_added given) j ∙ get-map as_added given j r.0 r.1),
         of_class c r.0.desc h (has-back r.0.desc (flat_map desc_of_field (fields_of p.files c)) _
             (has-back r.0.desc (map (λ m. m.desc) (without_initialiser c.methods)) _ (has-map (λ m. m.desc) r.0 given
             (get-has r.0 given j r.1)))),

@@ -1,6 +1,7 @@
 use Rattle.std.proofs.Common.{◌≡◌, Bool, true, false, ℕ, List, [], ◌∷◌, ◌++◌, Option, Some, None, refl, ap, ◌∙◌}
 use Rattle.std.specs.Prelude.{◌&&◌, flat_map}
 use Rattle.std.specs.List.{list_all, AllByRecursion}
+use Rattle.std.proofs.lemmas.Bool.{and_from}
 use Rattle.cjc_export.specs.Bytes.Breaks.{Break}
 use Rattle.cjc_export.specs.declared.tree.ExportTree.{ExportTree}
 use Rattle.cjc_check_rules.specs.Spots.{ComponentPlace}
@@ -19,18 +20,9 @@ use Rattle.cjc_check_rules.specs.Exports.{export_spots}
 use Rattle.cjc_check_rules.specs.Described.{descriptor_spots}
 use Rattle.cjc_check_rules.specs.Consistent.{Sentence, sentence, is_true, breaks_of, sentences, of_complete}
 use Rattle.cjc_check_rules.specs.Consistent.{where_complete}
+use Rattle.cjc_export.proofs.BytesBools.{and_true}
+use Rattle.cjc_export.proofs.BytesBrokenRules.{empty_both}
 use Rattle.cjc_check_rules.proofs.laws.consistent_where_unbroken.Goals as goal
-
-both : (a b : Bool) → a ≡ true → b ≡ true → (a && b) ≡ true
-both a b e f = ap (λ t. t && b) e ∙ f
-
-split : (a b : Bool) → (a && b) ≡ true → (a ≡ true) × (b ≡ true)
-split true b e = (refl, e)
-split false b e = absurd cc
-
-apart : (xs ys : List Break) → xs ++ ys ≡ [] → (xs ≡ []) × (ys ≡ [])
-apart [] ys e = (refl, e)
-apart (x ∷ xs) ys e = absurd cc
 
 -- a true sentence breaks nothing
 counts : (number : ℕ) (needed : Bool) (spots : List ComponentPlace) → is_true spots ≡ true
@@ -50,17 +42,17 @@ given number false spots e f = absurd cc
 all_pass : (all : List Sentence) → AllByRecursion (λ s. is_true s.spots ≡ true) all
     → list_all (λ s. is_true s.spots) all ≡ true
 all_pass [] h = refl
-all_pass (s ∷ rest) h = both (is_true s.spots) (list_all (λ s. is_true s.spots) rest) h.0 (all_pass rest h.1)
+all_pass (s ∷ rest) h = and_from (is_true s.spots) (list_all (λ s. is_true s.spots) rest) h.0 (all_pass rest h.1)
 
 each_counts : (all : List Sentence) → flat_map breaks_of all ≡ [] → AllByRecursion (λ s. breaks_of s ≡ []) all
 each_counts [] e = tt
-each_counts (s ∷ rest) e = let h = apart (breaks_of s) (flat_map breaks_of rest) e in (h.0, each_counts rest h.1)
+each_counts (s ∷ rest) e = let h = empty_both (breaks_of s) (flat_map breaks_of rest) e in (h.0, each_counts rest h.1)
 
 -- where all are true, nothing is broken
 all_count : (all : List Sentence) → list_all (λ s. is_true s.spots) all ≡ true → flat_map breaks_of all ≡ []
 all_count [] e = refl
 all_count (s ∷ rest) e =
-    let h = split (is_true s.spots) (list_all (λ s. is_true s.spots) rest) e in
+    let h = and_true (is_true s.spots) (list_all (λ s. is_true s.spots) rest) e in
     ap (λ (bs : List Break). bs ++ flat_map breaks_of rest) (counts s.number s.needed s.spots h.0) ∙ all_count rest h.1
 
 complete_hold : (c : Complete) (exports : List ExportTree) → flat_map breaks_of (of_complete c exports) ≡ []
@@ -88,9 +80,9 @@ complete_hold c exports e =
     let h718 = h717.1 in
     let n703 = given 703 true (import_spots c.import exports) refl h703.0 in
     let n704 = given 704 imports (class_ref_spots c exports) n703 h704.0 in
-    let front = both imports classes n703 n704 in
+    let front = and_from imports classes n703 n704 in
     let n705 = given 705 (imports && classes) (super_spots c exports) front h705.0 in
-    let all = both (imports && classes) supers front n705 in
+    let all = and_from (imports && classes) supers front n705 in
     let n706 = given 706 (imports && classes && supers) (table_spots c) all h706.0 in
     let n707 = given 707 (imports && classes && supers) (map_spots c exports) all h707.0 in
     let n708 = given 708 (imports && classes && supers) (pool_spots c exports) all h708.0 in
@@ -127,11 +119,11 @@ pub returns-clause-consistent : goal.returns-clause-consistent
 returns-clause-consistent c = λ cap exports e.
     let rest = where_complete (complete cap) exports in
     let h = each_counts (sentences cap exports) e in
-    let left = apart (breaks_of (sentence 702 true (flags_spots cap))) (flat_map breaks_of rest)
-    (apart (breaks_of (sentence 701 true (directory_spots cap))) (breaks_of (sentence 702 true (flags_spots cap))
+    let left = empty_both (breaks_of (sentence 702 true (flags_spots cap))) (flat_map breaks_of rest)
+    (empty_both (breaks_of (sentence 701 true (directory_spots cap))) (breaks_of (sentence 702 true (flags_spots cap))
     ++ flat_map breaks_of rest) e).1 in
     let n701 = given 701 true (directory_spots cap) refl h.0 in
     let n702 = given 702 true (flags_spots cap) refl left.0 in
-    both (is_true (directory_spots cap)) (is_true (flags_spots cap) && list_all (λ s. is_true s.spots) rest) n701
-    (both (is_true (flags_spots cap)) (list_all (λ s. is_true s.spots) rest) n702 (rest_hold (complete cap) exports
+    and_from (is_true (directory_spots cap)) (is_true (flags_spots cap) && list_all (λ s. is_true s.spots) rest) n701
+    (and_from (is_true (flags_spots cap)) (list_all (λ s. is_true s.spots) rest) n702 (rest_hold (complete cap) exports
     left.1))

@@ -3,9 +3,10 @@ use Rattle.std.specs.Prelude.{Ok, option_map}
 use Rattle.cjc_bytes.specs.Breaks.{each}
 use Rattle.cjc_bytes.specs.Told.{break_of}
 use Rattle.cjc_bytes.proofs.Firsts.{each_none, each_more, each_all}
+use Rattle.cjc_bytes.proofs.Options.{mapped_2}
 use Rattle.cjc_subset.specs.Bytecode.declared.method_code.MethodCode.{MethodCode}
 use Rattle.cjc_clinit.specs.Working.Reading.{after_code, after_codes, code_breaks, puts}
-use Rattle.cjc_clinit.proofs.Effects.{joining, mapped}
+use Rattle.cjc_clinit.proofs.Effects.{joining}
 use Rattle.cjc_clinit.proofs.Walks.{codes-next, codes-end}
 use Rattle.cjc_clinit.proofs.breaks.codes_break.Goals as goal
 
@@ -41,6 +42,6 @@ returns-clause-puts c =
     let w = c.args.world.now in
     let codes = c.args.codes.now in
     let now = puts c.loop-code.rows c.loop-code.arrays in
-    mapped c.loop-code.least _ _ (λ (p : after_codes w now (drop c.loop-code.code-index codes) ≡ after_codes w
+    mapped_2 c.loop-code.least _ _ (λ (p : after_codes w now (drop c.loop-code.code-index codes) ≡ after_codes w
     (puts c.args.rows.now c.args.arrays.now) codes). sym p
     ∙ codes-end w codes c.loop-code.code-index now c.loop-code-test.false) c.loop-code.invariant.1

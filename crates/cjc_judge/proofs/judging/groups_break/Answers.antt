@@ -1,8 +1,8 @@
 use Rattle.std.specs.Prelude.{option_map}
 use Rattle.cjc_bytes.specs.Told.{break_of}
+use Rattle.cjc_bytes.proofs.Gets.{same_item}
 use Rattle.cjc_judge.specs.Working.Groups.{EarlyBreaks}
 use Rattle.cjc_judge.proofs.Folds.{none_below, more_below, all_below}
-use Rattle.cjc_judge.proofs.Typed.{read_twice}
 use Rattle.cjc_judge.proofs.judging.groups_break.Goals as goal
 
 pub loop-group-init : goal.loop-group-init
@@ -12,7 +12,7 @@ loop-group-init c = none_below (EarlyBreaks c.args.list.now c.args.world.now c.a
 pub loop-group-preserved : goal.loop-group-preserved
 loop-group-preserved c =
     let Breaks = EarlyBreaks c.args.list.now c.args.world.now c.args.codes.now c.args.unsupported_insns.now in
-    let is = read_twice c.args.groups.now c.loop-group.group-index _ c.loop-group-test.true in
+    let is = same_item c.args.groups.now c.loop-group.group-index _ c.loop-group-test.true in
     more_below Breaks c.args.groups.now c.loop-group.group-index _ (option_map break_of c.loop-group.least)
     (option_map break_of c.in_ok-broken.broken) (option_map break_of c.first-least.result)
     c.loop-group-test.true is c.first-least.ensures c.loop-group.invariant c.in_ok-broken.ensures

@@ -2,13 +2,13 @@ use Rattle.std.proofs.Common.{◌≡◌, ◌∙◌, List, ap}
 use Rattle.std.specs.Prelude.{slice_get}
 use Rattle.std.proofs.lemmas.Option.{slice_get_within}
 use Rattle.cjc_bytes.specs.declared.settings.FileLine.{FileLine}
-use Rattle.cjc_classfile.specs.declared.tree.ClassTree.{ClassTree}
-use Rattle.cjc_classfile.specs.declared.tree.MethodTree.{MethodTree}
+use Rattle.cjc_code.specs.ClassFile.declared.tree.ClassTree.{ClassTree}
+use Rattle.cjc_code.specs.ClassFile.declared.tree.MethodTree.{MethodTree}
 use Rattle.cjc_bytes.specs.Told.{file_place_of, spot_of}
 use Rattle.cjc_vtable.specs.Subset.Places.{at_method}
 use Rattle.cjc_bytes.specs.Breaks.{RulePlace, broken_at}
 use Rattle.cjc_bytes.specs.Order.{FilePlace, file_of}
-use Rattle.cjc_judge.proofs.Typed.{at_is}
+use Rattle.cjc_bytes.proofs.Gets.{at_is}
 use Rattle.cjc_judge.proofs.judging.method_break.Goals as goal
 
 pub method_spot-requires : goal.method_spot-requires

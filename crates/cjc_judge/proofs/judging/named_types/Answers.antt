@@ -2,13 +2,13 @@ use Rattle.std.proofs.Common.{List, All, IfNone, sym, subst, ◌∙◌}
 use Rattle.std.specs.Prelude.{option_map}
 use Rattle.std.proofs.lemmas.Result.{err_from_is_err_and}
 use Rattle.cjc_bytes.specs.Told.{break_of}
+use Rattle.cjc_bytes.proofs.BrokenRules.{break_kept}
 use Rattle.cjc_code.specs.declared.method_code.MethodCode.{MethodCode}
 use Rattle.cjc_flow.specs.Types.Tables.{IsOfPackage}
 use Rattle.cjc_judge.specs.Rules.{BreaksAnyType, IsFirstIn}
 use Rattle.cjc_judge.specs.Types.{AreTables}
 use Rattle.cjc_judge.proofs.Early.{no_tables, no_types, types_fault}
 use Rattle.cjc_judge.proofs.Folds.{none_of, first_of}
-use Rattle.cjc_judge.proofs.Tables.{kept}
 use Rattle.cjc_judge.proofs.judging.named_types.Goals as goal
 
 pub returns-then-not-any_asks_types-clause-types : goal.returns-then-not-any_asks_types-clause-types
@@ -42,7 +42,8 @@ returns-clause-types c =
     let tables : IfNone c.in_ok-broken.broken (AreTables c.args.world.now c.args.codes.now c.types_break.new.types) =
     subst (λ (codes : List MethodCode). IfNone c.in_ok-broken.broken (AreTables c.args.world.now codes
     c.types_break.new.types)) c.items.ensures c.in_ok-broken.ensures.types in
-    λ asked. kept break_of c.in_ok-broken.broken found.0 _ (c.in_ok-answer.ensures.ok found.0 found.2) found.2 tables
+    λ asked. break_kept break_of c.in_ok-broken.broken found.0 _
+    (c.in_ok-answer.ensures.ok found.0 found.2) found.2 tables
 
 pub returns-clause-unbroken : goal.returns-clause-unbroken
 returns-clause-unbroken c =

@@ -2,10 +2,11 @@ use Rattle.std.proofs.Common.{sym, subst}
 use Rattle.std.specs.Prelude.{option_map}
 use Rattle.cjc_code.specs.declared.method_code.MethodCode.{MethodCode}
 use Rattle.cjc_bytes.specs.Told.{break_of}
+use Rattle.cjc_bytes.proofs.Options.{mapped_2}
 use Rattle.cjc_flow.specs.Types.Tables.{IsOfPackage}
 use Rattle.cjc_judge.specs.Rules.{BreaksType}
 use Rattle.cjc_judge.proofs.Folds.{none_below, more_below, all_below}
-use Rattle.cjc_judge.proofs.Tables.{joined, mapped, more_tables, all_tables}
+use Rattle.cjc_judge.proofs.Tables.{joined, more_tables, all_tables}
 use Rattle.cjc_judge.proofs.judging.types_break.Goals as goal
 
 pub loop-code-init : goal.loop-code-init
@@ -32,5 +33,5 @@ returns-clause-first c = all_below (BreaksType c.args.world.now) c.args.codes.no
     (option_map break_of c.loop-code.least) c.loop-code-test.false c.loop-code.invariant.0
 
 pub returns-clause-types : goal.returns-clause-types
-returns-clause-types c = mapped c.loop-code.least _ _ (all_tables c.args.world.now c.args.codes.now
+returns-clause-types c = mapped_2 c.loop-code.least _ _ (all_tables c.args.world.now c.args.codes.now
     c.loop-code.code-index _ c.loop-code-test.false) c.loop-code.invariant.1

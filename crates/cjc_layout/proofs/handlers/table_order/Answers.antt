@@ -4,7 +4,8 @@ use Rattle.std.proofs.lemmas.List.{length-map}
 use Rattle.cjc_ncode.specs.declared.narrow.NCatch.{NCatch}
 use Rattle.cjc_layout.specs.Handlers.{inserted, table_order}
 use Rattle.cjc_layout.specs.Working.{place_for}
-use Rattle.cjc_layout.proofs.Orders.{place_inside, insert_place, map_insert, order_more, there}
+use Rattle.cjc_layout.proofs.Orders.{place_inside, insert_place, map_insert, order_more}
+use Rattle.cjc_ncode.proofs.BytesGets.{slice_get_at}
 use Rattle.cjc_layout.proofs.handlers.table_order.Goals as goal
 
 pub insert-requires : goal.insert-requires
@@ -23,7 +24,7 @@ loop-k-preserved-in-Continue-1 c =
     let items = c.loop-k.order.items in
     let s : c.loop-k.k - 1 + 1 ≡ c.loop-k.k = omega (arith, c.loop-k-test.true) in
     let lt : c.loop-k.k - 1 < length cs = omega (arith, c.loop-k-test.true, c.loop-k.invariant.0) in
-    let e = there cs (c.loop-k.k - 1) d lt c.index-catches-k.is in
+    let e = slice_get_at cs (c.loop-k.k - 1) d lt c.index-catches-k.is in
     let q : c.place_for-place.result ≡ place_for d.target (map now items) = c.place_for-place.ensures
     ∙ ap (λ xs. place_for d.target (map now xs)) c.deref.ensures.value in (
       omega (arith, lt),

@@ -1,10 +1,11 @@
 use Rattle.std.proofs.Common.{◌∙◌, sym, subst, arith, length}
 use Rattle.cjc_layout.specs.Sizes.{Leads}
-use Rattle.cjc_layout.proofs.Passes.{leave_wide, leave_near, make_wide, still_legal, lead_at, there}
+use Rattle.cjc_layout.proofs.Passes.{leave_wide, leave_near, make_wide, still_legal, lead_at}
 use Rattle.cjc_layout.proofs.jumps.widen.Goals as goal
 use Rattle.cjc_layout.proofs.jumps.widen.Goals.{then-not-wide-k+then-is_far, else-not-wide-k}
 use Rattle.cjc_layout.proofs.jumps.widen.Goals.{else-not-wide-k-via-then-not-wide-k+else-is_far}
 use Rattle.cjc_layout.proofs.jumps.widen.Goals.{else-not-wide-k-via-else-not-wide-k}
+use Rattle.cjc_ncode.proofs.BytesGets.{slice_get_at}
 
 pub loop-k-preserved : goal.loop-k-preserved
 loop-k-preserved c =
@@ -35,4 +36,4 @@ pub is_far-requires-clause-leads : goal.is_far-requires-clause-leads
 is_far-requires-clause-leads c =
     subst (λ n. Leads n c.index-insns-k.result) (sym c.requires.places.count)
     (lead_at (length c.args.insns.now) c.args.insns.now c.loop-k.k c.index-insns-k.result c.requires.leads
-    (there c.args.insns.now c.loop-k.k c.index-insns-k.result c.loop-k-test.true c.index-insns-k.is))
+    (slice_get_at c.args.insns.now c.loop-k.k c.index-insns-k.result c.loop-k-test.true c.index-insns-k.is))

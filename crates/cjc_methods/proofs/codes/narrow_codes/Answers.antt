@@ -4,7 +4,7 @@ use Rattle.cjc_ncode.specs.PoolOrder.{pool_order}
 use Rattle.cjc_components.specs.Narrow.Rows.Selected.{near_fields}
 use Rattle.cjc_components.specs.Written.{code_at}
 use Rattle.cjc_methods.proofs.Again.{by_own_pool}
-use Rattle.cjc_methods.proofs.Own.{if_more}
+use Rattle.cjc_bytes.proofs.Options.{if_more}
 use Rattle.cjc_methods.proofs.codes.narrow_codes.Goals as goal
 
 pub returns : goal.returns

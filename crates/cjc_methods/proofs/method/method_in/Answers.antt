@@ -3,9 +3,9 @@ use Rattle.std.proofs.lemmas.Option.{slice_get_within}
 use Rattle.cjc_world.specs.ClassFile.declared.tree.ClassTree.{ClassTree}
 use Rattle.cjc_world.specs.Classes.{Member, all_classes, method_of_class}
 use Rattle.cjc_components.specs.Descriptor.{method_in}
-use Rattle.cjc_methods.proofs.Members.{at_is}
 use Rattle.cjc_methods.proofs.Own.{added_read, like_on, method_read, no_method_read, place_is, tree_at}
 use Rattle.cjc_methods.proofs.Owned.{added_method, own_method}
+use Rattle.cjc_bytes.proofs.Gets.{at_is}
 use Rattle.cjc_methods.proofs.method.method_in.Goals as goal
 
 pub bounds-items-member : goal.bounds-items-member

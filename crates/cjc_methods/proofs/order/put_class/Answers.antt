@@ -1,8 +1,9 @@
 use Rattle.std.proofs.Common.{◌≡◌, ◌<◌, sym, subst, ◌∙◌, length, List}
 use Rattle.std.proofs.lemmas.Option.{slice_get_within}
 use Rattle.cjc_world.specs.ClassFile.declared.tree.ClassTree.{ClassTree}
-use Rattle.cjc_methods.proofs.Members.{at_is, put_all}
+use Rattle.cjc_methods.proofs.Members.{put_all}
 use Rattle.cjc_components.proofs.VTableNumbers.{at-tree}
+use Rattle.cjc_bytes.proofs.Gets.{at_is}
 use Rattle.cjc_methods.proofs.order.put_class.Goals as goal
 
 pub bounds-items-number : goal.bounds-items-number

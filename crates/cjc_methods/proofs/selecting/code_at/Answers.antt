@@ -9,10 +9,10 @@ use Rattle.cjc_components.specs.Narrow.Rows.Selected.{near_fields}
 use Rattle.cjc_components.specs.Descriptor.{method_in}
 use Rattle.cjc_components.specs.Subset.Ints.{code_works_on_int}
 use Rattle.cjc_components.specs.Written.{no_code}
-use Rattle.cjc_components.proofs.SubsetAny.{any_off}
 use Rattle.cjc_methods.proofs.Coded.{with_code, without_code}
-use Rattle.cjc_methods.proofs.Members.{at_is}
-use Rattle.cjc_methods.proofs.Own.{few_words, has_none, has_place, if_more, place_is, tree_at, with_read, words_like}
+use Rattle.cjc_methods.proofs.Own.{few_words, has_none, has_place, place_is, tree_at, with_read, words_like}
+use Rattle.cjc_bytes.proofs.Gets.{any_off, at_is}
+use Rattle.cjc_bytes.proofs.Options.{if_more}
 use Rattle.cjc_methods.proofs.selecting.code_at.Goals as goal
 
 pub bounds-items-member : goal.bounds-items-member

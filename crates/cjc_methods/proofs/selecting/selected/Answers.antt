@@ -5,8 +5,8 @@ use Rattle.cjc_components.specs.Narrow.Rows.Selected.{near_fields}
 use Rattle.cjc_types.proofs.Least.{method_same}
 use Rattle.cjc_components.specs.Narrow.Written.Rows.{has_rows}
 use Rattle.cjc_methods.specs.Ready.{states}
-use Rattle.cjc_methods.proofs.Own.{if_more}
 use Rattle.cjc_methods.proofs.Same.{selectable_here, selected_here, tree_same}
+use Rattle.cjc_bytes.proofs.Options.{if_more}
 use Rattle.cjc_methods.proofs.selecting.selected.Goals as goal
 
 pub reached-requires-clause-types : goal.reached-requires-clause-types

@@ -5,10 +5,10 @@ use Rattle.cjc_bytes.specs.Order.{FilePlace, file_of}
 use Rattle.cjc_bytes.specs.Refused.{method_text}
 use Rattle.cjc_bytes.specs.Told.{spot_of}
 use Rattle.cjc_bytes.specs.declared.settings.FileLine.{FileLine}
+use Rattle.cjc_bytes.proofs.Gets.{at_is}
 use Rattle.cjc_world.specs.ClassFile.declared.tree.ClassTree.{ClassTree}
 use Rattle.cjc_world.specs.Classes.{Class}
 use Rattle.cjc_methods.specs.Working.Spots.{spot_in}
-use Rattle.cjc_methods.proofs.Members.{at_is}
 use Rattle.cjc_methods.proofs.Own.{tree_at}
 use Rattle.cjc_methods.proofs.Spotted.{moved, same_text, spot_inside, spot_outside}
 use Rattle.cjc_methods.proofs.words.spot_in.Goals as goal

@@ -1,8 +1,8 @@
 use Rattle.std.proofs.Common.{◌≡◌, List, [], subst}
 use Rattle.std.specs.Prelude.{IfErr}
 use Rattle.cjc_bytes.specs.Breaks.{Break, IsFirstRefusal, each}
+use Rattle.cjc_bytes.proofs.Options.{on_ok}
 use Rattle.cjc_methods.specs.Working.Spots.{word_breaks_in}
-use Rattle.cjc_methods.proofs.Members.{on_ok}
 use Rattle.cjc_methods.proofs.Spotted.{all_have_room, all_of_package}
 use Rattle.cjc_methods.proofs.words.test_words.Goals as goal
 

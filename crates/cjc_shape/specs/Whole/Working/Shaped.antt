@@ -1,9 +1,9 @@
 -- A package whose methods are laid out and break no rule, as the code holds it.
 use Rattle.std.specs.Prelude.{◌≡◌, ◌⊎◌, ℕ, Bool, ◌&&◌, List, []}
-use Rattle.cjc_world.specs.Bytes.Breaks.{Break, at, list_spot}
-use Rattle.cjc_world.specs.Bytes.declared.fault.Fault.{Fault}
-use Rattle.cjc_world.specs.Bytes.declared.fault.Fault.TheVariants as faults
-use Rattle.cjc_world.specs.Bytes.declared.fault.Refusal.{Refusal}
+use Rattle.cjc_bytes.specs.Breaks.{Break, at, list_spot}
+use Rattle.cjc_bytes.specs.declared.fault.Fault.{Fault}
+use Rattle.cjc_bytes.specs.declared.fault.Fault.TheVariants as faults
+use Rattle.cjc_bytes.specs.declared.fault.Refusal.{Refusal}
 use Rattle.cjc_methods.specs.Components.ExportFile.{export_of}
 use Rattle.cjc_methods.specs.Components.Limits.{code_breaks, of_methods, word_breaks}
 use Rattle.cjc_methods.specs.Components.Package.{Package, tokens}

@@ -5,11 +5,12 @@ use Rattle.std.specs.Prelude.{All, ◌==◌, replicate, slice_get, slice_set, if
 use Rattle.std.specs.List.{AllByRecursion}
 use Rattle.cjc_bytes.specs.declared.fault.MemberId.{MemberId}
 use Rattle.cjc_bytes.specs.declared.descriptor.Kind.{Kind}
+use Rattle.cjc_bytes.proofs.Quantified.{all_both, all_same}
 use Rattle.cjc_bytes.specs.declared.descriptor.Kind.TheVariants as kinds
 use Rattle.cjc_classfile.specs.declared.tree.ClassTree.{ClassTree}
 use Rattle.cjc_classfile.specs.declared.tree.FieldTree.{FieldTree}
-use Rattle.cjc_subset.specs.Bytecode.declared.insn.JOp.{JOp}
-use Rattle.cjc_subset.specs.Bytecode.declared.method_code.MethodCode.{MethodCode}
+use Rattle.cjc_ncode.specs.Bytecode.declared.insn.JOp.{JOp}
+use Rattle.cjc_ncode.specs.Bytecode.declared.method_code.MethodCode.{MethodCode}
 use Rattle.cjc_clinit.specs.declared.stage.Held.{Held}
 use Rattle.cjc_clinit.specs.declared.stage.Start.{Start}
 use Rattle.cjc_clinit.specs.declared.stage.Start.TheVariants as begun
@@ -25,7 +26,6 @@ use Rattle.std.specs.Ordering.{int_eq}
 use Rattle.cjc_world.specs.declared.image.ArrayCell.{ArrayCell}
 use Rattle.cjc_world.specs.declared.image.StaticImage.{StaticImage}
 use Rattle.cjc_world.specs.Files.{Files}
-use Rattle.cjc_shape_proof.proofs.WrittenLaws.FittingLaws.Lists.{all_both}
 
 -- ---- lists
 
@@ -39,10 +39,6 @@ set_one : {A : Type 0} (P : A → Type 0) (xs : List A) (i : ℕ) (a : A) → P 
 set_one P [] i a h all = tt
 set_one P (x ∷ xs) zero a h all = (h, all.1)
 set_one P (x ∷ xs) (suc i) a h all = (all.0, set_one P xs i a h all.1)
-
-repeated : {A : Type 0} (P : A → Type 0) (n : ℕ) (a : A) → P a → AllByRecursion P (replicate n a)
-repeated P zero a h = tt
-repeated P (suc n) a h = (h, repeated P n a h)
 
 -- ---- numbers
 
@@ -85,7 +81,7 @@ made field ops (ANumber z) m = tt
 made field ops ANull m = tt
 made field ops (AnArray kind items) (Initialiser.of_array {count = count} {number = number} {ops = more} le e s) = (
   at_each (λ z. is_number_of (sort_by kind []) z ≡ true) items (as_numbers kind items
-      (stored kind (replicate count (pos 0)) more items s (repeated (λ z. fits kind z ≡ true) count (pos 0)
+      (stored kind (replicate count (pos 0)) more items s (all_same (λ z. fits kind z ≡ true) count (pos 0)
       (zero_fits number kind e)))),
   tt,
 )

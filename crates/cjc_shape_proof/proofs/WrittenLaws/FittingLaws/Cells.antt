@@ -2,13 +2,15 @@
 -- Descriptor has.
 use Rattle.std.proofs.Common.{◌≡◌, ℕ, zero, suc, ◌+◌, ◌≤◌, ◌<◌, refl, sym, ap, subst, ◌∙◌, arith, Bool, true, false}
 use Rattle.std.proofs.Common.{not, List, [], ◌∷◌, ◌++◌, length, length-append, map, Option, Some, None, pos}
-use Rattle.std.specs.Prelude.{◌&&◌, cond, count_by, option_map, replicate, slice_get, slice_set, sum_by, if◌then◌else◌}
+use Rattle.std.specs.Prelude.{◌&&◌, cond, count_by, option_map, slice_get, slice_set, sum_by, if◌then◌else◌}
 use Rattle.std.specs.Ordering.{int_eq}
 use Rattle.std.proofs.lemmas.List.{length-map}
 use Rattle.std.proofs.lemmas.List.Sums.{sum_by-cons}
 use Rattle.std.proofs.lemmas.Option.{slice_get-map}
 use Rattle.cjc_bytes.specs.AccessFlags.{is_interface, is_static}
 use Rattle.cjc_bytes.specs.declared.fault.MemberId.{MemberId}
+use Rattle.cjc_bytes.proofs.Options.{option_taken}
+use Rattle.cjc_bytes.proofs.Gets.{set_same, set_other}
 use Rattle.cjc_classfile.specs.declared.tree.ClassTree.{ClassTree}
 use Rattle.cjc_classfile.specs.declared.tree.FieldTree.{FieldTree}
 use Rattle.cjc_clinit.specs.Fields.{ANull, ANumber, AnArray, Contents, held_by, is_cell, takes}
@@ -22,13 +24,12 @@ use Rattle.cjc_clinit.specs.declared.stage.Held.{Held}
 use Rattle.cjc_clinit.specs.declared.stage.Held.TheVariants as held
 use Rattle.cjc_clinit.specs.declared.stage.Start.{Start}
 use Rattle.cjc_clinit.specs.declared.stage.Start.TheVariants as begun
-use Rattle.cjc_world_proof.proofs.InitialisersLaws.Initialisers.{taken}
-use Rattle.cjc_world_proof.proofs.InitialisersLaws.Packages.{class-there}
-use Rattle.cjc_world_proof.proofs.InitialisersLaws.Places.{place-field}
-use Rattle.cjc_world_proof.proofs.InitialisersLaws.Values.{set-other, set-same}
-use Rattle.cjc_world_proof.specs.Initialisers.Values.{StandOnce}
-use Rattle.cjc_subset.specs.Bytecode.declared.insn.JOp.{JOp}
-use Rattle.cjc_subset.specs.Bytecode.declared.method_code.MethodCode.{MethodCode}
+use Rattle.cjc_token_proof.proofs.WorldProofPackages.{class-there}
+use Rattle.cjc_token_proof.proofs.WorldProofPlaces.{place-field}
+use Rattle.cjc_token_proof.specs.WorldProof.Initialisers.Values.{StandOnce}
+use Rattle.cjc_token_proof.proofs.WorldProofValues.{nothing-only}
+use Rattle.cjc_ncode.specs.Bytecode.declared.insn.JOp.{JOp}
+use Rattle.cjc_ncode.specs.Bytecode.declared.method_code.MethodCode.{MethodCode}
 use Rattle.cjc_components.specs.Descriptor.{field_descriptor, fields_from}
 use Rattle.cjc_components.specs.Class.{fields_in as class_fields, fields_of}
 use Rattle.cjc_components.specs.Package.{Package, world}
@@ -36,8 +37,9 @@ use Rattle.cjc_components.specs.Statics.{cell_order}
 use Rattle.cjc_tokens.specs.Fields.{is_constant}
 use Rattle.cjc_vtable.specs.ClassOrder.Classes.Numbers.{class_count, numbered_from}
 use Rattle.cjc_check_proof.specs.Limits.Premises.{CellsAreDescribed}
+use Rattle.cjc_check_proof.proofs.ClassesLaws.Lists.{has-back}
 use Rattle.cjc_narrow_proof.proofs.LawsLaws.Own.{class_by_name}
-use Rattle.cjc_token_proof.proofs.TablesLaws.Filed.{one_class, own_in}
+use Rattle.cjc_token_proof.proofs.TablesLaws.Filed.{one_class, own_in, has-front}
 use Rattle.cjc_token_proof.proofs.TablesLaws.Order.{all-lined}
 use Rattle.cjc_token_proof.specs.Tables.Sound.{export_count}
 use Rattle.cjc_vtable.proofs.Filed.{Has}
@@ -50,8 +52,7 @@ use Rattle.cjc_world.specs.Files.{Files}
 use Rattle.cjc_world.specs.declared.image.ArrayCell.{ArrayCell}
 use Rattle.cjc_world.specs.declared.image.StaticImage.{StaticImage}
 use Rattle.cjc_shape_proof.proofs.WrittenLaws.FittingLaws.Arrays.{none_made}
-use Rattle.cjc_shape_proof.proofs.WrittenLaws.FittingLaws.Interfaces.{has_front}
-use Rattle.cjc_shape_proof.proofs.WrittenLaws.FittingLaws.Order.{files_within, has_back, numbered_is, numbered_least}
+use Rattle.cjc_shape_proof.proofs.WrittenLaws.FittingLaws.Order.{files_within, numbered_is, numbered_least}
 
 -- ---- what fields hold
 
@@ -166,7 +167,7 @@ same_behind fields k h i (f ∷ fs) lt =
     let differs : k ≡ i → ⊥ = (λ (e : k ≡ i). omega (arith, e, lt)) in
     let here : one_if (is_cell f && is_array (held_in (slice_get (slice_set fields k h) i))) ≡ one_if (is_cell f
     && is_array (held_in (slice_get fields i))) = ap (λ o. one_if (is_cell f && is_array (held_in o)))
-    (set-other fields k i h differs) in
+    (set_other fields k i h differs) in
     let rest = same_behind fields k h (i + 1) fs (omega (arith, lt)) in
     omega (arith, here, rest)
 
@@ -184,7 +185,7 @@ array_put fields h i (g ∷ fs) zero f e cell there =
     let now : one_if (is_cell g && is_array (held_in (slice_get (slice_set fields (i + 0) h) i)))
     ≡ one_if (is_array h) =
     ap (λ o. one_if (is_cell g && is_array (held_in o))) (sym (ap (slice_get (slice_set fields (i + 0) h)) z)
-    ∙ set-same fields (i + 0) h held.Nothing there)
+    ∙ set_same fields (i + 0) h held.Nothing there)
     ∙ ap (λ b. one_if (b && is_array h)) (ap is_cell is ∙ cell) in
     let rest = same_behind fields (i + 0) h (i + 1) fs (omega arith) in
     omega (arith, was, now, rest)
@@ -197,7 +198,7 @@ array_put fields h i (g ∷ fs) (suc j) f e cell there =
     let differs : i + suc j ≡ i → ⊥ = (λ (e : i + suc j ≡ i). omega (arith, e)) in
     let here : one_if (is_cell g && is_array (held_in (slice_get (slice_set fields (i + suc j) h) i)))
     ≡ one_if (is_cell g && is_array (held_in (slice_get fields i))) =
-    ap (λ o. one_if (is_cell g && is_array (held_in o))) (set-other fields (i + suc j) i h differs) in
+    ap (λ o. one_if (is_cell g && is_array (held_in o))) (set_other fields (i + suc j) i h differs) in
     let rest = array_put fields h (i + 1) fs j f e cell (sym (ap (slice_get fields) z) ∙ there) in
     let moved : arrays_at (slice_set fields (i + suc j) h) (i + 1) fs ≡ arrays_at (slice_set fields (i + 1 + j) h)
     (i + 1) fs = ap (λ k. arrays_at (slice_set fields k h) (i + 1) fs) z in
@@ -218,7 +219,7 @@ module _ (files : Files) (n : ℕ) (c : ClassTree) (is_class : slice_get files.c
       c.fields = omega arith in z
   puts_few before ops ps after (Initialiser.puts {ops = more} {contents = contents} {id = id} {k = k} {rest = rest} m e
       s) =
-      let t = taken (takes contents id.desc) (open_place files n c before id) k e in
+      let t = option_taken (takes contents id.desc) (open_place files n c before id) k e in
       let there = place-field files empty n c before id k is_class t.1 in
       let z : 0 + k ≡ k = omega arith in
       let put = array_put before (held_by contents) 0 c.fields k there.field there.there there.is_cell
@@ -250,13 +251,8 @@ none_at fields i (f ∷ fs) nothing =
     by None e = zero_if (is_cell f)
     by (Some h) e = ap (λ x. one_if (is_cell f && is_array x)) (sym (nothing i h e)) ∙ zero_if (is_cell f)
 
-all_nothing : (n k : ℕ) (h : Held) → slice_get (replicate n held.Nothing) k ≡ Some h → held.Nothing ≡ h
-all_nothing zero k h e = cc
-all_nothing (suc n) zero h e = cc
-all_nothing (suc n) (suc k) h e = all_nothing n k h e
-
 nothing_at : (c : ClassTree) → arrays_at (nothing_in c) 0 c.fields ≡ 0
-nothing_at c = none_at (nothing_in c) 0 c.fields (all_nothing (length c.fields))
+nothing_at c = none_at (nothing_in c) 0 c.fields (nothing-only (length c.fields))
 
 classes_behind : (puts : List (List Held)) (k : ℕ) (fields : List Held) (n : ℕ) (cs : List ClassTree) → k < n
     → all_arrays (slice_set puts k fields) n cs ≡ all_arrays puts n cs
@@ -266,7 +262,7 @@ classes_behind puts k fields n (c ∷ cs) lt =
     let differs : k ≡ n → ⊥ = (λ (e : k ≡ n). omega (arith, e, lt)) in
     let here : arrays_at (fields_in (slice_get (slice_set puts k fields) n)) 0 c.fields
     ≡ arrays_at (fields_in (slice_get puts n)) 0 c.fields = ap (λ o. arrays_at (fields_in o) 0 c.fields)
-    (set-other puts k n fields differs) in
+    (set_other puts k n fields differs) in
     let rest = classes_behind puts k fields (n + 1) cs (omega (arith, lt)) in
     omega (arith, here, rest)
 
@@ -286,7 +282,7 @@ class_put puts was fields n (d ∷ cs) zero c e there =
     let now : arrays_at (fields_in (slice_get (slice_set puts (n + 0) fields) n)) 0 d.fields
     ≡ arrays_at fields 0 c.fields =
     ap (λ o. arrays_at (fields_in o) 0 d.fields) (sym (ap (slice_get (slice_set puts (n + 0) fields)) z)
-    ∙ set-same puts (n + 0) fields was there) ∙ ap (λ (x : ClassTree). arrays_at fields 0 x.fields) is in
+    ∙ set_same puts (n + 0) fields was there) ∙ ap (λ (x : ClassTree). arrays_at fields 0 x.fields) is in
     let rest = classes_behind puts (n + 0) fields (n + 1) cs (omega arith) in
     omega (arith, same, now, rest)
 class_put puts was fields n (d ∷ cs) (suc j) c e there =
@@ -294,7 +290,7 @@ class_put puts was fields n (d ∷ cs) (suc j) c e there =
     let differs : n + suc j ≡ n → ⊥ = (λ (e : n + suc j ≡ n). omega (arith, e)) in
     let here : arrays_at (fields_in (slice_get (slice_set puts (n + suc j) fields) n)) 0 d.fields
     ≡ arrays_at (fields_in (slice_get puts n)) 0 d.fields = ap (λ o. arrays_at (fields_in o) 0 d.fields)
-    (set-other puts (n + suc j) n fields differs) in
+    (set_other puts (n + suc j) n fields differs) in
     let rest = class_put puts was fields (n + 1) cs j c e (sym (ap (slice_get puts) z) ∙ there) in
     let moved : all_arrays (slice_set puts (n + suc j) fields) (n + 1) cs
     ≡ all_arrays (slice_set puts (n + 1 + j) fields) (n + 1) cs =
@@ -333,7 +329,7 @@ module _ (files : Files) where
       (λ k a d f g.
       let differs : code.class ≡ a.class → ⊥ = (λ (same : code.class ≡ a.class). let r = once 0 (suc k) code a c d refl
       f e g same in omega (arith, r)) in
-      set-other before code.class a.class fields differs ∙ untouched (suc k) a d f g) in
+      set_other before code.class a.class fields differs ∙ untouched (suc k) a d f g) in
       let both = length-append (arrays_of c ps) others in
       omega (arith, here, nothing, put, moved, later, both)
 
@@ -413,9 +409,9 @@ module _ (list : List ℕ) (p : Package) (own_listed : (let v = p.files in lengt
 
       by : (n : ℕ) (t : ClassTree) → (let v = p.files in slice_get v.classes n ≡ Some t) → (b : Bool)
           → is_interface t.flags ≡ b → Has (declared n t) (in_order (world p) true ++ in_order (world p) false)
-      by n t at true e = has_front (declared n t) (in_order (world p) true) (in_order (world p) false)
+      by n t at true e = has-front (declared n t) (in_order (world p) true) (in_order (world p) false)
           (one n t at true e)
-      by n t at false e = has_back (declared n t) (in_order (world p) true) (in_order (world p) false)
+      by n t at false e = has-back (declared n t) (in_order (world p) true) (in_order (world p) false)
           (one n t at false (ap not e))
 
   pub are_described : (codes : List MethodCode) → StandOnce p.files codes → IsImage p.files codes p.image

@@ -13,6 +13,8 @@ use Rattle.std.proofs.lemmas.Nat.Bits.{and_pow}
 use Rattle.std.proofs.lemmas.Option.{slice_get_within}
 use Rattle.cjc_bytes.specs.AccessFlags.{acc_native, acc_shareable, acc_strict, acc_super, acc_synchronized, has}
 use Rattle.cjc_bytes.specs.AccessFlags.{is_abstract, is_interface, is_private, is_static}
+use Rattle.cjc_bytes.proofs.Bools.{or_left, or_right}
+use Rattle.cjc_bytes.proofs.Gets.{mapped_at}
 use Rattle.cjc_classfile.specs.declared.tree.ClassTree.{ClassTree}
 use Rattle.cjc_components.specs.Class.{is_shareable}
 use Rattle.cjc_components.specs.Descriptor.{as_added, method_in}
@@ -30,12 +32,12 @@ use Rattle.cjc_shape.specs.Judge.Rules.{settings_of}
 use Rattle.cjc_shape.specs.Judge.declared.judged.Judged.{Judged}
 use Rattle.cjc_components.specs.List.Listed.{ListTree}
 use Rattle.cjc_narrow_proof.proofs.LawsLaws.Own.{class_by_name, own_kept}
-use Rattle.cjc_subset.specs.Flags.{has_two_accesses, is_unfit_method}
+use Rattle.cjc_vtable.specs.Subset.Flags.{has_two_accesses, is_unfit_method}
 use Rattle.cjc_tokens.specs.Lines.{line_at}
 use Rattle.cjc_tokens.specs.Members.{Signature, is_constructor, is_initialiser, is_shown, signature_of}
 use Rattle.cjc_tokens.specs.Methods.{interface_methods, interface_row, is_open_bound}
 use Rattle.cjc_tokens.specs.Slots.{Slots, implementing, meant_by, row, shown_token, slots}
-use Rattle.cjc_vtable.proofs.Filed.{Has, at_front, behind}
+use Rattle.cjc_vtable.proofs.Filed.{Has, at_front, behind, has-either}
 use Rattle.cjc_world.proofs.Settled.{AreSupertypes-one}
 use Rattle.cjc_world.specs.Added.{added}
 use Rattle.cjc_world.specs.Classes.{Class, Member, class_named, declared, method_of_class}
@@ -44,12 +46,11 @@ use Rattle.cjc_world.specs.Supertypes.{End, Known, ends, supertypes, known_here}
 use Rattle.cjc_world.specs.Lookup.{member_at}
 use Rattle.cjc_world.specs.Rules.{is_twice}
 use Rattle.cjc_world.specs.declared.found.Found.{Found}
-use Rattle.cjc_shape_proof.proofs.WrittenLaws.FittingLaws.Exported.{bound_few, or_first, or_second}
-use Rattle.cjc_shape_proof.proofs.WrittenLaws.FittingLaws.Lists.{mapped_at}
+use Rattle.cjc_shape_proof.proofs.WrittenLaws.FittingLaws.Exported.{bound_few}
 use Rattle.cjc_shape_proof.proofs.WrittenLaws.FittingLaws.Limited.{acyclic, few_imports, are_supertypes, no_open}
 use Rattle.cjc_shape_proof.proofs.WrittenLaws.FittingLaws.Limited.{tokens, unbroken, writable}
 use Rattle.cjc_shape_proof.proofs.WrittenLaws.FittingLaws.Meant.{IsMethodRead, added_method, class_method, line_meant}
-use Rattle.cjc_shape_proof.proofs.WrittenLaws.FittingLaws.Order.{has_either, has_none}
+use Rattle.cjc_shape_proof.proofs.WrittenLaws.FittingLaws.Order.{has_none}
 use Rattle.cjc_shape_proof.proofs.WrittenLaws.FittingLaws.OwnTokens.{Offers, added_token, both_apart, bound_token}
 use Rattle.cjc_shape_proof.proofs.WrittenLaws.FittingLaws.OwnTokens.{bound_unbound, given_apart, listed_kind}
 use Rattle.cjc_shape_proof.proofs.WrittenLaws.FittingLaws.OwnTokens.{offers_given, offers_shown, own_apart, own_there}
@@ -71,10 +72,10 @@ one_access interface flags name coded fit =
     let kind = A || (is_abstract flags && (is_static flags || is_private flags)) in
     let special = is_abstract flags && (is_constructor name || is_initialiser name) in
     let bare = is_initialiser name && not (is_static flags) in
-    let three = or_first (kind || special || bare) (interface && coded && not (is_initialiser name)) fit in
-    let first = or_first kind special (or_first (kind || special) bare three) in
-    or_second (has flags acc_native || has flags acc_synchronized || has flags acc_strict) (has_two_accesses flags)
-    (or_first A (is_abstract flags && (is_static flags || is_private flags)) first)
+    let three = or_left (kind || special || bare) (interface && coded && not (is_initialiser name)) fit in
+    let first = or_left kind special (or_left (kind || special) bare three) in
+    or_right (has flags acc_native || has flags acc_synchronized || has flags acc_strict) (has_two_accesses flags)
+    (or_left A (is_abstract flags && (is_static flags || is_private flags)) first)
 
 -- methods of two kinds have no token in common
 kinds_apart : (x y : ExportMethod) (a b : Bool) → is_unbound x.flags x.name ≡ a → is_unbound y.flags y.name ≡ b
@@ -522,11 +523,11 @@ module _ (list : ListTree) (files : List (List ℕ)) (judged : Judged) (p : Pack
       alone_append A (B ++ C) (listed_alone p c fields methods own_pair)
       (alone_append B C (added_alone p c (fields + length methods) given given_pair) (inherited_alone w c 0 its_row)
       given_others)
-      (λ x y h g. ⊎_elim (λ b. own_given x y h b) (λ b. own_others x y h b) (has_either y B C g))
+      (λ x y h g. ⊎_elim (λ b. own_given x y h b) (λ b. own_others x y h b) (has-either y B C g))
 
   all_good : (e : ExportMethod) → Has e (A ++ (B ++ C)) → IsGood e
   all_good e h = ⊎_elim (λ a. own_good e a) (λ b. ⊎_elim (λ d. given_good e d) (λ d. (let z = others e d in z.good))
-      (has_either e B C b)) (has_either e A (B ++ C) h)
+      (has-either e B C b)) (has-either e A (B ++ C) h)
 
   listed : (let e = export_class p c in e.methods) ≡ A ++ (B ++ C)
   listed = ap (λ b. A ++ (B ++ (if b then supers_from w c 0 (interface_methods w c) (interface_row w c) else C))) plain

@@ -1,5 +1,5 @@
 -- A package that breaks no rule keeps what consistent components rest on.
-use Rattle.std.proofs.Common.{◌≡◌, ℕ, zero, suc, ◌≤◌, refl, sym, ap, ◌∙◌, Bool, true, false, not, List, [], ◌∷◌, ◌++◌}
+use Rattle.std.proofs.Common.{◌≡◌, ℕ, ◌≤◌, refl, sym, ap, ◌∙◌, Bool, true, false, not, List, [], ◌++◌}
 use Rattle.std.proofs.Common.{Some}
 use Rattle.std.specs.Prelude.{◌&&◌, ◌||◌, codes, nat_lt, slice_get}
 use Rattle.std.specs.List.{list_any}
@@ -8,6 +8,9 @@ use Rattle.std.proofs.lemmas.Bool.{ltb-false}
 use Rattle.cjc_bytes.specs.AccessFlags.{is_abstract, is_interface, is_protected, is_public, is_static}
 use Rattle.cjc_bytes.specs.Breaks.{at}
 use Rattle.cjc_bytes.specs.declared.settings.AppletLine.{AppletLine}
+use Rattle.cjc_bytes.proofs.Lists.{bytes_true}
+use Rattle.cjc_bytes.proofs.Gets.{any_at, any_off, mapped_at}
+use Rattle.cjc_bytes.proofs.Bools.{or_left, or_right, clash}
 use Rattle.cjc_check_proof.specs.Classes.Premises.{HasNearTypes, HasShortMethods, HasShortRefs, HaveInstalls}
 use Rattle.cjc_check_proof.specs.Classes.Premises.{InterfacesAreUnbound}
 use Rattle.cjc_components.specs.Class.{class_info}
@@ -19,41 +22,17 @@ use Rattle.cjc_shape.specs.Judge.Rules.{settings_of}
 use Rattle.cjc_shape.specs.Judge.declared.judged.Judged.{Judged}
 use Rattle.cjc_components.specs.List.Listed.{ListTree}
 use Rattle.cjc_components.specs.CheckRules.Complete.{class_info_size}
-use Rattle.cjc_subset.specs.Applets.{has_unfit_applets, is_applet, is_install, is_unfit_applet, is_unfit_class}
-use Rattle.cjc_subset.specs.Applets.{repeats_aid}
+use Rattle.cjc_vtable.specs.Subset.Applets.{has_unfit_applets, is_applet, is_install, is_unfit_applet, is_unfit_class}
+use Rattle.cjc_vtable.specs.Subset.Applets.{repeats_aid}
 use Rattle.cjc_tokens.proofs.Supers.{class_at-number}
 use Rattle.cjc_tokens.specs.Members.{is_constructor, is_initialiser}
 use Rattle.cjc_tokens.specs.Methods.{is_open_bound}
 use Rattle.cjc_world.specs.Classes.{Class, Member, class_named, method_of_class}
-use Rattle.cjc_world.proofs.Settled.{bytes-true}
-use Rattle.cjc_shape_proof.proofs.WrittenLaws.FittingLaws.Exported.{or_first, or_second}
-use Rattle.cjc_shape_proof.proofs.WrittenLaws.FittingLaws.Lists.{mapped_at}
 use Rattle.cjc_shape_proof.proofs.WrittenLaws.FittingLaws.Limited.{by_list, few_files, methods_short, no_open, unbroken}
 use Rattle.cjc_shape_proof.proofs.WrittenLaws.FittingLaws.Rules as Rules
 use Rattle.cjc_shape_proof.specs.Written.LaidOut.{IsLaidOut}
 
 -- ---- lists
-
-none_any : {A : Type 0} (test : A → Bool) (xs : List A) (k : ℕ) (x : A) → list_any test xs ≡ false
-    → slice_get xs k ≡ Some x → test x ≡ false
-none_any test [] k x e f = cc
-none_any test (y ∷ xs) zero x e f = let is : y ≡ x = cc in ap test (sym is) ∙ or_first (test y) (list_any test xs) e
-none_any test (y ∷ xs) (suc k) x e f = none_any test xs k x (or_second (test y) (list_any test xs) e) f
-
-some_any : {A : Type 0} (test : A → Bool) (xs : List A) → list_any test xs ≡ true → (k : ℕ) × (x : A)
-    × (slice_get xs k ≡ Some x) × (test x ≡ true)
-some_any test [] e = cc
-some_any {A} test (y ∷ xs) e = by (test y) refl e (some_any test xs)
-  where
-    by : (b : Bool) → test y ≡ b → (b || list_any test xs) ≡ true → (list_any test xs ≡ true → (k : ℕ) × (x : A)
-        × (slice_get xs k ≡ Some x) × (test x ≡ true)) → (k : ℕ) × (x : A) × (slice_get (y ∷ xs) k ≡ Some x)
-        × (test x ≡ true)
-    by true f g rest = (0, y, refl, f)
-    by false f g rest = let r = rest g in (suc r.0, r.1, r.2, r.3)
-
-clash : {A : Type 0} (b : Bool) → b ≡ true → b ≡ false → A
-clash true e f = absurd (cc)
-clash false e f = absurd (cc)
 
 -- install is public and static, and has no special name
 install_is_open : (m : Member) → is_install m ≡ true → is_open_bound m ≡ true
@@ -72,7 +51,7 @@ install_is_open m e = by (bytes_eq m.name (codes "install")) (bytes_eq m.desc (c
     by : (a b p s : Bool) → bytes_eq m.name (codes "install") ≡ a → is_public m.flags ≡ p → is_static m.flags ≡ s
         → ((a && b) && p && s) ≡ true → is_open_bound m ≡ true
     by true true true true f g h k = shown (is_public m.flags) (is_protected m.flags) (is_static m.flags)
-        (is_constructor m.name) (is_initialiser m.name) g h (plain (bytes-true m.name (codes "install") f))
+        (is_constructor m.name) (is_initialiser m.name) g h (plain (bytes_true m.name (codes "install") f))
     by true true true false f g h k = cc
     by true true false s f g h k = cc
     by true false p s f g h k = cc
@@ -102,7 +81,7 @@ module _ (list : ListTree) (files : List (List ℕ)) (judged : Judged) (p : Pack
 
     pub short_methods : size_breaks p ≡ [] → HasShortMethods p
     short_methods kept = widest_short p (methods_short list files judged p is) (ltb-false 65535 (widest_method p)
-        (or_first (nat_lt 65535 (widest_method p)) _ (none_large kept).1))
+        (or_left (nat_lt 65535 (widest_method p)) _ (none_large kept).1))
 
     -- ---- methods of interfaces
 
@@ -120,8 +99,8 @@ module _ (list : ListTree) (files : List (List ℕ)) (judged : Judged) (p : Pack
     fit : (k : ℕ) (a : AppletLine) → slice_get list.applets k ≡ Some a → is_unfit_applet (world p) a.class ≡ false
     unfolding has_unfit_applets
     fit k a at = let u = unbroken list files judged p is in
-        none_any (λ (x : AppletLine). is_unfit_applet (world p) x.class) list.applets k a
-        (or_first (list_any (λ (x : AppletLine). is_unfit_applet (world p) x.class) list.applets)
+        any_off (λ (x : AppletLine). is_unfit_applet (world p) x.class) list.applets k a
+        (or_left (list_any (λ (x : AppletLine). is_unfit_applet (world p) x.class) list.applets)
         (repeats_aid list.applets) (Rules.fit_applets list.name p.files judged.codes (settings_of list) u.checks)) at
 
     plain : (x : List ℕ) (c : Class) → is_unfit_applet (world p) x ≡ false → class_named (world p) x ≡ Some c
@@ -133,13 +112,13 @@ module _ (list : ListTree) (files : List (List ℕ)) (judged : Judged) (p : Pack
         parts = ap (is_unfit_class (world p)) (sym e) ∙ fits
 
         own : c.is_imported ≡ false
-        own = or_first c.is_imported (is_abstract c.flags) (or_first (c.is_imported || is_abstract c.flags)
-            (not (is_applet (world p) c)) (or_first (c.is_imported || is_abstract c.flags
+        own = or_left c.is_imported (is_abstract c.flags) (or_left (c.is_imported || is_abstract c.flags)
+            (not (is_applet (world p) c)) (or_left (c.is_imported || is_abstract c.flags
             || not (is_applet (world p) c))
             (not (list_any is_install c.methods)) parts))
 
         has : list_any is_install c.methods ≡ true
-        has = on (list_any is_install c.methods) (or_second (c.is_imported || is_abstract c.flags
+        has = on (list_any is_install c.methods) (or_right (c.is_imported || is_abstract c.flags
             || not (is_applet (world p) c)) (not (list_any is_install c.methods)) parts)
           where
             on : (b : Bool) → not b ≡ false → b ≡ true
@@ -149,7 +128,7 @@ module _ (list : ListTree) (files : List (List ℕ)) (judged : Judged) (p : Pack
         by : (b : Bool) → is_interface c.flags ≡ b → is_interface c.flags ≡ false
         by false f = f
         by true f =
-            let r = some_any is_install c.methods has in
+            let r = any_at is_install c.methods has in
             clash (is_open_bound r.1) (install_is_open r.1 r.3) (unbound x c e own f r.0 r.1 r.2)
 
     pub installs : HaveInstalls p

@@ -1,13 +1,11 @@
 -- What the export file of a package that breaks no rule rests on, but for the methods of the classes that it lists.
-use Rattle.std.proofs.Common.{◌≡◌, ℕ, zero, suc, ◌+◌, ◌*◌, ◌-◌, ◌^◌, ◌≤◌, ◌<◌, refl, sym, ap, subst, ◌∙◌, arith, Bool}
-use Rattle.std.proofs.Common.{true, false, not, List, [], ◌∷◌, ◌++◌, length, map, Option, Some, None, IfSome, ℤ, pos}
-use Rattle.std.proofs.Common.{negsuc}
-use Rattle.std.specs.Prelude.{◌&&◌, FitsSigned, nat_le, nat_lt, option_and_then, slice_get, if◌then◌else◌}
+use Rattle.std.proofs.Common.{◌≡◌, ℕ, ◌+◌, ◌*◌, ◌-◌, ◌^◌, ◌≤◌, ◌<◌, refl, sym, ap, subst, ◌∙◌, arith, Bool}
+use Rattle.std.proofs.Common.{true, false, not, List, [], ◌∷◌, ◌++◌, length, map, Option, Some, None, IfSome, ℤ}
+use Rattle.std.specs.Prelude.{◌&&◌, FitsSigned, nat_le, nat_lt, option_and_then, if◌then◌else◌}
 use Rattle.std.specs.Int.{w32}
 use Rattle.std.specs.List.{AllByRecursion}
 use Rattle.std.proofs.lemmas.Bool.{leb-true, ltb-false}
 use Rattle.std.proofs.lemmas.Bool.Decides.{nat_tests}
-use Rattle.std.proofs.lemmas.Int.{ints}
 use Rattle.cjc_bytes.proofs.Inverse.{InBytes}
 use Rattle.std.proofs.lemmas.List.{length-map}
 use Rattle.cjc_bytes.specs.AccessFlags.{is_interface}
@@ -15,6 +13,8 @@ use Rattle.cjc_bytes.specs.Breaks.{at}
 use Rattle.cjc_bytes.specs.Descriptor.{Parts}
 use Rattle.cjc_bytes.specs.Format.{FileSpells}
 use Rattle.cjc_bytes.specs.Text.{decimal, decimal_from, is_digit}
+use Rattle.cjc_bytes.proofs.Gets.{all_at}
+use Rattle.cjc_bytes.proofs.Bools.{or_right}
 use Rattle.cjc_classfile.proofs.Fitting.{spelt_fits}
 use Rattle.cjc_classfile.specs.ClassFile.{class_file}
 use Rattle.cjc_classfile.specs.Fits.{FieldFits}
@@ -36,15 +36,13 @@ use Rattle.cjc_components.specs.List.Listed.{ListTree}
 use Rattle.cjc_narrow_proof.proofs.LawsLaws.Own.{own_kept}
 use Rattle.cjc_shape.proofs.PreparedLaws.Sound as Sound
 use Rattle.cjc_shape.proofs.WholeLaws.Second.{forms_of}
-use Rattle.cjc_narrow_proof.specs.Range.Span.{Holds, full}
-use Rattle.cjc_subset.proofs.BytecodeMembers.{read_class}
-use Rattle.cjc_subset.specs.Bytecode.ReadLaws.Members.{IsDescOf}
+use Rattle.cjc_ncode.proofs.BytecodeMembers.{read_class}
+use Rattle.cjc_ncode.specs.Bytecode.ReadLaws.Members.{IsDescOf}
 use Rattle.cjc_tokens.specs.Rules.{FewCells}
 use Rattle.cjc_vtable.proofs.Numbers.{at-tree}
 use Rattle.cjc_vtable.specs.ClassOrder.Supers.Supers.{interfaces, superclasses}
 use Rattle.cjc_world.specs.Classes.{Class, class_at, declared, field_of_class}
 use Rattle.cjc_world.specs.Rules.{is_second}
-use Rattle.cjc_shape_proof.proofs.WrittenLaws.FittingLaws.Exported.{or_second}
 use Rattle.cjc_shape_proof.proofs.WrittenLaws.FittingLaws.Flags.{HasFlags, small_flags}
 use Rattle.cjc_shape_proof.proofs.WrittenLaws.FittingLaws.Interfaces.{few_listed}
 use Rattle.cjc_shape_proof.proofs.WrittenLaws.FittingLaws.Limited.{acyclic, by_files, by_list, class_in_bytes, exported}
@@ -54,6 +52,7 @@ use Rattle.cjc_shape_proof.proofs.WrittenLaws.FittingLaws.Listed.{aid_long, aid_
 use Rattle.cjc_shape_proof.proofs.WrittenLaws.FittingLaws.Rooted.{own_root}
 use Rattle.cjc_shape_proof.proofs.WrittenLaws.FittingLaws.Rules as Rules
 use Rattle.cjc_shape_proof.specs.Written.LaidOut.{ExportedMethodsStand, IsLaidOut, MethodsStand}
+use Rattle.cjc_narrow_proof.proofs.RangeSpans.{fits_word}
 
 -- ---- the package line
 
@@ -98,16 +97,6 @@ line_read list read short =
 
 -- ---- class files
 
-fits32 : (z : ℤ) → Holds full z → FitsSigned w32 z
-fits32 (pos n) h = let a = h.above in let b = h.below in record { sfits = omega (arith, ints, a, b) }
-fits32 (negsuc n) h = let a = h.above in let b = h.below in record { sfits = omega (arith, ints, a, b) }
-
-all_at : {A : Type 0} (P : A → Type 0) (xs : List A) (k : ℕ) (x : A) → AllByRecursion P xs → slice_get xs k ≡ Some x
-    → P x
-all_at P [] k x all e = cc
-all_at P (y ∷ xs) zero x all e = let is : y ≡ x = cc in subst P is all.0
-all_at P (y ∷ xs) (suc k) x all e = all_at P xs k x all.1 e
-
 texts : (xs : List (List ℕ)) → AllByRecursion (λ (x : List ℕ). length x ≤ 65535) xs → AllByRecursion IsText xs
 texts [] all = tt
 texts (x ∷ xs) all = (let le = all.0 in let lt : length x < 2 ^ 16 = omega (arith, le) in lt, texts xs all.1)
@@ -137,7 +126,7 @@ class_read t bytes ok h =
             name = omega (arith, own);
             desc = omega (arith, desc);
             is_desc = field_desc f.desc (read.fields k f e);
-            constant = number f.constant (λ z g. fits32 z (read.constants k f z e g));
+            constant = number f.constant (λ z g. fits_word z (read.constants k f z e g));
           };
     }
   where
@@ -159,7 +148,7 @@ module _ (list : ListTree) (files : List (List ℕ)) (judged : Judged) (p : Pack
     -- 414
     few_entries : length (constants (export_of p)) < 2 ^ 16
     few_entries =
-        let le = ltb-false 16383 (length (constants (export_of p))) (or_second (nat_lt 16383 (length (pool p)))
+        let le = ltb-false 16383 (length (constants (export_of p))) (or_right (nat_lt 16383 (length (pool p)))
         (nat_lt 16383 (length (constants (export_of p)))) (off (has_many_entries p)
         (back (of_methods p (layout_breaks p)) (at (has_many_entries p) (spot_of_list p) 414)
         (forms_of p is.forms)))) in

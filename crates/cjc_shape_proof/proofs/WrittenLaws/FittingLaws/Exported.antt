@@ -8,6 +8,7 @@ use Rattle.std.proofs.lemmas.List.Sums.{length-filter, sum_by-cons}
 use Rattle.cjc_bytes.specs.AccessFlags.{acc_native, acc_strict, acc_synchronized, has, is_abstract, is_interface}
 use Rattle.cjc_bytes.specs.AccessFlags.{is_private, is_static}
 use Rattle.cjc_bytes.specs.Format.{FileSpells}
+use Rattle.cjc_bytes.proofs.Bools.{or_left, or_right}
 use Rattle.cjc_classfile.specs.ClassFile.{class_file}
 use Rattle.cjc_classfile.specs.declared.tree.ClassTree.{ClassTree}
 use Rattle.cjc_classfile.specs.declared.tree.MethodTree.{MethodTree}
@@ -17,7 +18,7 @@ use Rattle.cjc_components.specs.Package.{Package, has_applets, world}
 use Rattle.cjc_shape.proofs.ExportedOwn.{IsOwn, own_class}
 use Rattle.cjc_shape.proofs.ExportedTokens.{few_statics, low_tokens}
 use Rattle.cjc_check_proof.specs.Limits.Premises.{ExportsFew}
-use Rattle.cjc_subset.specs.Flags.{has_two_accesses, is_unfit_method}
+use Rattle.cjc_vtable.specs.Subset.Flags.{has_two_accesses, is_unfit_method}
 use Rattle.cjc_tokens.specs.Fields.{is_open_static}
 use Rattle.cjc_tokens.specs.Members.{is_constructor, is_exposed, is_initialiser}
 use Rattle.cjc_tokens.specs.Methods.{interface_methods, is_open_bound}
@@ -26,16 +27,6 @@ use Rattle.cjc_vtable.proofs.Filed.{Has}
 use Rattle.cjc_vtable.proofs.Read.{has-code}
 use Rattle.cjc_world.specs.Classes.{Class, Member, declared, method_of_class}
 use Rattle.cjc_world.specs.Lookup.{member_at}
-
--- ---- tests
-
-pub or_first : (a b : Bool) → (a || b) ≡ false → a ≡ false
-or_first true b e = cc
-or_first false b e = refl
-
-pub or_second : (a b : Bool) → (a || b) ≡ false → b ≡ false
-or_second true b e = cc
-or_second false b e = e
 
 -- ---- methods of interfaces
 
@@ -63,20 +54,20 @@ module _ (t : ClassTree) (bytes : List ℕ) (m : MethodTree) (spelt : FileSpells
       coded = is_interface t.flags && is_some m.code && not (is_initialiser m.name)
 
       three : kind || special || bare_start ≡ false
-      three = or_first (kind || special || bare_start) coded fit
+      three = or_left (kind || special || bare_start) coded fit
 
       kind_off : kind ≡ false
-      kind_off = or_first kind special (or_first (kind || special) bare_start three)
+      kind_off = or_left kind special (or_left (kind || special) bare_start three)
 
       native_off : has m.flags acc_native ≡ false
       native_off =
           let n = has m.flags acc_native in let y = has m.flags acc_synchronized in let s = has m.flags acc_strict
           in let w = has_two_accesses m.flags in
-          or_first n y (or_first (n || y) s (or_first (n || y || s) w (or_first A (is_abstract m.flags
+          or_left n y (or_left (n || y) s (or_left (n || y || s) w (or_left A (is_abstract m.flags
           && (is_static m.flags || is_private m.flags)) kind_off)))
 
       code_off : is_some m.code ≡ false
-      code_off = off (is_interface t.flags) (is_some m.code) (is_initialiser m.name) interface plain (or_second (kind
+      code_off = off (is_interface t.flags) (is_some m.code) (is_initialiser m.name) interface plain (or_right (kind
           || special || bare_start) coded fit)
         where
           off : (i c n : Bool) → i ≡ true → n ≡ false → (i && c && not n) ≡ false → c ≡ false
@@ -97,14 +88,14 @@ module _ (t : ClassTree) (bytes : List ℕ) (m : MethodTree) (spelt : FileSpells
       by false e = clash (is_some m.code) (has-code t bytes m spelt there e native_off) code_off
       by true e =
           let both = last (is_abstract m.flags) (is_static m.flags || is_private m.flags) e
-          (or_second A (is_abstract m.flags && (is_static m.flags || is_private m.flags)) kind_off) in
+          (or_right A (is_abstract m.flags && (is_static m.flags || is_private m.flags)) kind_off) in
           let names = last (is_abstract m.flags) (is_constructor m.name || is_initialiser m.name) e
-          (or_second kind special (or_first (kind || special) bare_start three)) in (
+          (or_right kind special (or_left (kind || special) bare_start three)) in (
             e,
-            or_first (is_static m.flags) (is_private m.flags) both,
-            or_second (is_static m.flags) (is_private m.flags)
+            or_left (is_static m.flags) (is_private m.flags) both,
+            or_right (is_static m.flags) (is_private m.flags)
                 both,
-            or_first (is_constructor m.name) (is_initialiser m.name) names,
+            or_left (is_constructor m.name) (is_initialiser m.name) names,
           )
         where
           last : (a b : Bool) → a ≡ true → (a && b) ≡ false → b ≡ false
@@ -175,7 +166,7 @@ module _ (p : Package) (tokens : token_breaks (has_applets p) p.files ≡ []) (b
     pub bound_few : (let o = own in count_by is_open_bound (declared o.number o.tree).methods ≤ 255)
     unfolding has_high_token
     bound_few = let o = own in by (is_interface (let t = o.tree in t.flags)) refl
-        (or_first _ _ (low_tokens p c o tokens))
+        (or_left _ _ (low_tokens p c o tokens))
       where
         by : (b : Bool) → (let o = own in let t = o.tree in is_interface t.flags ≡ b)
             → (let o = own in (if b then nat_lt 128 (length (interface_methods (world p) (declared o.number o.tree)))
@@ -185,7 +176,7 @@ module _ (p : Package) (tokens : token_breaks (has_applets p) p.files ≡ []) (b
         by true e f = let o = own in let t = o.tree in let none =
             none_counted t.methods (λ j m g. bare o.number t o.is_tree e j m g) in omega (arith, none)
         by false e f = let o = own in ltb-false 255 (count_by is_open_bound (declared o.number o.tree).methods)
-            (or_second (has_high_method (world p) (declared o.number o.tree))
+            (or_right (has_high_method (world p) (declared o.number o.tree))
             (nat_lt 255 (count_by is_open_bound (declared o.number o.tree).methods)) f)
 
     pub exports_few : ExportsFew p c

@@ -1,16 +1,16 @@
 -- Where 407 is not broken at most 255 handlers are written: each stands in the exception table of a method of a class
 -- file.
 use Rattle.std.proofs.Common.{◌≡◌, ℕ, zero, suc, ◌+◌, ◌≤◌, refl, sym, ap, subst, ◌∙◌, arith, Bool, true, false, List}
-use Rattle.std.proofs.Common.{[], ◌∷◌, length, map, get_or, inl, inr, Option, Some, None}
-use Rattle.std.specs.Prelude.{◌-◌, ◌<◌, ◌⊎◌, filter, cond, codes, nat_le, nat_lt, option_and_then, option_map}
+use Rattle.std.proofs.Common.{[], ◌∷◌, length, map, Option, Some, None}
+use Rattle.std.specs.Prelude.{◌-◌, filter, cond, codes, nat_le, nat_lt, option_and_then, option_map}
 use Rattle.std.specs.Prelude.{slice_get, sum_by, if◌then◌else◌}
 use Rattle.std.specs.Str.{bytes_eq}
 use Rattle.std.proofs.lemmas.List.{length-map}
 use Rattle.std.proofs.lemmas.List.Sums.{sum_by-append, sum_by-cons}
-use Rattle.std.proofs.lemmas.Option.{slice_get_cases}
+use Rattle.std.proofs.lemmas.Option.{slice_get_past}
 use Rattle.cjc_bytes.specs.declared.fault.MemberId.{MemberId}
-use Rattle.cjc_world_proof.specs.JvmSemantics.Linked.{Method}
-use Rattle.cjc_world_proof.specs.JvmSemantics.OnePackage.{method_at, method_by, method_in}
+use Rattle.cjc_token_proof.specs.JvmSemantics.Linked.{Method}
+use Rattle.cjc_token_proof.specs.JvmSemantics.OnePackage.{method_at, method_by, method_in}
 use Rattle.cjc_classfile.specs.Code.{CodeTree}
 use Rattle.cjc_classfile.specs.declared.tree.Catch.{Catch}
 use Rattle.cjc_classfile.specs.declared.tree.ClassTree.{ClassTree}
@@ -23,8 +23,8 @@ use Rattle.cjc_components.specs.Narrow.Rows.Resolved.{resolution}
 use Rattle.cjc_ncode.specs.Written.{catch_at, catches_at, place_in, reached}
 use Rattle.cjc_ncode.specs.declared.narrow.NCatch.{NCatch}
 use Rattle.cjc_ncode.specs.declared.narrow.NMethod.{NMethod}
-use Rattle.cjc_subset.specs.Limits.{handlers, handlers_of_class}
-use Rattle.cjc_subset.specs.Names.{catches_of}
+use Rattle.cjc_vtable.specs.Subset.Limits.{handlers, handlers_of_class}
+use Rattle.cjc_vtable.specs.Subset.Names.{catches_of}
 use Rattle.cjc_narrow_proof.specs.Types.declared.state.State.{State}
 use Rattle.cjc_world.specs.Added.{added}
 use Rattle.cjc_world.specs.Classes.{Class, all_classes, declared, field_of_class, method_of_class}
@@ -91,14 +91,6 @@ module _ (files : Files) (near : List MemberId) (rows : Method → List (Option 
 
 -- ---- of the methods of a class
 
-past_end : {A : Type 0} (xs : List A) (k : ℕ) → length xs ≤ k → slice_get xs k ≡ None
-past_end {A} xs k le = by (slice_get_cases xs k).1
-  where
-    by : ((x : A) × (k < length xs) × (slice_get xs k ≡ Some x) × (get_or xs k x ≡ x))
-        ⊎ ((length xs ≤ k) × (slice_get xs k ≡ None)) → slice_get xs k ≡ None
-    by (inl s) = let lt = s.1 in absurd (omega (arith, le, lt))
-    by (inr n) = n.1
-
 module _ (files : Files) where
   abbrev w : List Class
   w = all_classes files
@@ -128,7 +120,7 @@ module _ (files : Files) where
     member_none : (i : ℕ) → length t.fields + length t.methods ≤ i → own (member_at c i) ≡ 0
     member_none i le =
         own_at i ∙ ap (λ o. entries (option_map (λ (x : MethodTree). method_by t x x.code) o))
-        (past_end t.methods (i - length t.fields) (omega (arith, le)))
+        (slice_get_past t.methods (i - length t.fields) (omega (arith, le)))
 
     written_few : (i k : ℕ) (ts : List MethodTree) → i ≡ length t.fields + k → ((j : ℕ) (m : MethodTree)
         → slice_get ts j ≡ Some m → slice_get t.methods (k + j) ≡ Some m)

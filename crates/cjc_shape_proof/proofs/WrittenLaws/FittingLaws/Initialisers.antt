@@ -6,24 +6,24 @@ use Rattle.std.specs.Prelude.{option_map}
 use Rattle.std.specs.Str.{bytes_eq}
 use Rattle.std.proofs.lemmas.Option.{slice_get-map}
 use Rattle.cjc_bytes.specs.declared.breaks.BrokenAt.{BrokenAt}
+use Rattle.cjc_bytes.proofs.Lists.{bytes_true}
+use Rattle.cjc_bytes.proofs.Bools.{both_front, both_back}
 use Rattle.cjc_vtable.specs.ClassOrder.Classes.Numbers.{class_count}
 use Rattle.cjc_classfile.specs.Code.{CodeTree}
 use Rattle.cjc_classfile.specs.declared.tree.ClassTree.{ClassTree}
 use Rattle.cjc_classfile.specs.declared.tree.MethodTree.{MethodTree}
 use Rattle.cjc_clinit.specs.Image.{class_where, if_initialiser, initialised}
 use Rattle.cjc_clinit.specs.Initialiser.{is_initialiser}
-use Rattle.cjc_world_proof.specs.Initialisers.Values.{StandOnce}
-use Rattle.cjc_subset.specs.Bytecode.Decoded.{decoding}
-use Rattle.cjc_subset.specs.Bytecode.PackageCodes.{all_codes, code_with, of_classes, of_methods, where_code}
-use Rattle.cjc_subset.specs.Bytecode.declared.insn.JInsn.{JInsn}
-use Rattle.cjc_subset.specs.Bytecode.declared.method_code.MethodCode.{MethodCode}
+use Rattle.cjc_token_proof.specs.WorldProof.Initialisers.Values.{StandOnce}
+use Rattle.cjc_ncode.specs.Bytecode.Decoded.{decoding}
+use Rattle.cjc_ncode.specs.Bytecode.PackageCodes.{all_codes, code_with, of_classes, of_methods, where_code}
+use Rattle.cjc_ncode.specs.Bytecode.declared.insn.JInsn.{JInsn}
+use Rattle.cjc_ncode.specs.Bytecode.declared.method_code.MethodCode.{MethodCode}
 use Rattle.cjc_narrow_proof.proofs.LawsLaws.Own.{first_here, own_kept}
 use Rattle.cjc_world.specs.Classes.{Member, method_of_class}
 use Rattle.cjc_world.specs.Files.{Files}
 use Rattle.cjc_world.specs.Lookup.{is_called}
 use Rattle.cjc_world.specs.Rules.{breaks, is_twice}
-use Rattle.cjc_world.proofs.Settled.{bytes-true}
-use Rattle.cjc_world.proofs.Trees.{all-back, all-front}
 
 -- ---- lists
 
@@ -188,9 +188,9 @@ module _ (files : Files) (list : List ℕ) (listed : length files.classes ≤ cl
   first_initialiser n k c m e f is =
       let kept = own_kept files list listed unbroken n c e in
       let once = (kept.methods k m f).0 in
-      let name = bytes-true m.name (codes "<clinit>") (all-front (bytes_eq m.name (codes "<clinit>"))
+      let name = bytes_true m.name (codes "<clinit>") (both_front (bytes_eq m.name (codes "<clinit>"))
       (bytes_eq m.desc (codes "()V")) is) in
-      let desc = bytes-true m.desc (codes "()V") (all-back (bytes_eq m.name (codes "<clinit>"))
+      let desc = bytes_true m.desc (codes "()V") (both_back (bytes_eq m.name (codes "<clinit>"))
       (bytes_eq m.desc (codes "()V")) is) in
       let there : slice_get (map method_of_class c.methods) k ≡ Some (method_of_class m) =
       slice_get-map method_of_class c.methods k ∙ ap (option_map method_of_class) f in

@@ -6,59 +6,41 @@ use Rattle.std.specs.Prelude.{◌&&◌, ◌||◌, ◌⊎◌, option_to_list, sli
 use Rattle.std.specs.List.{list_any}
 use Rattle.std.specs.Str.{bytes_eq}
 use Rattle.cjc_bytes.specs.AccessFlags.{is_interface}
+use Rattle.cjc_bytes.proofs.Lists.{name_is, bytes_true}
 use Rattle.cjc_classfile.specs.declared.tree.ClassTree.{ClassTree}
 use Rattle.cjc_export.specs.declared.tree.ExportClass.{ExportClass}
 use Rattle.cjc_export.specs.declared.tree.ExportTree.{ExportTree}
 use Rattle.cjc_components.specs.Class.{interfaces_of}
 use Rattle.cjc_vtable.specs.ClassOrder.Supers.Supers.{interfaces}
-use Rattle.cjc_subset.specs.Limits.{listed_above, listed_by_declared, listed_by_imported, listed_names, noted}
-use Rattle.cjc_subset.specs.Members.{imports}
+use Rattle.cjc_vtable.specs.Subset.Limits.{listed_above, listed_by_declared, listed_by_imported, listed_names, noted}
+use Rattle.cjc_vtable.specs.Subset.Members.{imports}
 use Rattle.cjc_narrow_proof.proofs.LawsLaws.Own.{class_by_name}
-use Rattle.cjc_world_proof.proofs.SelectionLaws.Rules.{listed_interface}
+use Rattle.cjc_token_proof.proofs.WorldProofRules.{listed_interface}
 use Rattle.cjc_token_proof.proofs.TablesLaws.Clean.{has_named}
-use Rattle.cjc_token_proof.proofs.TablesLaws.Filed.{import_filed, own_filed}
+use Rattle.cjc_token_proof.proofs.TablesLaws.Filed.{import_filed, own_filed, has-front}
 use Rattle.cjc_vtable.specs.ClassOrder.Classes.Numbers.{class_count}
 use Rattle.cjc_token_proof.specs.Tables.Sound.{export_count}
 use Rattle.cjc_world.specs.Rules.{breaks}
 use Rattle.cjc_tokens.specs.Methods.{interfaces_at}
 use Rattle.cjc_world.proofs.UpwardLaws.Lines.{below_subclass}
-use Rattle.cjc_vtable.proofs.Filed.{Has, at_front, behind, get-has, of-imports}
-use Rattle.cjc_world.proofs.Settled.{bytes-refl, bytes-true}
+use Rattle.cjc_vtable.proofs.Filed.{Has, at_front, behind, get-has, of-imports, has-either}
 use Rattle.cjc_world.specs.Classes.{Class, all_classes, class_named, declared, imported}
 use Rattle.cjc_world.specs.Files.{Files}
 use Rattle.cjc_world.specs.Interfaces.{Interface, each_once, gathered, is_among, known, where_listed}
 use Rattle.cjc_world.specs.Supertypes.{Above, End, IsAcyclic, AreSupertypes, Supertypes, Known, Lists, Unknown, after}
 use Rattle.cjc_world.specs.Supertypes.{directly, ends, foremost, supertypes, known_here, onwards, unknown_here}
 use Rattle.cjc_world.specs.Subtype.{is_subclass}
+use Rattle.cjc_world.proofs.Settled.{lists-front, lists-behind}
 use Rattle.cjc_shape_proof.proofs.WrittenLaws.FittingLaws.Lists.{Apart, sum_within}
-use Rattle.cjc_shape_proof.proofs.WrittenLaws.FittingLaws.Order.{has_back, has_cons, has_either, has_none, ones}
+use Rattle.cjc_shape_proof.proofs.WrittenLaws.FittingLaws.Order.{has_cons, has_none, ones}
+use Rattle.cjc_check_proof.proofs.ClassesLaws.Lists.{has-back, has-flat}
 
 -- ---- lists
-
-pub has_front : {A : Type 0} (x : A) (xs ys : List A) → Has x xs → Has x (xs ++ ys)
-has_front x [] ys h = elim h [ ]
-has_front x (y ∷ xs) ys at_front = at_front
-has_front x (y ∷ xs) ys (behind h) = behind (has_front x xs ys h)
-
-has_flat : {A B : Type 0} (f : A → List B) (x : A) (y : B) (xs : List A) → Has x xs → Has y (f x)
-    → Has y (flat_map f xs)
-has_flat f x y [] h g = elim h [ ]
-has_flat f x y (z ∷ xs) at_front g = has_front y (f x) (flat_map f xs) g
-has_flat f x y (z ∷ xs) (behind h) g = has_back y (f z) (flat_map f xs) (has_flat f x y xs h g)
 
 listed_has : (x : List ℕ) (xs : List (List ℕ)) → Lists x xs → Has x xs
 listed_has x [] l = elim l [ ]
 listed_has x (y ∷ xs) foremost = at_front
 listed_has x (y ∷ xs) (after l) = behind (listed_has x xs l)
-
-pub lists_front : (x : List ℕ) (xs ys : List (List ℕ)) → Lists x xs → Lists x (xs ++ ys)
-lists_front x [] ys l = elim l [ ]
-lists_front x (y ∷ xs) ys foremost = foremost
-lists_front x (y ∷ xs) ys (after l) = after (lists_front x xs ys l)
-
-pub lists_back : (x : List ℕ) (xs ys : List (List ℕ)) → Lists x ys → Lists x (xs ++ ys)
-lists_back x [] ys l = l
-lists_back x (y ∷ xs) ys l = after (lists_back x xs ys l)
 
 -- ---- names that are noted once
 
@@ -70,7 +52,7 @@ noted_known before (y ∷ xs) x h = noted_known (if list_any (λ z. bytes_eq z y
   where
     by : (b : Bool) → Has x (if b then before else before ++ y ∷ [])
     by true = h
-    by false = has_front x before (y ∷ []) h
+    by false = has-front x before (y ∷ []) h
 
 any_has : (y : List ℕ) (before : List (List ℕ)) → list_any (λ z. bytes_eq z y) before ≡ true → Has y before
 any_has y [] e = cc
@@ -78,7 +60,7 @@ any_has y (x ∷ before) e = by (bytes_eq x y) refl e (any_has y before)
   where
     by : (b : Bool) → bytes_eq x y ≡ b → (b || list_any (λ z. bytes_eq z y) before) ≡ true
         → (list_any (λ z. bytes_eq z y) before ≡ true → Has y before) → Has y (x ∷ before)
-    by true f g rest = subst (λ z. Has z (x ∷ before)) (bytes-true x y f) at_front
+    by true f g rest = subst (λ z. Has z (x ∷ before)) (bytes_true x y f) at_front
     by false f g rest = behind (rest g)
 
 noted_has : (before xs : List (List ℕ)) (x : List ℕ) → Has x xs → Has x (noted before xs)
@@ -93,7 +75,7 @@ noted_has before (y ∷ xs) x h =
   where
     by : (b : Bool) → list_any (λ z. bytes_eq z y) before ≡ b → x ≡ y → Has x (if b then before else before ++ y ∷ [])
     by true e same = subst (λ z. Has z before) (sym same) (any_has y before e)
-    by false e same = has_back x before (y ∷ []) (subst (λ z. Has x (z ∷ [])) same at_front)
+    by false e same = has-back x before (y ∷ []) (subst (λ z. Has x (z ∷ [])) same at_front)
 
 -- ---- interfaces that stand once
 
@@ -158,7 +140,7 @@ once_apart before (i ∷ is) = by (is_among before i.name) (once_apart before is
         let r = name_has (each_once (before ++ i ∷ []) is) i.name h in
         let n = once_new (before ++ i ∷ []) is r.0 r.1 in
         let differs = (among_front before i r.0 n.0).1 in
-        let equal : bytes_eq i.name r.0.name ≡ true = ap (bytes_eq i.name) r.2 ∙ bytes-refl i.name in
+        let equal : bytes_eq i.name r.0.name ≡ true = ap (bytes_eq i.name) r.2 ∙ name_is i.name in
         clash (bytes_eq i.name r.0.name) equal differs
       where
         clash : (b : Bool) → b ≡ true → b ≡ false → ⊥
@@ -218,7 +200,7 @@ module _ (list : List ℕ) (files : Files) (own_listed : length files.classes �
     where
       by : (q : Bool) → bytes_eq b.name x ≡ q → (if q then Some b else class_named cs x) ≡ Some c
           → (class_named cs x ≡ Some c → c.name ≡ x) → c.name ≡ x
-      by true f g rest = let is : b ≡ c = cc in ap (λ (y : Class). y.name) (sym is) ∙ bytes-true b.name x f
+      by true f g rest = let is : b ≡ c = cc in ap (λ (y : Class). y.name) (sym is) ∙ bytes_true b.name x f
       by false f g rest = rest g
 
   -- each gathered interface is one of the names themselves, where these are interfaces, or is listed
@@ -231,7 +213,7 @@ module _ (list : List ℕ) (files : Files) (own_listed : length files.classes �
       (λ g. inl (here listed g))
       (λ g. ⊎_elim (λ r. inl (r.0, after r.1)) (λ i. inr (later x rest j.name i)) (gathered_listed listed rest next j n
       g))
-      (has_either j (where_listed listed (record { name = x; class = None })) (gathered listed next) h)
+      (has-either j (where_listed listed (record { name = x; class = None })) (gathered listed next) h)
     where
       here : (b : Bool) → Has j (where_listed b (record { name = x; class = None })) → (b ≡ true)
           × Lists j.name (x ∷ rest)
@@ -270,15 +252,15 @@ module _ (list : List ℕ) (files : Files) (own_listed : length files.classes �
           (λ abc. ⊎_elim
           (λ ab. ⊎_elim
           (λ h. ⊎_elim (λ r. never r.0) (λ i. inr (further (x ∷ rest) c x j.name c.supers e foremost
-          (λ y l. lists_front y c.supers c.interfaces l) i)) (a h))
+          (λ y l. lists-front y c.supers c.interfaces l) i)) (a h))
           (λ h. ⊎_elim (λ r. inr (x, x, c, foremost, inl refl, e, r.1))
-          (λ i. inr (further (x ∷ rest) c x j.name c.interfaces e foremost (λ y l. lists_back y c.supers
+          (λ i. inr (further (x ∷ rest) c x j.name c.interfaces e foremost (λ y l. lists-behind y c.supers
           c.interfaces l) i)) (b h))
-          (has_either j A B ab))
+          (has-either j A B ab))
           (λ h. inl (here listed h))
-          (has_either j (A ++ B) (where_listed listed (record { name = c.name; class = Some c })) abc))
+          (has-either j (A ++ B) (where_listed listed (record { name = c.name; class = Some c })) abc))
           (λ h. ⊎_elim (λ r. inl (r.0, after r.1)) (λ i. inr (later x rest j.name i)) (d h))
-          (has_either j (A ++ B ++ where_listed listed (record { name = c.name; class = Some c })) D g)
+          (has-either j (A ++ B ++ where_listed listed (record { name = c.name; class = Some c })) D g)
 
   -- what is gathered and some file has is an interface
   abbrev AreInterfaces : Bool → List (List ℕ) → Type 0
@@ -294,7 +276,7 @@ module _ (list : List ℕ) (files : Files) (own_listed : length files.classes �
       ⊎_elim
       (λ g. here listed g)
       (λ g. gathered_interface listed rest next j d n (λ is y c l. all is y c (after l)) g f)
-      (has_either j (where_listed listed (record { name = x; class = None })) (gathered listed next) h)
+      (has-either j (where_listed listed (record { name = x; class = None })) (gathered listed next) h)
     where
       clash : None ≡ Some d → ⊥
       clash e = cc
@@ -311,14 +293,14 @@ module _ (list : List ℕ) (files : Files) (own_listed : length files.classes �
       (λ g. gathered_interface false c.supers supers j d s (λ is y v l. never is) g f)
       (λ g. gathered_interface true c.interfaces interfaces j d i (λ is y v l m. listed_interface list files unbroken x
       y c v e l m) g f)
-      (has_either j (gathered false supers) (gathered true interfaces) ab))
+      (has-either j (gathered false supers) (gathered true interfaces) ab))
       (λ g. here listed refl g f)
-      (has_either j (gathered false supers ++ gathered true interfaces) (where_listed listed (record {
+      (has-either j (gathered false supers ++ gathered true interfaces) (where_listed listed (record {
         name = c.name;
         class = Some c;
       })) abc))
       (λ g. gathered_interface listed rest next j d n (λ is y v l. all is y v (after l)) g f)
-      (has_either j (gathered false supers ++ gathered true interfaces ++ where_listed listed (record {
+      (has-either j (gathered false supers ++ gathered true interfaces ++ where_listed listed (record {
         name = c.name;
         class = Some c;
       })) (gathered listed next) h)
@@ -365,7 +347,7 @@ module _ (list : List ℕ) (files : Files) (own_listed : length files.classes �
       (λ is y v l. never is) g f)
       (λ g. gathered_interface true c.interfaces (supertypes w c.interfaces) j d (are_supertypes c.interfaces)
       (λ is y v l m. listed_interface list files unbroken x y c v e l m) g f)
-      (has_either j (gathered false (supertypes w c.supers)) (gathered true (supertypes w c.interfaces)) h)
+      (has-either j (gathered false (supertypes w c.supers)) (gathered true (supertypes w c.interfaces)) h)
     where
       never : {B : Type 0} → false ≡ true → B
       never f = cc
@@ -400,7 +382,7 @@ module _ (list : List ℕ) (files : Files) (own_listed : length files.classes �
         (off (bytes_eq t.name y) refl)
       where
         off : (b : Bool) → bytes_eq t.name y ≡ b → b ≡ false
-        off true e = absurd (acyclic t.name (subst (λ z. Above w t.name z) (sym (bytes-true t.name y e)) above))
+        off true e = absurd (acyclic t.name (subst (λ z. Above w t.name z) (sym (bytes_true t.name y e)) above))
         off false e = refl
 
         both : (a b : Bool) → a ≡ true → b ≡ false → (a && not b) ≡ true
@@ -433,10 +415,10 @@ module _ (list : List ℕ) (files : Files) (own_listed : length files.classes �
             let u = r.1 in
             let here = other (declared 0 u) (ap (λ (x : Class). x.name) (sym r.3)) (ap (λ (x : Class). x.interfaces)
             (sym r.3)) in
-            has_front name (t.interfaces ++ listed_by_declared w t files.classes)
+            has-front name (t.interfaces ++ listed_by_declared w t files.classes)
             (flat_map (λ (s : ExportTree). listed_by_imported w t s.classes) files.exports)
-            (has_back name t.interfaces (listed_by_declared w t files.classes)
-            (has_flat (λ (v : ClassTree). listed_above w t (declared 0 v)) u name files.classes
+            (has-back name t.interfaces (listed_by_declared w t files.classes)
+            (has-flat (λ (v : ClassTree). listed_above w t (declared 0 v)) u name files.classes
             (get-has u files.classes r.0 r.2) here))
         by true im =
             let r = import_filed files own_listed imports_listed d has im in
@@ -444,10 +426,10 @@ module _ (list : List ℕ) (files : Files) (own_listed : length files.classes �
             let f = of-imports u files.exports (get-has u (imports files.exports) r.0 r.2) in
             let here = other (imported 0 u) (ap (λ (x : Class). x.name) (sym r.3)) (ap (λ (x : Class). x.interfaces)
             (sym r.3)) in
-            has_back name (t.interfaces ++ listed_by_declared w t files.classes)
+            has-back name (t.interfaces ++ listed_by_declared w t files.classes)
             (flat_map (λ (s : ExportTree). listed_by_imported w t s.classes) files.exports)
-            (has_flat (λ (s : ExportTree). listed_by_imported w t s.classes) f.0 name files.exports f.1
-            (has_flat (λ (v : ExportClass). listed_above w t (imported 0 v)) u name (let s = f.0 in s.classes) f.2
+            (has-flat (λ (s : ExportTree). listed_by_imported w t s.classes) f.0 name files.exports f.1
+            (has-flat (λ (v : ExportClass). listed_above w t (imported 0 v)) u name (let s = f.0 in s.classes) f.2
             here))
 
     listed_in : (xs : List (List ℕ)) (name : List ℕ) → ((y : List ℕ) → Lists y xs → Lists y (c.supers ++ c.interfaces))
@@ -460,9 +442,9 @@ module _ (list : List ℕ) (files : Files) (own_listed : length files.classes �
     own_lists : (name : List ℕ) → Lists name t.interfaces → Has name (listed_names files t)
     unfolding listed_names
     own_lists name l =
-        has_front name (t.interfaces ++ listed_by_declared w t files.classes)
+        has-front name (t.interfaces ++ listed_by_declared w t files.classes)
         (flat_map (λ (s : ExportTree). listed_by_imported w t s.classes) files.exports)
-        (has_front name t.interfaces (listed_by_declared w t files.classes) (listed_has name t.interfaces l))
+        (has-front name t.interfaces (listed_by_declared w t files.classes) (listed_has name t.interfaces l))
 
     abbrev all : List Interface
     all = gathered false (supertypes w c.supers) ++ gathered true (supertypes w c.interfaces)
@@ -470,12 +452,12 @@ module _ (list : List ℕ) (files : Files) (own_listed : length files.classes �
     in_listed : (j : Interface) → Has j all → Has j.name (listed_names files t)
     in_listed j h =
         ⊎_elim
-        (λ g. ⊎_elim (λ r. never r.0) (λ i. listed_in c.supers j.name (λ y l. lists_front y c.supers c.interfaces l) i)
+        (λ g. ⊎_elim (λ r. never r.0) (λ i. listed_in c.supers j.name (λ y l. lists-front y c.supers c.interfaces l) i)
         (gathered_listed false c.supers (supertypes w c.supers) j (are_supertypes c.supers) g))
-        (λ g. ⊎_elim (λ r. own_lists j.name r.1) (λ i. listed_in c.interfaces j.name (λ y l. lists_back y c.supers
+        (λ g. ⊎_elim (λ r. own_lists j.name r.1) (λ i. listed_in c.interfaces j.name (λ y l. lists-behind y c.supers
         c.interfaces l) i) (gathered_listed true c.interfaces (supertypes w c.interfaces) j
         (are_supertypes c.interfaces) g))
-        (has_either j (gathered false (supertypes w c.supers)) (gathered true (supertypes w c.interfaces)) h)
+        (has-either j (gathered false (supertypes w c.supers)) (gathered true (supertypes w c.interfaces)) h)
       where
         never : {B : Type 0} → false ≡ true → B
         never f = cc

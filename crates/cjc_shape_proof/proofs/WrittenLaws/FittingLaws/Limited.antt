@@ -7,11 +7,11 @@ use Rattle.cjc_bytes.specs.AccessFlags.{is_interface}
 use Rattle.cjc_bytes.specs.Breaks.{Break}
 use Rattle.cjc_bytes.specs.Format.{FileSpells}
 use Rattle.cjc_clinit.specs.Rules.{BreaksImage}
-use Rattle.cjc_subset.specs.Bytecode.PackageCodes.{all_codes}
+use Rattle.cjc_ncode.specs.Bytecode.PackageCodes.{all_codes}
 use Rattle.cjc_classes.specs.Descriptor.Fits.{AreFit}
 use Rattle.cjc_shape_proof.proofs.WrittenLaws.FittingLaws.Initialisers.{stand_once}
 use Rattle.cjc_classfile.specs.ClassFile.{class_file}
-use Rattle.cjc_world_proof.specs.JvmSemantics.OnePackage.{method_at}
+use Rattle.cjc_token_proof.specs.JvmSemantics.OnePackage.{method_at}
 use Rattle.cjc_classfile.specs.declared.tree.ClassTree.{ClassTree}
 use Rattle.cjc_classfile.specs.declared.tree.MethodTree.{MethodTree}
 use Rattle.cjc_components.specs.Class.{interfaces_of}
@@ -36,7 +36,7 @@ use Rattle.cjc_shape.proofs.PreparedLaws.Sound as Sound
 use Rattle.cjc_token_proof.specs.Tables.Sound.{export_count}
 use Rattle.cjc_tokens.specs.Methods.{is_open_bound}
 use Rattle.cjc_tokens.specs.Rules.{FewExported, token_breaks}
-use Rattle.cjc_vtable.proofs.Filed.{get-has}
+use Rattle.cjc_vtable.proofs.Filed.{get-has, get-has as has_get}
 use Rattle.cjc_shape.proofs.WholeLaws.Drafts as Drafts
 use Rattle.cjc_shape.proofs.WholeLaws.Ints.{package_free}
 use Rattle.cjc_shape.proofs.WholeLaws.Second.{forms_of, package_is_draft}
@@ -56,7 +56,7 @@ use Rattle.cjc_shape_proof.proofs.WrittenLaws.FittingLaws.Interfaces.{few_named}
 use Rattle.cjc_shape_proof.proofs.WrittenLaws.FittingLaws.Listed.{aid_short, classes_spelt, exports_counted}
 use Rattle.cjc_shape_proof.proofs.WrittenLaws.FittingLaws.Listed.{few_exports}
 use Rattle.cjc_shape_proof.proofs.WrittenLaws.FittingLaws.Methods.{is_short, near, own_code, same_files, same_list}
-use Rattle.cjc_shape_proof.proofs.WrittenLaws.FittingLaws.Order.{few_ordered, has_get, order_filed}
+use Rattle.cjc_shape_proof.proofs.WrittenLaws.FittingLaws.Order.{few_ordered, order_filed}
 use Rattle.cjc_shape_proof.proofs.WrittenLaws.FittingLaws.Rules as Rules
 use Rattle.cjc_shape_proof.proofs.WrittenLaws.FittingLaws.Tables.{own_maps, own_package, own_public}
 

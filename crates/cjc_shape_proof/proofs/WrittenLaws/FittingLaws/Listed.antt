@@ -1,11 +1,12 @@
 -- What a list keeps by its grammar, and how many files are read of it.
-use Rattle.std.proofs.Common.{◌≡◌, ℕ, zero, suc, ◌+◌, ◌<◌, ◌≤◌, refl, sym, ap, subst, ◌∙◌, arith, Bool, true, false}
+use Rattle.std.proofs.Common.{◌≡◌, ℕ, zero, suc, ◌+◌, ◌<◌, ◌≤◌, refl, sym, ap, subst, ◌∙◌, arith, Bool, true}
 use Rattle.std.proofs.Common.{List, [], ◌∷◌, length, not}
 use Rattle.std.specs.Prelude.{cond, count_by, slice_get, Some}
 use Rattle.std.specs.List.{AllByRecursion}
 use Rattle.std.proofs.lemmas.List.Sums.{sum_by-cons}
 use Rattle.cjc_bytes.specs.Format.{FileSpells}
 use Rattle.cjc_bytes.specs.declared.settings.FileLine.{FileLine}
+use Rattle.cjc_bytes.proofs.Numbers.{one_file}
 use Rattle.cjc_classfile.specs.ClassFile.{class_file}
 use Rattle.cjc_classfile.specs.declared.tree.ClassTree.{ClassTree}
 use Rattle.cjc_shape.specs.Judge.Spelt.{FileTree, IsRead, classes_of, exports_of, of_class, of_export}
@@ -37,10 +38,6 @@ module _ (list : ListTree) (read : IsRead list) where
 counted : (p : FileLine → Bool) (line : FileLine) (lines : List FileLine) → count_by p (line ∷ lines)
     ≡ cond (p line) 1 0 + count_by p lines
 counted p line lines = sum_by-cons (λ (l : FileLine). cond (p l) 1 0) line lines
-
-one_file : (b : Bool) → b ≡ false → ◌≡◌ {A = ℕ} (cond (not b) 1 0) 1
-one_file false e = refl
-one_file true e = cc
 
 pub exports_counted : (lines : List FileLine) (files : List (List ℕ)) (trees : List FileTree)
     → AllSpelt lines files trees → length (exports_of trees) ≤ export_count lines

@@ -1,28 +1,8 @@
 -- Lists and their sums.
-use Rattle.std.proofs.Common.{◌≡◌, ℕ, zero, suc, ◌+◌, ◌≤◌, refl, subst, arith, List, [], ◌∷◌, ◌++◌, inl, inr, map, Some}
-use Rattle.std.specs.Prelude.{◌⊎◌, slice_get, sum_by}
-use Rattle.std.specs.List.{AllByRecursion}
+use Rattle.std.proofs.Common.{◌≡◌, ℕ, ◌+◌, ◌≤◌, refl, subst, arith, List, [], ◌∷◌, inl, inr}
+use Rattle.std.specs.Prelude.{◌⊎◌, sum_by}
 use Rattle.std.proofs.lemmas.List.Sums.{sum_by-cons}
-use Rattle.cjc_export.specs.Writable.{EachAfter}
 use Rattle.cjc_vtable.proofs.Filed.{Has, at_front, behind}
-
-pub all_both : {A : Type 0} (P : A → Type 0) (xs ys : List A) → AllByRecursion P xs → AllByRecursion P ys
-    → AllByRecursion P (xs ++ ys)
-all_both P [] ys a b = b
-all_both P (x ∷ xs) ys a b = (a.0, all_both P xs ys a.1 b)
-
--- what is told of each item by those before it is told of one by some
-pub each_after : {A : Type 0} (P : List A → A → Type 0) (before xs : List A) (x : A) → EachAfter P before xs → Has x xs
-    → (b : List A) × P b x
-each_after P before [] x h i = elim i [ ]
-each_after P before (y ∷ xs) x h at_front = (before, h.0)
-each_after P before (y ∷ xs) x h (behind i) = each_after P (before ++ y ∷ []) xs x h.1 i
-
-pub mapped_at : {A B : Type 0} (f : A → B) (xs : List A) (k : ℕ) (y : B) → slice_get (map f xs) k ≡ Some y → (x : A)
-    × (slice_get xs k ≡ Some x) × (f x ≡ y)
-mapped_at f [] k y e = cc
-mapped_at f (x ∷ xs) zero y e = (x, refl, cc)
-mapped_at f (x ∷ xs) (suc k) y e = mapped_at f xs k y e
 
 -- no item stands twice
 unfoldable pub Apart : {A : Type 0} → List A → Type 0

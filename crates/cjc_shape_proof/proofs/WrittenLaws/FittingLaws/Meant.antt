@@ -6,9 +6,11 @@ use Rattle.std.specs.Prelude.{not, ◌&&◌, ◌||◌, ◌==◌, codes, option_a
 use Rattle.std.specs.Prelude.{if◌then◌else◌}
 use Rattle.std.specs.Str.{bytes_eq}
 use Rattle.std.proofs.lemmas.Option.{slice_get-map}
-use Rattle.cjc_bytes.proofs.Inverse.{all_at}
 use Rattle.cjc_bytes.specs.AccessFlags.{is_interface, is_private, is_static}
 use Rattle.cjc_bytes.specs.Descriptor.{Parts}
+use Rattle.cjc_bytes.proofs.Gets.{all_at, in_front, get_behind, mapped_at}
+use Rattle.cjc_bytes.proofs.Lists.{bytes_true}
+use Rattle.cjc_bytes.proofs.Bools.{both_front}
 use Rattle.cjc_classfile.proofs.Fitting.{spelt_fits}
 use Rattle.cjc_classfile.specs.Fits as fits
 use Rattle.cjc_classfile.specs.declared.tree.ClassTree.{ClassTree}
@@ -22,18 +24,18 @@ use Rattle.cjc_export.specs.declared.tree.ExportMethod.{ExportMethod}
 use Rattle.cjc_shape.specs.Judge.Rules.{settings_of}
 use Rattle.cjc_shape.specs.Judge.declared.judged.Judged.{Judged}
 use Rattle.cjc_components.specs.List.Listed.{ListTree}
-use Rattle.cjc_subset.proofs.BytecodeMembers.{read_class}
-use Rattle.cjc_subset.specs.Bytecode.ReadLaws.Members.{IsDescOf}
-use Rattle.cjc_subset.specs.Members.{imports}
+use Rattle.cjc_ncode.proofs.BytecodeMembers.{read_class}
+use Rattle.cjc_ncode.specs.Bytecode.ReadLaws.Members.{IsDescOf}
+use Rattle.cjc_vtable.specs.Subset.Members.{imports}
 use Rattle.cjc_tokens.specs.Lines.{Declared, Imported, line_in}
 use Rattle.cjc_tokens.specs.Members.{Signature, is_constructor, is_initialiser, is_shown, is_virtual}
 use Rattle.cjc_tokens.specs.Slots.{got, implementing, own}
 use Rattle.cjc_world.proofs.UpwardLaws.Lines.{first_has, has-cons, line_named, listed_line}
 use Rattle.cjc_vtable.proofs.Filed.{Has, IsFiled, at-number, at_front, behind, filed, get-has, has-get, in_class_file}
-use Rattle.cjc_vtable.proofs.Filed.{in_export_file, of-imports}
-use Rattle.cjc_vtable.proofs.SlotNames.{get-behind, position-at}
+use Rattle.cjc_vtable.proofs.Filed.{in_export_file, of-imports, has-either}
+use Rattle.cjc_vtable.proofs.SlotNames.{position-at}
+use Rattle.cjc_vtable.proofs.Read.{each-after}
 use Rattle.cjc_world.proofs.Cycles.{class_named-name}
-use Rattle.cjc_world.proofs.Settled.{bytes-true}
 use Rattle.cjc_world.specs.Added.{added, asked_by, by_token, declares_open, has_open, is_one_of, lacking, methods_of}
 use Rattle.cjc_world.specs.Added.{own_methods, takes_added, with_token, without_initialiser}
 use Rattle.cjc_world.specs.Classes.{Class, Member, class_at, class_named, method_of_class, method_of_export}
@@ -47,8 +49,7 @@ use Rattle.cjc_shape_proof.proofs.WrittenLaws.FittingLaws.Flags.{HasMethodFlags,
 use Rattle.cjc_shape_proof.proofs.WrittenLaws.FittingLaws.Interfaces.{are_asked}
 use Rattle.cjc_shape_proof.proofs.WrittenLaws.FittingLaws.Limited.{acyclic, class_in_bytes, few_imports, are_supertypes}
 use Rattle.cjc_shape_proof.proofs.WrittenLaws.FittingLaws.Limited.{unbroken, writable}
-use Rattle.cjc_shape_proof.proofs.WrittenLaws.FittingLaws.Lists.{each_after, mapped_at}
-use Rattle.cjc_shape_proof.proofs.WrittenLaws.FittingLaws.Order.{has_cons, has_either, has_none}
+use Rattle.cjc_shape_proof.proofs.WrittenLaws.FittingLaws.Order.{has_cons, has_none}
 use Rattle.cjc_shape_proof.proofs.WrittenLaws.FittingLaws.Rules as Rules
 use Rattle.cjc_shape_proof.specs.Written.LaidOut.{IsLaidOut}
 
@@ -58,17 +59,6 @@ pub record IsMethodRead (m : Member) : Type 0 where
   pub name : IsText m.name
   pub desc : IsText m.desc
   pub is_desc : as_desc true m.desc ≡ Some m.desc
-
--- ---- lists
-
-front_at : {A : Type 0} (xs ys : List A) (k : ℕ) (x : A) → slice_get xs k ≡ Some x → slice_get (xs ++ ys) k ≡ Some x
-front_at [] ys k x e = cc
-front_at (y ∷ xs) ys zero x e = e
-front_at (y ∷ xs) ys (suc k) x e = front_at xs ys k x e
-
-both_first : (a b : Bool) → (a && b) ≡ true → a ≡ true
-both_first true b e = refl
-both_first false b e = cc
 
 -- ---- what an abstract class is asked for
 
@@ -101,7 +91,7 @@ with_has t (x ∷ ms) m h = by (x.token == t) h (with_has t ms m)
 
 by_has : (n t : ℕ) (ms : List Member) (m : Member) → Has m (by_token n t ms) → Has m ms
 by_has zero t ms m h = has_none m h
-by_has (suc n) t ms m h = ⊎_elim (λ g. with_has t ms m g) (λ g. by_has n (t + 1) ms m g) (has_either m (with_token t ms)
+by_has (suc n) t ms m h = ⊎_elim (λ g. with_has t ms m g) (λ g. by_has n (t + 1) ms m g) (has-either m (with_token t ms)
     (by_token n (t + 1) ms) h)
 
 own_has : (d : Class) (m : Member) → Has m (own_methods d) → Has m d.methods × (bytes_eq m.name (codes "<clinit>")
@@ -118,7 +108,7 @@ asked_has : (ds : List Class) (m : Member) → Has m (methods_of ds) → (d : Cl
 unfolding methods_of
 asked_has [] m h = has_none m h
 asked_has (d ∷ ds) m h = ⊎_elim (λ g. (d, at_front, g)) (λ g. let r = asked_has ds m g in (r.0, behind r.1, r.2))
-    (has_either m (own_methods d) (methods_of ds) h)
+    (has-either m (own_methods d) (methods_of ds) h)
 
 lacking_has : (there : Member → Bool) (given ms : List Member) (k : ℕ) (m : Member)
     → slice_get (lacking there given ms) k ≡ Some m → Has m ms
@@ -191,8 +181,8 @@ module _ (list : ListTree) (files : List (List ℕ)) (judged : Judged) (p : Pack
         let u = o.0 in
         let place = has-get u v.exports o.1 in
         let fits_one = writable list files judged p is place.0 u place.1 in
-        let f = (each_after ClassFits [] u.classes c fits_one.classes o.2).1 in
-        let r = each_after (MethodStands (is_interface c.flags) (length c.methods)) [] c.methods m f.methods h in
+        let f = (each-after ClassFits [] u.classes c fits_one.classes o.2).1 in
+        let r = each-after (MethodStands (is_interface c.flags) (length c.methods)) [] c.methods m f.methods h in
         by (is_interface c.flags) refl r.0 r.1
       where
         read : MethodFits m → IsMethodRead (method_of_export m)
@@ -200,7 +190,7 @@ module _ (list : ListTree) (files : List (List ℕ)) (judged : Judged) (p : Pack
 
         plain : not_special m.name ≡ Some m.name → (b : Bool) → is_constructor m.name ≡ b → b ≡ false
         plain s false g = refl
-        plain s true g = let name = bytes-true m.name (codes "<init>") g
+        plain s true g = let name = bytes_true m.name (codes "<init>") g
             in absurd (let z : None ≡ Some m.name = sym (ap not_special name) ∙ s in cc)
 
         by : (b : Bool) → is_interface c.flags ≡ b → (before : List ExportMethod)
@@ -284,8 +274,8 @@ module _ (list : ListTree) (files : List (List ℕ)) (judged : Judged) (p : Pack
             let same : member_at d (length d.fields + i) ≡ f = cc in
             let r = position-at (λ m. test m && is_called s.name s.desc m) d.methods i g in
             let n = named_method d.name d named r.0 (get-has r.0 d.methods i r.1) in
-            subst IsMeant same (place_meant d named i r.0 (front_at d.methods (map as_added (added w d)) i r.0 r.1) n.0
-            (bound r.0 (both_first (test r.0) (is_called s.name s.desc r.0) r.2)))
+            subst IsMeant same (place_meant d named i r.0 (in_front d.methods (map as_added (added w d)) i r.0 r.1) n.0
+            (bound r.0 (both_front (test r.0) (is_called s.name s.desc r.0) r.2)))
 
     got_meant : (d : Class) → class_named w d.name ≡ Some d → (s : Signature) (f : Found) → got (added w d) s d ≡ Some f
         → IsMeant f
@@ -302,7 +292,7 @@ module _ (list : ListTree) (files : List (List ℕ)) (judged : Judged) (p : Pack
             let r = position-at (λ m. is_called s.name s.desc m) (added w d) i g in
             let n = added_method d.name d named i r.0 r.1 in
             let there : slice_get (methods_with_added w d) (length d.methods + i) ≡ Some (as_added r.0) =
-            get-behind d.methods (map as_added (added w d)) i ∙ slice_get-map as_added (added w d) i
+            get_behind d.methods (map as_added (added w d)) i ∙ slice_get-map as_added (added w d) i
             ∙ ap (option_map as_added) r.1 in
             subst IsMeant (ap (member_at d) moved ∙ same) (place_meant d named (length d.methods + i) (as_added r.0)
             there

@@ -1,12 +1,14 @@
 -- The methods of a package that breaks no rule: their widest sizes, their forms and their handlers.
-use Rattle.std.proofs.Common.{◌≡◌, ℕ, zero, suc, ◌≤◌, refl, sym, ap, subst, ◌∙◌, arith, Bool, true, false, List, []}
-use Rattle.std.proofs.Common.{◌∷◌, ◌++◌, map, Some}
-use Rattle.std.specs.Prelude.{All, flat_map, option_map, slice_get}
+use Rattle.std.proofs.Common.{◌≡◌, ℕ, ◌≤◌, refl, sym, ap, subst, ◌∙◌, arith, List, []}
+use Rattle.std.proofs.Common.{◌∷◌, map, Some}
+use Rattle.std.specs.Prelude.{option_map, slice_get}
 use Rattle.std.proofs.lemmas.Bool.{ltb-false}
-use Rattle.std.proofs.lemmas.List.Elements.{All-head, All-tail}
 use Rattle.std.proofs.lemmas.Option.{slice_get-map}
 use Rattle.cjc_bytes.specs.Breaks.{at}
 use Rattle.cjc_bytes.specs.declared.fault.MemberId.{MemberId}
+use Rattle.cjc_bytes.proofs.Lists.{none_left, none_right}
+use Rattle.cjc_bytes.proofs.Gets.{item_has, mapped_at, none_each}
+use Rattle.cjc_bytes.proofs.Numbers.{none_at}
 use Rattle.cjc_components.specs.Descriptor.{method_in}
 use Rattle.cjc_components.specs.Limits.{form_breaks, has_many_entries, in_class, is_too_long, layout_breaks}
 use Rattle.cjc_components.specs.Limits.{method_spot, of_methods, order_breaks, spot_of_list}
@@ -44,37 +46,6 @@ use Rattle.cjc_world.specs.Files.{Files}
 use Rattle.cjc_world.specs.Order.{method_order}
 use Rattle.cjc_world.specs.declared.found.Found.{Found}
 use Rattle.cjc_components.specs.Narrow.Written.Rows.{has_rows, rows_by}
-
--- ---- lists
-
-none_left : {A : Type 0} (xs ys : List A) → xs ++ ys ≡ [] → xs ≡ []
-none_left [] ys e = refl
-none_left (x ∷ xs) ys e = cc
-
-none_right : {A : Type 0} (xs ys : List A) → xs ++ ys ≡ [] → ys ≡ []
-none_right [] ys e = e
-none_right (x ∷ xs) ys e = cc
-
-none_flat : {A B : Type 0} (f : A → List B) (xs : List A) (k : ℕ) (x : A) → flat_map f xs ≡ [] → slice_get xs k ≡ Some x
-    → f x ≡ []
-none_flat f [] k x e g = cc
-none_flat f (y ∷ xs) zero x e g = let is : y ≡ x = cc in ap f (sym is) ∙ none_left (f y) (flat_map f xs) e
-none_flat f (y ∷ xs) (suc k) x e g = none_flat f xs k x (none_right (f y) (flat_map f xs) e) g
-
-none_at : (b : Bool) (place : _) (rule : ℕ) → at b place rule ≡ [] → b ≡ false
-none_at false place rule e = refl
-none_at true place rule e = cc
-
-all_at : {A : Type 0} (P : A → Type 0) (xs : List A) (k : ℕ) (x : A) → All P xs → slice_get xs k ≡ Some x → P x
-all_at P [] k x all e = cc
-all_at P (y ∷ xs) zero x all e = let is : y ≡ x = cc in subst P is (All-head P y xs all)
-all_at P (y ∷ xs) (suc k) x all e = all_at P xs k x (All-tail P y xs all) e
-
-mapped_at : {A B : Type 0} (f : A → B) (xs : List A) (k : ℕ) (y : B) → slice_get (map f xs) k ≡ Some y → (x : A)
-    × (slice_get xs k ≡ Some x) × (f x ≡ y)
-mapped_at f [] k y e = cc
-mapped_at f (x ∷ xs) zero y e = (x, refl, cc)
-mapped_at f (x ∷ xs) (suc k) y e = mapped_at f xs k y e
 
 -- ---- the package
 
@@ -131,7 +102,7 @@ module _ (list : ListTree) (files : List (List ℕ)) (judged : Judged) (is : IsS
         ap (λ (fs : List Found). slice_get fs k) (sym (same_members list files judged is p d))
         ∙ slice_get-map (λ (x : LaidMethod). x.member) p.methods k ∙ ap (option_map (λ (x : LaidMethod). x.member))
         there in
-        all_at (IsOwn v) (method_order (all_classes v)) k m.member (all_own v (Sound.listed list files judged is))
+        item_has (IsOwn v) (method_order (all_classes v)) k m.member (all_own v (Sound.listed list files judged is))
         listed
 
     -- where it has an instruction it is selected
@@ -174,7 +145,7 @@ module _ (list : ListTree) (files : List (List ℕ)) (judged : Judged) (is : IsS
     short : form_breaks p ≡ [] → (let c = m.code in c.widest ≤ 32767)
     short kept =
         let all = none_left (of_methods p (layout_breaks p)) (at (has_many_entries p) (spot_of_list p) 414) kept in
-        let one = none_flat (λ (x : LaidMethod). let f = x.member
+        let one = none_each (λ (x : LaidMethod). let f = x.member
         in in_class (layout_breaks p) x (class_at (world p) f.imported f.class)) p.methods k m all there in
         by own_member.class (ap (λ (fs : Files). (let f = m.member in class_at (all_classes fs) f.imported f.class))
         same_files ∙ own_member.is_class) one

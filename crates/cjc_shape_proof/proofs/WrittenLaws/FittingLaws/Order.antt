@@ -1,26 +1,22 @@
 -- How much the classes of a package are together: each class file stands at most once in the order of Class.
 use Rattle.std.proofs.Common.{◌≡◌, ℕ, zero, suc, ◌+◌, ◌≤◌, refl, sym, ap, subst, ◌∙◌, arith, Bool, true, false, List}
 use Rattle.std.proofs.Common.{[], ◌∷◌, ◌++◌, length, map, Option, Some, None, inl, inr, ⊎_elim}
-use Rattle.std.specs.Prelude.{not, ◌&&◌, ◌||◌, ◌==◌, ◌⊎◌, option_map, slice_get, sum_by, if◌then◌else◌}
+use Rattle.std.specs.Prelude.{not, ◌&&◌, ◌==◌, ◌⊎◌, option_map, slice_get, sum_by}
 use Rattle.std.proofs.lemmas.Bool.Decides.{nat_tests}
 use Rattle.std.proofs.lemmas.List.Sums.{sum_by-cons}
 use Rattle.cjc_bytes.specs.AccessFlags.{is_interface}
 use Rattle.cjc_vtable.proofs.ClassOrderDeclared.{order_declared}
-use Rattle.cjc_vtable.proofs.ClassOrderStanding.{is_in-more}
 use Rattle.cjc_vtable.specs.ClassOrder.Classes.Numbers.{declared_at, numbered_from}
 use Rattle.cjc_classfile.specs.declared.tree.ClassTree.{ClassTree}
-use Rattle.cjc_vtable.proofs.Filed.{Has, at_front, behind}
+use Rattle.cjc_vtable.proofs.Filed.{Has, at_front, behind, has-either}
 use Rattle.cjc_world.specs.Classes.{Class, all_classes, declared}
 use Rattle.cjc_world.specs.Files.{Files}
-use Rattle.cjc_world.specs.Order.{and_then, class_order, in_order, is_in, is_of_kind, lined_up, may_stand, next, waits}
+use Rattle.cjc_world.specs.Order.{and_then, class_order, in_order, is_in, is_of_kind, lined_up, next, waits}
 use Rattle.cjc_shape_proof.proofs.WrittenLaws.FittingLaws.Lists.{Apart, sum_within}
+use Rattle.cjc_vtable.proofs.ClassOrderStanding.{next-waits}
+use Rattle.cjc_token_proof.proofs.ComponentsLaws.Apart.{in_neither}
 
 -- ---- lists
-
-pub has_either : {A : Type 0} (x : A) (xs ys : List A) → Has x (xs ++ ys) → Has x xs ⊎ Has x ys
-has_either x [] ys h = inr h
-has_either x (y ∷ xs) ys at_front = inl at_front
-has_either x (y ∷ xs) ys (behind h) = ⊎_elim (λ g. inl (behind g)) (λ g. inr g) (has_either x xs ys h)
 
 apart_append : {A : Type 0} (xs ys : List A) → Apart xs → Apart ys → ((x : A) → Has x xs → Has x ys → ⊥)
     → Apart (xs ++ ys)
@@ -29,7 +25,7 @@ apart_append [] ys a b none = b
 apart_append {A} (x ∷ xs) ys a b none = (here, apart_append xs ys a.1 b (λ y h g. none y (behind h) g))
   where
     here : Has x (xs ++ ys) → ⊥
-    here h = ⊎_elim (λ g. a.0 g) (λ g. none x at_front g) (has_either x xs ys h)
+    here h = ⊎_elim (λ g. a.0 g) (λ g. none x at_front g) (has-either x xs ys h)
 
 pub has_cons : {A : Type 0} (x y : A) (xs : List A) → Has x (y ∷ xs) → (x ≡ y) ⊎ Has x xs
 has_cons x y xs at_front = inl refl
@@ -37,15 +33,6 @@ has_cons x y xs (behind h) = inr h
 
 pub has_none : {A B : Type 0} (x : A) → Has x [] → B
 has_none x h = elim h [ ]
-
-pub has_back : {A : Type 0} (x : A) (xs ys : List A) → Has x ys → Has x (xs ++ ys)
-has_back x [] ys h = h
-has_back x (y ∷ xs) ys h = behind (has_back x xs ys h)
-
-pub has_get : {A : Type 0} (x : A) (xs : List A) (k : ℕ) → slice_get xs k ≡ Some x → Has x xs
-has_get x [] k e = cc
-has_get x (y ∷ xs) zero e = let is : y ≡ x = cc in subst (λ z. Has x (z ∷ xs)) (sym is) at_front
-has_get x (y ∷ xs) (suc k) e = behind (has_get x xs k e)
 
 -- ---- classes by number
 
@@ -120,33 +107,6 @@ ones {A} (x ∷ xs) = let a = sum_by-cons (λ (y : A). 1) x xs in let rest = one
 
 -- ---- each stands once
 
-in_placed : (placed : List ℕ) (k n : ℕ) → is_in (placed ++ k ∷ []) n ≡ false → (is_in placed n ≡ false)
-    × ((k == n) ≡ false)
-in_placed placed k n e = by (is_in placed n) (k == n) (sym (is_in-more placed k n) ∙ e)
-  where
-    by : (a b : Bool) → (a || (b || false)) ≡ false → (a ≡ false) × (b ≡ false)
-    by true b f = cc
-    by false true f = cc
-    by false false f = (refl, refl)
-
-next_waits : (w : List Class) (i : Bool) (placed : List ℕ) (cs : List Class) (c : Class) → next w i placed cs ≡ Some c
-    → waits i placed c ≡ true
-unfolding next may_stand
-next_waits w i placed [] c e = cc
-next_waits w i placed (d ∷ cs) c e = by (may_stand w i placed d) refl e (next_waits w i placed cs c)
-  where
-    stands : may_stand w i placed d ≡ true → waits i placed d ≡ true
-    stands f = first (waits i placed d) _ f
-      where
-        first : (a b : Bool) → (a && b) ≡ true → a ≡ true
-        first true b g = refl
-        first false b g = cc
-
-    by : (b : Bool) → may_stand w i placed d ≡ b → (if b then Some d else next w i placed cs) ≡ Some c
-        → (next w i placed cs ≡ Some c → waits i placed c ≡ true) → waits i placed c ≡ true
-    by true f g rest = let is : d ≡ c = cc in subst (λ (x : Class). waits i placed x ≡ true) is (stands f)
-    by false f g rest = rest g
-
 waits_parts : (i : Bool) (placed : List ℕ) (c : Class) → waits i placed c ≡ true → (is_of_kind i c ≡ true)
     × (is_in placed c.number ≡ false)
 waits_parts i placed c e = by c.is_imported (is_of_kind i c) (is_in placed c.number) e
@@ -169,7 +129,7 @@ module _ (w : List Class) (i : Bool) where
           × (is_in (placed ++ d.number ∷ []) c.number ≡ false))
           → (is_of_kind i c ≡ true) × (is_in placed c.number ≡ false)
       front d e at_front more = waits_parts i placed c e
-      front d e (behind g) more = let r = more g in (r.0, (in_placed placed d.number c.number r.1).0)
+      front d e (behind g) more = let r = more g in (r.0, (in_neither placed d.number c.number r.1).0)
 
       by : (o : Option Class) → next w i placed w ≡ o
           → Has c (and_then o (λ d. lined_up w i n (placed ++ d.number ∷ [])))
@@ -177,7 +137,7 @@ module _ (w : List Class) (i : Bool) where
           × (is_in (placed ++ d.number ∷ []) c.number ≡ false)) → (is_of_kind i c ≡ true)
           × (is_in placed c.number ≡ false)
       by None e g more = elim g [ ]
-      by (Some d) e g more = front d (next_waits w i placed w d e) g (more d)
+      by (Some d) e g more = front d (next-waits w i placed w d e) g (more d)
 
   lined_apart : (n : ℕ) (placed : List ℕ) → Apart (lined_up w i n placed)
   unfolding lined_up Apart
@@ -196,7 +156,7 @@ module _ (w : List Class) (i : Bool) where
       by None more = tt
       by (Some d) more = (
         (λ h. let r = lined_new n (placed ++ d.number ∷ []) d h
-            in clash (d.number == d.number) (own d.number) (in_placed placed d.number d.number r.1).1),
+            in clash (d.number == d.number) (own d.number) (in_neither placed d.number d.number r.1).1),
         more d,
       )
 
@@ -244,7 +204,7 @@ module _ (files : Files) where
   pub order_filed : (c : Class) → Has c (class_order w) → (t : ClassTree) × (slice_get files.classes c.number ≡ Some t)
       × (c ≡ declared c.number t)
   unfolding class_order
-  order_filed c h = ⊎_elim (λ g. kind_filed true c g) (λ g. kind_filed false c g) (has_either c (in_order w true)
+  order_filed c h = ⊎_elim (λ g. kind_filed true c g) (λ g. kind_filed false c g) (has-either c (in_order w true)
       (in_order w false) h)
 
   in_files : (c : Class) → (t : ClassTree) × (slice_get files.classes c.number ≡ Some t) × (c ≡ declared c.number t)

@@ -7,15 +7,16 @@ use Rattle.std.specs.Prelude.{if◌then◌else◌}
 use Rattle.std.specs.List.{list_any}
 use Rattle.std.proofs.lemmas.List.{length-map}
 use Rattle.std.proofs.lemmas.Option.{slice_get-map}
+use Rattle.std.proofs.lemmas.Bool.{or_parts}
 use Rattle.cjc_bytes.specs.AccessFlags.{is_interface, is_private, is_protected, is_public, is_static}
+use Rattle.cjc_bytes.proofs.Bools.{or_true}
+use Rattle.cjc_bytes.proofs.Gets.{in_front, get_behind}
 use Rattle.cjc_classfile.specs.declared.tree.ClassTree.{ClassTree}
-use Rattle.cjc_classfile.specs.declared.tree.FieldTree.{FieldTree}
 use Rattle.cjc_components.specs.ExportFile.{is_listed}
 use Rattle.cjc_export.specs.Members.{is_unbound}
 use Rattle.cjc_narrow_proof.proofs.LawsLaws.Own.{first_here}
-use Rattle.cjc_subset.specs.Flags.{has_two_accesses}
+use Rattle.cjc_vtable.specs.Subset.Flags.{has_two_accesses}
 use Rattle.cjc_tokens.proofs.Facts.{has-got_none, has-own_none, same-refl}
-use Rattle.cjc_tokens.proofs.Held.{at_front}
 use Rattle.cjc_tokens.proofs.Means.{kept-at}
 use Rattle.cjc_tokens.specs.Fields.{field_tokens}
 use Rattle.cjc_tokens.specs.Lines.{Line, line_at, line_in}
@@ -26,9 +27,9 @@ use Rattle.cjc_tokens.specs.Methods.{is_open_bound}
 use Rattle.cjc_tokens.specs.Slots.{Slots, got, hidden_slots, implementing, own, row, shown_token, slots, token}
 use Rattle.cjc_tokens.specs.Tokens.{OfClass, assigned, joined, method_tokens, token_of_member}
 use Rattle.cjc_vtable.proofs.Shown.{declared-token}
-use Rattle.cjc_vtable.proofs.SlotNames.{get-behind}
 use Rattle.cjc_vtable.proofs.Towers.{declared-own, row_at}
 use Rattle.cjc_vtable.specs.Tables.{is_own}
+use Rattle.cjc_vtable.proofs.Given.{shown-open}
 use Rattle.cjc_world.specs.Added.{added, asked_by, declares_open, has_open, is_one_of, is_open, lacking, takes_added}
 use Rattle.cjc_world.specs.Classes.{Class, Member, all_classes, declared, field_of_class}
 use Rattle.cjc_world.specs.Exported.{is_exported}
@@ -37,6 +38,7 @@ use Rattle.cjc_world.specs.Supertypes.{supertypes}
 use Rattle.cjc_world.specs.Lookup.{is_called, member_at, or_else}
 use Rattle.cjc_world.specs.Rules.{is_twice}
 use Rattle.cjc_world.specs.declared.found.Found.{Found}
+use Rattle.cjc_classes.proofs.KeyTokens.Kept.{fields_long, method_row, rows_long}
 
 -- ---- kinds of methods
 
@@ -100,25 +102,7 @@ bound_hidden m e = by (is_exposed m.flags) (is_private m.flags) (is_static m.fla
     by true false false true false e = (refl, refl)
     by true false false false false e = cc
 
-shown_open : (m : Member) → is_shown m ≡ true → is_open m.flags ≡ true
-shown_open m e = by (is_exposed m.flags) (is_private m.flags) (is_static m.flags) (is_constructor m.name
-    || is_initialiser m.name) e
-  where
-    by : (a p s v : Bool) → (a && ((not p && not s) && not v)) ≡ true → (a && not s) ≡ true
-    by true false false v e = refl
-    by true false true v e = cc
-    by true true s v e = cc
-    by false p s v e = cc
-
 -- ---- lists
-
-or_true : (b : Bool) → (b || true) ≡ true
-or_true true = refl
-or_true false = refl
-
-or_off : (a b : Bool) → (a || b) ≡ false → (a ≡ false) × (b ≡ false)
-or_off true b e = cc
-or_off false b e = (refl, e)
 
 has_shown : (ms : List Member) (k : ℕ) (m : Member) → slice_get ms k ≡ Some m → is_shown m ≡ true
     → has (signatures is_shown ms) (signature_of m) ≡ true
@@ -166,8 +150,8 @@ one_front (x ∷ xs) ys name desc e = by (is_called name desc x) (one_front xs y
 
 one_back : (xs : List Member) (m : Member) (name desc : List ℕ) → is_one_of (xs ++ m ∷ []) name desc ≡ false
     → is_called name desc m ≡ false
-one_back [] m name desc e = (or_off (is_called name desc m) false e).0
-one_back (x ∷ xs) m name desc e = one_back xs m name desc (or_off (is_called name desc x) (is_one_of (xs
+one_back [] m name desc e = (or_parts (is_called name desc m) false e).0
+one_back (x ∷ xs) m name desc e = one_back xs m name desc (or_parts (is_called name desc x) (is_one_of (xs
     ++ m ∷ []) name desc) e).1
 
 -- ---- added methods
@@ -225,35 +209,6 @@ module _ (there : Member → Bool) where
 
 -- ---- a class of the package
 
-fields_long : (exported : Bool) (fs : List FieldTree) (i : ℕ) (rest : List FieldTree)
-    → length (field_tokens exported fs i rest) ≡ length rest
-unfolding field_tokens
-fields_long exported fs i [] = refl
-fields_long exported fs i (f ∷ rest) = ap suc (fields_long exported fs (i + 1) rest)
-
-methods_long : (exported : Bool) (shown : Signature → Option ℕ) (hidden : Slots) (ms : List Member) (i : ℕ)
-    (rest : List Member)
-    → length (class_method_tokens exported shown hidden ms i rest) ≡ length rest
-unfolding class_method_tokens
-methods_long exported shown hidden ms i [] = refl
-methods_long exported shown hidden ms i (m ∷ rest) = ap suc (methods_long exported shown hidden ms (i + 1) rest)
-
-method_row : (exported : Bool) (shown : Signature → Option ℕ) (hidden : Slots) (ms : List Member) (i : ℕ)
-    (rest : List Member) (k : ℕ) (m : Member) → slice_get rest k ≡ Some m
-    → slice_get (class_method_tokens exported shown hidden ms i rest) k ≡ Some (class_method_token exported shown hidden
-    ms (i + k) m)
-unfolding class_method_tokens
-method_row exported shown hidden ms i [] k m e = cc
-method_row exported shown hidden ms i (x ∷ rest) zero m e =
-    let one : x ≡ m = cc in
-    let z : i ≡ i + 0 = omega arith in
-    ap (λ (y : Member). Some (class_method_token exported shown hidden ms i y)) one
-    ∙ ap (λ j. Some (class_method_token exported shown hidden ms j m)) z
-method_row exported shown hidden ms i (x ∷ rest) (suc k) m e =
-    let s : i + 1 + k ≡ i + suc k = omega arith in
-    method_row exported shown hidden ms (i + 1) rest k m e
-    ∙ ap (λ j. Some (class_method_token exported shown hidden ms j m)) s
-
 module _ (files : Files) (applets : Bool) (n : ℕ) (t : ClassTree) (there : slice_get files.classes n ≡ Some t)
     (plain : is_interface t.flags ≡ false) where
   abbrev w : List Class
@@ -289,7 +244,7 @@ module _ (files : Files) (applets : Bool) (n : ℕ) (t : ClassTree) (there : sli
       ∙ sym (fields_long ex t.fields 0 t.fields) in
       ap (option_and_then (λ (x : OfClass). joined (slice_get x.members (length c.fields + j)))) k.1
       ∙ ap (λ i. joined (slice_get (fields ++ method_tokens w ex c) (i + j))) counted
-      ∙ ap joined (get-behind fields (method_tokens w ex c) j)
+      ∙ ap joined (get_behind fields (method_tokens w ex c) j)
 
   abbrev own_tokens : List (Option ℕ)
   own_tokens = class_method_tokens (is_exported w applets c) shown_ones hidden_ones c.methods 0 c.methods
@@ -308,7 +263,7 @@ module _ (files : Files) (applets : Bool) (n : ℕ) (t : ClassTree) (there : sli
       let ex = is_exported w applets c in
       in_row k
       ∙ ap (λ xs. joined (slice_get xs k)) as_methods
-      ∙ ap joined (at_front own_tokens (map slot_of given) k _ (method_row ex shown_ones hidden_ones c.methods 0
+      ∙ ap joined (in_front own_tokens (map slot_of given) k _ (method_row ex shown_ones hidden_ones c.methods 0
       c.methods k m at))
       ∙ ap (λ j. class_method_token ex shown_ones hidden_ones c.methods j m) zk
 
@@ -317,12 +272,12 @@ module _ (files : Files) (applets : Bool) (n : ℕ) (t : ClassTree) (there : sli
   added_token i m at =
       let moved : length c.fields + length c.methods + i ≡ length c.fields + (length c.methods + i) = omega arith in
       let counted : length c.methods ≡ length own_tokens =
-      sym (methods_long (is_exported w applets c) shown_ones hidden_ones c.methods 0 c.methods) in
+      sym (rows_long (is_exported w applets c) shown_ones hidden_ones c.methods 0 c.methods) in
       ap token_at moved
       ∙ in_row (length c.methods + i)
       ∙ ap (λ xs. joined (slice_get xs (length c.methods + i))) as_methods
       ∙ ap (λ j. joined (slice_get (own_tokens ++ map slot_of given) (j + i))) counted
-      ∙ ap joined (get-behind own_tokens (map slot_of given) i)
+      ∙ ap joined (get_behind own_tokens (map slot_of given) i)
       ∙ ap joined (slice_get-map slot_of given i)
       ∙ ap (λ o. joined (option_map slot_of o)) at
 
@@ -435,7 +390,7 @@ module _ (files : Files) (applets : Bool) (n : ℕ) (t : ClassTree) (there : sli
 
       opens : declares_open x.name x.desc c ≡ true
       opens = any_at (λ q. is_open q.flags && is_called x.name x.desc q) c.methods j m e (ap (λ b. b
-          && is_called x.name x.desc m) (shown_open m is) ∙ ap (λ s. same s (signature_of x)) same_one
+          && is_called x.name x.desc m) (shown-open m is) ∙ ap (λ s. same s (signature_of x)) same_one
           ∙ same-refl (signature_of x))
 
       by : (b : Bool)
@@ -443,6 +398,7 @@ module _ (files : Files) (applets : Bool) (n : ℕ) (t : ClassTree) (there : sli
           else []) k ≡ Some x → ⊥
       by true g =
           let none = (lacking_new test [] (asked_by (supertypes w c.supers) (supertypes w c.interfaces)) k x g).0 in
-          let off = (or_off (declares_open x.name x.desc c) (has_open x.name x.desc (supertypes w c.supers)) none).0 in
+          let off = (or_parts (declares_open x.name x.desc c) (has_open x.name x.desc
+          (supertypes w c.supers)) none).0 in
           absurd (let z : true ≡ false = sym opens ∙ off in cc)
       by false g = cc

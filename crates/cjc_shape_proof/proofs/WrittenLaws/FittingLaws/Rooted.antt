@@ -3,6 +3,7 @@ use Rattle.std.proofs.Common.{◌≡◌, ℕ, ◌≤◌, refl, sym, ap, ◌∙�
 use Rattle.std.proofs.Common.{⊎_elim, Some, None}
 use Rattle.std.specs.Prelude.{◌⊎◌, ◌||◌, slice_get, if◌then◌else◌}
 use Rattle.std.specs.Str.{bytes_eq}
+use Rattle.std.proofs.lemmas.Bool.{or_left, or_right}
 use Rattle.cjc_classfile.specs.declared.tree.ClassTree.{ClassTree}
 use Rattle.cjc_export.proofs.Rooted.{has_root}
 use Rattle.cjc_export.specs.Root.{object}
@@ -22,28 +23,18 @@ use Rattle.cjc_world.specs.Rules.{breaks}
 use Rattle.cjc_world.specs.Supertypes.{AreSupertypes, IsAcyclic, Lists, Supertypes, after, ends, foremost, known_here}
 use Rattle.cjc_world.specs.Supertypes.{supertypes, unknown_here}
 use Rattle.cjc_world.proofs.Cycles.{class_named-name}
-use Rattle.cjc_world.proofs.Settled.{bytes-refl, bytes-true, supertypes-AreSupertypes}
+use Rattle.cjc_world.proofs.Settled.{supertypes-AreSupertypes}
+use Rattle.cjc_bytes.proofs.Lists.{name_is, bytes_true}
+use Rattle.cjc_bytes.proofs.Bools.{or_cases}
 
 -- ---- lists of names
-
-or_left : (a b : Bool) → a ≡ true → (a || b) ≡ true
-or_left true b e = refl
-or_left false b e = cc
-
-or_right : (a b : Bool) → b ≡ true → (a || b) ≡ true
-or_right true b e = refl
-or_right false b e = e
-
-or_either : (a b : Bool) → (a || b) ≡ true → (a ≡ true) ⊎ (b ≡ true)
-or_either true b e = inl refl
-or_either false b e = inr e
 
 root_front : (xs ys : List (List ℕ)) → has_root xs ≡ true → has_root (xs ++ ys) ≡ true
 root_front [] ys e = cc
 root_front (x ∷ xs) ys e = ⊎_elim
     (λ f. or_left (bytes_eq x object) (has_root (xs ++ ys)) f)
     (λ f. or_right (bytes_eq x object) (has_root (xs ++ ys)) (root_front xs ys f))
-    (or_either (bytes_eq x object) (has_root xs) e)
+    (or_cases (bytes_eq x object) (has_root xs) e)
 
 root_behind : (xs ys : List (List ℕ)) → has_root ys ≡ true → has_root (xs ++ ys) ≡ true
 root_behind [] ys e = e
@@ -60,7 +51,7 @@ still_seen [] x f e = by (bytes_eq x object) f e
 still_seen (y ∷ seen) x f e = ⊎_elim
     (λ g. or_left (bytes_eq y object) (is_one_of seen object) g)
     (λ g. or_right (bytes_eq y object) (is_one_of seen object) (still_seen seen x f g))
-    (or_either (bytes_eq y object) (is_one_of (seen ++ x ∷ []) object) e)
+    (or_cases (bytes_eq y object) (is_one_of (seen ++ x ∷ []) object) e)
 
 -- each name once has it where the names have it
 once_root : (seen xs : List (List ℕ)) → has_root xs ≡ true → (is_one_of seen object ≡ true)
@@ -74,7 +65,7 @@ once_root seen (x ∷ xs) e = by (bytes_eq x object) (is_one_of seen x) refl ref
         → (is_one_of (seen ++ x ∷ []) object ≡ true) ⊎ (has_root (each_once (seen ++ x ∷ []) xs) ≡ true))
         → (is_one_of seen object ≡ true) ⊎ (has_root (if b then each_once seen xs else x ∷ each_once (seen
         ++ x ∷ []) xs) ≡ true)
-    by true true f g e old new = inl (ap (is_one_of seen) (sym (bytes-true x object f)) ∙ g)
+    by true true f g e old new = inl (ap (is_one_of seen) (sym (bytes_true x object f)) ∙ g)
     by true false f g e old new = inr (or_left (bytes_eq x object) (has_root (each_once (seen ++ x ∷ []) xs)) f)
     by false true f g e old new = old e
     by false false f g e old new = ⊎_elim
@@ -89,13 +80,13 @@ listed_root w xs k ends h = cc
 listed_root w xs k (unknown_here {x = x} {xs = rest} {next = next} none n) h = ⊎_elim
     (λ f. or_left (bytes_eq x object) (has_root (names_upwards next)) f)
     (λ f. or_right (bytes_eq x object) (has_root (names_upwards next)) (listed_root w rest next n f))
-    (or_either (bytes_eq x object) (has_root rest) h)
+    (or_cases (bytes_eq x object) (has_root rest) h)
 listed_root w xs k (known_here {x = x} {xs = rest} {c = c} {supers = s} {next = next} f sk ik n) h = ⊎_elim
     (λ g. or_left (bytes_eq c.name object) (has_root (names_upwards s ++ names_upwards next))
     (ap (λ y. bytes_eq y object) (class_named-name w x c f) ∙ g))
     (λ g. or_right (bytes_eq c.name object) (has_root (names_upwards s ++ names_upwards next))
     (root_behind (names_upwards s) (names_upwards next) (listed_root w rest next n g)))
-    (or_either (bytes_eq x object) (has_root rest) h)
+    (or_cases (bytes_eq x object) (has_root rest) h)
 
 -- ---- the classes of a package
 
@@ -135,7 +126,7 @@ module _ (list : List ℕ) (files : Files) (own_listed : length files.classes �
       or_right (bytes_eq y object) (has_root (names_upwards next)) (names_root x rest next d n l e)
   names_root x xs k d (known_here {c = c} {supers = s} {next = next} f sk ik n) foremost e = ⊎_elim
       (λ same. or_left (bytes_eq c.name object) (has_root (names_upwards s ++ names_upwards next))
-      (ap (λ y. bytes_eq y object) same ∙ bytes-refl object))
+      (ap (λ y. bytes_eq y object) same ∙ name_is object))
       (λ up. or_right (bytes_eq c.name object) (has_root (names_upwards s ++ names_upwards next))
       (root_front (names_upwards s) (names_upwards next) up))
       (class_root c (filed files x c f) s sk (λ y b l g. names_root y c.supers s b sk l g))

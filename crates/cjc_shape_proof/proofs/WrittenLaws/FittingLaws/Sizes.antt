@@ -5,13 +5,13 @@ use Rattle.std.specs.Prelude.{◌||◌, nat_lt, if◌then◌else◌}
 use Rattle.std.proofs.lemmas.Bool.Decides.{nat_tests}
 use Rattle.std.proofs.lemmas.Bool.{ltb-false}
 use Rattle.cjc_bytes.specs.Breaks.{at}
+use Rattle.cjc_bytes.proofs.Bools.{or_left}
 use Rattle.cjc_classes.specs.CapRead.declared.tree.CapTree.{CapTree}
 use Rattle.cjc_components.specs.CapWrite.Files.{ends_too_far, infos_of, is_too_large, limit_of}
 use Rattle.cjc_components.specs.Components.{components_of}
 use Rattle.cjc_components.specs.Limits.{form_breaks, has_many_entries, layout_breaks, of_methods, size_breaks}
 use Rattle.cjc_components.specs.Limits.{spot_of_list, widest_method}
 use Rattle.cjc_components.specs.Package.{Package, pool}
-use Rattle.cjc_shape_proof.proofs.WrittenLaws.FittingLaws.Exported.{or_first}
 
 low : (n : ℕ) → n ≤ 65535 → nat_lt 65535 n ≡ false
 low n le = grind (arith, nat_tests)
@@ -38,7 +38,7 @@ sizes_kept p counted none =
 -- 414
 pub entries_few : (p : Package) → form_breaks p ≡ [] → length (pool p) ≤ 16383
 entries_few p kept =
-    ltb-false 16383 (length (pool p)) (or_first _ _ (off (has_many_entries p) (back (of_methods p (layout_breaks p))
+    ltb-false 16383 (length (pool p)) (or_left _ _ (off (has_many_entries p) (back (of_methods p (layout_breaks p))
     (at (has_many_entries p) (spot_of_list p) 414) kept)))
   where
     back : {A : Type 0} (xs ys : List A) → xs ++ ys ≡ [] → ys ≡ []

@@ -8,6 +8,8 @@ use Rattle.std.proofs.lemmas.Bool.{ltb-false}
 use Rattle.std.proofs.lemmas.Bool.Decides.{nat_tests}
 use Rattle.std.proofs.lemmas.List.{length-map}
 use Rattle.cjc_bytes.specs.AccessFlags.{is_interface}
+use Rattle.cjc_bytes.proofs.Bools.{or_left, or_right}
+use Rattle.cjc_bytes.proofs.Quantified.{all_both}
 use Rattle.cjc_tokens.proofs.Facts.{position-cons, same-refl}
 use Rattle.cjc_tokens.specs.Lines.{Declared, Imported, Line, line_at, line_in}
 use Rattle.cjc_tokens.specs.Members.{In, Signature, all_methods, first_of, has, is_exposed, is_hidden, is_shown}
@@ -24,7 +26,6 @@ use Rattle.cjc_world.specs.Added.{added}
 use Rattle.cjc_world.specs.Classes.{Class, Member, class_named}
 use Rattle.cjc_world.specs.Supertypes.{End, AreSupertypes, Supertypes, Known, Lists, Unknown, after, ends, foremost}
 use Rattle.cjc_world.specs.Supertypes.{supertypes, known_here, unknown_here, upwards}
-use Rattle.cjc_shape_proof.proofs.WrittenLaws.FittingLaws.Lists.{all_both}
 
 -- ---- new slots
 
@@ -74,22 +75,14 @@ length_new S ss = let a = length-append S (map Some (new_in S ss)) in let b =
 
 -- ---- which have low tokens
 
-none_first : (a b : Bool) → (a || b) ≡ false → a ≡ false
-none_first true b e = cc
-none_first false b e = refl
-
-none_second : (a b : Bool) → (a || b) ≡ false → b ≡ false
-none_second true b e = cc
-none_second false b e = e
-
 -- of methods whose low tokens are those of low slots
 shown_low : (T : Signature → Option ℕ) (S H : Slots) (ms : List Member) → ((m : Member) → In m ms → is_shown m ≡ true
     → is_above 127 (T (signature_of m)) ≡ false → is_above 127 (token S (signature_of m)) ≡ false)
     → list_any (λ m. is_above 127 (virtual_token T H m)) ms ≡ false
     → AllByRecursion (λ s. is_above 127 (token S s) ≡ false) (signatures is_shown ms)
 shown_low T S H [] slot e = tt
-shown_low T S H (m ∷ ms) slot e = by (is_shown m) refl (none_first _ _ e) (shown_low T S H ms (λ n i. slot n (later i))
-    (none_second _ _ e))
+shown_low T S H (m ∷ ms) slot e = by (is_shown m) refl (or_left _ _ e) (shown_low T S H ms (λ n i. slot n (later i))
+    (or_right _ _ e))
   where
     by : (b : Bool) → is_shown m ≡ b → is_above 127 (if b then T (signature_of m) else if is_hidden m
         then token H (signature_of m) else None) ≡ false
@@ -103,8 +96,8 @@ hidden_low : (T : Signature → Option ℕ) (H : Slots) (ms : List Member)
     → list_any (λ m. is_above 127 (virtual_token T H m)) ms ≡ false
     → AllByRecursion (λ s. is_above 127 (token H s) ≡ false) (signatures is_hidden ms)
 hidden_low T H [] e = tt
-hidden_low T H (m ∷ ms) e = by (is_exposed m.flags) (is_virtual m) (none_first _ _ e)
-    (hidden_low T H ms (none_second _ _ e))
+hidden_low T H (m ∷ ms) e = by (is_exposed m.flags) (is_virtual m) (or_left _ _ e)
+    (hidden_low T H ms (or_right _ _ e))
   where
     by : (a b : Bool) → is_above 127 (if (a && b) then T (signature_of m) else if (not a && b)
         then token H (signature_of m) else None) ≡ false → AllByRecursion (λ s. is_above 127 (token H s) ≡ false)
@@ -121,8 +114,8 @@ given_low : (T : Signature → Option ℕ) (S : Slots) (ms : List Member) → ((
     → AllByRecursion (λ s. is_above 127 (token S s) ≡ false) (map signature_of ms)
 given_low T S [] slot e = tt
 given_low T S (m ∷ ms) slot e = (
-  slot m first_of (none_first _ _ e),
-  given_low T S ms (λ n i. slot n (later i)) (none_second _ _ e),
+  slot m first_of (or_left _ _ e),
+  given_low T S ms (λ n i. slot n (later i)) (or_right _ _ e),
 )
 
 has_given : (ms : List Member) (m : Member) → In m ms → has (map signature_of ms) (signature_of m) ≡ true
@@ -302,9 +295,9 @@ module _ (w : List Class) (are_supertypes : (xs : List (List ℕ)) → AreSupert
       by false im rest =
           let L = Declared c (added w c) (line_in w supers) in
           let none : HighAt L ≡ false = ap HighAt (sym (at_line im)) ∙ own.own im (plain x c foremost e) in
-          let a = none_first (list_any (λ m. is_above 127 (virtual_token (shown_token L) (hidden_slots L) m)) c.methods)
+          let a = or_left (list_any (λ m. is_above 127 (virtual_token (shown_token L) (hidden_slots L) m)) c.methods)
           (list_any (λ m. is_above 127 (shown_token L (signature_of m))) (added w c)) none in
-          let b = none_second (list_any (λ m. is_above 127 (virtual_token (shown_token L) (hidden_slots L) m))
+          let b = or_right (list_any (λ m. is_above 127 (virtual_token (shown_token L) (hidden_slots L) m))
           c.methods) (list_any (λ m. is_above 127 (shown_token L (signature_of m))) (added w c)) none in (
             own_few c (added w c) (line_in w supers) im a b rest.0,
             own_hidden_few c (added w c) (line_in w supers) im a

@@ -14,12 +14,12 @@ use Rattle.cjc_export.specs.Members.{is_unbound, method_token_wrong, same_bool}
 use Rattle.cjc_export.specs.Writable.{EachAfter, MethodFits, MethodStands}
 use Rattle.cjc_export.specs.declared.tree.ExportMethod.{ExportMethod}
 use Rattle.cjc_tokens.specs.Members.{is_exposed}
-use Rattle.cjc_vtable.proofs.Filed.{Has, at_front, behind}
+use Rattle.cjc_vtable.proofs.Filed.{Has, at_front, behind, has-either}
 use Rattle.cjc_vtable.specs.Tables.{is_own}
 use Rattle.cjc_world.specs.Classes.{Class, Member}
 use Rattle.cjc_world.specs.Lookup.{member_at}
 use Rattle.cjc_world.specs.declared.found.Found.{Found}
-use Rattle.cjc_shape_proof.proofs.WrittenLaws.FittingLaws.Order.{has_cons, has_either, has_none}
+use Rattle.cjc_shape_proof.proofs.WrittenLaws.FittingLaws.Order.{has_cons, has_none}
 
 -- an earlier one has the token of a later one, of the same kind
 abbrev pub clashes : ExportMethod → ExportMethod → Bool
@@ -40,11 +40,11 @@ pub alone_append : (xs ys : List ExportMethod) → Alone xs → Alone ys → ((x
 unfolding Alone
 alone_append [] ys a b apart = b
 alone_append (x ∷ xs) ys a b apart = (
-  λ y h. ⊎_elim (λ g. a.0 y g) (λ g. apart x y at_front g) (has_either y xs ys h),
+  λ y h. ⊎_elim (λ g. a.0 y g) (λ g. apart x y at_front g) (has-either y xs ys h),
   alone_append xs ys a.1 b (λ z y h g. apart z y (behind h) g),
 )
 
-none_any : {A : Type 0} (test : A → Bool) (xs : List A) → ((y : A) → Has y xs → test y ≡ false)
+pub none_any : {A : Type 0} (test : A → Bool) (xs : List A) → ((y : A) → Has y xs → test y ≡ false)
     → list_any test xs ≡ false
 none_any test [] none = refl
 none_any test (x ∷ xs) none = both (test x) (list_any test xs) (none x at_front)
@@ -73,7 +73,7 @@ stand n before (x ∷ xs) apart alone good = (
         (λ i. apart m y i (behind g))
         (λ i. ⊎_elim (λ (same : m ≡ x). subst (λ (z : ExportMethod). clashes z y ≡ false) (sym same) (alone.0 y g))
         (λ j. has_none m j) (has_cons m x [] i))
-        (has_either m before (x ∷ []) h)
+        (has-either m before (x ∷ []) h)
 
     none : list_any (λ m. clashes m x) before ≡ false
     none = none_any (λ m. clashes m x) before (λ m h. apart m x h at_front)
@@ -259,7 +259,7 @@ pub inherited_in : (w : List Class) (c : Class) (t : ℕ) (row : List (Option Fo
     → Has e (inherited_from w c t row) → IsInheritedAt w c t row e
 inherited_in w c t [] e h = has_none e h
 inherited_in w c t (f ∷ row) e h = ⊎_elim (λ g. here f refl (is_own c.number f) refl g)
-    (λ g. next (inherited_in w c (t + 1) row e g)) (has_either e (inherited_at w c t f) (inherited_from w c (t + 1) row)
+    (λ g. next (inherited_in w c (t + 1) row e g)) (has-either e (inherited_at w c t f) (inherited_from w c (t + 1) row)
     h)
   where
     next : IsInheritedAt w c (t + 1) row e → IsInheritedAt w c t (f ∷ row) e

@@ -9,6 +9,8 @@ use Rattle.std.proofs.lemmas.List.{length-map}
 use Rattle.cjc_bytes.specs.AccessFlags.{is_interface, is_private, is_static}
 use Rattle.cjc_bytes.specs.Order.{file_of}
 use Rattle.cjc_bytes.specs.declared.settings.FileLine.{FileLine}
+use Rattle.cjc_bytes.proofs.Lists.{none_left, none_right}
+use Rattle.cjc_bytes.proofs.Bools.{or_left, or_right}
 use Rattle.cjc_vtable.specs.ClassOrder.Classes.Numbers.{class_count}
 use Rattle.cjc_classfile.specs.declared.tree.ClassTree.{ClassTree}
 use Rattle.cjc_components.specs.Class.{interfaces_of}
@@ -19,8 +21,8 @@ use Rattle.cjc_export.specs.declared.tree.ExportClass.{ExportClass}
 use Rattle.cjc_export.specs.declared.tree.ExportMethod.{ExportMethod}
 use Rattle.cjc_export.specs.declared.tree.ExportTree.{ExportTree}
 use Rattle.cjc_narrow_proof.proofs.LawsLaws.Own.{class_by_name}
-use Rattle.cjc_world_proof.proofs.SelectionLaws.Rules.{listed_abroad, super_class}
-use Rattle.cjc_subset.specs.Members.{imports}
+use Rattle.cjc_token_proof.proofs.WorldProofRules.{listed_abroad, super_class}
+use Rattle.cjc_vtable.specs.Subset.Members.{imports}
 use Rattle.cjc_token_proof.specs.Tables.Sound.{export_count}
 use Rattle.cjc_tokens.specs.Lines.{line_at}
 use Rattle.cjc_tokens.specs.Members.{Signature, is_constructor, is_initialiser, is_virtual, signature_of}
@@ -32,7 +34,7 @@ use Rattle.cjc_vtable.proofs.Filed.{Has, IsFiled, at_front, behind, filed, get-h
 use Rattle.cjc_vtable.proofs.Filed.{in_export_file, of-imports}
 use Rattle.cjc_vtable.specs.Tables.{base, entries, interface_map, methods, of_package, or_zero, table_of}
 use Rattle.cjc_vtable.specs.declared.table.InterfaceMap.{InterfaceMap}
-use Rattle.cjc_world.proofs.Unbroken.{nil_back, nil_front}
+use Rattle.cjc_vtable.proofs.Read.{each-after}
 use Rattle.cjc_world.specs.Added.{by_token, own_methods, with_token, without_initialiser}
 use Rattle.cjc_world.specs.Classes.{Class, Member, all_classes, class_named, declared, imported, method_of_export}
 use Rattle.cjc_world.specs.Exported.{is_exported}
@@ -40,9 +42,8 @@ use Rattle.cjc_world.specs.Files.{Files}
 use Rattle.cjc_world.specs.Supertypes.{IsAcyclic, AreSupertypes, Supertypes, supertypes}
 use Rattle.cjc_world.specs.Rules.{breaks}
 use Rattle.cjc_world.specs.declared.found.Found.{Found}
-use Rattle.cjc_shape_proof.proofs.WrittenLaws.FittingLaws.Exported.{or_first, or_second}
-use Rattle.cjc_shape_proof.proofs.WrittenLaws.FittingLaws.Interfaces.{are_interfaces, lists_front}
-use Rattle.cjc_shape_proof.proofs.WrittenLaws.FittingLaws.Lists.{each_after}
+use Rattle.cjc_world.proofs.Settled.{lists-front}
+use Rattle.cjc_shape_proof.proofs.WrittenLaws.FittingLaws.Interfaces.{are_interfaces}
 use Rattle.cjc_shape_proof.proofs.WrittenLaws.FittingLaws.Slots.{IsLow, IsLowMember, class_few}
 
 -- ---- tables
@@ -95,7 +96,7 @@ module _ (w : List Class) (applets : Bool) (lines : List FileLine) where
       let b = has_high_token w (is_exported w applets (declared k d)) k d in
       ap (λ i. has_high_token w (is_exported w applets (declared i c)) i c) m
       ∙ sym (ap (λ x. has_high_token w (is_exported w applets (declared k x)) k x) is)
-      ∙ off b (nil_front (breaks_where b (at_class (file_of lines k) d.name)) (breaks_from w applets lines (k + 1) cs)
+      ∙ off b (none_left (breaks_where b (at_class (file_of lines k) d.name)) (breaks_from w applets lines (k + 1) cs)
       e)
     where
       off : (b : Bool) → breaks_where b (at_class (file_of lines k) d.name) ≡ [] → b ≡ false
@@ -104,7 +105,7 @@ module _ (w : List Class) (applets : Bool) (lines : List FileLine) where
   none_high k (d ∷ cs) (suc n) c e f =
       let m : k + suc n ≡ k + 1 + n = omega arith in
       ap (λ i. has_high_token w (is_exported w applets (declared i c)) i c) m
-      ∙ none_high (k + 1) cs n c (nil_back (breaks_where (has_high_token w (is_exported w applets (declared k d)) k d)
+      ∙ none_high (k + 1) cs n c (none_right (breaks_where (has_high_token w (is_exported w applets (declared k d)) k d)
       (at_class (file_of lines k) d.name)) (breaks_from w applets lines (k + 1) cs) e) f
 
 -- ---- imported classes
@@ -114,7 +115,7 @@ low_token : (before : List ExportMethod) (m : ExportMethod) → method_token_wro
 low_token before m e virtual =
     ltb-false 127 m.token (free (is_static m.flags) (is_constructor m.name) (is_private m.flags) (is_initialiser m.name)
     (nat_lt 127 m.token) virtual
-    (or_second (method_token_taken before (is_unbound m.flags m.name) m.token) (not (is_unbound m.flags m.name)
+    (or_right (method_token_taken before (is_unbound m.flags m.name) m.token) (not (is_unbound m.flags m.name)
     && nat_lt 127 m.token) e))
   where
     free : (s c p i t : Bool) → ((not p && not s) && not (c || i)) ≡ true → (not (s || c) && t) ≡ false → t ≡ false
@@ -176,20 +177,20 @@ module _ (list : List ℕ) (files : Files) (own_listed : length files.classes �
   own_low : (n : ℕ) (t : ClassTree) → slice_get files.classes n ≡ Some t → is_interface t.flags ≡ false
       → has_high_method w (declared n t) ≡ false
   unfolding has_high_token
-  own_low n t e plain = by (is_interface t.flags) plain (or_first _ _ (high_off n t e))
+  own_low n t e plain = by (is_interface t.flags) plain (or_left _ _ (high_off n t e))
     where
       by : (b : Bool) → b ≡ false
           → (if b then nat_lt 128 (length (interface_methods w (declared n t))) else (has_high_method w (declared n t)
           || (is_exported w applets (declared n t) && nat_lt 255 (count_by is_open_bound (declared n t).methods))))
           ≡ false → has_high_method w (declared n t) ≡ false
       by true f g = cc
-      by false f g = or_first (has_high_method w (declared n t)) (is_exported w applets (declared n t)
+      by false f g = or_left (has_high_method w (declared n t)) (is_exported w applets (declared n t)
           && nat_lt 255 (count_by is_open_bound (declared n t).methods)) g
 
   own_few : (n : ℕ) (t : ClassTree) → slice_get files.classes n ≡ Some t → is_interface t.flags ≡ true
       → length (interface_methods w (declared n t)) ≤ 128
   unfolding has_high_token
-  own_few n t e interface = by (is_interface t.flags) interface (or_first _ _ (high_off n t e))
+  own_few n t e interface = by (is_interface t.flags) interface (or_left _ _ (high_off n t e))
     where
       by : (b : Bool) → b ≡ true
           → (if b then nat_lt 128 (length (interface_methods w (declared n t))) else (has_high_method w (declared n t)
@@ -205,7 +206,7 @@ module _ (list : List ℕ) (files : Files) (own_listed : length files.classes �
       let t = o.0 in
       let place = has-get t files.exports o.1 in
       let fits = writable place.0 t place.1 in
-      each_after ClassFits [] t.classes c fits.classes o.2
+      each-after ClassFits [] t.classes c fits.classes o.2
 
   import_low : (k : ℕ) (c : ExportClass) → slice_get (imports files.exports) k ≡ Some c → is_interface c.flags ≡ false
       → AllByRecursion IsLowMember (map method_of_export c.methods)
@@ -235,7 +236,7 @@ module _ (list : List ℕ) (files : Files) (own_listed : length files.classes �
     own = λ own plain. (by (filed files x c e)).0 own plain;
     listed = λ im plain. (by (filed files x c e)).1 im plain;
     supers = λ s d l f. super_class list files unbroken x s c d e l f;
-    abroad = λ im s d l f. listed_abroad list files unbroken x s c d e im (lists_front s c.supers c.interfaces l) f;
+    abroad = λ im s d l f. listed_abroad list files unbroken x s c d e im (lists-front s c.supers c.interfaces l) f;
   }
     where
       by : {d : Class} → IsFiled files d → (d.is_imported ≡ false → is_interface d.flags ≡ false

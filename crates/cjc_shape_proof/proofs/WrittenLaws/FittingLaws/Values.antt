@@ -1,7 +1,7 @@
 -- The numbers of a static image are of the types of their fields.
 use Rattle.std.proofs.Common.{◌≡◌, ℕ, zero, suc, ◌+◌, refl, sym, ap, subst, ◌∙◌, Bool, true, false, List, [], ◌∷◌, map}
 use Rattle.std.proofs.Common.{arith, ⊎_elim, Option, Some, None, ℤ, pos}
-use Rattle.std.specs.Prelude.{All, ◌&&◌, ◌||◌, not, codes, is_some, length, option_map, replicate, slice_get, slice_set}
+use Rattle.std.specs.Prelude.{All, ◌&&◌, ◌||◌, not, codes, is_some, length, option_map, slice_get, slice_set}
 use Rattle.std.specs.Prelude.{if◌then◌else◌}
 use Rattle.std.specs.List.{AllByRecursion, list_any}
 use Rattle.std.specs.Ordering.{int_eq}
@@ -13,11 +13,14 @@ use Rattle.cjc_bytes.specs.Order.{file_of}
 use Rattle.cjc_bytes.specs.Spots as Spots
 use Rattle.cjc_bytes.specs.declared.fault.MemberId.{MemberId}
 use Rattle.cjc_bytes.specs.declared.descriptor.Kind.{Kind}
+use Rattle.cjc_bytes.proofs.Lists.{bytes_true}
+use Rattle.cjc_bytes.proofs.Options.{option_taken}
+use Rattle.cjc_bytes.proofs.Quantified.{all_both}
 use Rattle.cjc_bytes.specs.declared.descriptor.Kind.TheVariants as kinds
 use Rattle.cjc_classfile.specs.declared.tree.ClassTree.{ClassTree}
 use Rattle.cjc_classfile.specs.declared.tree.FieldTree.{FieldTree}
-use Rattle.cjc_subset.specs.Bytecode.declared.insn.JOp.{JOp}
-use Rattle.cjc_subset.specs.Bytecode.declared.method_code.MethodCode.{MethodCode}
+use Rattle.cjc_ncode.specs.Bytecode.declared.insn.JOp.{JOp}
+use Rattle.cjc_ncode.specs.Bytecode.declared.method_code.MethodCode.{MethodCode}
 use Rattle.cjc_clinit.proofs.Cells.{cell_fits}
 use Rattle.cjc_clinit.specs.Fields.{Contents, ANull, ANumber, AnArray, fits, fits_kind, has_unfit_value, held_by}
 use Rattle.cjc_clinit.specs.Fields.{is_cell, is_reference, number_kind, takes, value_fits}
@@ -30,26 +33,24 @@ use Rattle.cjc_clinit.specs.Rules.{BreaksImage, is_wrong_class, of_class}
 use Rattle.cjc_clinit.specs.declared.stage.Held.{Held}
 use Rattle.cjc_clinit.specs.declared.stage.Held.TheVariants as held
 use Rattle.cjc_clinit.specs.declared.stage.Start.TheVariants as begun
-use Rattle.cjc_world_proof.proofs.InitialisersLaws.Initialisers.{taken}
-use Rattle.cjc_world_proof.proofs.InitialisersLaws.Packages.{class-there}
-use Rattle.cjc_world_proof.proofs.InitialisersLaws.Places.{place-field}
+use Rattle.cjc_token_proof.proofs.WorldProofPackages.{class-there}
+use Rattle.cjc_token_proof.proofs.WorldProofPlaces.{place-field}
+use Rattle.cjc_token_proof.proofs.WorldProofValues.{nothing-only}
 use Rattle.cjc_classes.specs.Descriptor.Fits.{FitsValue, is_number_of}
 use Rattle.cjc_ncode.specs.Script.Sorts.{field_sort}
-use Rattle.cjc_subset.specs.Places.{at_class}
+use Rattle.cjc_vtable.specs.Subset.Places.{at_class}
 use Rattle.cjc_tokens.proofs.Walks.{slice_get-set}
-use Rattle.cjc_world.proofs.Settled.{bytes-true}
 use Rattle.cjc_world.specs.Files.{Files}
 use Rattle.cjc_world.specs.declared.image.ArrayCell.{ArrayCell}
 use Rattle.cjc_world.specs.declared.image.StaticImage.{StaticImage}
 use Rattle.cjc_world.specs.declared.image.ValueCell.{ValueCell}
 use Rattle.cjc_shape_proof.proofs.WrittenLaws.FittingLaws.Arrays.{at_each}
-use Rattle.cjc_shape_proof.proofs.WrittenLaws.FittingLaws.Lists.{all_both}
 
 -- ---- numbers of a type
 
 by_desc : (desc other : List ℕ) (z : ℤ) (b : Bool) → bytes_eq desc other ≡ true → is_number_of (field_sort other) z ≡ b
     → is_number_of (field_sort desc) z ≡ b
-by_desc desc other z b e f = subst (λ d. is_number_of (field_sort d) z ≡ b) (sym (bytes-true desc other e)) f
+by_desc desc other z b e f = subst (λ d. is_number_of (field_sort d) z ≡ b) (sym (bytes_true desc other e)) f
 
 boolean_fits : (z : ℤ) → fits kinds.Bool z ≡ true → is_number_of (field_sort (codes "Z")) z ≡ true
 unfolding Spots.desc_of Spots.bad_at Spots.after Spots.parts_of Spots.types_from
@@ -100,14 +101,9 @@ put_fits f (ANumber z) e = e
 put_fits f ANull e = tt
 put_fits f (AnArray kind items) e = tt
 
-all_nothing : (n k : ℕ) (h : Held) → slice_get (replicate n held.Nothing) k ≡ Some h → held.Nothing ≡ h
-all_nothing zero k h e = cc
-all_nothing (suc n) zero h e = cc
-all_nothing (suc n) (suc k) h e = all_nothing n k h e
-
 nothing_fits : (c : ClassTree) → AllFit c (nothing_in c)
 unfolding AllFit HoldsFit
-nothing_fits c k f h e g = subst (HoldsFit f) (all_nothing (length c.fields) k h g) tt
+nothing_fits c k f h e g = subst (HoldsFit f) (nothing-only (length c.fields) k h g) tt
 
 module _ (files : Files) (number : ℕ) (c : ClassTree) (is_class : slice_get files.classes number ≡ Some c) where
   set_fits : (fields : List Held) (contents : Contents) (id : MemberId) (k : ℕ)
@@ -115,7 +111,7 @@ module _ (files : Files) (number : ℕ) (c : ClassTree) (is_class : slice_get fi
       → AllFit c (slice_set fields k (held_by contents))
   unfolding AllFit
   set_fits fields contents id k place all j f h e g =
-      let t = taken (takes contents id.desc) (open_place files number c fields id) k place in
+      let t = option_taken (takes contents id.desc) (open_place files number c fields id) k place in
       let there = place-field files empty number c fields id k is_class t.1 in
       ⊎_elim
       (λ same. here f h e same.0 same.1 t.0 there.field there.there there.desc)

@@ -5,8 +5,7 @@ use Rattle.std.specs.Prelude.{◌==◌, ◌&&◌, ◌||◌, Option, Some, None, 
 use Rattle.std.specs.Prelude.{codes}
 use Rattle.std.specs.List.{AllByRecursion, IsDistinct, list_any}
 use Rattle.std.specs.Str.{bytes_eq}
-use Rattle.std.proofs.lemmas.Bool.{eqb-true}
-use Rattle.std.proofs.lemmas.Bool.Decides.{nat_tests}
+use Rattle.std.proofs.lemmas.Bool.{eqb-true, or_parts}
 use Rattle.std.proofs.lemmas.List.{length-append, length-map}
 use Rattle.std.proofs.lemmas.Map.Steps.{length-le_from_distinct_below}
 use Rattle.std.proofs.lemmas.Option.{slice_get-map, slice_get_within}
@@ -15,19 +14,13 @@ use Rattle.cjc_tokens.specs.Members.{Signature, same, signature_of}
 use Rattle.cjc_tokens.specs.Slots.{Slots, has_slot, new_in}
 use Rattle.cjc_world.specs.Added.{by_token, with_token, without_initialiser}
 use Rattle.cjc_world.specs.Classes.{Member}
+use Rattle.cjc_bytes.proofs.Numbers.{like_number}
 
 -- ---- numbers
 
-or_false : (a b : Bool) → (a || b) ≡ false → (a ≡ false) × (b ≡ false)
-or_false true b e = cc
-or_false false b e = (refl, e)
-
-eqb-refl : (n : ℕ) → (n == n) ≡ true
-eqb-refl n = grind (arith, nat_tests)
-
 none_equal : (t : ℕ) (xs : List ℕ) → list_any (λ x. t == x) xs ≡ false → AllByRecursion (λ x. (t == x) ≡ false) xs
 none_equal t [] e = tt
-none_equal t (x ∷ xs) e = let o = or_false (t == x) (list_any (λ y. t == y) xs) e in (o.0, none_equal t xs o.1)
+none_equal t (x ∷ xs) e = let o = or_parts (t == x) (list_any (λ y. t == y) xs) e in (o.0, none_equal t xs o.1)
 
 some_equal : (t : ℕ) (ms : List Member) → list_any (λ x. t == x) (map (λ m. m.token) ms) ≡ true → (i : ℕ) × (m : Member)
     × (slice_get ms i ≡ Some m) × (m.token ≡ t)
@@ -56,7 +49,7 @@ new_same slots (s ∷ ss) d fresh =
         → has_slot (slots ++ Some s ∷ []) t ≡ false
     put_behind [] t e f = ap (λ b. b || false) f
     put_behind (slot ∷ slots) t e f =
-        let o = or_false _ (has_slot slots t) e in
+        let o = or_parts _ (has_slot slots t) e in
         ap (λ b. b || has_slot (slots ++ Some s ∷ []) t) o.0 ∙ put_behind slots t o.1 f
 
     behind : (ts : List Signature) → AllByRecursion (λ t. has_slot slots t ≡ false) ts
@@ -95,7 +88,7 @@ far [] t j y all e f = cc
 far (x ∷ xs) t zero y all e f =
     let is : x ≡ y = cc in
     let one : (t == x.token) ≡ true = ap (λ n. n == x.token) f ∙ ap (λ (z : Member). z.token == x.token) (sym is)
-    ∙ eqb-refl x.token in
+    ∙ like_number x.token in
     let none = all.0 in
     cc
 far (x ∷ xs) t (suc j) y all e f = far xs t j y all.1 e f
@@ -169,7 +162,7 @@ module _ (ms : List Member) (apart : IsDistinct (λ s t. s == t) (map (λ m. m.t
   some_with t [] i m e f g = cc
   some_with t (x ∷ xs) zero m e f g =
       let is : x ≡ m = cc in
-      let one : (x.token == t) ≡ true = ap (λ (y : Member). y.token == t) is ∙ ap (λ n. n == t) f ∙ eqb-refl t in
+      let one : (x.token == t) ≡ true = ap (λ (y : Member). y.token == t) is ∙ ap (λ n. n == t) f ∙ like_number t in
       cc
   some_with t (x ∷ xs) (suc i) m e f g = by (x.token == t) g (some_with t xs i m e f)
     where
@@ -290,7 +283,7 @@ module _ (ms : List Member) (apart : IsDistinct (λ s t. s == t) (map (λ m. m.t
       listed (x ∷ xs) zero m e =
           let is : x ≡ m = cc in
           ap (λ b. b || list_any (λ t. m.token == t) (map (λ n. n.token) xs)) (ap (λ (y : Member). m.token == y.token)
-          is ∙ eqb-refl m.token)
+          is ∙ like_number m.token)
       listed (x ∷ xs) (suc i) m e = by (m.token == x.token) (listed xs i m e)
         where
           by : (b : Bool) → list_any (λ t. m.token == t) (map (λ n. n.token) xs) ≡ true

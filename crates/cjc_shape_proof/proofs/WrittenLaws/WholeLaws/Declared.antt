@@ -7,13 +7,13 @@ use Rattle.std.specs.List.{AllByRecursion, IsDistinct, list_any}
 use Rattle.std.specs.Str.{bytes_eq}
 use Rattle.std.proofs.lemmas.Bool.{eqb-true}
 use Rattle.std.proofs.lemmas.Bool.Decides.{nat_tests}
-use Rattle.std.proofs.lemmas.List.{length-map, map-append}
+use Rattle.std.proofs.lemmas.List.{length-map}
 use Rattle.std.proofs.lemmas.Option.{slice_get-map}
 use Rattle.std.proofs.lemmas.Slice.Eq.{bytes_eq-Decides}
 use Rattle.cjc_bytes.specs.AccessFlags.{is_interface}
 use Rattle.cjc_bytes.specs.declared.fault.MemberId.{MemberId}
+use Rattle.cjc_bytes.proofs.Gets.{in_front, get_behind, at_end}
 use Rattle.cjc_classfile.specs.declared.tree.ClassTree.{ClassTree}
-use Rattle.cjc_classfile.specs.declared.tree.FieldTree.{FieldTree}
 use Rattle.cjc_export.specs.Members.{interface_token_taken, not_special}
 use Rattle.cjc_export.specs.Members as export_members
 use Rattle.cjc_export.specs.Writable.{ClassFits, EachAfter, IsWritable, MethodStands}
@@ -22,9 +22,10 @@ use Rattle.cjc_export.specs.declared.tree.ExportMethod.{ExportMethod}
 use Rattle.cjc_export.specs.declared.tree.ExportTree.{ExportTree}
 use Rattle.cjc_shape.proofs.JudgedLaws.Called.{IsDeclared}
 use Rattle.cjc_shape.proofs.JudgedLaws.Owners.{IsOwn}
+use Rattle.cjc_shape.proofs.JudgedLaws.Tokens.{listed_at, imports_are}
 use Rattle.cjc_narrow_proof.proofs.LawsLaws.Own.{first_here}
 use Rattle.cjc_check_proof.specs.Pool.Pool.{token_of}
-use Rattle.cjc_subset.specs.Members.{imports}
+use Rattle.cjc_vtable.specs.Subset.Members.{imports}
 use Rattle.cjc_tokens.proofs.Means.{kept-at}
 use Rattle.cjc_tokens.specs.Fields.{field_tokens}
 use Rattle.cjc_tokens.specs.Lines.{line_at}
@@ -33,8 +34,9 @@ use Rattle.cjc_tokens.specs.Methods.{class_method_tokens, interface_methods, int
 use Rattle.cjc_tokens.specs.Slots.{hidden_slots, new_in, shown_token}
 use Rattle.cjc_tokens.specs.Tokens.{assigned, imports_of, joined, listed_field_token, listed_method_token}
 use Rattle.cjc_tokens.specs.Tokens.{method_tokens, of_import, token_of_member}
-use Rattle.cjc_vtable.proofs.Filed.{Has, IsFiled, at_front, behind, filed, get-has, has-get, in_class_file}
+use Rattle.cjc_vtable.proofs.Filed.{IsFiled, filed, get-has, has-get, in_class_file}
 use Rattle.cjc_vtable.proofs.Filed.{in_export_file, of-imports}
+use Rattle.cjc_vtable.proofs.Read.{each-after}
 use Rattle.cjc_world.specs.Added.{added, own_methods}
 use Rattle.cjc_world.specs.Classes.{Class, Member, all_classes, class_named, declared, field_of_class, field_of_export}
 use Rattle.cjc_world.specs.Classes.{imported, method_of_export}
@@ -45,28 +47,7 @@ use Rattle.cjc_world.specs.Rules.{breaks, is_twice}
 use Rattle.cjc_world.specs.declared.found.Found.{Found}
 use Rattle.cjc_shape_proof.proofs.WrittenLaws.WholeLaws.ByToken.{only_one, place_is_token, token_is_place}
 use Rattle.cjc_shape_proof.proofs.WrittenLaws.WholeLaws.Once.{once}
-
--- ---- lists
-
-get_behind : {A : Type 0} (xs ys : List A) (k : ℕ) → slice_get (xs ++ ys) (length xs + k) ≡ slice_get ys k
-get_behind [] ys k = let n : 0 + k ≡ k = omega arith in ap (slice_get ys) n
-get_behind (x ∷ xs) ys k = let n : suc (length xs) + k ≡ suc (length xs + k) = omega arith
-    in ap (slice_get (x ∷ xs ++ ys)) n ∙ get_behind xs ys k
-
-get_front : {A : Type 0} (xs ys : List A) (k : ℕ) (x : A) → slice_get xs k ≡ Some x → slice_get (xs ++ ys) k ≡ Some x
-get_front [] ys k x e = cc
-get_front (y ∷ xs) ys zero x e = e
-get_front (y ∷ xs) ys (suc k) x e = get_front xs ys k x e
-
-at_end : {A : Type 0} (xs : List A) (x : A) → slice_get (xs ++ x ∷ []) (length xs) ≡ Some x
-at_end [] x = refl
-at_end (y ∷ xs) x = at_end xs x
-
-each_after : {A : Type 0} (P : List A → A → Type 0) (before xs : List A) (x : A) → EachAfter P before xs → Has x xs
-    → (b : List A) × P b x
-each_after P before [] x h i = elim i [ ]
-each_after P before (y ∷ xs) x h at_front = (before, h.0)
-each_after P before (y ∷ xs) x h (behind i) = each_after P (before ++ y ∷ []) xs x h.1 i
+use Rattle.cjc_classes.proofs.KeyTokens.Kept.{fields_long}
 
 -- ---- methods of an interface of an export file
 
@@ -105,7 +86,7 @@ module _ (count : ℕ) where
   later_apart before (y ∷ rest) b k e h =
       let n = new_token before y.token h.0.1 in (
         not_taken before y.token k b n.1 e,
-        later_apart (before ++ y ∷ []) rest b k (get_front before (y ∷ []) k b e)
+        later_apart (before ++ y ∷ []) rest b k (in_front before (y ∷ []) k b e)
             h.1,
       )
 
@@ -165,23 +146,6 @@ one_place ms apart i j x y e f names descs =
 
 -- ---- tokens of members
 
-fields_counted : (exported : Bool) (fs : List FieldTree) (i : ℕ) (rest : List FieldTree)
-    → length (field_tokens exported fs i rest) ≡ length rest
-unfolding field_tokens
-fields_counted exported fs i [] = refl
-fields_counted exported fs i (f ∷ rest) = ap suc (fields_counted exported fs (i + 1) rest)
-
-imports_are : (ts : List ExportTree) → imports_of ts ≡ map of_import (imports ts)
-imports_are [] = refl
-imports_are (t ∷ ts) = ap (λ rows. map of_import t.classes ++ rows) (imports_are ts)
-    ∙ sym (map-append of_import t.classes (imports ts))
-
-listed_at : (ms : List ExportMethod) (i : ℕ) (m : Member) → slice_get (map method_of_export ms) i ≡ Some m
-    → (x : ExportMethod) × (slice_get ms i ≡ Some x) × (method_of_export x ≡ m)
-listed_at [] i m e = cc
-listed_at (x ∷ ms) zero m e = (x, refl, cc)
-listed_at (x ∷ ms) (suc i) m e = listed_at ms i m e
-
 module _ (list : List ℕ) (files : Files) (unbroken : breaks list files ≡ []) (writable : (e : ℕ) (t : ExportTree)
     → slice_get files.exports e ≡ Some t → IsWritable t) (applets : Bool) where
   abbrev w : List Class
@@ -200,7 +164,7 @@ module _ (list : List ℕ) (files : Files) (unbroken : breaks list files ≡ [])
       let methods = method_tokens w exported d in
       let listed = map (interface_token (interface_methods w d)) d.methods in
       let counted : length d.fields ≡ length fields = length-map c.fields field_of_class
-      ∙ sym (fields_counted exported c.fields 0 c.fields) in
+      ∙ sym (fields_long exported c.fields 0 c.fields) in
       ap (token_of_member (assigned applets files)) own.is_place
       ∙ ap (option_and_then (λ k. joined (slice_get k.members (length d.fields + i)))) kept.1
       ∙ ap (λ k. joined (slice_get (fields ++ methods) (k + i))) counted
@@ -248,7 +212,7 @@ module _ (list : List ℕ) (files : Files) (unbroken : breaks list files ≡ [])
   place_there n c there named interface i m e =
       let tree = of-imports c files.exports (get-has c (imports files.exports) n there) in
       let place = has-get tree.0 files.exports tree.1 in
-      let fits = each_after ClassFits [] (let t = tree.0 in t.classes) c (writable place.0 tree.0 place.1).classes
+      let fits = each-after ClassFits [] (let t = tree.0 in t.classes) c (writable place.0 tree.0 place.1).classes
       tree.2 in
       let stands : EachAfter (MethodStands true (length c.methods)) [] c.methods =
       subst (λ b. EachAfter (MethodStands b (length c.methods)) [] c.methods) interface fits.1.methods in
@@ -276,7 +240,7 @@ module _ (list : List ℕ) (files : Files) (unbroken : breaks list files ≡ [])
   method_there n c there named interface t s e =
       let tree = of-imports c files.exports (get-has c (imports files.exports) n there) in
       let place = has-get tree.0 files.exports tree.1 in
-      let fits = each_after ClassFits [] (let t = tree.0 in t.classes) c (writable place.0 tree.0 place.1).classes
+      let fits = each-after ClassFits [] (let t = tree.0 in t.classes) c (writable place.0 tree.0 place.1).classes
       tree.2 in
       let stands : EachAfter (MethodStands true (length c.methods)) [] c.methods =
       subst (λ b. EachAfter (MethodStands b (length c.methods)) [] c.methods) interface fits.1.methods in
@@ -295,7 +259,7 @@ module _ (list : List ℕ) (files : Files) (unbroken : breaks list files ≡ [])
         there = y.1;
         token = ap (λ (x : Member). x.token) y.2 ∙ r.3;
         signature = ap signature_of y.2 ∙ r.4;
-        no_constructor = (let one = each_after (MethodStands true (length c.methods)) [] c.methods y.0 stands
+        no_constructor = (let one = each-after (MethodStands true (length c.methods)) [] c.methods y.0 stands
             (get-has y.0 c.methods r.0 y.1) in no_constructor y.0.name one.1.2);
         only_one = λ j z f g. only_one ms apart low once_each plain j r.0 (method_of_export z) (method_of_export y.0)
             (slice_get-map method_of_export c.methods j ∙ ap (option_map method_of_export) f)

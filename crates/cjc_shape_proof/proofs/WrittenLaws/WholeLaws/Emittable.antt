@@ -1,14 +1,17 @@
 -- The methods of a converted package can be emitted by the pool that they need.
-use Rattle.std.proofs.Common.{◌≡◌, ℕ, zero, suc, ◌≤◌, refl, sym, ap, subst, ◌∙◌, arith, Bool, true, false, List, []}
-use Rattle.std.proofs.Common.{◌∷◌, ◌++◌, length, map}
-use Rattle.std.specs.Prelude.{All, ◌||◌, Option, Some, None, option_map, position, unwrap_or, slice_get, nat_lt}
+use Rattle.std.proofs.Common.{◌≡◌, ℕ, ◌≤◌, refl, sym, ap, subst, ◌∙◌, arith, Bool, true, false, List, []}
+use Rattle.std.proofs.Common.{length, map}
+use Rattle.std.specs.Prelude.{Option, Some, None, option_map, position, unwrap_or, slice_get, nat_lt}
 use Rattle.std.specs.Prelude.{if◌then◌else◌}
 use Rattle.std.proofs.lemmas.Bool.{ltb-false}
-use Rattle.std.proofs.lemmas.List.Elements.{All-head, All-tail}
 use Rattle.std.proofs.lemmas.Option.{slice_get-map}
 use Rattle.cjc_bytes.specs.Breaks.{Break, at}
 use Rattle.cjc_bytes.specs.declared.fault.MemberId.{MemberId}
-use Rattle.cjc_world_proof.specs.JvmSemantics.Linked.{Method}
+use Rattle.cjc_bytes.proofs.Lists.{none_right}
+use Rattle.cjc_bytes.proofs.Bools.{or_left}
+use Rattle.cjc_bytes.proofs.Gets.{item_has, mapped_at}
+use Rattle.cjc_bytes.proofs.Numbers.{none_at}
+use Rattle.cjc_token_proof.specs.JvmSemantics.Linked.{Method}
 use Rattle.cjc_components.specs.Limits.{code_breaks, has_many_entries, layout_breaks, of_methods, spot_of_list}
 use Rattle.cjc_components.specs.Names.{names, token_in_interface}
 use Rattle.cjc_components.specs.Package.{LaidMethod, Package, codes, has_applets, tokens}
@@ -52,32 +55,6 @@ use Rattle.cjc_world.specs.Order.{method_order}
 use Rattle.cjc_world.specs.declared.found.Found.{Found}
 use Rattle.cjc_shape_proof.proofs.WrittenLaws.Shaping.{layout_for, layout_is, layout_wide, short_at}
 use Rattle.cjc_shape_proof.proofs.WrittenLaws.WholeLaws.Declared.{declared_place}
-
--- ---- lists
-
-none_right : {A : Type 0} (xs ys : List A) → xs ++ ys ≡ [] → ys ≡ []
-none_right [] ys e = e
-none_right (x ∷ xs) ys e = cc
-
-none_at : (b : Bool) (place : _) (rule : ℕ) → at b place rule ≡ [] → b ≡ false
-none_at false place rule e = refl
-none_at true place rule e = cc
-
-or_left : (a b : Bool) → (a || b) ≡ false → a ≡ false
-or_left true b e = cc
-or_left false b e = refl
-
-all_at : {A : Type 0} (P : A → Type 0) (xs : List A) (k : ℕ) (x : A) → All P xs → slice_get xs k ≡ Some x → P x
-all_at P [] k x all e = cc
-all_at P (y ∷ xs) zero x all e = let is : y ≡ x = cc in subst P is (All-head P y xs all)
-all_at P (y ∷ xs) (suc k) x all e = all_at P xs k x (All-tail P y xs all) e
-
--- an item of a mapped list
-mapped_at : {A B : Type 0} (f : A → B) (xs : List A) (k : ℕ) (y : B) → slice_get (map f xs) k ≡ Some y → (x : A)
-    × (slice_get xs k ≡ Some x) × (f x ≡ y)
-mapped_at f [] k y e = cc
-mapped_at f (x ∷ xs) zero y e = (x, refl, cc)
-mapped_at f (x ∷ xs) (suc k) y e = mapped_at f xs k y e
 
 -- ---- the package
 
@@ -131,7 +108,7 @@ module _ (list : ListTree) (files : List (List ℕ)) (judged : Judged) (is : IsS
       ap (λ (ns : List NMethod). slice_get ns k) (sym (same_codes ∙ narrow_is list files judged is)) ∙ e in
       let m = mapped_at (code_at world near (rows list files judged is)) (method_order (all_classes world)) k narrow
       there in
-      let own = all_at (IsOwn world) (method_order (all_classes world)) k m.0
+      let own = item_has (IsOwn world) (method_order (all_classes world)) k m.0
       (all_own world (listed list files judged is)) m.1 in
       let from = one_selected world judged.codes judged.types (are_ready list files judged is) (rows list files judged
       is) (rows list files judged is) (rows_are list files judged is) (rows_are list files judged is) near m.0 own

@@ -1,5 +1,5 @@
 use Rattle.std.specs.Prelude.{ℕ, List}
-use Rattle.cjc_subset.specs.Bytecode.PackageCodes.{all_codes}
+use Rattle.cjc_ncode.specs.Bytecode.PackageCodes.{all_codes}
 use Rattle.cjc_check_proof.specs.Made.{AllAreMade}
 use Rattle.cjc_components.specs.Names.{names}
 use Rattle.cjc_components.specs.Package.{Package, codes, pool, tokens}

@@ -2,7 +2,7 @@ use Rattle.std.proofs.Common.{subst, sym, ◌∙◌}
 use Rattle.std.specs.Prelude.{◌≢◌, ℕ}
 use Rattle.cjc_token_proof.specs.ByToken.Classes.{memories, tests}
 use Rattle.cjc_token_proof.specs.Calls.Reaching as reaching
-use Rattle.cjc_subset.specs.Bytecode.PackageCodes.{all_codes}
+use Rattle.cjc_ncode.specs.Bytecode.PackageCodes.{all_codes}
 use Rattle.cjc_components.specs.Methods.{placed_methods}
 use Rattle.cjc_shape.specs.Judge.Rules.{settings_of}
 use Rattle.cjc_components.specs.Narrow.Rows.Package.{named}

@@ -6,9 +6,10 @@ use Rattle.cjc_components.specs.Package.{Package}
 use Rattle.cjc_bytes.specs.Breaks.{at}
 use Rattle.cjc_judge.specs.declared.judged.Judged.{Judged}
 use Rattle.cjc_components.specs.List.Listed.{ListTree}
-use Rattle.cjc_narrow_proof.proofs.SelectedLaws.Limits.{none_left, none_right, not_broken}
 use Rattle.cjc_world.specs.Files.{Files}
 use Rattle.cjc_bytes.specs.declared.settings.FileLine.{FileLine}
+use Rattle.cjc_bytes.proofs.BrokenRules.{not_broken}
+use Rattle.cjc_bytes.proofs.Lists.{none_left, none_right}
 use Rattle.cjc_token_proof.specs.Tables.Sound.{export_count}
 use Rattle.cjc_shape_proof.specs.Written.Converted.{IsConverted}
 use Rattle.cjc_shape_proof.proofs.WrittenLaws.Files.{files_sound, same_files}

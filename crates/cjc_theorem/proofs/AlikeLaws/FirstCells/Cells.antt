@@ -1,25 +1,27 @@
 -- What static cells hold at first by a static image whose numbers are of the types of their fields.
 use Rattle.std.proofs.Common.{◌≡◌, ℕ, suc, ◌+◌, refl, sym, ap, subst, ◌∙◌, arith, Bool, true, false, List, [], ◌∷◌}
 use Rattle.std.proofs.Common.{◌++◌, map, ℤ, pos, negsuc}
-use Rattle.std.specs.Prelude.{All, ◌&&◌, ◌||◌, ◌≤ℤ◌, cond, filter, Option, Some, None, if◌then◌else◌}
+use Rattle.std.specs.Prelude.{All, ◌&&◌, ◌||◌, cond, filter, Option, Some, None, if◌then◌else◌}
 use Rattle.std.specs.List.{AllByRecursion}
 use Rattle.std.specs.Int.RustNames.{int_le}
 use Rattle.std.proofs.lemmas.Int.{ints}
 use Rattle.std.proofs.lemmas.List.{map-append}
 use Rattle.std.proofs.lemmas.List.Concat.{flat_map-cons}
-use Rattle.cjc_card_semantics.specs.Bytecode.Effects as letters
-use Rattle.cjc_card_semantics.specs.Bytecode.Effects.{Letter}
+use Rattle.cjc_ncode.specs.CardSemantics.Bytecode.Effects as letters
+use Rattle.cjc_ncode.specs.CardSemantics.Bytecode.Effects.{Letter}
 use Rattle.cjc_bytes.specs.declared.fault.MemberId.{MemberId}
+use Rattle.cjc_bytes.proofs.Bools.{both_front, both_back}
+use Rattle.cjc_bytes.proofs.Integers.{le_true as true_le, above_if}
 use Rattle.cjc_jvm_semantics.specs.Effects.{is_same_field}
 use Rattle.cjc_jvm_semantics.specs.OnePackage.{array_place, cell_of, cells, cells_in, number_place, or_zero}
-use Rattle.cjc_token_proof.proofs.ByToken.Members.{both_left, both_right, member_same}
+use Rattle.cjc_token_proof.proofs.ByToken.Members.{member_same}
 use Rattle.cjc_token_proof.specs.ByToken.Cells.{HasCells, are_cells, fits, is_number, is_one_of, letter, letter_by}
 use Rattle.cjc_token_proof.specs.ByToken.Cells.{lies_in}
 use Rattle.cjc_classfile.specs.declared.tree.ClassTree.{ClassTree}
 use Rattle.cjc_classfile.specs.declared.tree.FieldTree.{FieldTree}
 use Rattle.cjc_clinit.specs.Fields.{is_cell}
 use Rattle.cjc_clinit.specs.Image.{field_id}
-use Rattle.cjc_world_proof.proofs.InitialisersLaws.Initialisers.{same-field}
+use Rattle.cjc_token_proof.proofs.WorldProofInitialisers.{same-field}
 use Rattle.cjc_shape_proof.specs.Classes.Descriptor.Fits.{AreFit, FitsValue, is_number_of}
 use Rattle.cjc_ncode.specs.Lowering.Agreement.{Cells}
 use Rattle.cjc_narrow.specs.Rows.Package.{first_cell}
@@ -35,17 +37,11 @@ use Rattle.cjc_world.specs.declared.image.ValueCell.{ValueCell}
 
 -- ---- values of a type
 
-le_true : (a b : ℤ) → int_le a b ≡ true → a ≤ℤ b
-le_true a b e = grind (arith, ints)
-
-true_le : (a b : ℤ) → a ≤ℤ b → int_le a b ≡ true
-true_le a b h = grind (arith, ints)
-
 -- 0 and 1 are numbers of a byte
 boolean_fits : (z : ℤ) → lies_in (pos 0) (pos 1) z ≡ true → lies_in (negsuc 127) (pos 127) z ≡ true
 boolean_fits z e =
-    let low = le_true (pos 0) z (both_left (int_le (pos 0) z) (int_le z (pos 1)) e) in
-    let high = le_true z (pos 1) (both_right (int_le (pos 0) z) (int_le z (pos 1)) e) in
+    let low = above_if (pos 0) z (both_front (int_le (pos 0) z) (int_le z (pos 1)) e) in
+    let high = above_if z (pos 1) (both_back (int_le (pos 0) z) (int_le z (pos 1)) e) in
     ap (λ b. b && int_le z (pos 127)) (true_le (negsuc 127) z (omega (arith, ints, low)))
     ∙ true_le z (pos 127) (omega (arith, ints, high))
 

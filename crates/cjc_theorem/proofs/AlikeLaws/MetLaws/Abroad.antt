@@ -5,17 +5,17 @@ use Rattle.std.specs.Prelude.{◌==◌, Some, cond, option_and_then, slice_get, 
 use Rattle.std.specs.List.{find}
 use Rattle.std.proofs.lemmas.List.{length-map}
 use Rattle.cjc_bytes.specs.declared.fault.MemberId.{MemberId}
+use Rattle.cjc_bytes.proofs.Gets.{in_front, get_behind}
 use Rattle.cjc_jvm_semantics.specs.OnePackage.{is_initialiser, of_class}
-use Rattle.cjc_world_proof.proofs.CallsLaws.Own.{mapped_at}
-use Rattle.cjc_card_semantics.specs.Machine.Classes.{with_token}
-use Rattle.cjc_shape_proof.proofs.CheckProofLists.{get-behind, get-front}
+use Rattle.cjc_token_proof.proofs.WorldProofOwn.{mapped_at}
+use Rattle.cjc_ncode.specs.CardSemantics.Machine.Classes.{with_token}
 use Rattle.cjc_classfile.specs.declared.tree.ClassTree.{ClassTree}
 use Rattle.cjc_shape_proof.specs.CheckProof.Code.Members.{IsImportedClass, IsImportedMethod, classes_before}
 use Rattle.cjc_token_proof.specs.Components.Whole.{exports_of}
 use Rattle.cjc_components.specs.Package.{Package, world}
-use Rattle.cjc_export.specs.Members.{is_unbound}
-use Rattle.cjc_export.specs.declared.tree.ExportClass.{ExportClass}
-use Rattle.cjc_export.specs.declared.tree.ExportTree.{ExportTree}
+use Rattle.cjc_world.specs.ExportFile.Members.{is_unbound}
+use Rattle.cjc_world.specs.ExportFile.declared.tree.ExportClass.{ExportClass}
+use Rattle.cjc_world.specs.ExportFile.declared.tree.ExportTree.{ExportTree}
 use Rattle.cjc_judge.specs.declared.judged.Judged.{Judged}
 use Rattle.cjc_components.specs.List.Listed.{ListTree}
 use Rattle.cjc_subset.specs.Members.{imports}
@@ -58,12 +58,12 @@ imports_at [] file t place c e f = cc
 imports_at (u ∷ trees) zero t place c e f =
     let same : u ≡ t = cc in
     let z : 0 + place ≡ place = omega arith in
-    ap (slice_get (u.classes ++ imports trees)) z ∙ get-front u.classes (imports trees) place c
+    ap (slice_get (u.classes ++ imports trees)) z ∙ in_front u.classes (imports trees) place c
     (ap (λ (x : ExportTree). slice_get x.classes place) same ∙ f)
 imports_at (u ∷ trees) (suc file) t place c e f =
     let at : length u.classes + classes_before file trees + place ≡ length u.classes + (classes_before file trees +
     place) = omega arith in
-    ap (slice_get (u.classes ++ imports trees)) at ∙ get-behind u.classes (imports trees) (classes_before file trees +
+    ap (slice_get (u.classes ++ imports trees)) at ∙ get_behind u.classes (imports trees) (classes_before file trees +
     place) ∙ imports_at trees file t place c e f
 
 module _ (list : ListTree) (files : List (List ℕ)) (judged : Judged) (p : Package) (is : IsConverted list files judged

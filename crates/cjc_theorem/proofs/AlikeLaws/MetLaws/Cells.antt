@@ -4,11 +4,11 @@ use Rattle.std.proofs.Common.{◌≡◌, ℕ, suc, ◌<◌, refl, sym, ap, ◌�
 use Rattle.std.proofs.Common.{append_assoc, length, map, ℤ}
 use Rattle.std.specs.Prelude.{◌||◌, All, Some, cond, filter, slice_get}
 use Rattle.std.specs.List.{AllByRecursion, list_any}
-use Rattle.cjc_card_semantics.specs.Bytecode.Effects as letters
+use Rattle.cjc_ncode.specs.CardSemantics.Bytecode.Effects as letters
 use Rattle.cjc_bytes.specs.declared.fault.MemberId.{MemberId}
 use Rattle.cjc_token_proof.proofs.ByToken.Members.{behind_all, front_all, member_same}
 use Rattle.cjc_token_proof.specs.ByToken.Cells.{HasCells, fields, is_number, is_one_of, letter, letter_by}
-use Rattle.cjc_card_semantics.specs.Machine.ByToken.{letter_of}
+use Rattle.cjc_ncode.specs.CardSemantics.Machine.ByToken.{letter_of}
 use Rattle.cjc_shape_proof.proofs.CheckProofLists.{has-flat, has-map}
 use Rattle.cjc_classfile.specs.declared.tree.ClassTree.{ClassTree}
 use Rattle.cjc_classfile.specs.declared.tree.FieldTree.{FieldTree}

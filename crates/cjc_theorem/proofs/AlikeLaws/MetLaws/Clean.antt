@@ -10,12 +10,12 @@ use Rattle.cjc_bytes.specs.Breaks.{broken_at, list_spot}
 use Rattle.cjc_bytes.specs.declared.order.FileKey.{FileKey}
 use Rattle.cjc_bytes.specs.declared.order.FileKey.TheVariants as keys
 use Rattle.cjc_bytes.specs.declared.settings.FileLine.{FileLine}
+use Rattle.cjc_bytes.proofs.Lists.{none_left, none_right}
 use Rattle.cjc_vtable.specs.ClassOrder.Classes.Numbers.{class_count}
 use Rattle.cjc_classfile.specs.declared.tree.ClassTree.{ClassTree}
 use Rattle.cjc_classfile.specs.declared.tree.FieldTree.{FieldTree}
 use Rattle.cjc_classfile.specs.declared.tree.MethodTree.{MethodTree}
 use Rattle.cjc_vtable.proofs.Filed.{Has, at_front, behind}
-use Rattle.cjc_vtable.proofs.Numbers.{class_count-cons}
 use Rattle.cjc_world.specs.Added.{added}
 use Rattle.cjc_world.specs.Classes.{Class, Member, all_classes, declared, field_of_class, method_of_class, size}
 use Rattle.cjc_world.specs.Files.{Files}
@@ -25,11 +25,13 @@ use Rattle.cjc_world.specs.Rules.{class_rules, export_file_breaks, gets_missing,
 use Rattle.cjc_world.specs.Rules.{is_of_package, is_own_super, is_second, is_twice, is_under_cycle, lists_missing}
 use Rattle.cjc_world.specs.Rules.{lists_wrong, member_rules, members, members_before, members_from, told, when}
 use Rattle.cjc_world.proofs.Cycles.{stands_where_above}
-use Rattle.cjc_world.proofs.Unbroken.{nil_back, nil_front, nil_of_map, not_when, unbroken_is_acyclic}
+use Rattle.cjc_world.proofs.Unbroken.{nil_of_map, not_when, unbroken_is_acyclic}
+use Rattle.cjc_vtable.proofs.ClassOrderStanding.{class_count-cons}
 
 -- ---- tests of lists
 
-none_of : {A : Type 0} (test : A → Bool) (xs : List A) (x : A) → list_any test xs ≡ false → Has x xs → test x ≡ false
+pub none_of : {A : Type 0} (test : A → Bool) (xs : List A) (x : A) → list_any test xs ≡ false → Has x xs → test x
+    ≡ false
 none_of test [] x e h = elim h [ ]
 none_of test (y ∷ xs) _ e at_front = by (test y) e
   where
@@ -81,15 +83,15 @@ clean_from files w k c e i (line ∷ lines) n t is p le lt =
         go true f =
             let here = class_file_breaks files (keys.Line k) line.name w c (slice_get files.classes c) in
             let own = subst (λ m. class_file_breaks files (keys.Line k) line.name w m (slice_get files.classes m) ≡ [])
-            (eqb-true c n f) (nil_front here (breaks_from files w (k + 1) (c + 1) e i lines) q) in
+            (eqb-true c n f) (none_left here (breaks_from files w (k + 1) (c + 1) e i lines) q) in
             (keys.Line k, line.name, sym (ap (class_file_breaks files (keys.Line k) line.name w n) is) ∙ own)
         go false f =
             let here = class_file_breaks files (keys.Line k) line.name w c (slice_get files.classes c) in
-            r (nil_back here (breaks_from files w (k + 1) (c + 1) e i lines) q) (let ne = eqb-false c n f
+            r (none_right here (breaks_from files w (k + 1) (c + 1) e i lines) q) (let ne = eqb-false c n f
             in omega (arith, ne)) (omega arith)
     by false q h r s =
         let here = export_file_breaks files (keys.Line k) line.name w e i (slice_get files.exports e) in
-        s (nil_back here (breaks_from files w (k + 1) c (e + 1) (i + size (slice_get files.exports e)) lines) q)
+        s (none_right here (breaks_from files w (k + 1) c (e + 1) (i + size (slice_get files.exports e)) lines) q)
         (omega arith)
 
 -- ---- what a class keeps
@@ -106,14 +108,14 @@ module _ (file : FileKey) (file_name : List ℕ) (w : List Class) (c : Class) (f
       let same : x ≡ m = cc in
       let at = λ (rule : ℕ). at_member file file_name 1 c.name (members_before field c + i + 1)
       (told field x.name x.desc) rule in
-      let here : of_member i x ≡ [] = nil_of_map at (of_member i x) (nil_front (map at (of_member i x))
+      let here : of_member i x ≡ [] = nil_of_map at (of_member i x) (none_left (map at (of_member i x))
       (members_from file file_name 1 w c field (i + 1) ms) e) in
       let place : i + 0 ≡ i = omega arith in
       ap (λ j. of_member j m) place ∙ ap (of_member i) (sym same) ∙ here
   clean_members i (x ∷ ms) (suc k) m e is =
       let at = λ (rule : ℕ). at_member file file_name 1 c.name (members_before field c + i + 1)
       (told field x.name x.desc) rule in
-      let rest = clean_members (i + 1) ms k m (nil_back (map at (of_member i x)) (members_from file file_name 1 w c
+      let rest = clean_members (i + 1) ms k m (none_right (map at (of_member i x)) (members_from file file_name 1 w c
       field (i + 1) ms) e) is in
       let place : i + suc k ≡ i + 1 + k = omega arith in
       ap (λ j. of_member j m) place ∙ rest
@@ -127,7 +129,7 @@ module _ (file : FileKey) (file_name : List ℕ) (w : List Class) (c : Class) (f
       let twice = when (is_twice (members field c) k m.name m.desc) 202 in
       let here = subst (λ j. of_member j m ≡ []) z (clean_members 0 (members field c) k m e is) in
       let missing = not_when (not c.is_imported && is_desc_missing w m.desc) 203
-      (nil_back twice (when (not c.is_imported && is_desc_missing w m.desc) 203) here) in
+      (none_right twice (when (not c.is_imported && is_desc_missing w m.desc) 203) here) in
       sym (ap (λ b. not b && is_desc_missing w m.desc) own) ∙ missing
 
 -- The descriptors of a class of the package name classes that some file has.
@@ -162,17 +164,17 @@ keeps_types files w acyclic n t (file, file_name, e) =
     let R = map at (A ++ B ++ D ++ E ++ G) in
     let F = members_from file file_name 1 w d true 0 d.fields in
     let M = members_from file file_name 1 w d false 0 d.methods in
-    let own = nil_of_map at (A ++ B ++ D ++ E ++ G) (nil_front R F (nil_front (R ++ F) M e)) in
-    let three = nil_front (A ++ B ++ D) E (nil_front (A ++ B ++ D ++ E) G own) in
+    let own = nil_of_map at (A ++ B ++ D ++ E ++ G) (none_left R F (none_left (R ++ F) M e)) in
+    let three = none_left (A ++ B ++ D) E (none_left (A ++ B ++ D ++ E) G own) in
     let missing = or_right (lists_missing w d) (gets_missing w d) (not_when (lists_missing w d || gets_missing w d) 203
-    (nil_back (A ++ B) D three)) in
+    (none_right (A ++ B) D three)) in
     let none = sym (ap (λ b. not b && list_any (λ m. is_desc_missing w m.desc) (added w d)) (no_cycle w acyclic d))
     ∙ missing in
     record {
       fields = λ k f is. there_members file file_name w d true refl k (field_of_class f)
-          (nil_back R F (nil_front (R ++ F) M e)) (slice_get-map field_of_class t.fields k
+          (none_right R F (none_left (R ++ F) M e)) (slice_get-map field_of_class t.fields k
           ∙ ap (option_map field_of_class) is);
-      methods = λ k m is. there_members file file_name w d false refl k (method_of_class m) (nil_back (R ++ F) M e)
+      methods = λ k m is. there_members file file_name w d false refl k (method_of_class m) (none_right (R ++ F) M e)
           (slice_get-map method_of_class t.methods k ∙ ap (option_map method_of_class) is);
       got = λ m h. none_of (λ (x : Member). is_desc_missing w x.desc) (added w d) m none h;
     }
@@ -188,6 +190,6 @@ unfolding breaks
 own_types_known list files listed unbroken n t is lt =
     let w = all_classes files in
     keeps_types files w (unbroken_is_acyclic list files unbroken) n t
-    (clean_from files w 0 0 0 0 files.lines n t is (nil_back (map (λ rule. broken_at (list_spot list) rule)
+    (clean_from files w 0 0 0 0 files.lines n t is (none_right (map (λ rule. broken_at (list_spot list) rule)
     (when (not (has_language w files.exports)) 207)) (breaks_from files w 0 0 0 0 files.lines) unbroken)
     (omega arith) (omega (arith, lt, listed)))

@@ -1,13 +1,14 @@
 -- A descriptor of which 203 is not broken names classes that some file has.
 use Rattle.std.proofs.Common.{◌≡◌, ℕ, ◌-◌, ◌<◌, ◌^◌, refl, sym, ap, ◌∙◌, Bool, true, false, List, [], ◌∷◌, ◌++◌, length}
 use Rattle.std.proofs.Common.{map}
-use Rattle.std.specs.Prelude.{◌&&◌, ◌||◌, ◌==◌, take, Option, Some, None, is_some, option_and_then, unwrap_or}
+use Rattle.std.specs.Prelude.{◌&&◌, ◌==◌, take, Option, Some, None, is_some, option_and_then, unwrap_or}
 use Rattle.std.specs.Prelude.{if◌then◌else◌}
 use Rattle.std.specs.List.{list_all, list_any}
-use Rattle.std.proofs.lemmas.Bool.{lt-ltb}
+use Rattle.std.proofs.lemmas.Bool.{lt-ltb, and_from}
 use Rattle.cjc_bytes.specs.Descriptor.{Part, Parts, base_kind, plain}
 use Rattle.cjc_bytes.specs.Spots.{desc_of, part_of}
 use Rattle.cjc_bytes.specs.declared.descriptor.Kind.{Kind}
+use Rattle.cjc_bytes.proofs.Bools.{or_left, or_right}
 use Rattle.cjc_bytes.specs.declared.descriptor.Kind.TheVariants as kinds
 use Rattle.cjc_shape_proof.specs.CheckProof.Classes.Premises.{is_known, result_known, sort_known, types_known}
 use Rattle.cjc_script.specs.Sorts.{OfClass, OfReferences, array_by, array_of, reference_to, result_by, shape_named}
@@ -15,21 +16,6 @@ use Rattle.cjc_script.specs.Sorts.{signature_by, sort_by, sort_of, sort_or_none}
 use Rattle.cjc_world.specs.Classes.{Class, class_named}
 use Rattle.cjc_world.specs.Rules.{is_any_missing, is_desc_missing, is_element_missing, is_missing, is_none_of}
 use Rattle.cjc_world.specs.Rules.{is_type_missing}
-
--- ---- tests
-
-or_left : (a b : Bool) → (a || b) ≡ false → a ≡ false
-or_left true b e = absurd cc
-or_left false b e = refl
-
-or_right : (a b : Bool) → (a || b) ≡ false → b ≡ false
-or_right true b e = absurd cc
-or_right false b e = e
-
-both : (a b : Bool) → a ≡ true → b ≡ true → (a && b) ≡ true
-both true true e f = refl
-both true false e f = absurd cc
-both false b e f = absurd cc
 
 -- ---- a type
 
@@ -116,7 +102,7 @@ module _ (w : List Class) where
   unfolding missing
   params_known [] r e = refl
   params_known (p ∷ ps) r e =
-      both (sort_known (is_known w) (sort_of p)) (list_all (sort_known (is_known w)) (map sort_of ps))
+      and_from (sort_known (is_known w) (sort_of p)) (list_all (sort_known (is_known w)) (map sort_of ps))
       (part_known p (or_left (missing p) (list_any missing (ps ++ r ∷ [])) e))
       (params_known ps r (or_right (missing p) (list_any missing (ps ++ r ∷ [])) e))
 
@@ -149,7 +135,7 @@ module _ (w : List Class) where
       }) else None) ≡ true
       by true =
           let r = d.result in
-          both (list_all (sort_known (is_known w)) (map sort_of d.params)) (result_known (is_known w)
+          and_from (list_all (sort_known (is_known w)) (map sort_of d.params)) (result_known (is_known w)
           (result_by r.kind r)) (params_known d.params r f) (given_known r (last_there d.params r f))
       by false = ap (λ o. sort_known (is_known w) (sort_or_none o)) e
           ∙ part_known d.result (last_there d.params d.result f)

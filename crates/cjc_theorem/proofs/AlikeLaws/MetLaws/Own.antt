@@ -5,14 +5,16 @@ use Rattle.std.specs.Prelude.{◌&&◌, ◌||◌, ◌==◌, Option, Some, None, 
 use Rattle.std.specs.Prelude.{slice_get, if◌then◌else◌, ℤ}
 use Rattle.std.specs.List.{list_any}
 use Rattle.std.specs.Str.{bytes_eq}
-use Rattle.std.proofs.lemmas.Bool.{eqb-true}
-use Rattle.cjc_bytes.proofs.Inverse.{all_at}
-use Rattle.cjc_bytes.specs.AccessFlags.{is_final, is_interface, is_static}
+use Rattle.std.proofs.lemmas.Bool.{eqb-true, and_from}
+use Rattle.cjc_bytes.specs.AccessFlags.{is_interface, is_static}
 use Rattle.cjc_bytes.specs.declared.fault.MemberId.{MemberId}
+use Rattle.cjc_bytes.proofs.Gets.{all_at}
+use Rattle.cjc_bytes.proofs.Lists.{name_is}
+use Rattle.cjc_bytes.proofs.Bools.{clash as true_not_false}
 use Rattle.cjc_jvm_semantics.specs.OnePackage.{constant_at, constant_in, exported_constant, is_initialiser, of_class}
 use Rattle.cjc_token_proof.specs.ByToken.Cells.{HasCells, is_one_of}
-use Rattle.cjc_world_proof.proofs.CallsLaws.Own.{IsFieldAt, mapped_at}
-use Rattle.cjc_world_proof.specs.Calls.Solid.{IsSolid}
+use Rattle.cjc_token_proof.proofs.WorldProofOwn.{IsFieldAt, mapped_at}
+use Rattle.cjc_token_proof.specs.WorldProof.Calls.Solid.{IsSolid}
 use Rattle.cjc_token_proof.specs.Calls.Reaching.{is_same}
 use Rattle.cjc_classfile.specs.declared.tree.ClassTree.{ClassTree}
 use Rattle.cjc_classfile.specs.declared.tree.FieldTree.{FieldTree}
@@ -21,7 +23,7 @@ use Rattle.cjc_shape_proof.specs.CheckProof.Code.Members.{CellsFit, IsOwnCell, I
 use Rattle.cjc_token_proof.proofs.ComponentsLaws.Apart.{IsOwn, order_own}
 use Rattle.cjc_components.specs.Class.{fields_in, fields_of}
 use Rattle.cjc_components.specs.Package.{Package, world}
-use Rattle.cjc_export.specs.Members.{is_constant_type, may_be_constant}
+use Rattle.cjc_world.specs.ExportFile.Members.{may_be_constant}
 use Rattle.cjc_judge.specs.Rules.{settings_of}
 use Rattle.cjc_judge.specs.declared.judged.Judged.{Judged}
 use Rattle.cjc_components.specs.List.Listed.{ListTree}
@@ -42,11 +44,12 @@ use Rattle.cjc_world.specs.Lookup.{field_in, find_field, is_called, member_at, o
 use Rattle.cjc_world.specs.Order.{method_order}
 use Rattle.cjc_world.specs.Rules.{is_twice}
 use Rattle.cjc_world.specs.declared.found.Found.{Found}
-use Rattle.cjc_world.proofs.Settled.{bytes-refl, supertypes-AreSupertypes}
+use Rattle.cjc_world.proofs.Settled.{supertypes-AreSupertypes}
 use Rattle.cjc_token_proof.proofs.WrittenCalls.Found.{stands_in_method}
 use Rattle.cjc_shape_proof.specs.Written.Converted.{IsConverted}
 use Rattle.cjc_shape_proof.proofs.WrittenLaws.Files.{files_sound, own_unbroken}
 use Rattle.cjc_shape_proof.proofs.WrittenLaws.Worlds.{own_ordered, own_solid}
+use Rattle.cjc_shape_proof.proofs.FindsLaws.Fields.{no_constant}
 use Rattle.cjc_theorem.proofs.AlikeLaws.MetLaws.Cells.{has_cell, is_static_of}
 
 -- ---- lists
@@ -106,23 +109,6 @@ same_id class name desc id e f = ap (λ v. record { class = class; name = v; des
 
 -- ---- tests
 
-both_true : (a b : Bool) → a ≡ true → b ≡ true → (a && b) ≡ true
-both_true true true e f = refl
-both_true true false e f = cc
-both_true false b e f = cc
-
-true_not_false : {A : Type 0} (b : Bool) → b ≡ true → b ≡ false → A
-true_not_false true e f = cc
-true_not_false false e f = cc
-
--- a field of objects is no constant
-no_constant : (flags : ℕ) (desc : List ℕ) → is_static flags ≡ false → may_be_constant flags desc ≡ false
-no_constant flags desc e = by (is_static flags) e
-  where
-    by : (b : Bool) → b ≡ false → (b && is_final flags && is_constant_type desc) ≡ false
-    by true e = cc
-    by false e = refl
-
 module _ (list : ListTree) (files : List (List ℕ)) (judged : Judged) (p : Package) (is : IsConverted list files judged
     p) where
   abbrev w : List Class
@@ -159,8 +145,8 @@ module _ (list : ListTree) (files : List (List ℕ)) (judged : Judged) (p : Pack
       (subst (λ v. is_twice d.fields at.place v m.desc ≡ false) at.has_name (rules.fields at.place m at.is_member))
       in
       let called : is_called id.name id.desc m ≡ true =
-      both_true (bytes_eq m.name id.name) (bytes_eq m.desc id.desc) (ap (bytes_eq m.name) (sym at.has_name)
-      ∙ bytes-refl m.name) (ap (bytes_eq m.desc) (sym at.has_desc) ∙ bytes-refl m.desc) in
+      and_from (bytes_eq m.name id.name) (bytes_eq m.desc id.desc) (ap (bytes_eq m.name) (sym at.has_name)
+      ∙ name_is m.name) (ap (bytes_eq m.desc) (sym at.has_desc) ∙ name_is m.desc) in
       field_found w (let o = own_ordered list files judged p is in o.acyclic) d id.name id.desc (member_at d at.place)
       named
       (ap (option_map (λ i. member_at d i)) (first_here (λ f. is_called id.name id.desc f) d.fields at.place m
@@ -272,7 +258,7 @@ module _ (list : ListTree) (files : List (List ℕ)) (judged : Judged) (p : Pack
       let x_desc : x.desc ≡ id.desc = sym (ap (λ (q : Member). q.desc) t.same) ∙ at.has_desc in
       let id_is : field_id d.name x ≡ of_class d.name id = same_id d.name x.name x.desc id x_name x_desc in
       let among = is_static_of (let v = p.files in v.classes) d.number t.file at.place x t.is_file t.in_file
-      (both_true (is_static x.flags) (not (is_constant x)) static (ap not variable)) in
+      (and_from (is_static x.flags) (not (is_constant x)) static (ap not variable)) in
       record {
         class = d;
         place = at.place;

@@ -5,7 +5,7 @@ use Rattle.std.specs.Prelude.{Some, filter, flat_map, slice_get, if◌then◌els
 use Rattle.std.specs.List.{list_any}
 use Rattle.cjc_shape_proof.proofs.CheckProofLists.{has-mapped, has-other}
 use Rattle.cjc_components.specs.Package.{LaidMethod, Package, codes, pool}
-use Rattle.cjc_shape_proof.proofs.WrittenLaws.FittingLaws.Order.{has_cons, has_either, has_none}
+use Rattle.cjc_shape_proof.proofs.WrittenLaws.FittingLaws.Order.{has_cons, has_none}
 use Rattle.cjc_ncode.specs.PoolOrder.{any_exception, class_key, has_catch_type, insn_keys, is_field, method_keys, once}
 use Rattle.cjc_ncode.specs.PoolOrder.{same_key}
 use Rattle.cjc_ncode.specs.declared.narrow.NCatch.{NCatch}
@@ -13,7 +13,7 @@ use Rattle.cjc_ncode.specs.declared.narrow.NInsn.{NInsn}
 use Rattle.cjc_ncode.specs.declared.narrow.NMethod.{NMethod}
 use Rattle.cjc_ncode.specs.declared.narrow.PoolKey.{PoolKey}
 use Rattle.cjc_ncode.specs.declared.narrow.PoolKey.TheVariants as keys
-use Rattle.cjc_vtable.proofs.Filed.{Has, at_front, behind, get-has, has-get}
+use Rattle.cjc_vtable.proofs.Filed.{Has, at_front, behind, get-has, has-get, has-either}
 use Rattle.cjc_world.specs.Lookup.{object}
 
 -- ---- lists
@@ -42,7 +42,7 @@ pub flat_has : {A B : Type 0} (f : A → List B) (xs : List A) (y : B) → Has y
     × Has y (f x)
 flat_has f [] y h = has_none y h
 flat_has f (x ∷ xs) y h = ⊎_elim (λ here. (x, at_front, here)) (λ later. let r = flat_has f xs y later
-    in (r.0, behind r.1, r.2)) (has_either y (f x) (flat_map f xs) h)
+    in (r.0, behind r.1, r.2)) (has-either y (f x) (flat_map f xs) h)
 
 -- ---- keys
 
@@ -71,7 +71,7 @@ module _ (p : Package) (key : PoolKey) where
       in by_insn at.0 m at.1 j.0 i.0 j.1 i.2)
       (λ of_catches. let c = flat_has (λ (c : NCatch). class_key c.class) code.catches key of_catches
       in let j = has-get c.0 code.catches c.1 in by_handler at.0 m at.1 j.0 c.0 j.1 c.2)
-      (has_either key (flat_map insn_keys code.insns) (flat_map (λ (c : NCatch). class_key c.class) code.catches) h)
+      (has-either key (flat_map insn_keys code.insns) (flat_map (λ (c : NCatch). class_key c.class) code.catches) h)
 
   seen_named : Has key (flat_map method_keys (codes p)) → IsNamedIn p key
   seen_named h =
@@ -87,6 +87,6 @@ module _ (p : Package) (key : PoolKey) where
       let h = once_has [] (any_exception (codes p) ++ first ++ others) key (get-has key (pool p) k e) in
       ⊎_elim
       (λ front. ⊎_elim any_named (λ g. seen_named (filter_has is_field seen key g))
-      (has_either key (any_exception (codes p)) first front))
+      (has-either key (any_exception (codes p)) first front))
       (λ g. seen_named (filter_has (λ q. not (is_field q)) seen key g))
-      (has_either key (any_exception (codes p) ++ first) others h)
+      (has-either key (any_exception (codes p) ++ first) others h)

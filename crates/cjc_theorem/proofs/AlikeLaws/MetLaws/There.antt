@@ -5,6 +5,7 @@ use Rattle.std.proofs.Common.{length}
 use Rattle.std.specs.Prelude.{◌||◌, is_some, option_and_then, if◌then◌else◌, Some}
 use Rattle.cjc_bytes.specs.AccessFlags.{is_interface, is_private, is_static}
 use Rattle.cjc_bytes.specs.declared.fault.MemberId.{MemberId}
+use Rattle.cjc_bytes.proofs.Bools.{or_right, clash}
 use Rattle.cjc_jvm_semantics.specs.OnePackage.{ResolvedMember, is_constructor, method_hit, of_class}
 use Rattle.cjc_token_proof.specs.ByToken.Cells.{HasCells}
 use Rattle.cjc_shape_proof.specs.CheckProof.Classes.Premises.{names_known}
@@ -15,7 +16,7 @@ use Rattle.cjc_shape_proof.specs.CheckProof.Code.Members as members
 use Rattle.cjc_shape_proof.specs.CheckProof.Code.Members.{CellsFit}
 use Rattle.cjc_components.specs.Package.{Package, world}
 use Rattle.cjc_components.specs.Types.{desc_of_key}
-use Rattle.cjc_export.specs.Members.{is_unbound}
+use Rattle.cjc_world.specs.ExportFile.Members.{is_unbound}
 use Rattle.cjc_shape_proof.proofs.WrittenLaws.FittingLaws.Order.{has_cons, has_none}
 use Rattle.cjc_judge.specs.Rules.{settings_of}
 use Rattle.cjc_judge.specs.declared.judged.Judged.{Judged}
@@ -46,14 +47,6 @@ use Rattle.cjc_theorem.proofs.AlikeLaws.MetLaws.KeySources.{IsMet}
 use Rattle.cjc_theorem.proofs.AlikeLaws.MetLaws.Own.{Names_method, field_own, own_cell_named, own_field_named}
 use Rattle.cjc_theorem.proofs.AlikeLaws.MetLaws.Own.{own_method_named}
 use Rattle.cjc_theorem.proofs.AlikeLaws.MetLaws.Types.{IsKnownDesc, field_desc}
-
-or_right : (a b : Bool) → (a || b) ≡ false → b ≡ false
-or_right true b e = cc
-or_right false b e = e
-
-true_not_false : {A : Type 0} (b : Bool) → b ≡ true → b ≡ false → A
-true_not_false true e f = cc
-true_not_false false e f = cc
 
 module _ (list : ListTree) (files : List (List ℕ)) (judged : Judged) (p : Package) (is : IsConverted list files judged
     p) where
@@ -245,7 +238,7 @@ module _ (list : ListTree) (files : List (List ℕ)) (judged : Judged) (p : Pack
             last false b e = e
 
         not_abroad : {A : Type 0} → (let d = n.owner in d.is_imported) ≡ true → is_private flags ≡ true → A
-        not_abroad import e = true_not_false (let d = n.owner in d.is_imported) import (private_own list files judged p
+        not_abroad import e = clash (let d = n.owner in d.is_imported) import (private_own list files judged p
             is class 0xB7 id n e)
     key_there _ (sources.of_call class id of) =
         let n = called list files judged p is class 0xB8 id of in

@@ -5,6 +5,7 @@ use Rattle.std.specs.Str.{bytes_eq}
 use Rattle.std.specs.Prelude.{codes as bytes_of}
 use Rattle.std.proofs.lemmas.Option.{slice_get_within}
 use Rattle.cjc_bytes.specs.declared.fault.MemberId.{MemberId}
+use Rattle.cjc_bytes.proofs.Gets.{mapped_at}
 use Rattle.cjc_shape_proof.proofs.CheckProofLists.{has-mapped}
 use Rattle.cjc_shape_proof.specs.CheckProof.Classes.Premises.{is_known, types_known}
 use Rattle.cjc_classfile.specs.declared.tree.ClassTree.{ClassTree}
@@ -12,9 +13,8 @@ use Rattle.cjc_classfile.specs.declared.tree.FieldTree.{FieldTree}
 use Rattle.cjc_components.specs.Class.{fields_in, fields_of}
 use Rattle.cjc_components.specs.Package.{Package, pool, world}
 use Rattle.cjc_components.specs.Types.{all_descs, desc_of_field, desc_of_key, descs_of_class}
-use Rattle.cjc_shape_proof.proofs.WrittenLaws.FittingLaws.Lists.{mapped_at}
 use Rattle.cjc_shape_proof.proofs.WrittenLaws.FittingLaws.Meant.{added_method}
-use Rattle.cjc_shape_proof.proofs.WrittenLaws.FittingLaws.Order.{has_cons, has_either, has_none, order_filed}
+use Rattle.cjc_shape_proof.proofs.WrittenLaws.FittingLaws.Order.{has_cons, has_none, order_filed}
 use Rattle.cjc_shape_proof.specs.Written.LaidOut.{IsLaidOut}
 use Rattle.cjc_judge.specs.declared.judged.Judged.{Judged}
 use Rattle.cjc_components.specs.List.Listed.{ListTree}
@@ -22,7 +22,7 @@ use Rattle.cjc_shape_proof.proofs.FindsLaws.Descs.{member_desc}
 use Rattle.cjc_narrow_proof.proofs.LawsLaws.Own.{class_by_name}
 use Rattle.cjc_ncode.specs.declared.narrow.PoolKey.{PoolKey}
 use Rattle.cjc_script.specs.Sorts.{signature_of}
-use Rattle.cjc_vtable.proofs.Filed.{Has, at_front, behind, get-has, has-get}
+use Rattle.cjc_vtable.proofs.Filed.{Has, at_front, behind, get-has, has-get, has-either}
 use Rattle.cjc_world.specs.Added.{added, without_initialiser}
 use Rattle.cjc_world.specs.Classes.{Class, Member, class_named, declared, method_of_class}
 use Rattle.cjc_world.specs.Order.{class_order}
@@ -111,8 +111,8 @@ module _ (list : ListTree) (files : List (List ℕ)) (judged : Judged) (p : Pack
         in subst IsKnownDesc m.2 (method_known m.0 (without_has c.methods m.0 m.1)))
         (λ of_got. let m = has-mapped (λ (x : Member). x.desc) desc (added w c) of_got
         in subst IsKnownDesc m.2 (got_known m.0 m.1))
-        (has_either desc methods got rest))
-        (has_either desc fields (methods ++ got) h)
+        (has-either desc methods got rest))
+        (has-either desc fields (methods ++ got) h)
 
   -- the descriptor of a field of the package that code names
   pub field_desc : (id : MemberId) (static : Bool) (n : Names_field list files judged p is id static)
@@ -139,5 +139,5 @@ module _ (list : ListTree) (files : List (List ℕ)) (judged : Judged) (p : Pack
       in of_keys at.0 r.0 at.1 desc r.2)
       (λ of_classes. let r = flat_has (descs_of_class p) (class_order w) desc of_classes
       in order_known r.0 r.1 desc r.2)
-      (has_either desc (flat_map desc_of_key (pool p)) (flat_map (descs_of_class p) (class_order w))
+      (has-either desc (flat_map desc_of_key (pool p)) (flat_map (descs_of_class p) (class_order w))
       (get-has desc (all_descs p) k e))

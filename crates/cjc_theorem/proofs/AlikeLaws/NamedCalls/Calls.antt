@@ -1,8 +1,8 @@
 -- Each call that the code of a converted package makes is one that calls can name.
 use Rattle.std.proofs.Common.{◌≡◌, ℕ, refl, sym, ap, subst, ◌∙◌, Bool, true, false, List}
 use Rattle.std.specs.Prelude.{◌||◌, Some, option_and_then, if◌then◌else◌}
-use Rattle.cjc_card_semantics.specs.Bytecode.Effects.{Call}
-use Rattle.cjc_card_semantics.specs.Bytecode.Meanings.{meaning}
+use Rattle.cjc_ncode.specs.CardSemantics.Bytecode.Effects.{Call}
+use Rattle.cjc_ncode.specs.CardSemantics.Bytecode.Meanings.{meaning}
 use Rattle.cjc_bytes.specs.AccessFlags.{is_interface, is_private}
 use Rattle.cjc_bytes.specs.declared.fault.MemberId.{MemberId}
 use Rattle.cjc_jvm_semantics.specs.OnePackage.{ResolvedMember, is_constructor, method_hit, of_class}

@@ -1,67 +1,43 @@
 -- A static method or a constructor of an imported class is what its reference means on the card.
 use Rattle.std.proofs.Common.{◌≡◌, ℕ, zero, suc, ◌+◌, ◌<◌, refl, sym, ap, subst, ◌∙◌, arith, Bool, true, false, List}
 use Rattle.std.proofs.Common.{[], ◌∷◌, ◌++◌, length, map}
-use Rattle.std.specs.Prelude.{◌&&◌, ◌||◌, ◌==◌, not, nat_lt, Some, None, option_and_then, option_map, slice_get}
+use Rattle.std.specs.Prelude.{◌&&◌, ◌==◌, not, nat_lt, Some, None, option_and_then, option_map, slice_get}
 use Rattle.std.specs.Prelude.{unwrap_or, if◌then◌else◌}
-use Rattle.std.proofs.lemmas.Bool.Decides.{nat_tests}
 use Rattle.std.proofs.lemmas.List.{length-map}
 use Rattle.std.proofs.lemmas.Option.{slice_get-map}
 use Rattle.cjc_bytes.specs.AccessFlags.{is_interface}
 use Rattle.cjc_bytes.specs.declared.fault.MemberId.{MemberId}
+use Rattle.cjc_bytes.proofs.Numbers.{like_number}
+use Rattle.cjc_bytes.proofs.Bools.{or_left, or_right}
+use Rattle.cjc_bytes.proofs.Gets.{get_behind}
 use Rattle.cjc_jvm_semantics.specs.OnePackage.{is_initialiser}
-use Rattle.cjc_world_proof.proofs.CallsLaws.Own.{IsAt, mapped_at}
-use Rattle.cjc_card_semantics.specs.Machine.Classes.{External}
-use Rattle.cjc_card_semantics.specs.Machine.Loaded.{OfFile}
-use Rattle.cjc_card_semantics.specs.Machine.Operations.{Outer, method_through, outer, static_method, unbound_of}
+use Rattle.cjc_token_proof.proofs.WorldProofOwn.{IsAt, mapped_at}
+use Rattle.cjc_ncode.specs.CardSemantics.Machine.Classes.{External}
+use Rattle.cjc_ncode.specs.CardSemantics.Machine.Loaded.{OfFile}
+use Rattle.cjc_ncode.specs.CardSemantics.Machine.Operations.{Outer, method_through, outer, static_method, unbound_of}
 use Rattle.cjc_components.specs.Names.{class_at, fixed_as, member_ref, member_token, offset_where}
 use Rattle.cjc_components.specs.Package.{Package, world}
-use Rattle.cjc_export.specs.Members.{is_unbound, method_token_taken, method_token_wrong, same_bool}
-use Rattle.cjc_export.specs.Writable.{ClassFits, EachAfter, MethodStands}
-use Rattle.cjc_export.specs.declared.tree.ExportClass.{ExportClass}
-use Rattle.cjc_export.specs.declared.tree.ExportMethod.{ExportMethod}
-use Rattle.cjc_export.specs.declared.tree.ExportTree.{ExportTree}
+use Rattle.cjc_world.specs.ExportFile.Members.{is_unbound, method_token_taken, method_token_wrong, same_bool}
+use Rattle.cjc_world.specs.ExportFile.Writable.{ClassFits, EachAfter, MethodStands}
+use Rattle.cjc_world.specs.ExportFile.declared.tree.ExportClass.{ExportClass}
+use Rattle.cjc_world.specs.ExportFile.declared.tree.ExportMethod.{ExportMethod}
 use Rattle.cjc_ncode.specs.Lowering.Naming.{IsFixed}
-use Rattle.cjc_shape_proof.proofs.FindsLaws.Descs.{each_after}
 use Rattle.cjc_components.specs.Paired.Naming.{files_from}
 use Rattle.cjc_subset.specs.Members.{imports}
 use Rattle.cjc_token_proof.specs.Tables.Loading.{loaded, naming}
 use Rattle.cjc_token_proof.specs.Tables.Sound.{IsSound}
 use Rattle.cjc_token_proof.proofs.TablesLaws.Above.{entry_of_name}
+use Rattle.cjc_token_proof.proofs.WrittenCalls.Tables.{import_at}
 use Rattle.cjc_tokens.specs.Tokens.{assigned, imports_of, joined, listed_field_token, listed_method_token, of_import}
 use Rattle.cjc_vtable.proofs.Filed.{IsFiled, filed, get-has, in_class_file, in_export_file, of-imports, has-get}
+use Rattle.cjc_vtable.proofs.Read.{each-after}
 use Rattle.cjc_world.specs.declared.found.Found.{Found}
 use Rattle.cjc_world.specs.Classes.{Class, Member, class_named, field_of_export, method_of_export}
 use Rattle.cjc_world.specs.Lookup.{find_method}
 use Rattle.cjc_world.proofs.Cycles.{class_named-name}
-
--- ---- lists
-
-map_both : {A B : Type 0} (f : A → B) (xs ys : List A) → map f (xs ++ ys) ≡ map f xs ++ map f ys
-map_both f [] ys = refl
-map_both f (x ∷ xs) ys = ap (λ zs. f x ∷ zs) (map_both f xs ys)
-
-back : {A : Type 0} (xs ys : List A) (k : ℕ) → slice_get (xs ++ ys) (length xs + k) ≡ slice_get ys k
-back [] ys k = let at : 0 + k ≡ k = omega arith in ap (slice_get ys) at
-back (x ∷ xs) ys k = let at : suc (length xs) + k ≡ suc (length xs + k) = omega arith
-    in ap (slice_get (x ∷ xs ++ ys)) at ∙ back xs ys k
-
-imports_are : (ts : List ExportTree) → imports_of ts ≡ map of_import (imports ts)
-imports_are [] = refl
-imports_are (t ∷ ts) = ap (λ rows. map of_import t.classes ++ rows) (imports_are ts)
-    ∙ sym (map_both of_import t.classes (imports ts))
+use Rattle.cjc_shape_proof.proofs.ShapeTokens.{imports_are}
 
 -- ---- tokens are apart
-
-or_left : (a b : Bool) → (a || b) ≡ false → a ≡ false
-or_left true b e = cc
-or_left false b e = refl
-
-or_right : (a b : Bool) → (a || b) ≡ false → b ≡ false
-or_right true b e = cc
-or_right false b e = e
-
-same_number : (a : ℕ) → (a == a) ≡ true
-same_number a = grind (arith, nat_tests)
 
 -- no method before has the token
 abbrev NoneHas : List ExportMethod → ℕ → Type 0
@@ -94,7 +70,7 @@ first_unbound (x ∷ ms) zero m e bound none =
     let same : x ≡ m = cc in
     let here : (is_unbound x.flags x.name && (x.token == m.token)) ≡ true =
     subst (λ (y : ExportMethod). (is_unbound y.flags y.name && (y.token == m.token)) ≡ true) (sym same) (ap (λ b. b
-    && (m.token == m.token)) bound ∙ same_number m.token) in
+    && (m.token == m.token)) bound ∙ like_number m.token) in
     ap (λ b. if b then Some x else unbound_of ms m.token) here ∙ ap Some same
 first_unbound (x ∷ ms) (suc k) m e bound none =
     let here = none 0 x (omega arith) refl in
@@ -126,16 +102,12 @@ before_at {A} P before (y ∷ xs) (suc k) x all e =
         → ((i : ℕ) (z : A) → slice_get (before ++ y ∷ []) i ≡ Some z → slice_get b i ≡ Some z)
         → (j : ℕ) (z : A) → j < suc k → slice_get (y ∷ xs) j ≡ Some z → (i : ℕ) × (slice_get b i ≡ Some z)
     by b later kept zero z l f =
-        let at : length before ≡ length before + 0 = omega arith in
-        (length before, kept (length before) z (ap (slice_get (before ++ y ∷ [])) at ∙ back before (y ∷ []) 0 ∙ f))
+        let at : length before ≡ length before + 0 = omega arith in (
+          length before,
+          kept (length before) z (ap (slice_get (before ++ y ∷ [])) at ∙ get_behind before (y ∷ []) 0
+              ∙ f),
+        )
     by b later kept (suc j) z l f = later j z (omega (arith, l)) f
-
-import_at : (k : ℕ) (trees : List ExportTree) (j : ℕ) (t : ExportTree) → slice_get trees j ≡ Some t
-    → slice_get (files_from k trees) j ≡ Some (OfFile (k + j))
-import_at k [] j t e = cc
-import_at k (u ∷ trees) zero t e = let z : k ≡ k + 0 = omega arith in ap (λ n. Some (OfFile n)) z
-import_at k (u ∷ trees) (suc j) t e = let z : k + 1 + j ≡ k + suc j = omega arith in import_at (k + 1) trees j t e
-    ∙ ap (λ n. Some (OfFile n)) z
 
 -- ---- a package
 
@@ -169,7 +141,7 @@ module _ (list : List ℕ) (p : Package) (sound : IsSound list p.files) where
       let tree = of-imports t p.files.exports (get-has t (imports p.files.exports) n there) in
       let place = has-get tree.0 p.files.exports tree.1 in
       let readable = (let r = sound.read in r.exports) place.0 tree.0 place.1 in
-      let class = each_after ClassFits [] (let u = tree.0 in u.classes) t readable.classes tree.2 in
+      let class = each-after ClassFits [] (let u = tree.0 in u.classes) t readable.classes tree.2 in
       let stands : EachAfter (MethodStands false (length t.methods)) [] t.methods =
       subst (λ b. EachAfter (MethodStands b (length t.methods)) [] t.methods) plain class.1.methods in
       let before = before_at (MethodStands false (length t.methods)) [] t.methods at.place y.0 stands y.1 in
@@ -185,7 +157,7 @@ module _ (list : List ℕ) (p : Package) (sound : IsSound list p.files) where
             (option_and_then (λ ms. joined (slice_get ms (length (map field_of_export t.fields) + at.place))) o)
             0xFF) row
             ∙ ap (λ l. unwrap_or (joined (slice_get (fields ++ methods) (l + at.place))) 0xFF) counted
-            ∙ ap (λ o. unwrap_or (joined o) 0xFF) (back fields methods at.place
+            ∙ ap (λ o. unwrap_or (joined o) 0xFF) (get_behind fields methods at.place
             ∙ slice_get-map listed_method_token t.methods at.place ∙ ap (option_map listed_method_token) y.1)
             ∙ ap (λ b. unwrap_or (if b then None else Some y.0.token) 0xFF) open_name
             ∙ ap (λ (x : Member). x.token) (sym y.2);

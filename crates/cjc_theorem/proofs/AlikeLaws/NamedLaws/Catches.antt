@@ -1,12 +1,12 @@
 -- What the handlers of a converted package catch stands in its pool: java/lang/Object at the entry of every exception,
 -- all else behind it.
-use Rattle.std.proofs.Common.{◌≡◌, ℕ, zero, suc, refl, sym, ap, ◌∙◌, Bool, true, false, not, List, [], ◌∷◌, ◌++◌}
-use Rattle.std.specs.Prelude.{◌||◌, Option, Some, None, filter, flat_map, option_map, position, slice_get, unwrap_or}
+use Rattle.std.proofs.Common.{◌≡◌, ℕ, suc, refl, sym, ap, ◌∙◌, Bool, true, false, not, List, [], ◌∷◌, ◌++◌}
+use Rattle.std.specs.Prelude.{Option, Some, None, filter, flat_map, option_map, position, slice_get, unwrap_or}
 use Rattle.std.specs.Prelude.{if◌then◌else◌}
-use Rattle.std.specs.List.{list_any}
 use Rattle.std.specs.Str.{bytes_eq}
 use Rattle.std.proofs.lemmas.Option.{slice_get-map}
 use Rattle.std.proofs.lemmas.Slice.Eq.{bytes_eq-Decides}
+use Rattle.std.proofs.lemmas.Map.Keys.{any_passes_from_place}
 use Rattle.cjc_components.specs.Package.{LaidMethod, Package, codes, pool, world}
 use Rattle.cjc_judge.specs.declared.judged.Judged.{Judged}
 use Rattle.cjc_narrow.specs.Keys.Index.{index_of}
@@ -29,16 +29,6 @@ use Rattle.cjc_theorem.proofs.AlikeLaws.NamedLaws.Sources.{has_catch}
 use Rattle.cjc_shape_proof.specs.Written.Converted.{IsConverted}
 use Rattle.cjc_shape_proof.proofs.WrittenLaws.Files.{own_unbroken}
 
-any_at : {A : Type 0} (p : A → Bool) (xs : List A) (k : ℕ) (x : A) → slice_get xs k ≡ Some x → p x ≡ true
-    → list_any p xs ≡ true
-any_at p [] k x e h = cc
-any_at p (y ∷ xs) zero x e h = let same : y ≡ x = cc in ap (λ b. b || list_any p xs) (ap p same ∙ h)
-any_at p (y ∷ xs) (suc k) x e h = either (p y) (list_any p xs) (any_at p xs k x e h)
-  where
-    either : (a b : Bool) → b ≡ true → (a || b) ≡ true
-    either true b f = refl
-    either false b f = f
-
 module _ (p : Package) (k : ℕ) (m : LaidMethod) (e : slice_get p.methods k ≡ Some m) (j : ℕ) (c : NCatch)
     (f : (let code = m.code in slice_get code.catches j ≡ Some c)) (name : List ℕ) (names : c.class ≡ Some name) where
   code_at : slice_get (codes p) k ≡ Some m.code
@@ -47,9 +37,11 @@ module _ (p : Package) (k : ℕ) (m : LaidMethod) (e : slice_get p.methods k ≡
   -- entry 0 is that of java/lang/Object
   first_key : any_exception (codes p) ≡ keys.Class object ∷ []
   first_key =
-      let typed : has_catch_type m.code ≡ true = any_at (λ (d : NCatch). is_some d.class) (let code = m.code
+      let typed : has_catch_type m.code ≡ true = any_passes_from_place (λ (d : NCatch). is_some d.class)
+      (let code = m.code
       in code.catches) j c f (ap is_some names) in
-      ap (λ b. if b then keys.Class object ∷ [] else []) (any_at has_catch_type (codes p) k m.code code_at typed)
+      ap (λ b. if b then keys.Class object ∷ [] else []) (any_passes_from_place has_catch_type
+      (codes p) k m.code code_at typed)
 
   -- the keys behind it
   abbrev later : List PoolKey

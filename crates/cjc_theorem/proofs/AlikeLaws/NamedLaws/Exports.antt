@@ -1,20 +1,21 @@
 -- What export files say of initialisers and of the methods of interfaces is what calls ask.
-use Rattle.std.proofs.Common.{◌≡◌, ℕ, zero, suc, refl, sym, ap, ◌∙◌, arith, Bool, true, false, not, List, [], ◌∷◌, ◌++◌}
+use Rattle.std.proofs.Common.{◌≡◌, ℕ, zero, suc, refl, sym, ap, ◌∙◌, Bool, true, false, not, List, [], ◌∷◌, ◌++◌}
 use Rattle.std.specs.Prelude.{◌&&◌, ◌||◌, ◌==◌, Some, option_map, slice_get, if◌then◌else◌, codes}
 use Rattle.std.specs.List.{find}
 use Rattle.std.specs.Str.{bytes_eq}
 use Rattle.std.proofs.lemmas.Bool.{eqb-true}
-use Rattle.std.proofs.lemmas.Bool.Decides.{nat_tests}
 use Rattle.std.proofs.lemmas.Option.{slice_get-map}
 use Rattle.cjc_bytes.specs.AccessFlags.{is_interface, is_private, is_static}
-use Rattle.cjc_world_proof.proofs.CallsLaws.Own.{mapped_at}
+use Rattle.cjc_bytes.proofs.Bools.{both_back}
+use Rattle.cjc_bytes.proofs.Numbers.{like_number}
+use Rattle.cjc_token_proof.proofs.WorldProofOwn.{mapped_at}
 use Rattle.cjc_components.specs.Package.{Package, has_applets, world}
-use Rattle.cjc_export.specs.Supers.{classes_of, is_virtual, virtual_method}
-use Rattle.cjc_export.specs.Supers as exports
-use Rattle.cjc_export.specs.declared.tree.ExportClass.{ExportClass}
-use Rattle.cjc_export.specs.declared.tree.ExportMethod.{ExportMethod}
-use Rattle.cjc_export.specs.declared.tree.ExportTree.{ExportTree}
-use Rattle.cjc_world_proof.specs.Files.{ExportsAreSound}
+use Rattle.cjc_world.specs.ExportFile.Supers.{classes_of, is_virtual, virtual_method}
+use Rattle.cjc_world.specs.ExportFile.Supers as exports
+use Rattle.cjc_world.specs.ExportFile.declared.tree.ExportClass.{ExportClass}
+use Rattle.cjc_world.specs.ExportFile.declared.tree.ExportMethod.{ExportMethod}
+use Rattle.cjc_world.specs.ExportFile.declared.tree.ExportTree.{ExportTree}
+use Rattle.cjc_token_proof.specs.WorldProof.Files.{ExportsAreSound}
 use Rattle.cjc_subset.specs.Members.{imports}
 use Rattle.cjc_token_proof.specs.Tables.Sound.{IsSound}
 use Rattle.cjc_tokens.specs.Members.{Signature, signature_of}
@@ -55,13 +56,6 @@ find_some test (y ∷ xs) (suc i) z e h = by (test y) refl (find_some test xs i 
     by true is r = (y, ap (λ b. if b then Some y else find test xs) is, is, (0, refl))
     by false is r = (r.0, ap (λ b. if b then Some y else find test xs) is ∙ r.1, r.2, (suc (r.3).0, (r.3).1))
 
-both_right : (a b : Bool) → (a && b) ≡ true → b ≡ true
-both_right true b e = e
-both_right false b e = cc
-
-same_number : (a : ℕ) → (a == a) ≡ true
-same_number a = grind (arith, nat_tests)
-
 module _ (list : List ℕ) (p : Package) (sound : IsSound list p.files) (told : ExportsAreSound p.files)
     (plain : ExportsArePlain p.files) where
   abbrev w : List Class
@@ -71,7 +65,7 @@ module _ (list : List ℕ) (p : Package) (sound : IsSound list p.files) (told : 
       → bytes_eq m.name (codes "<init>") ≡ false → m.token ≡ t → (is_virtual m && (m.token == t)) ≡ true
   open_virtual m t static private constructor token =
       by (is_static m.flags) (is_private m.flags) (bytes_eq m.name (codes "<init>")) (m.token == t) static private
-      constructor (ap (λ n. n == t) token ∙ same_number t)
+      constructor (ap (λ n. n == t) token ∙ like_number t)
     where
       by : (a b c d : Bool) → a ≡ false → b ≡ false → c ≡ false → d ≡ true → (not (a || b || c) && d) ≡ true
       by false false false true e f g h = refl
@@ -108,7 +102,7 @@ module _ (list : List ℕ) (p : Package) (sound : IsSound list p.files) (told : 
           (ap (λ (q : Member). bytes_eq q.name (codes "<init>")) (sym z.2) ∙ r.no_constructor)
           (ap (λ (q : Member). q.token) (sym z.2) ∙ r.token) in
           let f = find_some (λ (m : ExportMethod). is_virtual m && (m.token == t)) e.methods r.place z.0 z.1 passes in
-          let token : (let x = f.0 in x.token) ≡ t = eqb-true (let x = f.0 in x.token) t (both_right (is_virtual f.0)
+          let token : (let x = f.0 in x.token) ≡ t = eqb-true (let x = f.0 in x.token) t (both_back (is_virtual f.0)
           ((let x = f.0 in x.token) == t) f.2) in
           let v = mapped_at method_of_export u.methods f.3.0 (method_of_export f.0)
           (ap (λ (q : Class). slice_get q.methods f.3.0) same ∙ slice_get-map method_of_export e.methods f.3.0

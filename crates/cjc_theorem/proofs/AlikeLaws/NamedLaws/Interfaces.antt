@@ -6,30 +6,25 @@ use Rattle.std.proofs.lemmas.Slice.Eq.{bytes_eq-Decides}
 use Rattle.std.proofs.Common.{subst}
 use Rattle.cjc_bytes.specs.AccessFlags.{is_abstract, is_interface, is_private, is_static}
 use Rattle.cjc_bytes.specs.declared.settings.Settings.{Settings}
+use Rattle.cjc_bytes.proofs.Bools.{last_of}
 use Rattle.cjc_jvm_semantics.specs.OnePackage.{is_constructor, is_initialiser}
-use Rattle.cjc_world_proof.proofs.CallsLaws.Own.{mapped_at}
-use Rattle.cjc_world_proof.specs.Calls.Solid.{IsOwn, IsSolid}
+use Rattle.cjc_token_proof.proofs.WorldProofOwn.{mapped_at}
+use Rattle.cjc_token_proof.specs.WorldProof.Calls.Solid.{IsOwn, IsSolid}
 use Rattle.cjc_classfile.specs.declared.tree.ClassTree.{ClassTree}
 use Rattle.cjc_classfile.specs.declared.tree.MethodTree.{MethodTree}
 use Rattle.cjc_code.specs.declared.method_code.MethodCode.{MethodCode}
-use Rattle.cjc_export.specs.Members.{not_special}
-use Rattle.cjc_export.specs.Writable.{ClassFits, IsWritable, MethodStands}
-use Rattle.cjc_export.specs.declared.tree.ExportTree.{ExportTree}
-use Rattle.cjc_shape_proof.proofs.FindsLaws.Descs.{each_after}
-use Rattle.cjc_world_proof.proofs.SelectionLaws.Rules.{method_kept}
+use Rattle.cjc_world.specs.ExportFile.Members.{not_special}
+use Rattle.cjc_world.specs.ExportFile.Writable.{ClassFits, IsWritable, MethodStands}
+use Rattle.cjc_world.specs.ExportFile.declared.tree.ExportTree.{ExportTree}
+use Rattle.cjc_token_proof.proofs.WorldProofRules.{method_kept}
 use Rattle.cjc_subset.specs.Checks.{check_breaks}
 use Rattle.cjc_subset.specs.Flags.{is_unfit_method, is_unfit_method_kind}
 use Rattle.cjc_subset.specs.Members.{imports}
 use Rattle.cjc_vtable.proofs.Filed.{IsFiled, filed, get-has, has-get, in_class_file, in_export_file, of-imports}
+use Rattle.cjc_vtable.proofs.Read.{each-after}
 use Rattle.cjc_world.specs.Classes.{Class, Member, all_classes, class_named, method_of_class, method_of_export}
 use Rattle.cjc_world.specs.Files.{Files}
 use Rattle.cjc_shape_proof.specs.Written.Converted.{ExportsArePlain}
-
-last_of : (a b c d : Bool) → (a || b || c || d) ≡ false → d ≡ false
-last_of true b c d e = cc
-last_of false true c d e = cc
-last_of false false true d e = cc
-last_of false false false d e = e
 
 no_code : (a b c : Bool) → a ≡ true → c ≡ false → (a && b && not c) ≡ false → b ≡ false
 no_code true true true e f g = cc
@@ -99,8 +94,8 @@ module _ (list : List ℕ) (files : Files) (methods : List MethodCode) (settings
           let tree = of-imports t files.exports (get-has t (imports files.exports) n at) in
           let place = has-get tree.0 files.exports tree.1 in
           let readable = writable place.0 tree.0 place.1 in
-          let class = each_after ClassFits [] (let u = tree.0 in u.classes) t readable.classes tree.2 in
-          let stands = each_after (MethodStands (is_interface t.flags) (length t.methods)) [] t.methods x.0
+          let class = each-after ClassFits [] (let u = tree.0 in u.classes) t readable.classes tree.2 in
+          let stands = each-after (MethodStands (is_interface t.flags) (length t.methods)) [] t.methods x.0
           class.1.methods (get-has x.0 t.methods k x.1) in
           let fits : MethodStands true (length t.methods) stands.0 x.0 =
           subst (λ b. MethodStands b (length t.methods) stands.0 x.0) interface stands.1 in

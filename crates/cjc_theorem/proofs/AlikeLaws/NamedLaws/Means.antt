@@ -1,11 +1,13 @@
 -- What keys of the pool name is what opcodes use.
-use Rattle.std.proofs.Common.{◌≡◌, ℕ, zero, suc, refl, ap, ◌∙◌, Bool, true, false, List, [], ◌∷◌, ◌++◌}
+use Rattle.std.proofs.Common.{◌≡◌, ℕ, ap, ◌∙◌, true, false, List, [], ◌∷◌}
 use Rattle.std.specs.Prelude.{◌||◌, Some, flat_map, option_map, slice_get}
 use Rattle.std.specs.List.{list_any}
 use Rattle.std.proofs.lemmas.Option.{slice_get-map}
-use Rattle.cjc_card_semantics.specs.Bytecode.Meanings.{Calls, Gets, GetsStatic, Makes, MakesReferences, Puts}
-use Rattle.cjc_card_semantics.specs.Bytecode.Meanings.{PutsStatic, Special, Static, Use, Virtual}
+use Rattle.cjc_ncode.specs.CardSemantics.Bytecode.Meanings.{Calls, Gets, GetsStatic, Makes, MakesReferences, Puts}
+use Rattle.cjc_ncode.specs.CardSemantics.Bytecode.Meanings.{PutsStatic, Special, Static, Use, Virtual}
 use Rattle.cjc_bytes.specs.declared.fault.MemberId.{MemberId}
+use Rattle.cjc_bytes.proofs.Quantified.{any_front, any_right}
+use Rattle.cjc_bytes.proofs.Gets.{any_flat}
 use Rattle.cjc_shape_proof.specs.CheckProof.Code.Kinds.{is_for}
 use Rattle.cjc_components.specs.Package.{LaidMethod, Package, codes}
 use Rattle.cjc_ncode.specs.Lowering.Naming.{Fit, Holds, IsCell, IsClass, Naming, gets, gets_static, makes}
@@ -97,30 +99,6 @@ module _ (n : Naming) where
 
 -- ---- keys stand in the pool
 
-any_left : {A : Type 0} (p : A → Bool) (xs ys : List A) → list_any p xs ≡ true → list_any p (xs ++ ys) ≡ true
-any_left p [] ys e = cc
-any_left p (x ∷ xs) ys e = go (p x) e (any_left p xs ys)
-  where
-    go : (b : Bool) → (b || list_any p xs) ≡ true → (list_any p xs ≡ true → list_any p (xs ++ ys) ≡ true)
-        → (b || list_any p (xs ++ ys)) ≡ true
-    go true f rest = refl
-    go false f rest = rest f
-
-any_right : {A : Type 0} (p : A → Bool) (xs ys : List A) → list_any p ys ≡ true → list_any p (xs ++ ys) ≡ true
-any_right p [] ys e = e
-any_right p (x ∷ xs) ys e = go (p x) (any_right p xs ys e)
-  where
-    go : (b : Bool) → list_any p (xs ++ ys) ≡ true → (b || list_any p (xs ++ ys)) ≡ true
-    go true f = refl
-    go false f = f
-
-any_flat : {A B : Type 0} (p : B → Bool) (f : A → List B) (xs : List A) (k : ℕ) (x : A) → slice_get xs k ≡ Some x
-    → list_any p (f x) ≡ true → list_any p (flat_map f xs) ≡ true
-any_flat p f [] k x e h = cc
-any_flat p f (y ∷ xs) zero x e h = let same : y ≡ x = cc in any_left p (f y) (flat_map f xs) (ap (λ z. list_any p (f z))
-    same ∙ h)
-any_flat p f (y ∷ xs) (suc k) x e h = any_right p (f y) (flat_map f xs) (any_flat p f xs k x e h)
-
 module _ (p : Package) (k : ℕ) (m : LaidMethod) (e : slice_get p.methods k ≡ Some m) where
   in_all : (key : PoolKey) → list_any (same_key key) (method_keys m.code) ≡ true
       → list_any (same_key key) (flat_map method_keys (codes p)) ≡ true
@@ -137,7 +115,8 @@ module _ (p : Package) (k : ℕ) (m : LaidMethod) (e : slice_get p.methods k ≡
       let code = m.code in
       let one : list_any (same_key key) (insn_keys insn) ≡ true = ap (list_any (same_key key)) is
       ∙ ap (λ b. b || false) (same_itself key) in
-      held key (any_left (same_key key) (flat_map insn_keys code.insns) (flat_map (λ c. class_key c.class) code.catches)
+      held key (any_front (same_key key) (flat_map insn_keys code.insns) (flat_map
+      (λ c. class_key c.class) code.catches)
       (any_flat (same_key key) insn_keys code.insns j insn f one))
 
   -- a class that a handler names

@@ -6,19 +6,20 @@ use Rattle.std.specs.List.{flat_map}
 use Rattle.cjc_bytes.specs.AccessFlags.{is_static}
 use Rattle.cjc_bytes.specs.declared.fault.MemberId.{MemberId}
 use Rattle.cjc_bytes.specs.declared.settings.Settings.{Settings}
+use Rattle.cjc_bytes.proofs.Bools.{or_left, or_right}
 use Rattle.cjc_jvm_semantics.specs.OnePackage.{ResolvedMember, constant_at, exported_constant, field_hit, method_hit}
 use Rattle.cjc_jvm_semantics.specs.OnePackage.{of_class}
-use Rattle.cjc_world_proof.specs.Calls.Solid.{IsSolid}
-use Rattle.cjc_world_proof.proofs.CallsLaws.Own.{IsAt, IsFieldAt, field_at, field_hit_is, hit_is, mapped_at, own_at}
+use Rattle.cjc_token_proof.specs.WorldProof.Calls.Solid.{IsSolid}
+use Rattle.cjc_token_proof.proofs.WorldProofOwn.{IsAt, IsFieldAt, field_at, field_hit_is, hit_is, mapped_at, own_at}
 use Rattle.cjc_classfile.specs.declared.tree.ClassTree.{ClassTree}
 use Rattle.cjc_code.specs.declared.insn.JOp.TheVariants as jop
 use Rattle.cjc_code.specs.declared.method_code.MethodCode.{MethodCode}
-use Rattle.cjc_export.specs.Members.{may_be_constant}
-use Rattle.cjc_export.specs.declared.tree.ExportClass.{ExportClass}
-use Rattle.cjc_export.specs.declared.tree.ExportField.{ExportField}
-use Rattle.cjc_export.specs.declared.tree.ExportTree.{ExportTree}
+use Rattle.cjc_world.specs.ExportFile.Members.{may_be_constant}
+use Rattle.cjc_world.specs.ExportFile.declared.tree.ExportClass.{ExportClass}
+use Rattle.cjc_world.specs.ExportFile.declared.tree.ExportField.{ExportField}
+use Rattle.cjc_world.specs.ExportFile.declared.tree.ExportTree.{ExportTree}
 use Rattle.cjc_narrow.specs.Rows.Resolved.{by_owner, constant_named, resolved_field, resolved_method}
-use Rattle.cjc_shape_proof.proofs.FindsLaws.Fields.{tested, tested_field}
+use Rattle.cjc_shape_proof.proofs.FindsLaws.Fields.{tested, tested_field, on_object}
 use Rattle.cjc_narrow_proof.specs.Laws.Calls.{CallFits}
 use Rattle.cjc_narrow_proof.specs.Laws.Unbroken.{IsInsnOf, IsUnbroken}
 use Rattle.cjc_narrow_proof.proofs.LawsLaws.Calls.{called_fits}
@@ -36,28 +37,7 @@ use Rattle.cjc_world.specs.declared.found.Found.{Found}
 use Rattle.cjc_world.specs.Classes.{Class, Member, all_classes, class_at, class_named, field_of_export, imported}
 use Rattle.cjc_world.specs.Files.{Files}
 use Rattle.cjc_world.specs.Lookup.{find_field, find_method, member_at, own_method}
-
-or_left : (a b : Bool) → (a || b) ≡ false → a ≡ false
-or_left true b e = cc
-or_left false b e = refl
-
-or_right : (a b : Bool) → (a || b) ≡ false → b ≡ false
-or_right true b e = cc
-or_right false b e = e
-
-of_static : (flags : ℕ) → is_other_kind true flags ≡ false → is_static flags ≡ true
-of_static flags e = by (is_static flags) e
-  where
-    by : (b : Bool) → (if b then not true else true) ≡ false → b ≡ true
-    by true e = refl
-    by false e = cc
-
-of_objects : (flags : ℕ) → is_other_kind false flags ≡ false → is_static flags ≡ false
-of_objects flags e = by (is_static flags) e
-  where
-    by : (b : Bool) → (if b then not false else false) ≡ false → b ≡ false
-    by true e = cc
-    by false e = refl
+use Rattle.cjc_theorem.proofs.WholeRuns.Statics.{on_class}
 
 module _ (list : List ℕ) (files : Files) (codes : List MethodCode) (settings : Settings) (is : IsUnbroken list files
     codes settings) (solid : IsSolid files) where
@@ -112,7 +92,7 @@ module _ (list : List ℕ) (files : Files) (codes : List MethodCode) (settings :
       let ok = op_there list files codes settings is class (jop.Static put id) at in
       let there = static_there files class put id ok.0 ok.1 in
       names_field id there.1 true there.3
-      (λ d m hit. of_static m.flags (or_right (is_hidden w class id (tested d m)) (is_other_kind true m.flags)
+      (λ d m hit. on_class m.flags (or_right (is_hidden w class id (tested d m)) (is_other_kind true m.flags)
       (or_left (is_hidden w class id (tested d m) || is_other_kind true m.flags) (true && put
       && is_constant_found files (find_field w id.class id.name id.desc))
       (field_fits files class true put id (find_field w id.class id.name id.desc) (tested d m)
@@ -127,7 +107,7 @@ module _ (list : List ℕ) (files : Files) (codes : List MethodCode) (settings :
       let ok = op_there list files codes settings is class (jop.Field put id) at in
       let there = field_there files class put id ok.0 ok.1 in
       names_field id there.1 false there.3
-      (λ d m hit. of_objects m.flags (or_right (is_hidden w class id (tested d m)) (is_other_kind false m.flags)
+      (λ d m hit. on_object m.flags (or_right (is_hidden w class id (tested d m)) (is_other_kind false m.flags)
       (or_left (is_hidden w class id (tested d m) || is_other_kind false m.flags) (false && put
       && is_constant_found files (find_field w id.class id.name id.desc))
       (field_fits files class false put id (find_field w id.class id.name id.desc) (tested d m)

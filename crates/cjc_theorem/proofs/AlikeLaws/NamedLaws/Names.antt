@@ -1,14 +1,15 @@
 -- What the instructions of a converted package name stands in its pool, and means what they use.
 use Rattle.std.proofs.Common.{◌≡◌, ◌⊎◌, inl, inr, ℕ, refl, sym, ap, subst, ◌∙◌, Bool, true, false, List}
 use Rattle.std.specs.Prelude.{not, ◌&&◌, ◌||◌, Option, Some, None, option_and_then, slice_get, if◌then◌else◌}
-use Rattle.cjc_card_semantics.specs.Bytecode.Meanings.{Calls, Special, Static, Use, Virtual}
+use Rattle.cjc_ncode.specs.CardSemantics.Bytecode.Meanings.{Calls, Special, Static, Use, Virtual}
 use Rattle.cjc_bytes.specs.AccessFlags.{is_interface, is_private, is_protected, is_public, is_static}
 use Rattle.cjc_bytes.specs.declared.fault.MemberId.{MemberId}
+use Rattle.cjc_bytes.proofs.Bools.{clash as true_not_false}
 use Rattle.cjc_jvm_semantics.specs.OnePackage.{is_constructor, is_initialiser, is_made, method_hit, object_fields}
 use Rattle.cjc_jvm_semantics.specs.OnePackage.{of_class}
-use Rattle.cjc_world_proof.proofs.CallsLaws.Own.{IsAt, mapped_at}
-use Rattle.cjc_world_proof.specs.Calls.Solid.{IsSolid}
-use Rattle.cjc_card_semantics.specs.Machine.Operations.{static_cell}
+use Rattle.cjc_token_proof.proofs.WorldProofOwn.{IsAt, mapped_at}
+use Rattle.cjc_token_proof.specs.WorldProof.Calls.Solid.{IsSolid}
+use Rattle.cjc_ncode.specs.CardSemantics.Machine.Operations.{static_cell}
 use Rattle.cjc_classfile.specs.declared.tree.ClassTree.{ClassTree}
 use Rattle.cjc_code.specs.declared.insn.JOp.{JOp}
 use Rattle.cjc_code.specs.declared.insn.JOp.TheVariants as jop
@@ -19,7 +20,7 @@ use Rattle.cjc_narrow_proof.specs.Sources.{IsWrittenFor, NamesClass, names_nothi
 use Rattle.cjc_components.specs.Names.{class_at, field_token, member_ref}
 use Rattle.cjc_components.specs.Package.{LaidMethod, Package, pool, world}
 use Rattle.cjc_components.specs.Statics.{cell_offset}
-use Rattle.cjc_export.specs.Members.{is_unbound}
+use Rattle.cjc_world.specs.ExportFile.Members.{is_unbound}
 use Rattle.cjc_judge.specs.Rules.{settings_of}
 use Rattle.cjc_judge.specs.declared.judged.Judged.{Judged}
 use Rattle.cjc_components.specs.List.Listed.{ListTree}
@@ -58,10 +59,6 @@ use Rattle.cjc_theorem.proofs.AlikeLaws.NamedLaws.Means.{static_field_fits, supe
 use Rattle.cjc_theorem.proofs.AlikeLaws.NamedLaws.Members.{NamesMethod, field_named, method_named, static_named}
 use Rattle.cjc_theorem.proofs.AlikeLaws.NamedLaws.Members.{static_own}
 use Rattle.cjc_theorem.proofs.AlikeLaws.NamedLaws.Sources.{has_source, holder}
-
-true_not_false : {A : Type 0} (b : Bool) → b ≡ true → b ≡ false → A
-true_not_false true e f = cc
-true_not_false false e f = cc
 
 module _ (list : ListTree) (files : List (List ℕ)) (judged : Judged) (p : Package) (is : IsConverted list files judged
     p) where

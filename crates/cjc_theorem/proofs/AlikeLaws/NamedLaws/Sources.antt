@@ -5,9 +5,10 @@ use Rattle.std.specs.Prelude.{Option, Some, None, filter, nat_lt, option_and_the
 use Rattle.std.specs.Prelude as prelude
 use Rattle.std.specs.List.{Contains}
 use Rattle.std.specs.Str.{bytes_eq}
-use Rattle.std.proofs.lemmas.Option.{get_or_from_slice_get, slice_get-map, slice_get_within}
+use Rattle.std.proofs.lemmas.Option.{slice_get-map}
 use Rattle.cjc_bytes.specs.AccessFlags.{is_interface}
 use Rattle.cjc_bytes.specs.declared.fault.MemberId.{MemberId}
+use Rattle.cjc_bytes.proofs.Gets.{contained, mapped_at}
 use Rattle.cjc_jvm_semantics.specs.Linked.{Method}
 use Rattle.cjc_jvm_semantics.specs.OnePackage.{method_at, method_by, method_in}
 use Rattle.cjc_classfile.specs.Code.{CodeTree}
@@ -36,7 +37,7 @@ use Rattle.cjc_ncode.specs.declared.narrow.NMethod.{NMethod}
 use Rattle.cjc_shape_proof.proofs.ShapeSound.{are_ready}
 use Rattle.cjc_narrow_proof.proofs.SelectedLaws.Places.{reached_from}
 use Rattle.cjc_token_proof.proofs.TablesLaws.Filed.{own_filed}
-use Rattle.cjc_token_proof.proofs.TablesLaws.Order.{get-has, kind-in}
+use Rattle.cjc_token_proof.proofs.TablesLaws.Order.{kind-in}
 use Rattle.cjc_narrow_proof.specs.Types.Tables.{IsMethodOf}
 use Rattle.cjc_narrow_proof.specs.Types.declared.state.State.{State}
 use Rattle.cjc_world.specs.declared.found.Found.{Found}
@@ -48,9 +49,7 @@ use Rattle.cjc_world.specs.Order.{in_order, method_order, methods_in_turn, metho
 use Rattle.cjc_shape_proof.specs.Written.Converted.{IsConverted}
 use Rattle.cjc_shape_proof.proofs.WrittenLaws.Files.{files_sound, own_unbroken, same_files}
 use Rattle.cjc_shape_proof.proofs.WrittenLaws.Places.{coded_there}
-
-contained : {A : Type 0} (xs : List A) (j : ℕ) (x : A) → slice_get xs j ≡ Some x → Contains xs x
-contained xs j x e = (j, slice_get_within xs j x e, get_or_from_slice_get xs j x x e)
+use Rattle.cjc_vtable.proofs.Filed.{get-has}
 
 -- what is kept of a list stands in it
 kept_from : {A : Type 0} (p : A → Bool) (xs : List A) (k : ℕ) (x : A) → slice_get (filter p xs) k ≡ Some x → (j : ℕ)
@@ -64,12 +63,6 @@ kept_from p (y ∷ xs) k x e = by (p y) k e (λ j f. kept_from p xs j x f)
     by true zero e rest = (0, e)
     by true (suc k) e rest = let r = rest k e in (suc r.0, r.1)
     by false k e rest = let r = rest k e in (suc r.0, r.1)
-
-mapped_from : {A B : Type 0} (f : A → B) (xs : List A) (k : ℕ) (y : B) → slice_get (map f xs) k ≡ Some y → (x : A)
-    × (slice_get xs k ≡ Some x) × (f x ≡ y)
-mapped_from f [] k y e = cc
-mapped_from f (x ∷ xs) zero y e = (x, refl, cc)
-mapped_from f (x ∷ xs) (suc k) y e = mapped_from f xs k y e
 
 -- The instruction of the class file, in code of this class, for which one is written.
 pub record HasSource (files : Files) (codes : List MethodCode) (near : List MemberId) (class : ClassTree)
@@ -319,7 +312,7 @@ module _ (list : ListTree) (files : List (List ℕ)) (judged : Judged) (p : Pack
       ap (λ (n : NMethod). slice_get n.catches j) (sym d.same_code) ∙ f in
       let s = kept_from (λ (q : NCatch). nat_lt q.start q.end) (map (catch_at (place_in r kept)) tree.catches) j c here
       in
-      let h = mapped_from (catch_at (place_in r kept)) tree.catches s.0 c s.1 in
+      let h = mapped_at (catch_at (place_in r kept)) tree.catches s.0 c s.1 in
       record {
         code = d.code;
         method = d.method;

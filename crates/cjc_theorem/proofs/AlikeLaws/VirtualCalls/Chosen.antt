@@ -2,7 +2,8 @@
 use Rattle.std.proofs.Common.{◌≡◌, ℕ, zero, suc, ◌+◌, refl, sym, ap, ◌∙◌, Bool, true, false, List, [], ◌∷◌, length}
 use Rattle.std.specs.Prelude.{◌&&◌, ◌||◌, not, Option, Some, None, option_map, position, slice_get, if◌then◌else◌}
 use Rattle.cjc_bytes.specs.AccessFlags.{is_private, is_static}
-use Rattle.cjc_world_proof.proofs.CallsLaws.Own.{found_at, is_found}
+use Rattle.cjc_bytes.proofs.Gets.{position_there}
+use Rattle.cjc_token_proof.proofs.WorldProofOwn.{is_found}
 use Rattle.cjc_tokens.specs.Members.{In, Signature, all_methods, chosen, is_exposed, is_hidden, is_shown, is_virtual}
 use Rattle.cjc_tokens.specs.Members.{signature_of}
 use Rattle.cjc_tokens.proofs.Facts.{place-some, position-cons}
@@ -29,16 +30,6 @@ any_selects s (n ∷ ms) m e may = by (is_called s.name s.desc n) (selects n) re
     by true false f e rest = let is : n ≡ m = cc in let clash : true ≡ false = sym may ∙ ap selects (sym is) ∙ f in cc
     by false true f e rest = rest e may
     by false false f e rest = rest e may
-
-pub any_none : (s : Signature) (ms : List Member) → chosen any_method s ms ≡ None → chosen selects s ms ≡ None
-any_none s [] e = refl
-any_none s (n ∷ ms) e = by (is_called s.name s.desc n) (selects n) e (any_none s ms)
-  where
-    by : (a b : Bool) → (if true && a then Some n else chosen any_method s ms) ≡ None → (chosen any_method s ms ≡ None
-        → chosen selects s ms ≡ None) → (if b && a then Some n else chosen selects s ms) ≡ None
-    by true b e rest = cc
-    by false true e rest = rest e
-    by false false e rest = rest e
 
 -- the first of those that pass stands at the place that is found
 pub placed : (test : Member → Bool) (s : Signature) (ms : List Member) (i : ℕ)
@@ -110,7 +101,7 @@ own_any s c f e = by (position (λ m. is_wanted true m.flags && is_called s.name
         × (own_method false s.name s.desc c ≡ Some g)
     by None g e = absurd cc
     by (Some i) g e =
-        let x = found_at (λ (m : Member). is_wanted true m.flags && is_called s.name s.desc m) c.methods i g in
+        let x = position_there (λ (m : Member). is_wanted true m.flags && is_called s.name s.desc m) c.methods i g in
         let called = last (is_wanted true (let m = x.0 in m.flags)) (is_called s.name s.desc x.0) x.2 in
         let r = is_found (λ (m : Member). is_wanted false m.flags && is_called s.name s.desc m) c.methods i x.0 x.1
         called in
@@ -179,44 +170,6 @@ first_found selecting s (c ∷ cs) f e = by (own_method selecting s.name s.desc 
         }
 
 -- ---- access of a method and an inherited one
-
-pub shown_kept : (m n : Member) → selects m ≡ true → is_shown n ≡ true → is_special (signature_of m) ≡ false
-    → is_clash m.flags n.flags ≡ false → is_shown m ≡ true
-shown_kept m n may shown plain clash = by (is_exposed m.flags) (is_private m.flags) (is_static m.flags)
-    (is_exposed n.flags) (is_private n.flags) (is_special (signature_of m)) may (front (is_exposed n.flags)
-    (is_virtual n) shown) plain clash
-  where
-    front : (a b : Bool) → (a && b) ≡ true → a ≡ true
-    front true b e = refl
-    front false b e = absurd cc
-
-    by : (a p t b q sp : Bool) → (not p && not t) ≡ true → b ≡ true → sp ≡ false
-        → (((not a && not p) && b) || (a && (not b && not q))) ≡ false → (a && ((not p && not t) && not sp)) ≡ true
-    by true false false b q false f g h k = refl
-    by true false false b q true f g h k = absurd cc
-    by true false true b q sp f g h k = absurd cc
-    by true true t b q sp f g h k = absurd cc
-    by false true t b q sp f g h k = absurd cc
-    by false false true b q sp f g h k = absurd cc
-    by false false false true q sp f g h k = absurd cc
-    by false false false false q sp f g h k = absurd cc
-
-pub hidden_kept : (m n : Member) → selects m ≡ true → is_hidden n ≡ true → is_special (signature_of m) ≡ false
-    → is_clash m.flags n.flags ≡ false → is_hidden m ≡ true
-hidden_kept m n may hidden plain clash = by (is_exposed m.flags) (is_private m.flags) (is_static m.flags)
-    (is_exposed n.flags) (is_private n.flags) (is_static n.flags) (is_special (signature_of m))
-    (is_special (signature_of n)) may hidden plain clash
-  where
-    by : (a p t b q u sp sq : Bool) → (not p && not t) ≡ true → (not b && ((not q && not u) && not sq)) ≡ true
-        → sp ≡ false → (((not a && not p) && b) || (a && (not b && not q))) ≡ false
-        → (not a && ((not p && not t) && not sp)) ≡ true
-    by false false false b q u false sq f g h k = refl
-    by false false false b q u true sq f g h k = absurd cc
-    by false false true b q u sp sq f g h k = absurd cc
-    by false true t b q u sp sq f g h k = absurd cc
-    by true p t true q u sp sq f g h k = absurd cc
-    by true p t false true u sp sq f g h k = absurd cc
-    by true p t false false u sp sq f g h k = absurd cc
 
 pub never_both : {A : Type 0} (m n : Member) → is_hidden m ≡ true → is_shown n ≡ true → is_clash m.flags n.flags ≡ false
     → A

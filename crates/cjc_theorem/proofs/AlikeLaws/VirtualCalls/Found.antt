@@ -6,8 +6,8 @@ use Rattle.std.specs.Prelude.{◌⊎◌, ◌&&◌, ◌||◌, not, Option, Some, 
 use Rattle.cjc_bytes.specs.AccessFlags.{is_interface, is_private, is_protected, is_public, is_static}
 use Rattle.cjc_bytes.specs.declared.fault.MemberId.{MemberId}
 use Rattle.cjc_jvm_semantics.specs.OnePackage.{ResolvedMember, is_constructor, method_hit}
-use Rattle.cjc_world_proof.proofs.CallsLaws.Own.{hit_is, own_at}
-use Rattle.cjc_world_proof.specs.Calls.Solid.{IsSolid}
+use Rattle.cjc_token_proof.proofs.WorldProofOwn.{hit_is, own_at}
+use Rattle.cjc_token_proof.specs.WorldProof.Calls.Solid.{IsSolid}
 use Rattle.cjc_token_proof.specs.Calls.Selecting.{signature}
 use Rattle.cjc_classfile.specs.declared.tree.ClassTree.{ClassTree}
 use Rattle.cjc_components.specs.Package.{Package, world}

@@ -10,27 +10,27 @@ use Rattle.cjc_bytes.specs.Breaks.{each_from}
 use Rattle.cjc_bytes.specs.Order.{file_of}
 use Rattle.cjc_bytes.specs.declared.fault.MemberId.{MemberId}
 use Rattle.cjc_bytes.specs.declared.settings.Settings.{Settings}
+use Rattle.cjc_bytes.proofs.Lists.{bytes_true, none_left, none_right}
+use Rattle.cjc_bytes.proofs.BrokenRules.{not_broken, each_at}
 use Rattle.cjc_classfile.specs.declared.tree.ClassTree.{ClassTree}
 use Rattle.cjc_code.specs.declared.method_code.MethodCode.{MethodCode}
-use Rattle.cjc_export.specs.declared.tree.ExportClass.{ExportClass}
-use Rattle.cjc_export.specs.declared.tree.ExportTree.{ExportTree}
-use Rattle.cjc_narrow_proof.proofs.SelectedLaws.Limits.{each_at, none_left, none_right, not_broken}
+use Rattle.cjc_world.specs.ExportFile.declared.tree.ExportClass.{ExportClass}
+use Rattle.cjc_world.specs.ExportFile.declared.tree.ExportTree.{ExportTree}
 use Rattle.cjc_subset.specs.Checks.{check_breaks, class_breaks, code_breaks, list_breaks, own_breaks}
 use Rattle.cjc_subset.specs.Members.{imports}
 use Rattle.cjc_subset.specs.Overriding.{gets_hidden, hides_added, hides_one, is_open, is_out_of_sight}
 use Rattle.cjc_subset.specs.Overriding.{is_package_visible, is_superclass}
 use Rattle.cjc_subset.specs.Places.{at_class}
-use Rattle.cjc_tokens.specs.Lines.{Declared, Imported, Line, line_in}
+use Rattle.cjc_tokens.specs.Lines.{Declared, Imported, line_in}
 use Rattle.cjc_tokens.specs.Members.{In, Signature, all_methods, first_of, has, is_exposed, is_shown, later, same}
 use Rattle.cjc_tokens.specs.Members.{signature_of, signatures}
-use Rattle.cjc_tokens.specs.Slots.{Slots, has_slot, listed_slots, slots, taken_slots, with_new}
+use Rattle.cjc_tokens.specs.Slots.{has_slot, listed_slots, slots, taken_slots, with_new}
 use Rattle.cjc_tokens.proofs.Facts.{chosen-In, chosen-passes, chosen-some, same-refl, same-true}
-use Rattle.cjc_tokens.proofs.Held.{here-has_slot, listed_slot}
+use Rattle.cjc_tokens.proofs.Held.{listed_slot}
 use Rattle.cjc_vtable.proofs.Calls.{In-behind, In-front}
 use Rattle.cjc_vtable.proofs.Filed.{Has, IsFiled, at_front, behind, filed, get-has, in_class_file, in_export_file}
 use Rattle.cjc_vtable.proofs.Filed.{of-imports}
-use Rattle.cjc_vtable.proofs.Given.{slot-of, with_new-slot}
-use Rattle.cjc_vtable.proofs.Told.{taken_slots-either}
+use Rattle.cjc_vtable.proofs.Given.{slot-of, with_new-slot, taken-has}
 use Rattle.cjc_vtable.proofs.Worlds.{methods-front}
 use Rattle.cjc_vtable.specs.Laws.{KeepsRules}
 use Rattle.cjc_world.specs.Added.{added, added_at, added_to, named_by}
@@ -42,32 +42,10 @@ use Rattle.cjc_world.specs.Supertypes.{known_here}
 use Rattle.cjc_world.specs.Supertypes.{supertypes, unknown_here, upwards}
 use Rattle.cjc_world.specs.Upwards.{OnLine, here, up}
 use Rattle.cjc_world.proofs.Cycles.{class_named-name}
-use Rattle.cjc_world.proofs.Settled.{bytes-true}
 use Rattle.cjc_world.proofs.UpwardLaws.Lines.{line_is_below}
-
--- ---- slots that are taken
-
--- What has a slot where methods of a class take some had one before, or is of such a method.
-taken-slot : (c : Class) (above : Line) (all : Slots) (s : Signature) → has_slot (taken_slots c above all) s ≡ true
-    → (has_slot all s ≡ true) ⊎ (has (signatures is_shown c.methods) s ≡ true)
-taken-slot c above all s e =
-    let t = slot-of (taken_slots c above all) s e in
-    ⊎_elim (λ h. inl (here-has_slot all t.0 s h)) (λ h. inr h) (taken_slots-either c above all t.0 s t.1)
+use Rattle.cjc_theorem.proofs.AlikeLaws.MetLaws.Clean.{none_of}
 
 -- ---- lists
-
-any_off : {A : Type 0} (p : A → Bool) (xs : List A) (x : A) → list_any p xs ≡ false → Has x xs → p x ≡ false
-any_off p [] x e h = elim h [ ]
-any_off p (y ∷ xs) x e at_front = by (p y) e
-  where
-    by : (b : Bool) → (b || list_any p xs) ≡ false → b ≡ false
-    by true e = cc
-    by false e = refl
-any_off p (y ∷ xs) x e (behind h) = any_off p xs x (by (p y) e) h
-  where
-    by : (b : Bool) → (b || list_any p xs) ≡ false → list_any p xs ≡ false
-    by true e = cc
-    by false e = e
 
 in_has : (m : Member) (ms : List Member) → In m ms → Has m ms
 in_has m [] i = elim i [ ]
@@ -122,8 +100,8 @@ module _ (list : List ℕ) (files : Files) (codes : List MethodCode) (settings :
       let s : ExportTree = tree.0 in
       let second = back (list_any (λ d. hides_added w t (a ∷ ms) (declared 0 d)) files.classes)
       (list_any (λ v. list_any (λ d. hides_added w t (a ∷ ms) (imported 0 d)) v.classes) files.exports) e in
-      any_off (λ d. hides_added w t (a ∷ ms) (imported 0 d)) s.classes u
-      (any_off (λ (v : ExportTree). list_any (λ d. hides_added w t (a ∷ ms) (imported 0 d)) v.classes) files.exports s
+      none_of (λ d. hides_added w t (a ∷ ms) (imported 0 d)) s.classes u
+      (none_of (λ (v : ExportTree). list_any (λ d. hides_added w t (a ∷ ms) (imported 0 d)) v.classes) files.exports s
       second tree.1) tree.2
     where
       back : (a b : Bool) → (a || b) ≡ false → b ≡ false
@@ -145,7 +123,7 @@ module _ (list : List ℕ) (files : Files) (codes : List MethodCode) (settings :
       let apart = second (is_superclass w t (imported 0 u)) (list_any (λ m. hides_one (imported 0 u) acc_public m.name
       m.desc) ms) above (off_import t ms (named_by t.name r.0) l u off there f) in
       subst (λ (q : Signature). hides_one (imported 0 u) acc_public q.name q.desc ≡ false) r.2
-      (any_off (λ (m : MemberId). hides_one (imported 0 u) acc_public m.name m.desc) ms (named_by t.name r.0) apart
+      (none_of (λ (m : MemberId). hides_one (imported 0 u) acc_public m.name m.desc) ms (named_by t.name r.0) apart
       there)
     where
       second : (a b : Bool) → a ≡ true → (a && b) ≡ false → b ≡ false
@@ -178,7 +156,7 @@ module _ (list : List ℕ) (files : Files) (codes : List MethodCode) (settings :
         by c d (in_class_file n t at) (in_export_file l u there) e own f far on got i =
             let off = hidden_kept n l t u s at there got (both (is_below w t.name u.name) (bytes_eq t.name u.name)
             (line_is_below w acyclic t.name (imported l u) on) (apart (bytes_eq t.name u.name) refl)) in
-            let one = any_off (λ (k : Member). is_called s.name s.desc k && is_out_of_sight true acc_public k.flags)
+            let one = none_of (λ (k : Member). is_called s.name s.desc k && is_out_of_sight true acc_public k.flags)
             (let q = imported 0 u in q.methods) m off (in_has m (let q = imported 0 u in q.methods) i) in
             let called : is_called s.name s.desc m ≡ true = ap (λ (v : Signature). bytes_eq m.name v.name
             && bytes_eq m.desc v.desc) (sym is) ∙ same-refl (signature_of m) in
@@ -198,7 +176,7 @@ module _ (list : List ℕ) (files : Files) (codes : List MethodCode) (settings :
             apart : (b : Bool) → bytes_eq t.name u.name ≡ b → bytes_eq t.name u.name ≡ false
             apart false g = g
             apart true g =
-                let same : t.name ≡ u.name = bytes-true t.name u.name g in
+                let same : t.name ≡ u.name = bytes_true t.name u.name g in
                 let two : Some (declared n t) ≡ Some (imported l u) = sym e ∙ ap (class_named w) same ∙ f in
                 let one : declared n t ≡ imported l u = cc in
                 let clash : false ≡ true = ap (λ (q : Class). q.is_imported) one in
@@ -276,7 +254,7 @@ module _ (w : List Class) (rules : KeepsRules w) where
           (λ g. ⊎_elim
           (λ a. let z = rules.single x c named is in above z.0 z.1 (rest z.0 z.1 a))
           (λ a. declares a)
-          (taken-slot c (line_in w p) (slots (line_in w p)) s g))
+          (taken-has c (line_in w p) (slots (line_in w p)) s g))
           (λ g. declares g)
           (with_new-slot (taken_slots c (line_in w p) (slots (line_in w p))) (signatures is_shown c.methods) s h))
           (λ h. inr (record {

@@ -14,13 +14,13 @@ use Rattle.cjc_world.proofs.UpwardLaws.Lines.{line_listed}
 use Rattle.cjc_vtable.specs.Calls.{IsTold, any_method, finds_hidden, is_special, passes, selects, selects_shown}
 use Rattle.cjc_vtable.specs.Laws.{KeepsRules, Under, below, itself}
 use Rattle.cjc_vtable.proofs.Agrees.{hidden-virtual, hidden_selects, shown-has_slot, virtual_plain}
-use Rattle.cjc_vtable.proofs.Calls.{In-behind, In-front, token-some}
+use Rattle.cjc_vtable.proofs.Calls.{In-behind, In-front, token-some, chosen-any_none, keeps_shown, keeps_hidden}
 use Rattle.cjc_vtable.proofs.Worlds.{line_of-declared, told-class}
 use Rattle.cjc_world.specs.Added.{added}
 use Rattle.cjc_world.specs.Classes.{Class, Member, class_named}
 use Rattle.cjc_world.specs.Supertypes.{AreSupertypes, Supertypes, Lists, after, foremost, supertypes, upwards}
-use Rattle.cjc_theorem.proofs.AlikeLaws.VirtualCalls.Chosen.{any_none, any_selects, has_methods, hidden_kept}
-use Rattle.cjc_theorem.proofs.AlikeLaws.VirtualCalls.Chosen.{hidden_or_shown, never_both, shown_kept}
+use Rattle.cjc_theorem.proofs.AlikeLaws.VirtualCalls.Chosen.{any_selects, has_methods}
+use Rattle.cjc_theorem.proofs.AlikeLaws.VirtualCalls.Chosen.{hidden_or_shown, never_both}
 
 -- what stands on the line of a superclass stands on the line of the class
 pub under_on : (w : List Class) (x y : List ℕ) (d : Class) → Under w x y → OnLine w y d → OnLine w x d
@@ -155,7 +155,7 @@ module _ (w : List Class) (are_supertypes : (xs : List (List ℕ)) → AreSupert
               let alike = is.0 ∙ sym one in
               let plain = ap is_special alike ∙ virtual_plain n (shown-virtual n shown) in
               ap (λ o. passes is_shown o (selects_shown (line_of w y) s)) g
-              ∙ shown_kept q n is.1 shown plain (rules.access x c q n e f (chosen-In selects s c.methods q g)
+              ∙ keeps_shown q n is.1 shown plain (rules.access x c q n e f (chosen-In selects s c.methods q g)
               (above_in y c d n l rest i) alike plain)
 
   pub shown_selected : (x : List ℕ) (s : Signature) → HasShown w x s → selects_shown (line_of w x) s ≡ true
@@ -175,7 +175,7 @@ module _ (w : List Class) (are_supertypes : (xs : List (List ℕ)) → AreSupert
           own_one : (o : Option Member) → chosen any_method s d.methods ≡ o
               → passes is_hidden (chosen any_method s d.methods) (finds_hidden (line_in w (supertypes w d.supers)) s)
               ≡ false
-          own_one None g = let clash : Some n ≡ None = sym (first f) ∙ any_none s d.methods g in absurd cc
+          own_one None g = let clash : Some n ≡ None = sym (first f) ∙ chosen-any_none s d.methods g in absurd cc
           own_one (Some q) g = ap (λ o. passes is_hidden o (finds_hidden (line_in w (supertypes w d.supers)) s)) g
               ∙ off (is_hidden q) refl
             where
@@ -244,7 +244,7 @@ module _ (w : List Class) (are_supertypes : (xs : List (List ℕ)) → AreSupert
               let above_at = chosen-In any_method s d.methods n first in
               let may = kinds x y c d q n e f l rest own at above_at alike plain (hidden_selects n hid) in
               ap (λ o. passes is_hidden o (finds_hidden (line_of w y) s)) g
-              ∙ hidden_kept q n may hid plain (rules.access x c q n e f at (above_in y c d n l rest above_at) alike
+              ∙ keeps_hidden q n may hid plain (rules.access x c q n e f at (above_in y c d n l rest above_at) alike
               plain)
 
   pub hidden_found : KeepsKinds w → (x : List ℕ) (s : Signature) → HasHidden w x s → finds_hidden (line_of w x) s ≡ true

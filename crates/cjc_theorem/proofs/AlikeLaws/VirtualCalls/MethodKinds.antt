@@ -2,17 +2,17 @@
 -- are neither (rule 306).
 use Rattle.std.proofs.Common.{◌≡◌, ℕ, suc, refl, sym, ap, subst, ◌∙◌, Bool, true, false, List, [], ◌∷◌, ◌++◌, ⊎_elim}
 use Rattle.std.specs.Prelude.{not, ◌&&◌, ◌||◌, Some, map, slice_get, if◌then◌else◌}
-use Rattle.std.specs.List.{list_any}
 use Rattle.std.specs.Str.{bytes_eq}
 use Rattle.cjc_bytes.specs.AccessFlags.{is_private, is_static}
 use Rattle.cjc_bytes.specs.Breaks.{at, each_from}
 use Rattle.cjc_bytes.specs.Order.{file_of}
 use Rattle.cjc_bytes.specs.declared.settings.Settings.{Settings}
-use Rattle.cjc_world_proof.proofs.CallsLaws.Own.{mapped_at}
+use Rattle.cjc_bytes.proofs.Lists.{bytes_true, none_left, none_right}
+use Rattle.cjc_bytes.proofs.BrokenRules.{not_broken, each_at}
+use Rattle.cjc_token_proof.proofs.WorldProofOwn.{mapped_at}
 use Rattle.cjc_classfile.specs.declared.tree.ClassTree.{ClassTree}
 use Rattle.cjc_classfile.specs.declared.tree.MethodTree.{MethodTree}
 use Rattle.cjc_code.specs.declared.method_code.MethodCode.{MethodCode}
-use Rattle.cjc_narrow_proof.proofs.SelectedLaws.Limits.{each_at, none_left, none_right, not_broken}
 use Rattle.cjc_subset.specs.Checks.{check_breaks, class_breaks, code_breaks, field_breaks, list_breaks, method_breaks}
 use Rattle.cjc_subset.specs.Checks.{own_breaks}
 use Rattle.cjc_subset.specs.Overriding.{changes_kind, class_against, hides_one, is_inherited, is_of_other_kind}
@@ -24,32 +24,20 @@ use Rattle.cjc_world.specs.Upwards.{OnLine, up}
 use Rattle.cjc_world.proofs.UpwardLaws.Lines.{line_below, line_is_below, line_named}
 use Rattle.cjc_vtable.specs.Calls.{selects}
 use Rattle.cjc_vtable.proofs.Filed.{IsFiled, filed, in_class_file, in_export_file}
+use Rattle.cjc_vtable.proofs.Keeping.{any-false}
 use Rattle.cjc_world.specs.Classes.{Class, Member, all_classes, class_named, declared, imported, method_of_class}
 use Rattle.cjc_world.specs.Files.{Files}
 use Rattle.cjc_world.specs.Interfaces.{has_interface}
 use Rattle.cjc_world.specs.Supertypes.{Above, IsAcyclic, Lists, directly, is_below, onwards}
 use Rattle.cjc_world.specs.Lookup.{is_called}
 use Rattle.cjc_world.proofs.Cycles.{class_named-name}
-use Rattle.cjc_world.proofs.Settled.{bytes-true, lists-front}
+use Rattle.cjc_world.proofs.Settled.{lists-front}
 use Rattle.cjc_theorem.proofs.AlikeLaws.VirtualCalls.Lines.{KeepsKinds}
 
 pub in_get : (m : Member) (ms : List Member) → In m ms → (k : ℕ) × (slice_get ms k ≡ Some m)
 in_get m [] i = elim i [ ]
 in_get m (n ∷ ms) first_of = (0, refl)
 in_get m (n ∷ ms) (later i) = let r = in_get m ms i in (suc r.0, r.1)
-
-any_false : (p : Member → Bool) (ms : List Member) (m : Member) → list_any p ms ≡ false → In m ms → p m ≡ false
-any_false p [] m e i = elim i [ ]
-any_false p (n ∷ ms) m e first_of = by (p m) e
-  where
-    by : (b : Bool) → (b || list_any p ms) ≡ false → b ≡ false
-    by true e = cc
-    by false e = refl
-any_false p (n ∷ ms) m e (later i) = any_false p ms m (by (p n) e) i
-  where
-    by : (b : Bool) → (b || list_any p ms) ≡ false → list_any p ms ≡ false
-    by true e = cc
-    by false e = e
 
 module _ (list : List ℕ) (files : Files) (codes : List MethodCode) (settings : Settings) (unbroken : check_breaks list
     files codes settings ≡ []) where
@@ -111,7 +99,7 @@ module _ (list : List ℕ) (files : Files) (codes : List MethodCode) (settings :
 
         apart : (b : Bool) → bytes_eq t.name u.name ≡ b → bytes_eq t.name u.name ≡ false
         apart false f = f
-        apart true f = absurd (acyclic t.name (subst (Above w t.name) (sym (bytes-true t.name u.name f)) above))
+        apart true f = absurd (acyclic t.name (subst (Above w t.name) (sym (bytes_true t.name u.name f)) above))
 
         both : (a b q : Bool) → a ≡ true → q ≡ false → ((a || b) && not q) ≡ true
         both true b false f g = refl
@@ -126,7 +114,7 @@ module _ (list : List ℕ) (files : Files) (codes : List MethodCode) (settings :
             → selects m ≡ true
         kept d off j =
             let none = behind (is_special m.name) (changes_kind d m.flags m.name m.desc) plain off in
-            let here = any_false (λ k. is_called m.name m.desc k && is_of_other_kind m.flags k.flags) d.methods n none j
+            let here = any-false (λ k. is_called m.name m.desc k && is_of_other_kind m.flags k.flags) d.methods n none j
             in
             let called : is_called m.name m.desc n ≡ true = ap (λ (v : Signature). bytes_eq n.name v.name
             && bytes_eq n.desc v.desc) one ∙ same-refl (signature_of n) in

@@ -6,9 +6,8 @@ use Rattle.std.specs.List.{Contains}
 use Rattle.cjc_bytes.specs.AccessFlags.{is_abstract, is_interface, is_public}
 use Rattle.cjc_bytes.specs.declared.fault.MemberId.{MemberId}
 use Rattle.cjc_jvm_semantics.specs.OnePackage.{of_class}
-use Rattle.cjc_world_proof.proofs.CallsLaws.Selects.{receiver_plain}
-use Rattle.cjc_world_proof.proofs.CallsLaws.Types.{below_type}
-use Rattle.cjc_world_proof.specs.Calls.Solid.{IsSolid}
+use Rattle.cjc_token_proof.proofs.WorldProofTypes.{below_type, receiver_class}
+use Rattle.cjc_token_proof.specs.WorldProof.Calls.Solid.{IsSolid}
 use Rattle.cjc_token_proof.specs.Calls.Selecting.{signature}
 use Rattle.cjc_classfile.specs.declared.tree.ClassTree.{ClassTree}
 use Rattle.cjc_code.specs.declared.insn.JOp.TheVariants as jop
@@ -89,7 +88,7 @@ module _ (list : ListTree) (files : List (List ℕ)) (judged : Judged) (p : Pack
   pub of_above : (x : List ℕ) (c d : Class) → class_named w x ≡ Some c → class_named w d.name ≡ Some d
       → Below w x d.name → is_subtype w x d.name ≡ true
   of_above x c d e f way = let s = solid in below_type w x d.name (s.plain d.name d f) (subst (λ y. Below w y d.name)
-      (sym (receiver_plain x (s.plain x c e))) way)
+      (sym (receiver_class x (s.plain x c e))) way)
 
   -- ---- a method that is found in an interface alone
 

@@ -8,17 +8,19 @@ use Rattle.std.proofs.lemmas.Bool.Decides.{nat_tests}
 use Rattle.std.proofs.lemmas.List.{length-map}
 use Rattle.std.proofs.lemmas.Option.{get_or_from_slice_get, slice_get_within}
 use Rattle.cjc_bytes.specs.AccessFlags.{is_interface}
-use Rattle.cjc_world_proof.proofs.CallsLaws.Own.{mapped_at}
-use Rattle.cjc_export.specs.Members.{interface_token, interface_token_taken}
-use Rattle.cjc_export.specs.Writable.{ClassFits, EachAfter, IsWritable, MethodStands}
-use Rattle.cjc_export.specs.declared.tree.ExportMethod.{ExportMethod}
-use Rattle.cjc_export.specs.declared.tree.ExportTree.{ExportTree}
-use Rattle.cjc_shape_proof.proofs.FindsLaws.Descs.{each_after}
+use Rattle.cjc_bytes.proofs.Numbers.{like_number}
+use Rattle.cjc_bytes.proofs.Gets.{in_front, at_end}
+use Rattle.cjc_token_proof.proofs.WorldProofOwn.{mapped_at}
+use Rattle.cjc_world.specs.ExportFile.Members.{interface_token, interface_token_taken}
+use Rattle.cjc_world.specs.ExportFile.Writable.{ClassFits, EachAfter, IsWritable, MethodStands}
+use Rattle.cjc_world.specs.ExportFile.declared.tree.ExportMethod.{ExportMethod}
+use Rattle.cjc_world.specs.ExportFile.declared.tree.ExportTree.{ExportTree}
 use Rattle.cjc_subset.specs.Members.{imports}
 use Rattle.cjc_tokens.specs.Members.{In, first_of, is_initialiser, later, signature_of}
 use Rattle.cjc_tokens.specs.Methods.{interface_methods}
 use Rattle.cjc_vtable.proofs.Calls.{In-behind, In-front}
 use Rattle.cjc_vtable.proofs.Filed.{IsFiled, filed, get-has, has-get, in_class_file, in_export_file, of-imports}
+use Rattle.cjc_vtable.proofs.Read.{each-after}
 use Rattle.cjc_world.specs.Added.{asked_by, by_token, own_methods, with_token, without_initialiser}
 use Rattle.cjc_world.specs.Classes.{Class, Member, all_classes, class_named, method_of_export}
 use Rattle.cjc_world.specs.Files.{Files}
@@ -48,9 +50,6 @@ kept_in (n ∷ ms) m (later i) e = by (is_initialiser n.name) (kept_in ms m i e)
 
 -- ---- by tokens
 
-same_number : (a : ℕ) → (a == a) ≡ true
-same_number a = grind (arith, nat_tests)
-
 in_range : (m : Member) (ms : List Member) (n t : ℕ) → t ≤ m.token → m.token < t + n → In m (with_token m.token ms)
     → In m (by_token n t ms)
 in_range m ms zero t low high i = absurd (omega (arith, low, high))
@@ -62,15 +61,6 @@ in_range m ms (suc n) t low high i = by (m.token == t) refl (λ more. in_range m
     by true e rest = In-front m (with_token t ms) (by_token n (t + 1) ms) (subst (λ k. In m (with_token k ms))
         (eqb-true m.token t e) i)
     by false e rest = In-behind m (with_token t ms) (by_token n (t + 1) ms) (rest (grind (arith, nat_tests, low, e)))
-
-get_front : {A : Type 0} (xs ys : List A) (k : ℕ) (x : A) → slice_get xs k ≡ Some x → slice_get (xs ++ ys) k ≡ Some x
-get_front [] ys k x e = absurd cc
-get_front (y ∷ xs) ys zero x e = e
-get_front (y ∷ xs) ys (suc k) x e = get_front xs ys k x e
-
-at_end : {A : Type 0} (xs : List A) (x : A) → slice_get (xs ++ x ∷ []) (length xs) ≡ Some x
-at_end [] x = refl
-at_end (y ∷ xs) x = at_end xs x
 
 module _ (count : ℕ) where
   new_token : (before : List ExportMethod) (t : ℕ) → interface_token count before t ≡ Some t → (t < count)
@@ -107,7 +97,7 @@ module _ (count : ℕ) where
       let same : y ≡ x = cc in
       not_taken before x.token j b (new_token before x.token (subst (λ (z : ExportMethod). interface_token count before
       z.token ≡ Some z.token) same h.0.1)).1 f
-  apart before (y ∷ ms) h (suc k) x e j b f = apart (before ++ y ∷ []) ms h.1 k x e j b (get_front before (y ∷ []) j b
+  apart before (y ∷ ms) h (suc k) x e j b f = apart (before ++ y ∷ []) ms h.1 k x e j b (in_front before (y ∷ []) j b
       f)
 
   -- so each is the first of its token
@@ -121,7 +111,7 @@ module _ (count : ℕ) where
       ∷ map method_of_export ms))) same (
         (new_token before y.token h.0.1).0,
         subst (λ b. In (method_of_export y) (if b then method_of_export y ∷ []
-            else with_token y.token (map method_of_export ms))) (sym (same_number y.token)) first_of,
+            else with_token y.token (map method_of_export ms))) (sym (like_number y.token)) first_of,
       )
   first_token before (y ∷ ms) h (suc k) x e =
       let r = first_token (before ++ y ∷ []) ms h.1 k x e in
@@ -143,7 +133,7 @@ module _ (files : Files) (writable : (e : ℕ) (t : ExportTree) → slice_get fi
       let x = mapped_at method_of_export t.methods k m e in
       let tree = of-imports t files.exports (get-has t (imports files.exports) n at) in
       let place = has-get tree.0 files.exports tree.1 in
-      let class = each_after ClassFits [] (let u = tree.0 in u.classes) t (let w = writable place.0 tree.0 place.1
+      let class = each-after ClassFits [] (let u = tree.0 in u.classes) t (let w = writable place.0 tree.0 place.1
       in w.classes) tree.2 in
       let stands : EachAfter (MethodStands true (length t.methods)) [] t.methods =
       subst (λ b. EachAfter (MethodStands b (length t.methods)) [] t.methods) interface (let c = class.1

@@ -4,10 +4,11 @@ use Rattle.std.proofs.Common.{◌≡◌, ℕ, refl, sym, ap, subst, ◌∙◌, B
 use Rattle.std.specs.Prelude.{◌⊎◌, ◌&&◌, ◌||◌, not, Option, Some, None, option_and_then, position, slice_get}
 use Rattle.cjc_bytes.specs.AccessFlags.{is_interface, is_private, is_static}
 use Rattle.cjc_bytes.specs.declared.fault.MemberId.{MemberId}
+use Rattle.cjc_bytes.proofs.Bools.{or_left, or_right}
 use Rattle.cjc_jvm_semantics.specs.OnePackage.{ResolvedMember, is_constructor, method_hit, of_class}
-use Rattle.cjc_world_proof.proofs.CallsLaws.Own.{hit_is, mapped_at}
-use Rattle.cjc_world_proof.proofs.CallsLaws.Selects.{receiver_plain}
-use Rattle.cjc_world_proof.specs.Calls.Solid.{IsSolid}
+use Rattle.cjc_token_proof.proofs.WorldProofOwn.{hit_is, mapped_at}
+use Rattle.cjc_token_proof.specs.WorldProof.Calls.Solid.{IsSolid}
+use Rattle.cjc_token_proof.proofs.WorldProofTypes.{receiver_class}
 use Rattle.cjc_token_proof.specs.Calls.Selecting.{signature}
 use Rattle.cjc_classfile.specs.declared.tree.ClassTree.{ClassTree}
 use Rattle.cjc_code.specs.declared.insn.JOp.TheVariants as jop
@@ -30,7 +31,7 @@ use Rattle.cjc_tokens.specs.Slots.{has_slot, slots}
 use Rattle.cjc_tokens.proofs.Facts.{chosen-In, chosen-passes, same-refl}
 use Rattle.cjc_tokens.proofs.Held.{here-has_slot, token-slot}
 use Rattle.cjc_world.specs.Interfaces.{known as known_interfaces}
-use Rattle.cjc_world.specs.Upwards.{Below, Has, IsOrdered, OnLine, after as further, foremost as at_front, up}
+use Rattle.cjc_world.specs.Upwards.{Below, IsOrdered, OnLine, up}
 use Rattle.cjc_world.proofs.UpwardLaws.Lines.{below_line, below_on, line_below, line_begins, line_named, line_on}
 use Rattle.cjc_world.proofs.UpwardLaws.Lines.{of_line, on_line}
 use Rattle.cjc_vtable.specs.Calls.{any_method, finds_hidden, is_special, selects}
@@ -63,14 +64,7 @@ use Rattle.cjc_theorem.proofs.AlikeLaws.VirtualCalls.Objects.{ListsMethods, amon
 use Rattle.cjc_theorem.proofs.AlikeLaws.VirtualCalls.Objects.{sought_there}
 use Rattle.cjc_theorem.proofs.AlikeLaws.VirtualCalls.Places.{has_place}
 use Rattle.cjc_theorem.proofs.AlikeLaws.VirtualCalls.Ways.{far_above, line_class, under_below}
-
-or_left : (a b : Bool) → (a || b) ≡ false → a ≡ false
-or_left true b e = absurd cc
-or_left false b e = refl
-
-or_right : (a b : Bool) → (a || b) ≡ false → b ≡ false
-or_right true b e = absurd cc
-or_right false b e = e
+use Rattle.cjc_theorem.proofs.FairWriting.Fewer.{of_one}
 
 -- what has a body is selected
 chosen_some : (w : List Class) (super : List ℕ) (id : MemberId) → receiver super ≡ super → (o : Option Found)
@@ -83,12 +77,6 @@ chosen_some w super id same_name (Some f) g e = (
   ap (λ y. first (own_method true id.name id.desc) (line w y))
       (sym same_name) ∙ g,
 )
-
--- a method of some classes is one of a class of them
-of_one : (cs : List Class) (m : Member) → In m (all_methods cs) → (c : Class) × Has c cs × In m c.methods
-of_one [] m i = elim i [ ]
-of_one (c ∷ cs) m i = ⊎_elim (λ j. (c, at_front, j)) (λ j. let r = of_one cs m j in (r.0, further r.1, r.2))
-    (In-split m c.methods (all_methods cs) i)
 
 module _ (list : ListTree) (files : List (List ℕ)) (judged : Judged) (p : Package) (is : IsConverted list files judged
     p)
@@ -221,7 +209,7 @@ module _ (list : ListTree) (files : List (List ℕ)) (judged : Judged) (p : Pack
     selected_some : (f : Found) × (selection w super s ≡ Some f)
     selected_some =
         let q = solid in
-        chosen_some w super id (receiver_plain super (q.plain super super_there.0 super_there.1))
+        chosen_some w super id (receiver_class super (q.plain super super_there.0 super_there.1))
         (selected w super id.name id.desc) refl
         (or_right (not (is_below w super id.class))
         (is_bodiless (subset.hit w false (selected w super id.name id.desc))) fit)

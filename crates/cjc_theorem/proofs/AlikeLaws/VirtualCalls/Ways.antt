@@ -2,10 +2,11 @@
 use Rattle.std.proofs.Common.{◌≡◌, ℕ, refl, sym, ap, subst, ◌∙◌, Bool, true, false, List, [], ◌∷◌, inl}
 use Rattle.std.specs.Prelude.{Option, Some, None}
 use Rattle.cjc_bytes.specs.AccessFlags.{is_interface}
-use Rattle.cjc_world_proof.proofs.CallsLaws.Own.{own_at}
+use Rattle.cjc_token_proof.proofs.WorldProofOwn.{own_at}
 use Rattle.cjc_tokens.specs.Members.{Signature}
 use Rattle.cjc_world.specs.Upwards.{Below, IsOrdered, OnLine, here, up}
 use Rattle.cjc_world.proofs.UpwardLaws.Lines.{below_abroad, first_some, in_line, line_begins, line_below, listed_below}
+use Rattle.cjc_world.proofs.UpwardLaws.Lines.{same_class}
 use Rattle.cjc_vtable.specs.Laws.{KeepsRules, Under, below, itself, selection}
 use Rattle.cjc_world.specs.declared.found.Found.{Found}
 use Rattle.cjc_world.specs.Classes.{Class, class_named}
@@ -14,9 +15,6 @@ use Rattle.cjc_world.specs.Lookup.{first, or_else, own_method}
 use Rattle.cjc_world.proofs.Cycles.{class_named-name}
 use Rattle.cjc_world.proofs.Settled.{lists-front}
 use Rattle.cjc_world.proofs.Upwards.{line_goes_up}
-
-same_class : {c d : Class} → Some c ≡ Some d → c ≡ d
-same_class e = cc
 
 only : (y s : List ℕ) → Lists y (s ∷ []) → y ≡ s
 only y s foremost = refl

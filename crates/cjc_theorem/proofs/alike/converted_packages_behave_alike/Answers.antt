@@ -1,4 +1,4 @@
-use Rattle.cjc_card_semantics.specs.Machine.ByToken.{run as run_by_token}
+use Rattle.cjc_ncode.specs.CardSemantics.Machine.ByToken.{run as run_by_token}
 use Rattle.cjc_components.specs.Paired.Naming.{loaded_of}
 use Rattle.cjc_judge.specs.Rules.{has_applets, settings_of}
 use Rattle.cjc_jvm_semantics.specs.ByName.{run as run_by_name}

@@ -14,8 +14,9 @@ use Rattle.cjc_components.specs.Class.{class_info}
 use Rattle.cjc_components.specs.Names.{class_ref, info_starts}
 use Rattle.cjc_components.specs.Descriptor.{class_descriptor}
 use Rattle.cjc_token_proof.specs.Components.OwnNames.{HaveOwnNames}
-use Rattle.cjc_token_proof.proofs.ComponentsLaws.Tests.{same_number, passes, none_in_both}
+use Rattle.cjc_token_proof.proofs.ComponentsLaws.Tests.{passes, none_in_both}
 use Rattle.cjc_token_proof.proofs.ComponentsLaws.Starts.{infos_stand_alike, infos_long, ref_is_start}
+use Rattle.cjc_bytes.proofs.Numbers.{like_number}
 use Rattle.cjc_token_proof.proofs.components.descriptor_classes_are_in_order.Goals as goal
 
 none_numbered : {X A : Type 0} (size : A → ℕ) (broken : ℕ → ℕ → A → List ComponentPlace) (f : X
@@ -35,7 +36,7 @@ one : (p : Package) → HaveOwnNames (class_order (world p)) → (k at : ℕ) (c
 one p apart k at c e =
     let r = ref_is_start p apart k c e in
     passes _ (in_info 11 (at + 2)) (ap (λ s. is_start_of s (class_ref p c.name)) r.1 ∙ ap (is_start_of (Some r.0)) r.2
-    ∙ same_number r.0)
+    ∙ like_number r.0)
 
 pub returns : goal.returns
 returns c p apart =

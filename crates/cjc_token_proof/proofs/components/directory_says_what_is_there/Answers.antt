@@ -18,10 +18,11 @@ use Rattle.cjc_components.specs.Components.{header, applet, imported_package, im
 use Rattle.cjc_components.specs.Components.{components_of, sizes}
 use Rattle.cjc_check_rules.specs.Complete.{size_items}
 use Rattle.std.proofs.lemmas.List.{length-map}
-use Rattle.cjc_token_proof.proofs.ComponentsLaws.Tests.{same_number, passes, none_in_both}
+use Rattle.cjc_token_proof.proofs.ComponentsLaws.Tests.{passes, none_in_both}
 use Rattle.cjc_token_proof.proofs.ComponentsLaws.Sizes.{part_size, header_is, applets_are, import_is, pool_is}
 use Rattle.cjc_token_proof.proofs.ComponentsLaws.Sizes.{classes_are, method_is, statics_are, locations_are, export_is}
 use Rattle.cjc_token_proof.proofs.ComponentsLaws.Sizes.{descriptor_is}
+use Rattle.cjc_bytes.proofs.Numbers.{like_number}
 use Rattle.cjc_token_proof.proofs.components.directory_says_what_is_there.Goals as goal
 
 equal : (told own : ℕ) → told ≡ own → (told == own && true) ≡ true
@@ -60,13 +61,13 @@ sizes_are p =
     (none_in_both (maybe 22 0 0 refl refl) refl)))))))))))
 
 same_length : {A : Type 0} (xs : List A) → (length xs == length xs) ≡ true
-same_length xs = same_number (length xs)
+same_length xs = like_number (length xs)
 
 pub returns : goal.returns
 returns c p =
     let statics = static_field p.image in
     let files = p.files in
-    let same : (n : ℕ) → (n == n) ≡ true = same_number in
+    let same : (n : ℕ) → (n == n) ≡ true = like_number in
     let numbers =
     none_in_both (none_in_both (passes _ (in_info 2 24) (same statics.image_size)) (passes _ (in_info 2 26)
     (same (length statics.array_inits)))) (passes _ (in_info 2 28) (same (array_bytes statics.array_inits))) in

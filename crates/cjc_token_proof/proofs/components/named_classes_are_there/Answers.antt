@@ -4,10 +4,11 @@ use Rattle.std.specs.Prelude.{Option, Some, None, map, slice_get, position, opti
 use Rattle.std.specs.Prelude.{unwrap_or, cond, ◌||◌, if◌then◌else◌}
 use Rattle.std.specs.List.{find}
 use Rattle.std.specs.Str.{bytes_eq}
+use Rattle.std.proofs.lemmas.Bool.{or_right}
 use Rattle.cjc_check_rules.specs.CapRead.declared.tree.ClassRef.{ClassRef}
 use Rattle.cjc_check_rules.specs.CapRead.declared.tree.ClassRef.TheVariants.{Inside}
-use Rattle.cjc_export.specs.declared.tree.ExportClass.{ExportClass}
-use Rattle.cjc_export.specs.declared.tree.ExportTree.{ExportTree}
+use Rattle.cjc_world.specs.ExportFile.declared.tree.ExportClass.{ExportClass}
+use Rattle.cjc_world.specs.ExportFile.declared.tree.ExportTree.{ExportTree}
 use Rattle.cjc_card_semantics.specs.Machine.Classes.{Class, Own, External, external_from, or_else, token_named}
 use Rattle.cjc_check_rules.specs.Spots.{Placed, begins}
 use Rattle.cjc_check_rules.specs.Classes.{imported, is_there, interfaces_at, classes_at, is_start}
@@ -16,15 +17,11 @@ use Rattle.cjc_world.specs.Order.{class_order}
 use Rattle.cjc_components.specs.Package.{Package, world}
 use Rattle.cjc_components.specs.Class.{class_info}
 use Rattle.cjc_components.specs.Names.{class_ref, class_offset, info_starts, ref_to}
-use Rattle.cjc_token_proof.proofs.ComponentsLaws.Tests.{same_number}
 use Rattle.cjc_token_proof.proofs.ComponentsLaws.Starts.{infos_stand_alike}
+use Rattle.cjc_bytes.proofs.Numbers.{like_number}
 use Rattle.cjc_token_proof.proofs.components.named_classes_are_there.Goals as goal
 
 -- ---- of the package
-
-or_true : (a b : Bool) → b ≡ true → (a || b) ≡ true
-or_true true b e = refl
-or_true false b e = e
 
 or_swap : (a b c : Bool) → (b || c) ≡ true → ((a || b) || c) ≡ true
 or_swap true b c e = refl
@@ -35,14 +32,14 @@ begin_second : {B : Type 0} (ys : List (Placed B)) (k s : ℕ) → slice_get (ma
 begin_second [] zero s e = absurd (cc)
 begin_second [] (suc k) s e = absurd (cc)
 begin_second (y ∷ ys) zero s e = let same : y.at ≡ s = cc in ap (λ n. n == s || begins ys s) same
-    ∙ ap (λ b. b || begins ys s) (same_number s)
-begin_second (y ∷ ys) (suc k) s e = or_true (y.at == s) (begins ys s) (begin_second ys k s e)
+    ∙ ap (λ b. b || begins ys s) (like_number s)
+begin_second (y ∷ ys) (suc k) s e = or_right (y.at == s) (begins ys s) (begin_second ys k s e)
 
 begin_either : {A B : Type 0} (xs : List (Placed A)) (ys : List (Placed B)) (k s : ℕ) → slice_get (map (λ p. p.at) xs
     ++ map (λ p. p.at) ys) k ≡ Some s → (begins xs s || begins ys s) ≡ true
 begin_either [] ys k s e = begin_second ys k s e
 begin_either (x ∷ xs) ys zero s e = let same : x.at ≡ s = cc in ap (λ n. (n == s || begins xs s) || begins ys s) same
-    ∙ ap (λ b. (b || begins xs s) || begins ys s) (same_number s)
+    ∙ ap (λ b. (b || begins xs s) || begins ys s) (like_number s)
 begin_either (x ∷ xs) ys (suc k) s e = or_swap (x.at == s) (begins xs s) (begins ys s) (begin_either xs ys k s e)
 
 starts_there : (p : Package) (at : Option ℕ) (start : ℕ) → option_and_then (slice_get (info_starts p)) at ≡ Some start
@@ -62,7 +59,7 @@ token_step : (c : ExportClass) (token : ℕ) (named same : Bool) (rest : Option 
 token_step c token named true rest more te e h = refl
 token_step c token true false rest more te e h =
     let same : c.token ≡ token = cc in
-    let no : false ≡ true = te ∙ ap (λ n. n == token) same ∙ same_number token in
+    let no : false ≡ true = te ∙ ap (λ n. n == token) same ∙ like_number token in
     absurd (cc)
 token_step c token false false rest more te e h = h e
 

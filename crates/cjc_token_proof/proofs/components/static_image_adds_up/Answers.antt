@@ -4,13 +4,14 @@ use Rattle.std.specs.Prelude.{map, flat_map, nat_le, ℤ}
 use Rattle.std.proofs.lemmas.Bool.Decides.{nat_tests}
 use Rattle.std.proofs.lemmas.List.{length-map}
 use Rattle.cjc_bytes.specs.declared.descriptor.Kind.{Kind}
+use Rattle.cjc_bytes.proofs.Numbers.{like_number}
 use Rattle.cjc_bytes.specs.declared.descriptor.Kind.TheVariants as kinds
 use Rattle.cjc_world.specs.declared.image.ArrayCell.{ArrayCell}
 use Rattle.cjc_check_rules.specs.Spots.{in_info, along}
 use Rattle.cjc_check_rules.specs.Complete.{array_size}
 use Rattle.cjc_check_rules.specs.Statics.{element_size, in_array}
 use Rattle.cjc_components.specs.Statics.{static_field, array_init, element_bytes, type_number, reference_count}
-use Rattle.cjc_token_proof.proofs.ComponentsLaws.Tests.{same_number, passes, none_in_both}
+use Rattle.cjc_token_proof.proofs.ComponentsLaws.Tests.{passes, none_in_both}
 use Rattle.cjc_token_proof.proofs.components.static_image_adds_up.Goals as goal
 
 -- each element has the bytes of its type
@@ -53,5 +54,5 @@ returns c image =
     let s = static_field image in
     let few : nat_le (length (map array_init image.arrays)) (reference_count image) ≡ true =
     ap (λ n. nat_le n (reference_count image)) (length-map image.arrays array_init) ∙ grind (arith, nat_tests) in
-    none_in_both (none_in_both (passes _ (in_info 8 0) (same_number s.image_size)) (passes _ (in_info 8 4) few))
+    none_in_both (none_in_both (passes _ (in_info 8 0) (like_number s.image_size)) (passes _ (in_info 8 4) few))
     (arrays_are_whole 6 image.arrays)

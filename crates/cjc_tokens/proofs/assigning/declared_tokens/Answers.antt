@@ -4,10 +4,10 @@ use Rattle.cjc_tokens.specs.Rules.{breaks_from, count_exported, token_breaks}
 use Rattle.cjc_world.specs.Exported.{is_exported}
 use Rattle.cjc_tokens.specs.Tokens.{classes_from}
 use Rattle.cjc_tokens.specs.Working.{AreTokensOf}
-use Rattle.cjc_tokens.proofs.Walks.{slice_get-at}
 use Rattle.cjc_tokens.proofs.Assigns.{classes-next, classes-end, exported-next, breaks-next, breaks-end, breaks-first}
 use Rattle.cjc_tokens.proofs.assigning.declared_tokens.Goals as goal
 use Rattle.cjc_tokens.proofs.assigning.declared_tokens.Goals.{then-is_exported, else-is_exported}
+use Rattle.cjc_bytes.proofs.Gets.{slice_get_at}
 
 pub returns-in-None : goal.returns-in-None
 unfolding token_breaks
@@ -21,7 +21,7 @@ returns-in-None c =
     in
     let high = subst (AreTokensOf w c.args.applets c.loop-number.before k x) c.in-None.is c.in_ok-tokens_at.ensures in (
       x,
-      slice_get-at cs k x lt at,
+      slice_get_at cs k x lt at,
       breaks-first w c.args.applets cs k c.args.world.now.lines x
           (breaks_from w c.args.applets c.args.world.now.lines 0 cs) lt at high c.loop-number.invariant.breaks,
     )

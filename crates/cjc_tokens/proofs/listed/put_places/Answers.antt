@@ -3,10 +3,10 @@ use Rattle.std.specs.Prelude.{Some, None}
 use Rattle.cjc_world.specs.Classes.{all_classes}
 use Rattle.cjc_world.specs.Working.Known.{class_of}
 use Rattle.cjc_world.specs.Working.Places.{at_places}
-use Rattle.cjc_tokens.proofs.Offers.{map_append}
 use Rattle.cjc_tokens.proofs.Once.{put-at, put-past}
 use Rattle.cjc_tokens.proofs.listed.put_places.Goals as goal
 use Rattle.cjc_tokens.proofs.listed.put_places.Goals.{in-Some+in_ok-push, in_default}
+use Rattle.cjc_bytes.proofs.Lists.{map_append}
 
 pub loop-place-preserved : goal.loop-place-preserved
 loop-place-preserved c =

@@ -1,4 +1,5 @@
-use Rattle.cjc_tokens.proofs.Offers.{ids-more, take-past}
+use Rattle.cjc_tokens.proofs.Offers.{ids-more}
+use Rattle.cjc_bytes.proofs.Gets.{take_past}
 use Rattle.cjc_tokens.proofs.slot.offer_added.Goals as goal
 
 pub loop-id-preserved : goal.loop-id-preserved
@@ -8,4 +9,4 @@ loop-id-preserved c =
     (c.in_ok-put_new.ensures _ _ _ c.loop-id.invariant c.got-found.ensures)
 
 pub returns : goal.returns
-returns c = rw (take-past c.args.added.now c.loop-id.id-index c.loop-id-test.false) at c.loop-id.invariant
+returns c = rw (take_past c.args.added.now c.loop-id.id-index c.loop-id-test.false) at c.loop-id.invariant

@@ -1,8 +1,9 @@
 use Rattle.std.proofs.Common.{◌∙◌, sym, ap}
 use Rattle.cjc_tokens.specs.Working.{is_kind, is_of_kind}
-use Rattle.cjc_tokens.proofs.Offers.{methods-more, methods-same, take-past}
+use Rattle.cjc_tokens.proofs.Offers.{methods-more, methods-same}
 use Rattle.cjc_tokens.proofs.slot.offer_methods.Goals as goal
 use Rattle.cjc_tokens.proofs.slot.offer_methods.Goals.{then-is_of_kind+in_ok-put_new, else-is_of_kind}
+use Rattle.cjc_bytes.proofs.Gets.{take_past}
 
 pub loop-method-preserved : goal.loop-method-preserved
 loop-method-preserved c = elim c.if-is_of_kind.branch [
@@ -26,6 +27,6 @@ loop-method-preserved c = elim c.if-is_of_kind.branch [
 
 pub returns : goal.returns
 returns c = rw (
-  take-past c.items-method-items.result.now c.loop-method.method-index c.loop-method-test.false,
+  take_past c.items-method-items.result.now c.loop-method.method-index c.loop-method-test.false,
   c.items-method-items.ensures,
 ) at c.loop-method.invariant

@@ -3,10 +3,11 @@ use Rattle.cjc_world.specs.Classes.{method_of_class}
 use Rattle.cjc_tokens.specs.Members.{Signature, has, signatures}
 use Rattle.cjc_tokens.specs.Slots.{with_taken}
 use Rattle.cjc_tokens.specs.Working.{is_kind, is_of_kind, methods_in, signs, token_under}
-use Rattle.cjc_tokens.proofs.Offers.{methods-more, methods-same, take-past}
+use Rattle.cjc_tokens.proofs.Offers.{methods-more, methods-same}
 use Rattle.cjc_tokens.proofs.Takings.{has-there, signature, takes-more}
 use Rattle.cjc_tokens.proofs.taking.take_slots.Goals as goal
 use Rattle.cjc_tokens.proofs.taking.take_slots.Goals.{then-is_of_kind, else-is_of_kind}
+use Rattle.cjc_bytes.proofs.Gets.{take_past}
 
 pub loop-method-init : goal.loop-method-init
 loop-method-init c = λ implements own_is. record { slots = refl; methods = λ a. a }
@@ -50,6 +51,6 @@ loop-method-preserved c = λ implements own_is. elim c.if-is_of_kind.branch [
 
 pub returns : goal.returns
 returns c = λ implements own_is. rw (
-  take-past c.items-method-items.result.now c.loop-method.method-index c.loop-method-test.false,
+  take_past c.items-method-items.result.now c.loop-method.method-index c.loop-method-test.false,
   c.items-method-items.ensures,
 ) at c.loop-method.invariant implements own_is

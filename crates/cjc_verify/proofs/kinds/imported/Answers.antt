@@ -1,5 +1,5 @@
 use Rattle.std.proofs.Common.{refl}
-use Rattle.cjc_card_link.proofs.Alone.{outside_found, outside_none}
+use Rattle.cjc_card_calls.proofs.CardLinkAlone.{outside_found, outside_none}
 use Rattle.cjc_verify.proofs.kinds.imported.Goals as goal
 
 pub returns-in-Some : goal.returns-in-Some

@@ -1,6 +1,7 @@
-use Rattle.std.proofs.Common.{◌≡◌, ◌∙◌, ◌<◌, ℕ, refl, sym, ap, subst, List, length, get_or, Bool, true, false, map}
-use Rattle.std.specs.Prelude.{Some, option_map, not}
+use Rattle.std.proofs.Common.{◌∙◌, ◌<◌, ℕ, sym, ap, subst, List, length, get_or, false, map}
+use Rattle.std.specs.Prelude.{Some, option_map}
 use Rattle.cjc_bytes.specs.AccessFlags.{is_interface}
+use Rattle.cjc_bytes.proofs.Bools.{not_true}
 use Rattle.cjc_world.specs.Files.{Files}
 use Rattle.cjc_world.specs.Classes.{all_classes, declared}
 use Rattle.cjc_world.specs.Order.{in_order}
@@ -10,10 +11,6 @@ use Rattle.cjc_vtable.specs.Working.Standing.{IsClass}
 use Rattle.cjc_vtable.specs.Tables.{class_tables, table_of}
 use Rattle.cjc_vtable.proofs.Rows.{rows-next, rows-end}
 use Rattle.cjc_vtable.proofs.building.tables.Goals as goal
-
-not_true : (b : Bool) → not b ≡ true → b ≡ false
-not_true false h = refl
-not_true true h = absurd (cc h)
 
 -- a class of the order is no interface
 of_order : (files : Files) (n : ℕ) → IsOfKind files false n → IsClass files n

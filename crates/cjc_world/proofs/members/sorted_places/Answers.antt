@@ -4,13 +4,14 @@ use Rattle.std.specs.List.Sorted.{IsStableBy}
 use Rattle.cjc_world.specs.Rules.{members}
 use Rattle.cjc_world.specs.Working.Known.{class_of}
 use Rattle.cjc_world.specs.Working.Members.{IsMemberIndex, precedes}
-use Rattle.cjc_world.proofs.Called.{compares, precedes-order, range-from-zero}
+use Rattle.cjc_world.proofs.Called.{compares, precedes-order}
+use Rattle.cjc_bytes.proofs.Numbers.{range_from_zero}
 use Rattle.cjc_world.proofs.members.sorted_places.Goals as goal
 
 pub loop-place-preserved : goal.loop-place-preserved
 loop-place-preserved c =
     c.in_ok-push.ensures.items ∙ ap (λ ps. ps ++ c.loop-place.place ∷ []) c.loop-place.invariant
-    ∙ sym (range-from-zero c.loop-place.place)
+    ∙ sym (range_from_zero c.loop-place.place)
 
 pub returns : goal.returns
 returns c =

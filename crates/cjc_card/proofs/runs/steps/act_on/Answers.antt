@@ -7,7 +7,8 @@ use Rattle.cjc_card_step.specs.Effects.Deeds.{memory}
 use Rattle.cjc_card.specs.Acts.States.{FrameByToken, StateByToken}
 use Rattle.cjc_card.specs.States.{objects_at_most, with_frames}
 use Rattle.cjc_card.specs.Runs.Steps.{after_deed, made_by, most_after}
-use Rattle.cjc_card.proofs.RunsLaws.Followed.{acted_on, at_most, both, with_memory, with_words}
+use Rattle.cjc_card.proofs.RunsLaws.Followed.{acted_on, at_most, with_memory, with_words}
+use Rattle.cjc_script.proofs.BytesOptions.{option_both}
 use Rattle.cjc_card.proofs.runs.steps.act_on.Goals as goal
 
 pub returns-clause-next : goal.returns-clause-next
@@ -58,4 +59,4 @@ returns-clause-most g c =
     subst (λ (s : StateByToken). IfOk c.execute.result (λ step. objects_at_most (with_memory m v) ≤ most_after step.deed
     (objects_at_most s))) c.machine.view_is
     (IfOk-weaker c.execute.result _ _ (λ step h. at_most _ _ step.deed step.to _ _ _ v.memory m h.0 h.1)
-    (both c.execute.result _ _ c.execute.ensures.row c.execute.ensures.len))
+    (option_both c.execute.result _ _ c.execute.ensures.row c.execute.ensures.len))

@@ -6,7 +6,7 @@ use Rattle.cjc_card_semantics.specs.Bytecode.Effects.{arm_of}
 use Rattle.cjc_card_semantics.specs.Machine.Operations.{paired}
 use Rattle.cjc_card_semantics.specs.CapRead.Decoder.Decoded.{numbers}
 use Rattle.cjc_card_semantics.specs.CapRead.Decoder.Shapes.{entry_size, matches_of}
-use Rattle.cjc_card_frame.proofs.FetchLaws.Pairs.{none_left}
+use Rattle.cjc_card_semantics.proofs.CapReadTables.{numbers_less}
 use Rattle.cjc_card_frame.proofs.fetch.switches.arm_of_pairs.Goals as goal
 
 pub returns : goal.returns
@@ -18,4 +18,4 @@ returns c =
     let same : arm_of a.other (paired a.at (numbers (matches_of a.wide) a.table.now)) a.x
     ≡ arm_of a.other (paired a.at (numbers (matches_of a.wide) rest)) a.x = simp to_z-of_z at c.loop-rest.invariant
     in
-    sym (same ∙ ap (λ ns. arm_of a.other (paired a.at ns) a.x) (none_left a.wide rest few))
+    sym (same ∙ ap (λ ns. arm_of a.other (paired a.at ns) a.x) (numbers_less a.wide rest few))

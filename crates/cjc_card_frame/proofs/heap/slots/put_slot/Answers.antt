@@ -4,7 +4,8 @@ use Rattle.std.specs.Vec.{vec_len}
 use Rattle.std.proofs.lemmas.Option.{slice_get_within}
 use Rattle.cjc_card_frame.specs.declared.heap.slots.Slot.{Slot}
 use Rattle.cjc_card_frame.specs.Objects.{field_of, slot_by, place_in}
-use Rattle.cjc_card_frame.proofs.HeapLaws.Places.{none_put, put_at, place_below, none_there}
+use Rattle.cjc_card_frame.proofs.HeapLaws.Places.{none_put, put_at, place_below}
+use Rattle.cjc_script.proofs.BytesPlain.{none_is_some}
 use Rattle.cjc_card_frame.proofs.heap.slots.put_slot.Goals as goal
 
 pub returns-in_default : goal.returns-in_default
@@ -25,7 +26,7 @@ returns-in_default-slot_in_place c =
     let b = place_below xs f p e in
     let n : None ≡ slice_get xs p = c.in_default-slot_in_place.ensures ∙ ap (λ (ys : List Slot). slice_get ys p)
     c.deref-2.ensures.value in
-    absurd (none_there b.0 (n ∙ b.1))
+    absurd (none_is_some b.0 (n ∙ b.1))
 
 pub index_mut-requires : goal.index_mut-requires
 index_mut-requires c =

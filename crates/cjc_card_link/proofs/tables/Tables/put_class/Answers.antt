@@ -4,7 +4,8 @@ use Rattle.cjc_capread.specs.declared.tree.ImplementedInterface.{ImplementedInte
 use Rattle.cjc_card_semantics.specs.Machine.Classes.{Class, class_of as class_by_ref, some_of}
 use Rattle.cjc_card_frame.specs.Objects.{class_of}
 use Rattle.cjc_card_link.specs.Tables.{loaded_of}
-use Rattle.cjc_card_link.proofs.Climbing.{on_ok, put_class}
+use Rattle.cjc_card_link.proofs.Climbing.{put_class}
+use Rattle.cjc_capread.proofs.BytesOptions.{on_ok}
 use Rattle.cjc_card_link.proofs.tables.Tables.put_class.Goals as goal
 
 pub returns : goal.returns

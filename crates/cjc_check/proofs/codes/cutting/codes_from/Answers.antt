@@ -7,7 +7,8 @@ use Rattle.cjc_check.specs.declared.codes.code.Body.{Body}
 use Rattle.cjc_check.specs.Codes.Bodies.{AreBodies, IsBody, code_of}
 use Rattle.cjc_check.specs.Codes.Working.Steps.{behind}
 use Rattle.cjc_check.proofs.CodesLaws.Kept.{each_more}
-use Rattle.cjc_check.proofs.CodesLaws.Walks.{cut_all, cut_more, cut_over, same_item}
+use Rattle.cjc_check.proofs.CodesLaws.Walks.{cut_all, cut_more, cut_over}
+use Rattle.cjc_capread.proofs.BytesGets.{same_item}
 use Rattle.cjc_check.proofs.codes.cutting.codes_from.Goals as goal
 
 pub loop-method-preserved : goal.loop-method-preserved

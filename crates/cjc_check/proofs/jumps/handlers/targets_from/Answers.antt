@@ -1,6 +1,6 @@
 use Rattle.std.proofs.Common.{arith}
-use Rattle.cjc_check.proofs.JumpsLaws.Flat.{same_item}
 use Rattle.cjc_check.proofs.JumpsLaws.Stands.{targets_all, targets_more}
+use Rattle.cjc_capread.proofs.BytesGets.{same_item}
 use Rattle.cjc_check.proofs.jumps.handlers.targets_from.Goals as goal
 
 pub loop-handler-preserved : goal.loop-handler-preserved

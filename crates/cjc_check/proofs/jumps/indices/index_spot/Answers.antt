@@ -1,5 +1,6 @@
 use Rattle.cjc_check.specs.Jumps.Offsets.{index_spot, operand_at}
-use Rattle.cjc_check.proofs.JumpsLaws.Flat.{flat_all, flat_more, same_item}
+use Rattle.cjc_check.proofs.JumpsLaws.Flat.{flat_all, flat_more}
+use Rattle.cjc_capread.proofs.BytesGets.{same_item}
 use Rattle.cjc_check.proofs.jumps.indices.index_spot.Goals as goal
 
 pub loop-index-preserved : goal.loop-index-preserved

@@ -3,8 +3,8 @@ use Rattle.cjc_check.specs.declared.codes.code.At.{At}
 use Rattle.cjc_check.specs.Codes.Bodies.{code_of, placed_of}
 use Rattle.cjc_check_rules.specs.Instructions.{in_code}
 use Rattle.cjc_check_rules.specs.Spots.{first}
-use Rattle.cjc_check.proofs.JumpsLaws.Flat.{same_item}
 use Rattle.cjc_check.proofs.JumpsLaws.Lands.{in_code_all, in_code_more}
+use Rattle.cjc_capread.proofs.BytesGets.{same_item}
 use Rattle.cjc_check.proofs.jumps.jumps.in_code.Goals as goal
 
 pub loop-i-preserved : goal.loop-i-preserved

@@ -1,7 +1,7 @@
 use Rattle.std.proofs.Common.{◌∙◌, ap, ◌++◌, ℕ}
 use Rattle.cjc_check_rules.specs.Locations.{distance}
-use Rattle.cjc_check.proofs.JumpsLaws.Flat.{same_item}
 use Rattle.cjc_check.proofs.JumpsLaws.Listed.{distances_all, distances_more}
+use Rattle.cjc_capread.proofs.BytesGets.{same_item}
 use Rattle.cjc_check.proofs.jumps.locations.distances.Goals as goal
 
 pub loop-at-preserved : goal.loop-at-preserved

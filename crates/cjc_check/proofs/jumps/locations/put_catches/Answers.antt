@@ -1,6 +1,6 @@
 use Rattle.std.proofs.Common.{arith}
-use Rattle.cjc_check.proofs.JumpsLaws.Flat.{same_item}
 use Rattle.cjc_check.proofs.JumpsLaws.Listed.{catch_all, catch_more}
+use Rattle.cjc_capread.proofs.BytesGets.{same_item}
 use Rattle.cjc_check.proofs.jumps.locations.put_catches.Goals as goal
 
 pub loop-handler-preserved : goal.loop-handler-preserved

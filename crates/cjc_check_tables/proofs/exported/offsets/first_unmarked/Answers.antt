@@ -1,7 +1,7 @@
 use Rattle.std.proofs.Common.{ℕ, Bool, arith, refl, ap, ◌∙◌, get_or}
 use Rattle.cjc_check_rules.specs.Spots.{first, in_info, unless}
 use Rattle.cjc_check_rules.proofs.Numbered.{numbered_more, numbered_all}
-use Rattle.cjc_check_tables.proofs.ExportedLaws.Marks.{same_item}
+use Rattle.cjc_capread.proofs.BytesGets.{same_item}
 use Rattle.cjc_check_tables.proofs.exported.offsets.first_unmarked.Goals as goal
 
 pub loop-i-preserved : goal.loop-i-preserved

@@ -4,8 +4,8 @@ use Rattle.cjc_capread.specs.declared.tree.ClassInfo.{ClassInfo}
 use Rattle.cjc_check_rules.specs.Classes.{classes_at, first_class}
 use Rattle.cjc_check_rules.specs.Complete.{class_size}
 use Rattle.cjc_check_tables.specs.Links.Leaving.{leaves_among}
-use Rattle.cjc_check_tables.proofs.LinksLaws.Leaving.{found_leaves, past_leaves, none_leaves, outside, no_class}
-use Rattle.cjc_check_tables.proofs.LinksLaws.Leaving.{length-placed}
+use Rattle.cjc_check_tables.proofs.LinksLaws.Leaving.{found_leaves, past_leaves, none_leaves, outside}
+use Rattle.cjc_check_tables.proofs.MembersLaws.Search.{no_class, length-placed}
 use Rattle.cjc_check_tables.proofs.links.tables.leaves.Goals as goal
 
 fits : (info : ClassInfo) (n : ℕ) → n ≤ length info.classes → n ≤ length (classes_at info)

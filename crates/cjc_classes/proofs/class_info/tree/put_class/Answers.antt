@@ -1,6 +1,5 @@
 use Rattle.std.proofs.Common.{◌≡◌, ◌∙◌, ◌++◌, ◌∷◌, [], List, ap, sym, subst, append-nil, refl}
-use Rattle.std.proofs.lemmas.Option.{slice_get_read}
-use Rattle.cjc_classes.proofs.ClassInfo.Places.{get_past}
+use Rattle.std.proofs.lemmas.Option.{slice_get_read, slice_get_past}
 use Rattle.std.specs.Prelude.{OnOk, Some, None, slice_get}
 use Rattle.cjc_capread.specs.declared.tree.ClassEntry.{ClassEntry}
 use Rattle.cjc_world.specs.ClassFile.declared.tree.ClassTree.{ClassTree}
@@ -16,7 +15,7 @@ returns-in-None c =
     let same : c.items.result.now ≡ files.classes = c.items.ensures ∙ c.classes.ensures in
     let lookup = c.in-None.ensures.lookup in
     let none : slice_get files.classes t.class ≡ None = ap (λ (ts : List ClassTree). slice_get ts t.class) (sym same)
-    ∙ get_past c.items.result.now t.class lookup.3 in
+    ∙ slice_get_past c.items.result.now t.class lookup.3 in
     sym (append-nil c.args.entries.now) ∙ ap (λ o. c.args.entries.now ++ entry_where (ref_of c.args.refs.now)
     (offset_in c.args.offsets.now) (all_classes files) t o) (sym none)
 

@@ -1,6 +1,5 @@
 use Rattle.std.proofs.Common.{◌≡◌, ◌∙◌, ◌++◌, ◌∷◌, [], List, ap, map, sym, subst, append-nil, refl}
-use Rattle.std.proofs.lemmas.Option.{slice_get_read}
-use Rattle.cjc_classes.proofs.ClassInfo.Places.{get_past}
+use Rattle.std.proofs.lemmas.Option.{slice_get_read, slice_get_past}
 use Rattle.std.specs.Prelude.{OnOk, Option, Some, None, option_map, option_to_list, slice_get}
 use Rattle.cjc_capread.specs.declared.tree.InterfaceEntry.{InterfaceEntry}
 use Rattle.cjc_world.specs.ClassFile.declared.tree.ClassTree.{ClassTree}
@@ -17,7 +16,7 @@ returns-in-None c =
     let same : c.items.result.now ≡ files.classes = c.items.ensures ∙ c.classes.ensures in
     let lookup = c.in-None.ensures.lookup in
     let none : slice_get files.classes n ≡ None = ap (λ (ts : List ClassTree). slice_get ts n) (sym same)
-    ∙ get_past c.items.result.now n lookup.3 in
+    ∙ slice_get_past c.items.result.now n lookup.3 in
     sym (append-nil c.args.entries.now) ∙ ap (λ (o : Option ClassTree). c.args.entries.now
     ++ map f (option_to_list (option_map (declared n) o))) (sym none)
 

@@ -3,7 +3,8 @@ use Rattle.std.specs.Prelude.{filter, if◌then◌else◌, option_map, slice_get
 use Rattle.std.proofs.Math.ListN.{drop_of_length-le}
 use Rattle.std.proofs.lemmas.Option.{slice_get-map, slice_get_read}
 use Rattle.cjc_tokens.specs.Fields.{is_open_static}
-use Rattle.cjc_exported.proofs.ExportFile.Piles.{drop-at, mapped, piled, piled-all}
+use Rattle.cjc_exported.proofs.ExportFile.Piles.{mapped, piled, piled-all}
+use Rattle.cjc_export.proofs.BytesGets.{drop_at}
 use Rattle.cjc_exported.proofs.export_file.component.cells_by_token.Goals as goal
 
 pub loop-place-preserved : goal.loop-place-preserved
@@ -19,7 +20,7 @@ loop-place-preserved c = λ g is.
     piled c.put_cell.new.cells old (if is_open_static f then g f ∷ []
     else []) (map g (filter is_open_static (drop (i + 1) all))) _
     (c.in_ok-put_cell.ensures ∙ ap (λ n. old ++ (if is_open_static f then n ∷ [] else [])) value)
-    (ap (λ q. old ++ q) (sym (ap (λ xs. map g (filter is_open_static xs)) (drop-at all i f at)
+    (ap (λ q. old ++ q) (sym (ap (λ xs. map g (filter is_open_static xs)) (drop_at all i f at)
     ∙ mapped is_open_static g f (drop (i + 1) all))) ∙ c.loop-place.invariant g is)
 
 pub returns : goal.returns

@@ -10,7 +10,8 @@ use Rattle.cjc_components.specs.Exports.{exported_class}
 use Rattle.cjc_components.specs.Package.{has_applets}
 use Rattle.cjc_exported.specs.ExportFile.Working.Sources.{is_of_kind}
 use Rattle.cjc_exported.proofs.ExportFile.Methods.{own-number}
-use Rattle.cjc_exported.proofs.ExportFile.Piles.{drop-at, filtered-twice, mapped, piled, piled-all}
+use Rattle.cjc_exported.proofs.ExportFile.Piles.{filtered-twice, mapped, piled, piled-all}
+use Rattle.cjc_export.proofs.BytesGets.{drop_at}
 use Rattle.cjc_exported.proofs.export_file.component.exported.Goals as goal
 
 pub put_exported-requires : goal.put_exported-requires
@@ -39,7 +40,7 @@ loop-number-preserved c = λ p of_files offsets.
     piled c.put_exported.new.classes old (if test (class_of k) then f (class_of k) ∷ []
     else []) (map f (filter test (drop (n + 1) ks))) _
     (c.in_ok-put_exported.ensures p of_files offsets)
-    (ap (λ q. old ++ q) (sym (ap (λ xs. map f (filter test xs)) (drop-at ks n (class_of k) here)
+    (ap (λ q. old ++ q) (sym (ap (λ xs. map f (filter test xs)) (drop_at ks n (class_of k) here)
     ∙ mapped test f (class_of k) (drop (n + 1) ks))) ∙ c.loop-number.invariant p of_files offsets)
 
 pub returns : goal.returns

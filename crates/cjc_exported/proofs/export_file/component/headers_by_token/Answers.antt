@@ -9,7 +9,8 @@ use Rattle.cjc_tokens.specs.Methods.{is_open_bound}
 use Rattle.cjc_components.specs.Descriptor.{no_member}
 use Rattle.cjc_components.specs.Exports.{open_methods}
 use Rattle.cjc_exported.proofs.ExportFile.Exporting.{opened}
-use Rattle.cjc_exported.proofs.ExportFile.Piles.{drop-at, piled, piled-all}
+use Rattle.cjc_exported.proofs.ExportFile.Piles.{piled, piled-all}
+use Rattle.cjc_export.proofs.BytesGets.{drop_at}
 use Rattle.cjc_exported.proofs.export_file.component.headers_by_token.Goals as goal
 
 pub loop-place-preserved : goal.loop-place-preserved
@@ -34,7 +35,7 @@ loop-place-preserved c = λ h rows.
     else [])) (c.own_method.ensures no_member) ∙ ap (λ n. old ++ (if is_open_bound m then n ∷ [] else [])) value)
     (ap (λ n. old ++ ((if is_open_bound m then h (member_at k (first + i)) ∷ [] else [])
     ++ map h (open_methods k n (drop (i + 1) k.methods)))) (sym next)
-    ∙ ap (λ q. old ++ q) (sym (ap (λ xs. map h (open_methods k (first + i) xs)) (drop-at k.methods i m at)
+    ∙ ap (λ q. old ++ q) (sym (ap (λ xs. map h (open_methods k (first + i) xs)) (drop_at k.methods i m at)
     ∙ opened h k (first + i) m (drop (i + 1) k.methods)))
     ∙ c.loop-place.invariant h rows)
 

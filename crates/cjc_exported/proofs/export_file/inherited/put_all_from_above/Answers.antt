@@ -8,7 +8,8 @@ use Rattle.cjc_tokens.specs.Working.{signature_in}
 use Rattle.cjc_components.specs.ExportFile.{super_at, supers_from}
 use Rattle.cjc_exported.specs.ExportFile.Working.Sources.{world_in}
 use Rattle.cjc_exported.proofs.ExportFile.Methods.{slot-signed, supers-ended}
-use Rattle.cjc_exported.proofs.ExportFile.Piles.{drop-at, piled, piled-all}
+use Rattle.cjc_exported.proofs.ExportFile.Piles.{piled, piled-all}
+use Rattle.cjc_export.proofs.BytesGets.{drop_at}
 use Rattle.cjc_exported.proofs.export_file.inherited.put_all_from_above.Goals as goal
 
 pub loop-token-preserved : goal.loop-token-preserved
@@ -30,8 +31,8 @@ loop-token-preserved c = λ ms is.
     (drop (i + 1) row)) _
     (c.in_ok-put_at_slot.ensures r.0 (ap (option_map signature_in) (get_or_from_slice_get slots i o _ at_slot) ∙ r.1)
     ∙ ap (λ g. old ++ super_at w k i r.0 g) (get_or_from_slice_get row i f _ at_row))
-    (ap (λ xs. old ++ supers_from w k i xs (f ∷ drop (i + 1) row)) (sym (drop-at ms i r.0 r.2))
-    ∙ ap (λ ys. old ++ supers_from w k i (drop i ms) ys) (sym (drop-at row i f at_row))
+    (ap (λ xs. old ++ supers_from w k i xs (f ∷ drop (i + 1) row)) (sym (drop_at ms i r.0 r.2))
+    ∙ ap (λ ys. old ++ supers_from w k i (drop i ms) ys) (sym (drop_at row i f at_row))
     ∙ c.loop-token.invariant ms is)
 
 pub returns : goal.returns

@@ -7,7 +7,8 @@ use Rattle.cjc_components.specs.Descriptor.{no_member}
 use Rattle.cjc_components.specs.ExportFile.{is_listed, method_entry, methods_from}
 use Rattle.cjc_components.specs.Names.{member_token}
 use Rattle.cjc_exported.specs.ExportFile.Working.Sources.{package_in}
-use Rattle.cjc_exported.proofs.ExportFile.Piles.{drop-at, piled}
+use Rattle.cjc_exported.proofs.ExportFile.Piles.{piled}
+use Rattle.cjc_export.proofs.BytesGets.{drop_at}
 use Rattle.cjc_exported.proofs.export_file.own.put_own.Goals as goal
 
 pub loop-place-preserved : goal.loop-place-preserved
@@ -27,5 +28,5 @@ loop-place-preserved c =
     (ap (λ n. c.loop-place.methods
     ++ ((if is_listed k m then method_entry (member_token p (Some (member_at k (first + i)))) m ∷ [] else [])
     ++ methods_from p k n (drop (i + 1) k.methods))) (sym next)
-    ∙ ap (λ xs. c.loop-place.methods ++ methods_from p k (first + i) xs) (sym (drop-at k.methods i m at))
+    ∙ ap (λ xs. c.loop-place.methods ++ methods_from p k (first + i) xs) (sym (drop_at k.methods i m at))
     ∙ c.loop-place.invariant)

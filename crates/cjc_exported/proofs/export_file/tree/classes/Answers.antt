@@ -9,7 +9,8 @@ use Rattle.cjc_world.specs.Working.Known.{class_of}
 use Rattle.cjc_components.specs.ExportFile.{export_class}
 use Rattle.cjc_exported.specs.ExportFile.Working.Sources.{is_of_kind, package_in, world_in}
 use Rattle.cjc_exported.proofs.ExportFile.Methods.{declared-at}
-use Rattle.cjc_exported.proofs.ExportFile.Piles.{drop-at, filtered-twice, mapped, piled, piled-all}
+use Rattle.cjc_exported.proofs.ExportFile.Piles.{filtered-twice, mapped, piled, piled-all}
+use Rattle.cjc_export.proofs.BytesGets.{drop_at}
 use Rattle.cjc_exported.proofs.export_file.tree.classes.Goals as goal
 
 pub put_class-requires-clause-numbered : goal.put_class-requires-clause-numbered
@@ -48,7 +49,7 @@ loop-number-preserved c =
     piled c.put_class.new.classes c.loop-number.classes (if p (class_of k) then f (class_of k) ∷ []
     else []) (map f (filter p (drop (n + 1) ks))) _
     c.in_ok-put_class.ensures
-    (ap (λ q. c.loop-number.classes ++ q) (sym (ap (λ xs. map f (filter p xs)) (drop-at ks n (class_of k) here)
+    (ap (λ q. c.loop-number.classes ++ q) (sym (ap (λ xs. map f (filter p xs)) (drop_at ks n (class_of k) here)
     ∙ mapped p f (class_of k) (drop (n + 1) ks))) ∙ c.loop-number.invariant)
 
 pub returns : goal.returns

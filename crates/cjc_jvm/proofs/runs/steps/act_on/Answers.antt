@@ -6,7 +6,8 @@ use Rattle.cjc_jvm_semantics.specs.Machine.{Frame, State, after_effect}
 use Rattle.cjc_jvm_step.specs.Step.Rows.{store_of}
 use Rattle.cjc_jvm.specs.States.{objects_at_most}
 use Rattle.cjc_jvm.specs.Runs.Deeds.{after_deed, most_after}
-use Rattle.cjc_jvm.proofs.RunsLaws.Followed.{at_most, both, goes_on, stands}
+use Rattle.cjc_jvm.proofs.RunsLaws.Followed.{at_most, goes_on, stands}
+use Rattle.cjc_script.proofs.BytesOptions.{option_both}
 use Rattle.cjc_jvm.proofs.runs.steps.act_on.Goals as goal
 
 pub returns-clause-next : goal.returns-clause-next
@@ -53,4 +54,4 @@ returns-clause-most g c =
     subst (λ (s : State). IfOk c.act.result (λ deed. objects_at_most (record v { store = store }) ≤ most_after deed
     (objects_at_most s))) c.machine.view_is
     (IfOk-weaker c.act.result _ _ (λ deed h. at_most _ _ deed c.args.frame.now c.act.new.frame _ v.store store h.0 h.1)
-    (both c.act.result _ _ c.act.ensures.row c.act.ensures.len))
+    (option_both c.act.result _ _ c.act.ensures.row c.act.ensures.len))

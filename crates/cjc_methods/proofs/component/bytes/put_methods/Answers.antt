@@ -8,8 +8,9 @@ use Rattle.cjc_methods.specs.declared.layouts.laid.Laid.{Laid}
 use Rattle.cjc_methods.specs.Layouts.Laid.{laid_methods}
 use Rattle.cjc_methods.specs.Component.Emittable.{AreEmittable}
 use Rattle.cjc_methods.specs.Component.Working.Parts.{flagged}
-use Rattle.cjc_methods.proofs.ComponentLaws.Standing.{IsRead, any_default, as_many_laid, bytes_more, places_more}
+use Rattle.cjc_methods.proofs.ComponentLaws.Standing.{IsRead, as_many_laid, bytes_more, places_more}
 use Rattle.cjc_methods.proofs.ComponentLaws.Standing.{read_by, read_one, read_there}
+use Rattle.cjc_bytes.proofs.Gets.{any_default}
 use Rattle.cjc_methods.proofs.component.bytes.put_methods.Goals as goal
 
 pub emit-requires : goal.emit-requires

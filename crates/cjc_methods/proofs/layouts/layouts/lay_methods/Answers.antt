@@ -3,10 +3,10 @@ use Rattle.std.specs.Prelude.{option_map}
 use Rattle.cjc_bytes.specs.Breaks.{Break, IsFirstOf}
 use Rattle.cjc_bytes.specs.Told.{break_of}
 use Rattle.cjc_bytes.proofs.Firsts.{each_all, each_more, each_none}
+use Rattle.cjc_bytes.proofs.Gets.{same_item}
 use Rattle.cjc_methods.specs.Layouts.Working.Tries as tries
 use Rattle.cjc_methods.specs.Layouts.Working.Tries.{AreAll, code_breaks}
 use Rattle.cjc_methods.specs.declared.layouts.laid.Laid.{Laid}
-use Rattle.cjc_methods.proofs.LayoutsLaws.Standing.{read_twice}
 use Rattle.cjc_methods.proofs.LayoutsLaws.Tested.{all_next, all_taken, where_member}
 use Rattle.cjc_methods.proofs.layouts.layouts.lay_methods.Goals as goal
 
@@ -29,10 +29,10 @@ loop-k-preserved c =
           c.index-codes-k.is
           (c.first-least.ensures _ _ (c.loop-k.invariant.first p same)
           (subst (λ (bs : List Break). IsFirstOf bs (option_map break_of c.in_ok-broken.broken))
-          (sym (where_member p fs k _ c.index-codes-k.result lt2 (read_twice fs k _ lt2)))
+          (sym (where_member p fs k _ c.index-codes-k.result lt2 (same_item fs k _ lt2)))
           (c.in_ok-broken.ensures.first p same)));
       laid = all_next c.args.world.now fs ms k _ c.index-codes-k.result c.loop-k.laid c.lay_method.new.laid lt lt2
-          c.index-codes-k.is (read_twice fs k _ lt2) c.loop-k.invariant.laid c.in_ok-broken.ensures.put;
+          c.index-codes-k.is (same_item fs k _ lt2) c.loop-k.invariant.laid c.in_ok-broken.ensures.put;
     }
 
 pub returns-clause-first : goal.returns-clause-first

@@ -1,6 +1,6 @@
 use Rattle.std.proofs.Common.{◌≡◌, ℕ, refl, sym, subst}
 use Rattle.std.specs.Prelude.{◌≢◌, nat_lt, length}
-use Rattle.cjc_card_semantics.specs.Machine.ByToken.{run as run_by_token}
+use Rattle.cjc_ncode.specs.CardSemantics.Machine.ByToken.{run as run_by_token}
 use Rattle.cjc_components.specs.Paired.Naming.{loaded_of}
 use Rattle.cjc_judge.specs.Rules.{has_applets, settings_of}
 use Rattle.cjc_components.specs.List.Listed.{ListTree}

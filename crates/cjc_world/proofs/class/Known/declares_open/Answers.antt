@@ -5,7 +5,7 @@ use Rattle.cjc_world.specs.Classes.{Member, method_of_class, method_of_export}
 use Rattle.cjc_world.specs.Added.{is_open}
 use Rattle.cjc_world.specs.Working.Known.{class_of}
 use Rattle.cjc_world.specs.Lookup.{is_called}
-use Rattle.cjc_world.proofs.Mapped.{any_of_map}
+use Rattle.cjc_bytes.proofs.Quantified.{any_of_map}
 use Rattle.cjc_world.proofs.class.Known.declares_open.Goals as goal
 
 pub returns-in-Declared : goal.returns-in-Declared

@@ -3,15 +3,15 @@ use Rattle.std.specs.Prelude.{Some}
 use Rattle.cjc_world.specs.Added.{added_at, named_by}
 use Rattle.cjc_world.specs.Classes.{class_at}
 use Rattle.cjc_world.specs.Working.Known.{class_of}
-use Rattle.cjc_exported.proofs.ExportFile.Methods.{added-past as ids_past}
 use Rattle.cjc_exported.specs.ExportFile.Working.Sources.{world_in}
-use Rattle.cjc_exported.proofs.ExportFile.Methods.{added-declared, added-imported}
+use Rattle.cjc_exported.proofs.ExportFile.Methods.{added-declared}
+use Rattle.cjc_components.proofs.VTableSlotNames.{added-none, ids_past}
 use Rattle.cjc_exported.proofs.export_file.source.Source.given.Goals as goal
 
 pub returns-then-is_imported : goal.returns-then-is_imported
 returns-then-is_imported c =
     let k = class_of c.args.class in
-    ap (map (named_by k.name)) (sym (added-imported (world_in c.args.self.now) k (sym c.is_imported.ensures
+    ap (map (named_by k.name)) (sym (added-none (world_in c.args.self.now) k (sym c.is_imported.ensures
     ∙ c.if-is_imported.true)))
 
 pub returns-then-number-items : goal.returns-then-number-items
