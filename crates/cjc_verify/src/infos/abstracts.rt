@@ -33,37 +33,37 @@ const CLASS: u8 = 6;
 const TOKENS: u8 = 128;
 
 /// Whether a public or protected method of a class is abstract, by its token.
-fn is_abstract_open(package: &Package<'_>, at: u32, token: u8) -> bool
-    ensures { result ≡ is_abstract_selection «package».now (dispatched (tower «package».now.loaded (Own 0 at)) (Open token)) }
+fn is_abstract_open(pair: &Package<'_>, at: u32, token: u8) -> bool
+    ensures { result ≡ is_abstract_selection pair.now (dispatched (tower pair.now.loaded (Own 0 at)) (Open token)) }
 {
     let receiver = Some(Class::Own(0, at));
-    let found = dispatched_on(package.tables, package.files, receiver, Token::Open(token));
-    is_abstract_selection(package, found)
+    let found = dispatched_on(pair.tables, pair.files, receiver, Token::Open(token));
+    is_abstract_selection(pair, found)
 }
 
 /// Whether a package-visible method of a class is abstract, by its token without the high bit.
-fn is_abstract_hidden(package: &Package<'_>, at: u32, token: u8) -> bool
-    ensures { result ≡ is_abstract_selection «package».now (dispatched (tower «package».now.loaded (Own 0 at)) (Hidden 0
+fn is_abstract_hidden(pair: &Package<'_>, at: u32, token: u8) -> bool
+    ensures { result ≡ is_abstract_selection pair.now (dispatched (tower pair.now.loaded (Own 0 at)) (Hidden 0
         token)) }
 {
     let receiver = Some(Class::Own(0, at));
     let found = dispatched_on(
-        package.tables,
-        package.files,
+        pair.tables,
+        pair.files,
         receiver,
         Token::Hidden(0, token),
     );
-    is_abstract_selection(package, found)
+    is_abstract_selection(pair, found)
 }
 
 /// Whether one of the public or protected methods is abstract.
 #[tactic(auto, using(crate::proofs::InfosLaws::Abstracts::any_next, crate::proofs::InfosLaws::Abstracts::any_stop, crate::proofs::InfosLaws::Abstracts::any_end))]
-fn any_open(package: &Package<'_>, at: u32) -> bool
-    ensures { result ≡ list_any (λ (token : ℕ). is_abstract_selection «package».now (dispatched
-        (tower «package».now.loaded (Own 0 at)) (Open token))) (range_with_len 0 128) }
+fn any_open(pair: &Package<'_>, at: u32) -> bool
+    ensures { result ≡ list_any (λ (token : ℕ). is_abstract_selection pair.now (dispatched
+        (tower pair.now.loaded (Own 0 at)) (Open token))) (range_with_len 0 128) }
 {
     for token in 0..TOKENS {
-        if is_abstract_open(package, at, token) {
+        if is_abstract_open(pair, at, token) {
             return true;
         }
     }
@@ -72,12 +72,12 @@ fn any_open(package: &Package<'_>, at: u32) -> bool
 
 /// Whether one of the package-visible methods is abstract.
 #[tactic(auto, using(crate::proofs::InfosLaws::Abstracts::any_next, crate::proofs::InfosLaws::Abstracts::any_stop, crate::proofs::InfosLaws::Abstracts::any_end))]
-fn any_hidden(package: &Package<'_>, at: u32) -> bool
-    ensures { result ≡ list_any (λ (token : ℕ). is_abstract_selection «package».now (dispatched
-        (tower «package».now.loaded (Own 0 at)) (Hidden 0 token))) (range_with_len 0 128) }
+fn any_hidden(pair: &Package<'_>, at: u32) -> bool
+    ensures { result ≡ list_any (λ (token : ℕ). is_abstract_selection pair.now (dispatched
+        (tower pair.now.loaded (Own 0 at)) (Hidden 0 token))) (range_with_len 0 128) }
 {
     for token in 0..TOKENS {
-        if is_abstract_hidden(package, at, token) {
+        if is_abstract_hidden(pair, at, token) {
             return true;
         }
     }
@@ -86,10 +86,10 @@ fn any_hidden(package: &Package<'_>, at: u32) -> bool
 
 /// Whether one of the tokens of a class means an abstract method.
 #[tactic(auto, using(crate::proofs::InfosLaws::Abstracts::any_of_both))]
-fn has_abstract_method(package: &Package<'_>, at: u32) -> bool
-    ensures { result ≡ has_abstract_method «package».now at }
+fn has_abstract_method(pair: &Package<'_>, at: u32) -> bool
+    ensures { result ≡ has_abstract_method pair.now at }
 {
-    any_open(package, at) || any_hidden(package, at)
+    any_open(pair, at) || any_hidden(pair, at)
 }
 
 /// Whether no objects are made of a class of these flags.
@@ -126,30 +126,30 @@ pub(crate) fn unmade_of(
 
 /// Whether classes of which objects are made have no abstract method.
 struct Abstracts<'a> {
-    package: &'a Package<'a>,
+    pair: &'a Package<'a>,
 }
 
 impl Comparison<ClassEntry, bool> for Abstracts<'_> {
-    ghost broken = { λ s. abstract_beside s.«package».now };
+    ghost broken = { λ s. abstract_beside s.pair.now };
 
     ghost fits = { λ s. Unit {0} };
 
     fn first_between(&self, at: u32, item: &ClassEntry, other: &bool) -> Option<ComponentPlace> {
-        unless(*other || !has_abstract_method(self.package, at), CLASS, at)
+        unless(*other || !has_abstract_method(self.pair, at), CLASS, at)
     }
 }
 
 /// The first class of which objects are made and that has an abstract method.
 pub(crate) fn all_abstract_beside(
-    package: &Package<'_>,
+    pair: &Package<'_>,
     class: &ClassInfo,
     unmade: &[bool],
 ) -> Option<ComponentPlace>
     requires { 3 + class_info_size class.now < 2 ^ 32 }
-    ensures { result ≡ first (all_abstract_beside «package».now class.now unmade.now) }
+    ensures { result ≡ first (all_abstract_beside pair.now class.now unmade.now) }
 {
     let unmade = behind(unmade, class.interfaces.items().len());
-    let abstracts = Abstracts { package };
+    let abstracts = Abstracts { pair };
     first_beside(
         &abstracts,
         first_class(class),

@@ -68,6 +68,22 @@ pub(crate) fn methods_of(
     Ok(row)
 }
 
+/// The method at a place with the offset of its descriptor, where there are both.
+fn at_place(members: &[Found], methods: &[MethodDescriptor], place: usize) -> Option<MethodAt>
+    ensures { result ≡ slice_get (ats_in members.now methods.now) place }
+{
+    match members.get(place) {
+        Some(found) => match methods.get(place) {
+            Some(method) => Some(MethodAt {
+                found: *found,
+                offset: method.offset,
+            }),
+            None => None,
+        },
+        None => None,
+    }
+}
+
 /// Puts methods with the offsets of their descriptors at the end, as far as there are both.
 fn put_ats(
     row: &mut Row<MethodAt>,
@@ -76,14 +92,11 @@ fn put_ats(
 ) -> Result<(), NoMemory>
     ensures { OnOk result (row.new ≡ row.old ++ ats_in members.now methods.now) }
 {
-    for (k, found) in members.iter().enumerate() {
-        if k >= methods.len() {
-            return Ok(());
+    for place in 0..members.len() {
+        match at_place(members, methods, place) {
+            Some(method) => row.push(method)?,
+            None => return Ok(()),
         }
-        row.push(MethodAt {
-            found: *found,
-            offset: methods[k].offset,
-        })?;
     }
     Ok(())
 }

@@ -4,7 +4,9 @@
 ghost use Rattle.std.specs.Prelude.{◌≡◌, ◌+◌, ◌++◌, ◌<◌, ◌^◌, ℕ, List, Some, map, option_map, IfOk, OnOk};
 ghost use Rattle.cjc_components.specs.CapRead.declared.tree.ClassRef.TheVariants.{Inside};
 ghost use Rattle.cjc_components.specs.CardSemantics.Machine.Classes.{or_else};
-ghost use Rattle.cjc_components.specs.CheckRules.Complete.{class_info_size};
+ghost use Rattle.cjc_components.specs.CheckRules.Classes.{first_class, first_interface};
+ghost use Rattle.cjc_components.specs.CheckRules.Complete.{class_info_size, class_size, interface_size};
+ghost use Rattle.cjc_components.specs.CheckRules.Spots.{starts as starts_from};
 ghost use Rattle.cjc_components.specs.CheckRules.Described.{all_starts};
 ghost use Rattle.cjc_components.specs.ClassOrder.Classes.Numbers.{declared_at};
 ghost use Rattle.cjc_world.specs.Classes.{all_classes};
@@ -29,13 +31,27 @@ fn put_starts(row: &mut Row<u64>, starts: &[u64]) -> Result<(), NoMemory>
     Ok(())
 }
 
+fn interface_starts(alloc: Global, class: &ClassInfo) -> Result<Row<u64>, NoMemory>
+    requires { 3 + class_info_size class.now < 2 ^ 32 }
+    ensures { IfOk result (λ s. s ≡ starts_from interface_size first_interface class.now.interfaces) }
+{
+    starts(alloc, 2, class.interfaces.items())
+}
+
+fn class_starts(alloc: Global, class: &ClassInfo) -> Result<Row<u64>, NoMemory>
+    requires { 3 + class_info_size class.now < 2 ^ 32 }
+    ensures { IfOk result (λ s. s ≡ starts_from class_size (first_class class.now) class.now.classes) }
+{
+    starts(alloc, first_class(class), class.classes.items())
+}
+
 /// Where the infos of Class begin, in order.
 pub(crate) fn all_starts(alloc: Global, class: &ClassInfo) -> Result<Row<u64>, NoMemory>
     requires { 3 + class_info_size class.now < 2 ^ 32 }
     ensures { IfOk result (λ s. s ≡ all_starts class.now) }
 {
-    let interfaces = starts(alloc, 2, class.interfaces.items())?;
-    let classes = starts(alloc, first_class(class), class.classes.items())?;
+    let interfaces = interface_starts(alloc, class)?;
+    let classes = class_starts(alloc, class)?;
     let mut row = Row::new(alloc);
     put_starts(&mut row, interfaces.items())?;
     put_starts(&mut row, classes.items())?;
