@@ -1,4 +1,5 @@
 pub mod Operands
 pub mod Jumps
+pub mod Known
 pub mod InfosLaws
 pub mod DescribedLaws

@@ -1,2 +1,5 @@
 -- What the code and its proofs keep for themselves; a reader of the contracts may pass over it.
 pub mod Operands
+pub mod Arguments
+pub mod Methods
+pub mod Ready

@@ -2,13 +2,18 @@
 //! components say of classes and members what the package says.
 #![tactic(auto)]
 
-pub mod class_types;
+mod acts;
+mod bodies;
+mod class_types;
 mod described;
 mod infos;
-pub mod kinds;
-pub mod members;
-pub mod plain;
-pub mod targets;
+mod kinds;
+mod members;
+mod methods;
+mod named;
+mod package;
+mod plain;
+mod targets;
 
 ghost use Rattle.std.specs.Prelude.{◌≡◌};
 ghost use Rattle.cjc_capread.specs.Bytes.Breaks.{Break};
