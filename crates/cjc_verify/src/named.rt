@@ -4,20 +4,31 @@
 
 ghost use Rattle.std.specs.Prelude.{◌≡◌, ◌==◌, ◌&&◌, option_and_then, option_map, IfOk, Some};
 ghost use Rattle.std.specs.Option.{option_copied};
-ghost use Rattle.cjc_export.specs.Members.{is_unbound};
-ghost use Rattle.cjc_verify.specs.Instructions.{throwable};
+ghost use Rattle.std.specs.Str.{bytes_eq};
+ghost use Rattle.cjc_card_calls.specs.Files.Files.{classes_at};
 ghost use Rattle.cjc_card_calls.specs.Found.{found_of};
+ghost use Rattle.cjc_card_frame.specs.Kinds.{method_id, token_of};
 ghost use Rattle.cjc_card_frame.specs.Objects.{class_of};
+ghost use Rattle.cjc_card_semantics.specs.Machine.Classes.{class_of as class_by_ref};
 ghost use Rattle.cjc_card_semantics.specs.Machine.Dispatch.{interface_method};
-ghost use Rattle.cjc_verify.specs.Named.{exported, holder_of, interface_desc, is_abstract_at, is_abstract_listed, is_static_listed};
-ghost use Rattle.cjc_verify.specs.Named.{is_unmade, names_abstract, names_static, names_unmade, static_method};
+ghost use Rattle.cjc_card_semantics.specs.Machine.Operations.{token_of as token_by};
+ghost use Rattle.cjc_export.specs.Members.{is_unbound};
+ghost use Rattle.cjc_export.specs.Supers.{is_virtual};
+ghost use Rattle.cjc_verify.specs.Instructions.{throwable};
+ghost use Rattle.cjc_verify.specs.Named.{exported, first_of, holder_of, interface_desc, is_abstract_at};
+ghost use Rattle.cjc_verify.specs.Named.{is_abstract_listed, is_abstract_selection, is_static_listed, is_unmade};
+ghost use Rattle.cjc_verify.specs.Named.{line_named, listed_as, names_abstract, names_abstract_above, names_static};
+ghost use Rattle.cjc_verify.specs.Named.{names_unmade, static_method};
+ghost use Rattle.cjc_verify.specs.Pairs.{nibbles_of};
 
 use crate::class_types::{class_type, type_of_class};
+use crate::described::card_nibbles;
 use crate::package::Package;
-use cjc_bytes::{ACC_ABSTRACT, Bytes, NoMemory, Row, has, is_interface, is_static};
+use cjc_bytes::{ACC_ABSTRACT, Bytes, NoMemory, Row, has, is_interface, is_private, is_static};
 use cjc_capread::{ClassRef, StaticRef};
-use cjc_card_calls::calls::{Found, dispatched_interface};
+use cjc_card_calls::calls::{Found, dispatched_above, interface_method as method_of_interface};
 use cjc_card_frame::heap::Class;
+use cjc_card_frame::parts::{ImportedMethod, Token};
 use cjc_export::{ExportClass, ExportMethod};
 use std::alloc::Global;
 
@@ -170,18 +181,11 @@ pub(crate) fn names_unmade(pair: &Package<'_>, class: ClassRef) -> bool
     }
 }
 
-/// The method of a token that an interface itself has, as an object of an imported class is asked for it.
+/// The method of a token that an interface itself has.
 fn interface_method<'a>(pair: &Package<'a>, interface: Class, token: u32) -> Found<'a>
     ensures { found_of result ≡ interface_method pair.now.loaded (class_of interface) token }
 {
-    let imported = Some(Class::External(0, 0));
-    dispatched_interface(
-        pair.tables,
-        pair.files,
-        imported,
-        interface,
-        u64::from(token),
-    )
+    method_of_interface(pair.tables, interface, u64::from(token))
 }
 
 /// The descriptor of the method of a token in an interface.
@@ -195,6 +199,131 @@ fn interface_desc<'a>(pair: &Package<'a>, class: Class, token: u32) -> Option<&'
         Found::Outward(method) => Some(method.desc),
         Found::NotFound => None,
         Found::At(_, _) => None,
+    }
+}
+
+/// The nibbles of the type of the method of a token in an interface; none where the class is no interface, has no such
+/// token, or the card has no values of one of the method's types.
+#[tactic(auto, using(crate::proofs::Nibbles::card_is_own))]
+pub(crate) fn interface_nibbles(
+    alloc: Global,
+    pair: &Package<'_>,
+    class: ClassRef,
+    token: u32,
+) -> Result<Option<Bytes>, NoMemory>
+    ensures { IfOk result (λ nibbles. nibbles ≡ option_and_then (nibbles_of pair.now) (interface_desc pair.now.loaded
+        token (class_by_ref pair.now.loaded 0 class))) }
+{
+    let Some(class) = pair.class(class) else {
+        return Ok(None);
+    };
+    match interface_desc(pair, class, token) {
+        Some(desc) => card_nibbles(alloc, pair.refs, desc),
+        None => Ok(None),
+    }
+}
+
+// ---- what calls select
+
+/// Whether a method is neither static nor private, and no constructor.
+fn is_virtual(method: &ExportMethod) -> bool
+    ensures { result ≡ is_virtual method.now }
+{
+    !(is_static(method.flags) || is_private(method.flags) || method.name.items() == CONSTRUCTOR)
+}
+
+/// Whether a method is virtual and of a name and descriptor.
+fn is_listed_as(method: &ExportMethod, id: ImportedMethod<'_>) -> bool
+    ensures { result ≡ (is_virtual method.now && bytes_eq method.now.name id.name.now
+        && bytes_eq method.now.desc id.desc.now) }
+{
+    is_virtual(method) && method.name.items() == id.name && method.desc.items() == id.desc
+}
+
+/// The virtual method of a name and descriptor that a class lists.
+fn listed_as<'a>(class: &'a ExportClass, id: ImportedMethod<'_>) -> Option<&'a ExportMethod>
+    ensures { option_copied result ≡ listed_as (method_id id.entry) class.now }
+{
+    class
+        .methods
+        .items()
+        .iter()
+        .find(|method| is_listed_as(method, id))
+}
+
+/// The first that one of these classes lists.
+#[tactic(auto, using(crate::proofs::Lines::first_here, crate::proofs::Lines::first_later, crate::proofs::Lines::first_nowhere))]
+fn first_listed<'a>(line: &[&'a ExportClass], id: ImportedMethod<'_>) -> Option<&'a ExportMethod>
+    ensures { option_copied result ≡ first_of (listed_as (method_id id.entry)) (classes_at line.now) }
+{
+    for class in line {
+        if let Some(method) = listed_as(*class, id) {
+            return Some(method);
+        }
+    }
+    None
+}
+
+/// An imported class by its name, and what stands above it.
+fn line_named<'a>(pair: &Package<'a>, name: &[u8]) -> &'a [&'a ExportClass]
+    ensures { classes_at result.now ≡ line_named pair.now.loaded name.now }
+{
+    match pair.tables.external_named(name) {
+        Some(Class::External(tree, token)) => pair.files.line(tree, token),
+        Some(Class::Own(_, _)) => &[],
+        None => &[],
+    }
+}
+
+/// Whether what a call selects is abstract.
+pub(crate) fn is_abstract_selection(pair: &Package<'_>, found: Found<'_>) -> bool
+    ensures { result ≡ is_abstract_selection pair.now (found_of found.entry) }
+{
+    match found {
+        Found::NotFound => false,
+        Found::At(_, offset) => is_abstract_at(pair, offset),
+        Found::Outward(method) => {
+            is_abstract_listed(first_listed(line_named(pair, method.class), method))
+        }
+    }
+}
+
+/// The token of a virtual method as an entry writes it: the high bit marks a package-visible one, which no imported
+/// class has.
+fn token_of(class: Class, token: u8) -> Option<Token>
+    ensures { option_map token_of result ≡ token_by (class_of class) token }
+{
+    match class {
+        Class::Own(part, _) => {
+            if token < 0x80 {
+                Some(Token::Open(token))
+            } else {
+                Some(Token::Hidden(part, token - 0x80))
+            }
+        }
+        Class::External(_, _) => {
+            if token < 0x80 {
+                Some(Token::Open(token))
+            } else {
+                None
+            }
+        }
+    }
+}
+
+/// Whether a token means an abstract method from the superclass of a class on.
+pub(crate) fn names_abstract_above(pair: &Package<'_>, class: ClassRef, token: u8) -> bool
+    ensures { result ≡ names_abstract_above pair.now class token }
+{
+    let Some(class) = pair.class(class) else {
+        return false;
+    };
+    match token_of(class, token) {
+        Some(token) => {
+            let found = dispatched_above(pair.tables, pair.files, class, token);
+            is_abstract_selection(pair, found)
+        }
+        None => false,
     }
 }
 

@@ -17,6 +17,7 @@ use cjc_card_calls::lines::Lines;
 use cjc_card_frame::heap::Class;
 use cjc_card_link::Tables;
 use cjc_check_index::lookup::Parts;
+use cjc_classes::class_info::ClassRefs;
 use cjc_export::ExportClass;
 use cjc_tokens::Tokens;
 use cjc_world::classfile::ClassTree;
@@ -33,6 +34,8 @@ pub(crate) struct Package<'a> {
     pub(crate) tables: &'a Tables<'a>,
     pub(crate) lines: &'a Lines,
     pub(crate) files: &'a Files<'a>,
+    /// The class_ref of each name of a class.
+    pub(crate) refs: &'a ClassRefs,
     /// The numbers of the classes in the order of Class.
     pub(crate) order: &'a [u32],
     /// Where the infos of Class begin, in that order.
@@ -50,7 +53,7 @@ impl<'a> Model for Package<'a> {
     ghost view = { λ x. pair_by x.world.now x.tokens.now x.image.now x.parts.now x.tables.now };
 
     ghost invariant = { λ x. AreReady (pair_by x.world.now x.tokens.now x.image.now x.parts.now x.tables.now) x.parts.now
-        x.tables.now x.lines.now x.files.now x.order.now x.starts.now x.methods.now };
+        x.tables.now x.lines.now x.files.now x.refs.now x.order.now x.starts.now x.methods.now };
 }
 
 // The class of an export file by its token.
