@@ -1,17 +1,17 @@
 //! Whether a class of which objects are made has an abstract method for one of its tokens (Java Card Virtual Machine
 //! Specification 2.2.2, section 6.8).
 
-ghost use Rattle.std.specs.Prelude.{◌≡◌, ◌+◌, ◌||◌, ◌<◌, ◌^◌, ℕ, drop, length, map, not, IfOk};
-ghost use Rattle.std.specs.List.{flat_map, list_any, range_with_len};
+ghost use Rattle.std.specs.Prelude.{◌≡◌, ◌+◌, ◌++◌, ◌||◌, ◌<◌, ◌^◌, ℕ, Bool, Unit, drop, length, map, not, IfOk, OnOk};
+ghost use Rattle.std.specs.List.{flat_map};
 ghost use Rattle.cjc_bytes.specs.AccessFlags.{acc_abstract, has, is_interface};
-ghost use Rattle.cjc_card_link.specs.CardSemantics.Machine.Classes.{Own};
-ghost use Rattle.cjc_card_link.specs.CardSemantics.Machine.Dispatch.{Hidden, Open, dispatched, tower};
+ghost use Rattle.cjc_card_semantics.specs.Machine.Dispatch.{Hidden, Open};
 ghost use Rattle.cjc_check_rules.specs.Classes.{first_class};
 ghost use Rattle.cjc_check_rules.specs.Complete.{class_info_size, class_size};
 ghost use Rattle.cjc_check_rules.specs.Spots.{beside, first};
 ghost use Rattle.cjc_verify.specs.Infos.{has_abstract_method};
-ghost use Rattle.cjc_verify.specs.Named.{is_abstract_selection, is_unmade};
-ghost use Rattle.cjc_verify.specs.Abstracts.{abstract_beside, all_abstract_beside, unmade_at};
+ghost use Rattle.cjc_verify.specs.Named.{is_unmade};
+ghost use Rattle.cjc_verify.specs.Abstracts.{abstract_beside, all_abstract_beside, any_between, is_abstract_token};
+ghost use Rattle.cjc_verify.specs.Abstracts.{unmade_at};
 
 use crate::infos::walks::behind;
 use crate::named::is_abstract_selection;
@@ -29,40 +29,31 @@ use std::alloc::Global;
 /// The tag of Class.
 const CLASS: u8 = 6;
 
-/// Tokens of virtual methods are fewer, without their high bits.
-const TOKENS: u8 = 128;
-
 /// Whether a public or protected method of a class is abstract, by its token.
 fn is_abstract_open(pair: &Package<'_>, at: u32, token: u8) -> bool
-    ensures { result ≡ is_abstract_selection pair.now (dispatched (tower pair.now.loaded (Own 0 at)) (Open token)) }
+    ensures { result ≡ is_abstract_token pair.now at (Open token) }
 {
     let receiver = Some(Class::Own(0, at));
-    let found = dispatched_on(pair.tables, pair.files, receiver, Token::Open(token));
+    let token = Token::Open(token);
+    let found = dispatched_on(pair.tables, pair.files, receiver, token);
     is_abstract_selection(pair, found)
 }
 
 /// Whether a package-visible method of a class is abstract, by its token without the high bit.
 fn is_abstract_hidden(pair: &Package<'_>, at: u32, token: u8) -> bool
-    ensures { result ≡ is_abstract_selection pair.now (dispatched (tower pair.now.loaded (Own 0 at)) (Hidden 0
-        token)) }
+    ensures { result ≡ is_abstract_token pair.now at (Hidden 0 token) }
 {
     let receiver = Some(Class::Own(0, at));
-    let found = dispatched_on(
-        pair.tables,
-        pair.files,
-        receiver,
-        Token::Hidden(0, token),
-    );
+    let token = Token::Hidden(0, token);
+    let found = dispatched_on(pair.tables, pair.files, receiver, token);
     is_abstract_selection(pair, found)
 }
 
 /// Whether one of the public or protected methods is abstract.
-#[tactic(auto, using(crate::proofs::InfosLaws::Abstracts::any_next, crate::proofs::InfosLaws::Abstracts::any_stop, crate::proofs::InfosLaws::Abstracts::any_end))]
 fn any_open(pair: &Package<'_>, at: u32) -> bool
-    ensures { result ≡ list_any (λ (token : ℕ). is_abstract_selection pair.now (dispatched
-        (tower pair.now.loaded (Own 0 at)) (Open token))) (range_with_len 0 128) }
+    ensures { result ≡ any_between 0 128 (λ (token : ℕ). is_abstract_token pair.now at (Open token)) }
 {
-    for token in 0..TOKENS {
+    for token in 0..128 {
         if is_abstract_open(pair, at, token) {
             return true;
         }
@@ -71,12 +62,10 @@ fn any_open(pair: &Package<'_>, at: u32) -> bool
 }
 
 /// Whether one of the package-visible methods is abstract.
-#[tactic(auto, using(crate::proofs::InfosLaws::Abstracts::any_next, crate::proofs::InfosLaws::Abstracts::any_stop, crate::proofs::InfosLaws::Abstracts::any_end))]
 fn any_hidden(pair: &Package<'_>, at: u32) -> bool
-    ensures { result ≡ list_any (λ (token : ℕ). is_abstract_selection pair.now (dispatched
-        (tower pair.now.loaded (Own 0 at)) (Hidden 0 token))) (range_with_len 0 128) }
+    ensures { result ≡ any_between 0 128 (λ (token : ℕ). is_abstract_token pair.now at (Hidden 0 token)) }
 {
-    for token in 0..TOKENS {
+    for token in 0..128 {
         if is_abstract_hidden(pair, at, token) {
             return true;
         }
