@@ -102,13 +102,13 @@ in_codes : (at : ℕ) (ms : List MethodDescriptor) (bytes : List ℕ) (cs : List
 unfolding codes_from
 in_codes at [] [] cs e = let none : [] ≡ cs = cc in subst AllRise none none_rise
 in_codes at [] (b ∷ bytes) cs e = absurd cc
-in_codes at (m ∷ ms) bytes cs e = by (m.offset == at) e
+in_codes at (m ∷ ms) bytes cs e = by (m.offset == at) (λ next rest more g. in_codes next ms rest more g) e
   where
-    by : (b : Bool) → (if b then with_header at m bytes (method_header bytes) (λ next rest. codes_from next ms rest)
+    by : (b : Bool) → ((next : ℕ) (rest : List ℕ) (more : List Code) → codes_from next ms rest ≡ Ok more
+        → AllRise more) → (if b then with_header at m bytes (method_header bytes) (λ next rest. codes_from next ms rest)
         else Err at) ≡ Ok cs → AllRise cs
-    by true f = after_header at m bytes (method_header bytes) (λ next rest. codes_from next ms rest) cs
-        (λ next rest more g. in_codes next ms rest more g) f
-    by false f = absurd cc
+    by true later f = after_header at m bytes (method_header bytes) (λ next rest. codes_from next ms rest) cs later f
+    by false later f = absurd cc
 
 where_cut : (r : Result (List Code) ℕ) → ((cs : List Code) → r ≡ Ok cs → AllRise cs) → AllRise (all_codes r)
 where_cut (Ok cs) h = h cs refl

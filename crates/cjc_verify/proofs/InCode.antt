@@ -65,7 +65,7 @@ by_rule r s le = ⊎_elim (λ lt. inl lt) (λ ge. inr (omega (arith, le, ge), tt
 in_order : (r s a b : ℕ) → r / 100 ≡ 7 → s / 100 ≡ 7 → (a < b) ⊎ ((a ≡ b) × (r ≤ s))
     → NotAfter (break_at r (in_info 7 a)).rank (break_at s (in_info 7 b)).rank
 in_order r s a b f g h =
-    let offsets : AreUpTo (3 + a ∷ r ∷ []) (3 + b ∷ s ∷ []) = ⊎_elim
+    let offsets : AreUpTo ((3 + a) ∷ r ∷ []) ((3 + b) ∷ s ∷ []) = ⊎_elim
     (λ lt. inl (omega (arith, lt)))
     (λ e. let same = e.0 in inr (omega (arith, same), by_rule r s e.1)) h in
     inr (f ∙ sym g, inr (refl, inr (refl, inr (refl, offsets))))
