@@ -2,4 +2,8 @@
 pub mod Operands
 pub mod Arguments
 pub mod Methods
+pub mod Firsts
+pub mod Codes
+pub mod Bodies
 pub mod Ready
+pub mod Made

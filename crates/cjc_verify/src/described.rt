@@ -18,6 +18,7 @@ use crate::described::arrays::{arrays_differ, wanted_numbers};
 use crate::package::Package;
 use cjc_bytes::NoMemory;
 use cjc_check_rules::ComponentPlace;
+pub(crate) use desc::card_nibbles;
 use std::alloc::Global;
 
 /// Where 728 is broken first: an array of another type than the field whose cell it fills.

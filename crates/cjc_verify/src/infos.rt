@@ -24,7 +24,7 @@ use crate::package::Package;
 use cjc_bytes::NoMemory;
 use cjc_check_rules::ComponentPlace;
 pub(crate) use items::same_class;
-pub(crate) use offsets::numbers_in_order;
+pub(crate) use offsets::{methods_of, numbers_in_order};
 pub(crate) use refs::{all_starts, class_refs};
 use std::alloc::Global;
 

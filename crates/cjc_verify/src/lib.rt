@@ -4,16 +4,21 @@
 
 mod acts;
 mod bodies;
+mod breaks;
+mod checker;
 mod class_types;
 mod described;
 mod infos;
 mod kinds;
+mod listed;
 mod members;
 mod methods;
 mod named;
 mod package;
 mod plain;
 mod targets;
+
+pub use checker::verify;
 
 ghost use Rattle.std.specs.Prelude.{◌≡◌};
 ghost use Rattle.cjc_capread.specs.Bytes.Breaks.{Break};

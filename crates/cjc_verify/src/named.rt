@@ -22,7 +22,6 @@ ghost use Rattle.cjc_verify.specs.Named.{names_unmade, static_method};
 ghost use Rattle.cjc_verify.specs.Pairs.{nibbles_of};
 
 use crate::class_types::{class_type, type_of_class};
-use crate::described::card_nibbles;
 use crate::package::Package;
 use cjc_bytes::{ACC_ABSTRACT, Bytes, NoMemory, Row, has, is_interface, is_private, is_static};
 use cjc_capread::{ClassRef, StaticRef};
@@ -204,7 +203,6 @@ fn interface_desc<'a>(pair: &Package<'a>, class: Class, token: u32) -> Option<&'
 
 /// The nibbles of the type of the method of a token in an interface; none where the class is no interface, has no such
 /// token, or the card has no values of one of the method's types.
-#[tactic(auto, using(crate::proofs::Nibbles::card_is_own))]
 pub(crate) fn interface_nibbles(
     alloc: Global,
     pair: &Package<'_>,
@@ -218,7 +216,7 @@ pub(crate) fn interface_nibbles(
         return Ok(None);
     };
     match interface_desc(pair, class, token) {
-        Some(desc) => card_nibbles(alloc, pair.refs, desc),
+        Some(desc) => pair.nibbles(alloc, desc),
         None => Ok(None),
     }
 }
@@ -252,7 +250,6 @@ fn listed_as<'a>(class: &'a ExportClass, id: ImportedMethod<'_>) -> Option<&'a E
 }
 
 /// The first that one of these classes lists.
-#[tactic(auto, using(crate::proofs::Lines::first_here, crate::proofs::Lines::first_later, crate::proofs::Lines::first_nowhere))]
 fn first_listed<'a>(line: &[&'a ExportClass], id: ImportedMethod<'_>) -> Option<&'a ExportMethod>
     ensures { option_copied result ≡ first_of (listed_as (method_id id.entry)) (classes_at line.now) }
 {
@@ -265,7 +262,7 @@ fn first_listed<'a>(line: &[&'a ExportClass], id: ImportedMethod<'_>) -> Option<
 }
 
 /// An imported class by its name, and what stands above it.
-fn line_named<'a>(pair: &Package<'a>, name: &[u8]) -> &'a [&'a ExportClass]
+pub(crate) fn line_named<'a>(pair: &Package<'a>, name: &[u8]) -> &'a [&'a ExportClass]
     ensures { classes_at result.now ≡ line_named pair.now.loaded name.now }
 {
     match pair.tables.external_named(name) {

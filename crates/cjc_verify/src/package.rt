@@ -1,16 +1,18 @@
 //! `Package`: components beside the package that they are said to be of, with the tables by which both are looked into.
 //! Made once by `verify`; what the rules ask.
 
-ghost use Rattle.std.specs.Prelude.{◌≡◌, ◌==◌, option_map, position, slice_get};
+ghost use Rattle.std.specs.Prelude.{◌≡◌, ◌==◌, option_map, position, slice_get, IfOk};
 ghost use Rattle.std.specs.List.{find};
 ghost use Rattle.std.specs.Option.{option_copied};
 ghost use Rattle.cjc_card_frame.specs.Objects.{class_of};
 ghost use Rattle.cjc_card_link.specs.CardSemantics.Machine.Classes.{class_of as class_by_ref};
 ghost use Rattle.cjc_verify.specs.Named.{entry_of, exported};
-ghost use Rattle.cjc_verify.specs.Pairs.{class_at, method_at};
+ghost use Rattle.cjc_verify.specs.Pairs.{class_at, method_at, nibbles_of};
 ghost use Rattle.cjc_verify.specs.Working.Methods.{facts_of};
 
+use crate::described::card_nibbles;
 use crate::methods::{KnownMethod, method_at};
+use cjc_bytes::{Bytes, NoMemory};
 use cjc_capread::{ClassRef, PoolEntry};
 use cjc_card_calls::files::Files;
 use cjc_card_calls::lines::Lines;
@@ -22,6 +24,7 @@ use cjc_export::ExportClass;
 use cjc_tokens::Tokens;
 use cjc_world::classfile::ClassTree;
 use cjc_world::{StaticImage, World};
+use std::alloc::Global;
 use std::marker::Model;
 
 /// Components beside their package.
@@ -125,6 +128,13 @@ impl<'a> Package<'a> {
         ensures { option_copied result ≡ option_map (facts_of self.now) (method_at self.now offset) }
     {
         method_at(self.methods, offset)
+    }
+
+    /// The nibbles of a descriptor; none where the card has no values of one of its types.
+    pub(crate) fn nibbles(&self, alloc: Global, desc: &[u8]) -> Result<Option<Bytes>, NoMemory>
+        ensures { IfOk result (λ nibbles. nibbles ≡ nibbles_of self.now desc.now) }
+    {
+        card_nibbles(alloc, self.refs, desc)
     }
 
     /// The class of a class_ref, where there is one.

@@ -1,0 +1,134 @@
+-- Instructions stand one behind the other.
+use Rattle.std.proofs.Common.{◌≡◌, ℕ, zero, suc, ◌+◌, ◌-◌, ◌<◌, ◌≤◌, ◌==◌, Bool, true, false, List, [], ◌∷◌, take, drop}
+use Rattle.std.proofs.Common.{map, refl, sym, ap, ◌∙◌, subst, arith, Option, Some, None, Result, Ok, Err, slice_get}
+use Rattle.std.specs.Prelude.{if◌then◌else◌}
+use Rattle.cjc_capread.specs.Decode.{Instruction, decode, size, size_by}
+use Rattle.cjc_capread.specs.MethodHeader.{MethodHeader, method_header}
+use Rattle.cjc_capread.specs.Opcodes.{Form, form}
+use Rattle.cjc_capread.specs.declared.tree.MethodDescriptor.{MethodDescriptor}
+use Rattle.cjc_check.specs.Codes.Bodies.{AreBodies, IsBody, code_of, placed_of}
+use Rattle.cjc_check.specs.declared.codes.code.Body.{Body}
+use Rattle.cjc_check_rules.specs.Codes.{Code, all_codes, codes, codes_from, cut, instructions, onto, with_code}
+use Rattle.cjc_check_rules.specs.Codes.{with_header, with_instruction}
+use Rattle.cjc_check_rules.specs.Complete.{Complete}
+use Rattle.cjc_check_rules.specs.Spots.{Placed}
+use Rattle.cjc_verify.specs.Working.Codes.{AllRise, Rises, ats}
+
+-- ---- instructions
+
+pub lower : (from to : ℕ) (xs : List ℕ) → from ≤ to → Rises to xs → Rises from xs
+lower from to [] le h = tt
+lower from to (x ∷ xs) le h = let a = h.0 in (omega (arith, le, a), h.1)
+
+sized : (i : Instruction) → 1 ≤ size i
+sized i = by (form i.opcode)
+  where
+    by : (o : Option Form) → 1 ≤ size_by o i
+    by None = omega arith
+    by (Some f) = omega arith
+
+rising : (n count at : ℕ) (bs : List ℕ) (is : List (Placed Instruction)) → instructions n count at bs ≡ Ok is
+    → Rises at (ats is)
+unfolding instructions
+rising zero count at bs is e = let none : [] ≡ is = cc
+    in subst (λ (ps : List (Placed Instruction)). Rises at (ats ps)) none tt
+rising (suc n) zero at bs is e = let none : [] ≡ is = cc
+    in subst (λ (ps : List (Placed Instruction)). Rises at (ats ps)) none tt
+rising (suc n) (suc count) at bs is e = found (decode (take (suc count) bs)) e
+    (λ i ps g. rising n (suc count - size i) (at + size i) (drop (size i) bs) ps g)
+  where
+    go : Instruction → Result (List (Placed Instruction)) ℕ
+    go i = instructions n (suc count - size i) (at + size i) (drop (size i) bs)
+
+    onwards : (i : Instruction) (r : Result (List (Placed Instruction)) ℕ) → go i ≡ r
+        → onto (record { at = at; item = i }) r ≡ Ok is
+        → ((ps : List (Placed Instruction)) → go i ≡ Ok ps → Rises (at + size i) (ats ps)) → Rises at (ats is)
+    onwards i (Ok ps) g f next =
+        let one : record { at = at; item = i } ∷ ps ≡ is = cc in
+        let some = sized i in
+        subst (λ (qs : List (Placed Instruction)). Rises at (ats qs)) one (
+          omega arith,
+          lower (at + 1) (at + size i) (ats ps) (omega (arith, some)) (next ps g),
+        )
+    onwards i (Err k) g f next = absurd cc
+
+    found : (o : Option Instruction) → with_instruction at o go ≡ Ok is
+        → ((i : Instruction) (ps : List (Placed Instruction)) → go i ≡ Ok ps → Rises (at + size i) (ats ps))
+        → Rises at (ats is)
+    found None f next = absurd cc
+    found (Some i) f next = onwards i (go i) refl f (next i)
+
+-- ---- codes
+
+none_rise : AllRise []
+none_rise k code is = absurd cc
+
+one_more : (code : Code) (codes : List Code) → Rises 0 (ats code.instructions) → AllRise codes
+    → AllRise (code ∷ codes)
+one_more code codes one all zero c is = let same : code ≡ c = cc in subst (λ (x : Code). Rises 0
+    (ats x.instructions)) same one
+one_more code codes one all (suc k) c is = all k c is
+
+after_code : (h : MethodHeader) (first count : ℕ) (r : Result (List (Placed Instruction)) ℕ)
+    (go : Result (List Code) ℕ) (cs : List Code)
+    → ((is : List (Placed Instruction)) → r ≡ Ok is → Rises first (ats is))
+    → ((rest : List Code) → go ≡ Ok rest → AllRise rest) → with_code h first count r go ≡ Ok cs → AllRise cs
+after_code h first count (Err at) go cs rise next e = absurd cc
+after_code h first count (Ok is) (Err at) cs rise next e = absurd cc
+after_code h first count (Ok is) (Ok rest) cs rise next e =
+    let code : Code = record {
+      is_abstract = h.is_abstract;
+      first = first;
+      end = first + count;
+      instructions = is;
+    } in
+    let same : code ∷ rest ≡ cs = cc in
+    subst AllRise same (one_more code rest (lower 0 first (ats is) (omega arith) (rise is refl)) (next rest refl))
+
+after_header : (at : ℕ) (m : MethodDescriptor) (bytes : List ℕ) (o : Option MethodHeader)
+    (go : ℕ → List ℕ → Result (List Code) ℕ) (cs : List Code)
+    → ((next : ℕ) (rest : List ℕ) (more : List Code) → go next rest ≡ Ok more → AllRise more)
+    → with_header at m bytes o go ≡ Ok cs → AllRise cs
+after_header at m bytes None go cs next e = absurd cc
+after_header at m bytes (Some h) go cs next e =
+    after_code h (at + h.size) m.bytecode_count
+    (instructions m.bytecode_count m.bytecode_count (at + h.size) (drop h.size bytes))
+    (go (at + h.size + m.bytecode_count) (drop (h.size + m.bytecode_count) bytes)) cs
+    (λ is g. rising m.bytecode_count m.bytecode_count (at + h.size) (drop h.size bytes) is g)
+    (λ rest g. next (at + h.size + m.bytecode_count) (drop (h.size + m.bytecode_count) bytes) rest g) e
+
+in_codes : (at : ℕ) (ms : List MethodDescriptor) (bytes : List ℕ) (cs : List Code) → codes_from at ms bytes ≡ Ok cs
+    → AllRise cs
+unfolding codes_from
+in_codes at [] [] cs e = let none : [] ≡ cs = cc in subst AllRise none none_rise
+in_codes at [] (b ∷ bytes) cs e = absurd cc
+in_codes at (m ∷ ms) bytes cs e = by (m.offset == at) (λ next rest more g. in_codes next ms rest more g) e
+  where
+    by : (b : Bool) → ((next : ℕ) (rest : List ℕ) (more : List Code) → codes_from next ms rest ≡ Ok more
+        → AllRise more) → (if b then with_header at m bytes (method_header bytes) (λ next rest. codes_from next ms rest)
+        else Err at) ≡ Ok cs → AllRise cs
+    by true later f = after_header at m bytes (method_header bytes) (λ next rest. codes_from next ms rest) cs later f
+    by false later f = absurd cc
+
+where_cut : (r : Result (List Code) ℕ) → ((cs : List Code) → r ≡ Ok cs → AllRise cs) → AllRise (all_codes r)
+where_cut (Ok cs) h = h cs refl
+where_cut (Err at) h = none_rise
+
+-- the instructions of all methods of components rise
+pub all_rise : (c : Complete) → AllRise (codes c)
+all_rise c = where_cut (cut c) (λ cs e. in_codes _ _ _ cs e)
+
+-- ---- one of several
+
+pub rise_here : (code : Body) (rest : List Body) → AllRise (map code_of (code ∷ rest)) → Rises 0 (ats (map placed_of
+    code.insns))
+rise_here code rest all = all 0 (code_of code) refl
+
+pub rise_later : (code : Body) (rest : List Body) → AllRise (map code_of (code ∷ rest)) → AllRise (map code_of rest)
+rise_later code rest all = λ k c is. all (suc k) c is
+
+pub body_here : (code : Body) (rest : List Body) → AreBodies (code ∷ rest) → IsBody code
+body_here code rest all = all 0 code (omega arith)
+
+pub body_later : (code : Body) (rest : List Body) → AreBodies (code ∷ rest) → AreBodies rest
+body_later code rest all = λ k d less. all (suc k) d (omega (arith, less))
