@@ -85,6 +85,17 @@ fn member_by<'w>(
     }
 }
 
+/// The descriptor of the method that a member of a class is, which gets these.
+pub(crate) fn member_desc<'w>(
+    class: &'w ClassTree<'_>,
+    added: &'w [MemberId],
+    member: u32,
+) -> &'w [u8]
+    ensures { let m = member_by class.now added.now member in result.now ≡ m.desc }
+{
+    member_by(class, added, member).desc
+}
+
 /// What is kept of a member of a class with what Descriptor says of it.
 fn known_by(
     alloc: Global,
