@@ -1,6 +1,6 @@
 -- Members that entries of the constant pool name, as code looks for their descriptors.
 use Rattle.std.specs.Prelude.{ℕ, ◌-◌, List, length, map, option_and_then, option_map, slice_get, unwrap_or, Option, Bool, true}
-use Rattle.std.specs.Prelude.{false}
+use Rattle.std.specs.Prelude.{false, if◌then◌else◌, is_some, None}
 use Rattle.cjc_capread.specs.declared.tree.PoolEntry.{PoolEntry}
 use Rattle.cjc_capread.specs.declared.tree.PoolEntry.TheVariants.{Classref}
 use Rattle.cjc_components.specs.Descriptor.{method_in, no_member}
@@ -26,6 +26,10 @@ desc_in_export c k = let m = unwrap_or (slice_get (map method_of_export c.method
 abbrev pub own_method_desc : Files → (imported : Bool) → (number member : ℕ) → Option (List ℕ)
 own_method_desc files imported n k = option_map (λ (c : Class). let m = method_in (all_classes files) c k in m.desc)
     (class_at (all_classes files) imported n)
+
+-- the class file of a class of the package, by the class's number
+abbrev pub own_tree : Files → (number : ℕ) → Option ClassTree
+own_tree files n = if is_some (class_at (all_classes files) false n) then slice_get files.classes n else None
 
 -- the descriptor of the virtual method that a token means in the class of a number
 abbrev pub virtual_of_number : Pair → (token number : ℕ) → Option (List ℕ)

@@ -67,11 +67,7 @@ fn got<'w>(added: &'w [MemberId], place: usize) -> Signature<'w>
 }
 
 /// The method that a member of a class is, which gets these.
-fn member_by<'w>(
-    class: &'w ClassTree<'_>,
-    added: &'w [MemberId],
-    member: u32,
-) -> Signature<'w>
+fn member_by<'w>(class: &'w ClassTree<'_>, added: &'w [MemberId], member: u32) -> Signature<'w>
     ensures { IsLike result (member_by class.now added.now member) }
 {
     let place = (member as usize).saturating_sub(class.fields.items().len());

@@ -1,10 +1,10 @@
 -- Descriptors of members that entries of the constant pool name, as code looks for them.
-use Rattle.std.proofs.Common.{◌≡◌, ℕ, zero, suc, ◌-◌, ◌==◌, Bool, true, false, List, [], ◌∷◌, ◌++◌, append-nil, length, map}
+use Rattle.std.proofs.Common.{◌≡◌, ℕ, zero, suc, ◌-◌, ◌<◌, ◌==◌, Bool, true, false, List, [], ◌∷◌, ◌++◌, append-nil, length, map}
 use Rattle.std.proofs.Common.{refl, sym, ap, subst, ◌∙◌, Option, Some, None}
 use Rattle.std.specs.Prelude.{if◌then◌else◌, is_some, not, option_and_then, option_map, position, slice_get, unwrap_or}
 use Rattle.std.specs.List.{find}
 use Rattle.cjc_bytes.proofs.Bools.{both_front}
-use Rattle.cjc_bytes.proofs.Gets.{get_mapped}
+use Rattle.cjc_bytes.proofs.Gets.{get_below, get_mapped}
 use Rattle.cjc_bytes.proofs.Lists.{length_mapped, map_map}
 use Rattle.cjc_bytes.specs.declared.fault.MemberId.{MemberId}
 use Rattle.cjc_capread.specs.declared.tree.ClassRef.{ClassRef}
@@ -36,7 +36,7 @@ use Rattle.cjc_world.specs.Files.{Files}
 use Rattle.cjc_world.specs.Order.{class_order}
 use Rattle.cjc_world.specs.declared.image.StaticImage.{StaticImage}
 use Rattle.cjc_verify.specs.Cells.{cell_desc, desc_of_key}
-use Rattle.cjc_verify.specs.Entries.{desc_in_export, desc_of_own, is_class, own_method_desc}
+use Rattle.cjc_verify.specs.Entries.{desc_in_export, desc_of_own, is_class, own_method_desc, own_tree}
 use Rattle.cjc_verify.specs.Named.{line_of, named_desc}
 use Rattle.cjc_verify.specs.Pairs.{Described, Pair, class_at, class_ref, member_of, nibbles_of, starts, world}
 use Rattle.cjc_verify.specs.WantedDescribed.{wanted_entry}
@@ -162,45 +162,42 @@ listed_none files n k is = ap (λ (o : Option Class). option_map (λ (c : Class)
     in x.desc) o) is
 
 -- of a class of the package
-pub declared_desc : (files : Files) (n k : ℕ) (t : ClassTree) (desc : List ℕ)
-    → is_some (world_of.class_at (all_classes files) false n) ≡ true → Some t ≡ slice_get files.classes n
-    → desc ≡ (let m = member_by t (added_at files n) k in m.desc) → Some desc ≡ own_method_desc files false n k
-declared_desc files n k t desc own at is = by (world_of.class_at (all_classes files) false n) refl own
+own_there : (files : Files) (n : ℕ) (t : ClassTree) → Some t ≡ own_tree files n
+    → (world_of.class_at (all_classes files) false n ≡ Some (declared n t)) × (Some t ≡ slice_get files.classes n)
+own_there files n t at = by (world_of.class_at (all_classes files) false n) refl at
   where
-    w : List Class
-    w = all_classes files
-
-    by : (o : Option Class) → world_of.class_at (all_classes files) false n ≡ o → is_some o ≡ true
-        → Some desc ≡ own_method_desc files false n k
-    unfolding w
+    by : (o : Option Class) → world_of.class_at (all_classes files) false n ≡ o
+        → Some t ≡ (if is_some o then slice_get files.classes n else None)
+        → (world_of.class_at (all_classes files) false n ≡ Some (declared n t)) × (Some t ≡ slice_get files.classes n)
     by None e h = absurd cc
     by (Some c) e h =
         let (u, is_tree, is_class) = at-tree files n c e in
-        let same : t ≡ u = (let g = at ∙ is_tree in cc) in
-        let class : c ≡ declared n t = is_class ∙ ap (declared n) (sym same) in
-        ap Some (is ∙ sym (desc_same files n t k (sym at)))
-        ∙ ap (λ (x : Class). Some (let m = method_in w x k in m.desc)) (sym class)
-        ∙ ap (λ (o : Option Class). option_map (λ (x : Class). let m = method_in w x k in m.desc) o) (sym e)
+        let same : t ≡ u = (let g = h ∙ is_tree in cc) in
+        (e ∙ ap Some (is_class ∙ ap (declared n) (sym same)), h)
 
-pub declared_none : (files : Files) (n k : ℕ) → is_some (world_of.class_at (all_classes files) false n) ≡ false
-    → None ≡ own_method_desc files false n k
-declared_none files n k no_class = by (world_of.class_at (all_classes files) false n) no_class
-  where
-    by : (o : Option Class) → is_some o ≡ false → None ≡ option_map (λ (x : Class). let m = method_in
-        (all_classes files) x k in m.desc) o
-    by None h = refl
-    by (Some c) h = absurd cc
+pub own_below : (files : Files) (n : ℕ) (t : ClassTree) → Some t ≡ own_tree files n → n < length files.classes
+own_below files n t at = get_below files.classes n t (sym (own_there files n t at).1)
 
-pub declared_lost : (files : Files) (n k : ℕ) → is_some (world_of.class_at (all_classes files) false n) ≡ true
-    → None ≡ slice_get files.classes n → None ≡ own_method_desc files false n k
-declared_lost files n k own at = by (world_of.class_at (all_classes files) false n) refl own
+pub declared_desc : (files : Files) (n k : ℕ) (t : ClassTree) (added : List MemberId) (desc : List ℕ)
+    → Some t ≡ own_tree files n → added ≡ added_at files n → desc ≡ (let m = member_by t added k in m.desc)
+    → Some desc ≡ own_method_desc files false n k
+declared_desc files n k t added desc at gets is =
+    let w = all_classes files in
+    let there = own_there files n t at in
+    ap Some (is ∙ ap (λ (ids : List MemberId). let m = member_by t ids k in m.desc) gets
+    ∙ sym (desc_same files n t k (sym there.1)))
+    ∙ ap (λ (o : Option Class). option_map (λ (x : Class). let m = method_in w x k in m.desc) o) (sym there.0)
+
+pub declared_none : (files : Files) (n k : ℕ) → None ≡ own_tree files n → None ≡ own_method_desc files false n k
+declared_none files n k at = by (world_of.class_at (all_classes files) false n) refl at
   where
-    by : (o : Option Class) → world_of.class_at (all_classes files) false n ≡ o → is_some o ≡ true
-        → None ≡ own_method_desc files false n k
-    by None e h = absurd cc
+    by : (o : Option Class) → world_of.class_at (all_classes files) false n ≡ o
+        → None ≡ (if is_some o then slice_get files.classes n else None)
+        → None ≡ option_map (λ (x : Class). let m = method_in (all_classes files) x k in m.desc) o
+    by None e h = refl
     by (Some c) e h =
         let (u, is_tree, is_class) = at-tree files n c e in
-        let none : None ≡ Some u = at ∙ is_tree in
+        let none : None ≡ Some u = h ∙ is_tree in
         absurd cc
 
 -- the method whose header stands at an offset

@@ -65,11 +65,7 @@ fn super_desc<'a>(pair: &Package<'a>, class: ClassRef, token: u8) -> Option<&'a 
 }
 
 /// The descriptor of a static field.
-fn static_field_desc<'a>(
-    pair: &Package<'a>,
-    cells: &'a Cells,
-    field: StaticRef,
-) -> Option<&'a [u8]>
+fn static_field_desc<'a>(pair: &Package<'a>, cells: &'a Cells, field: StaticRef) -> Option<&'a [u8]>
     requires { AreCells pair.now.image cells.now }
     ensures { option_map (λ desc. desc.now) result ≡ named_desc pair.now (StaticFieldref field) }
 {

@@ -12,7 +12,8 @@ ghost use Rattle.cjc_components.specs.Class.{superclass};
 ghost use Rattle.cjc_tokens.specs.Tokens.{field_of_token, method_of_token};
 ghost use Rattle.cjc_world.specs.Classes.{all_classes, class_at as file_class, class_named, declared};
 ghost use Rattle.cjc_world.specs.Working.Known.{class_of};
-ghost use Rattle.cjc_verify.specs.Entries.{desc_in_export, desc_of_own, own_method_desc, virtual_of_number};
+ghost use Rattle.cjc_verify.specs.Entries.{desc_in_export, desc_of_own, own_method_desc, own_tree};
+ghost use Rattle.cjc_verify.specs.Entries.{virtual_of_number};
 ghost use Rattle.cjc_verify.specs.Named.{exported, field_desc, first_of, found_desc, instance_field, line_of};
 ghost use Rattle.cjc_verify.specs.Named.{line_named, method_desc, method_desc_at, own_field_desc, own_virtual_desc};
 ghost use Rattle.cjc_verify.specs.Named.{static_field};
@@ -136,7 +137,12 @@ pub(crate) fn line_of<'a>(pair: &Package<'a>, import: u8, class: u8) -> &'a [&'a
 }
 
 /// The static field of an imported class.
-pub(crate) fn imported_field<'a>(pair: &Package<'a>, import: u8, class: u8, token: u8) -> Option<&'a ExportField>
+pub(crate) fn imported_field<'a>(
+    pair: &Package<'a>,
+    import: u8,
+    class: u8,
+    token: u8,
+) -> Option<&'a ExportField>
     ensures { option_copied result ≡ option_and_then (static_field token) (exported pair.now import class) }
 {
     match pair.exported(import, class) {
@@ -256,14 +262,22 @@ fn is_own(world: &World<'_>, number: u32) -> bool
     world.class_at(false, number).is_some()
 }
 
+/// The class file of a class of the package.
+fn own_tree<'a>(world: &'a World<'a>, number: u32) -> Option<&'a ClassTree<'a>>
+    ensures { option_copied result ≡ own_tree world.now number }
+{
+    if is_own(world, number) {
+        tree_at(world.classes().items(), number)
+    } else {
+        None
+    }
+}
+
 /// The descriptor of a method of a class of the package.
 fn declared_method_desc<'a>(world: &'a World<'a>, number: u32, member: u32) -> Option<&'a [u8]>
     ensures { option_map (λ desc. desc.now) result ≡ own_method_desc world.now false number member }
 {
-    if !is_own(world, number) {
-        return None;
-    }
-    match world.classes().items().get(number as usize) {
+    match own_tree(world, number) {
         Some(class) => {
             let added = world.added(number).items();
             Some(member_desc(class, added, member))
