@@ -99,6 +99,13 @@ bare_same files n t i is =
     ∙ sym (bare_at (own ++ gets) k)
     ∙ ap (λ (j : ℕ). bare (unwrap_or (slice_get (own ++ gets) j) no_member)) place
 
+-- the descriptor of a member of a class of the package
+pub desc_same : (files : Files) (n : ℕ) (t : ClassTree) (i : ℕ) → slice_get files.classes n ≡ Some t
+    → (let m = method_in (all_classes files) (declared n t) i in m.desc) ≡ (let m = member_by t (added_at files n) i
+    in m.desc)
+unfolding bare
+desc_same files n t i is = ap (λ (m : Member). m.desc) (bare_same files n t i is)
+
 known_same : (interface : Bool) (holder : ClassRef) (d : MethodDescriptor) (a b : Member) → bare a ≡ bare b
     → known_by interface holder d a ≡ known_by interface holder d b
 unfolding bare

@@ -9,6 +9,8 @@ pub mod Described
 pub mod Verified
 pub mod Abstracts
 pub mod CardTypes
+pub mod Cells
+pub mod Entries
 pub mod Made
 pub mod Offsets
 pub mod Refs

@@ -67,11 +67,7 @@ fn got<'w>(added: &'w [MemberId], place: usize) -> Signature<'w>
 }
 
 /// The method that a member of a class is, which gets these.
-fn member_by<'w>(
-    class: &'w ClassTree<'_>,
-    added: &'w [MemberId],
-    member: u32,
-) -> Signature<'w>
+fn member_by<'w>(class: &'w ClassTree<'_>, added: &'w [MemberId], member: u32) -> Signature<'w>
     ensures { IsLike result (member_by class.now added.now member) }
 {
     let place = (member as usize).saturating_sub(class.fields.items().len());
@@ -83,6 +79,17 @@ fn member_by<'w>(
         },
         None => got(added, place.saturating_sub(methods.len())),
     }
+}
+
+/// The descriptor of the method that a member of a class is, which gets these.
+pub(crate) fn member_desc<'w>(
+    class: &'w ClassTree<'_>,
+    added: &'w [MemberId],
+    member: u32,
+) -> &'w [u8]
+    ensures { let m = member_by class.now added.now member in result.now ≡ m.desc }
+{
+    member_by(class, added, member).desc
 }
 
 /// What is kept of a member of a class with what Descriptor says of it.

@@ -72,7 +72,7 @@ fn is_abstract_listed(method: Option<&ExportMethod>) -> bool
 }
 
 /// The static method or constructor of an imported class.
-fn imported_method<'a>(
+pub(crate) fn imported_method<'a>(
     pair: &Package<'a>,
     import: u8,
     class: u8,
@@ -224,7 +224,7 @@ pub(crate) fn interface_nibbles(
 // ---- what calls select
 
 /// Whether a method is neither static nor private, and no constructor.
-fn is_virtual(method: &ExportMethod) -> bool
+pub(crate) fn is_virtual(method: &ExportMethod) -> bool
     ensures { result ≡ is_virtual method.now }
 {
     !(is_static(method.flags) || is_private(method.flags) || method.name.items() == CONSTRUCTOR)

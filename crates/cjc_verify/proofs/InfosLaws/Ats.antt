@@ -60,17 +60,17 @@ at_most (x ∷ fs) (y ∷ ms) = let h = at_most fs ms in omega (arith, h)
 
 pub taken_more : {A : Type 0} (before row new xs : List A) (k : ℕ) (x : A) → Some x ≡ slice_get xs k
     → row ≡ before ++ take k xs → new ≡ row ++ x ∷ [] → new ≡ before ++ take (k + 1) xs
-taken_more before row new xs k x e so_far put =
+taken_more {A} before row new xs k x e so_far put =
     put
-    ∙ ap (λ (q : List _). q ++ x ∷ []) so_far
+    ∙ ap (λ (q : List A). q ++ x ∷ []) so_far
     ∙ append_assoc before (take k xs) (x ∷ [])
-    ∙ ap (λ (q : List _). before ++ q) (sym (one_taken xs k x e))
+    ∙ ap (λ (q : List A). before ++ q) (sym (one_taken xs k x e))
 
 pub taken_off : {A : Type 0} (before row xs : List A) (k : ℕ) → None ≡ slice_get xs k → row ≡ before ++ take k xs
     → row ≡ before ++ xs
-taken_off before row xs k e so_far = so_far ∙ ap (λ (q : List _). before ++ q) (by xs k (sym e))
+taken_off {A} before row xs k e so_far = so_far ∙ ap (λ (q : List A). before ++ q) (by xs k (sym e))
   where
-    by : {A : Type 0} (xs : List A) (k : ℕ) → slice_get xs k ≡ None → take k xs ≡ xs
+    by : (xs : List A) (k : ℕ) → slice_get xs k ≡ None → take k xs ≡ xs
     by [] zero e = refl
     by [] (suc k) e = refl
     by (x ∷ xs) zero e = cc
@@ -78,7 +78,7 @@ taken_off before row xs k e so_far = so_far ∙ ap (λ (q : List _). before ++ q
 
 pub taken_all : {A : Type 0} (before row xs : List A) (k : ℕ) → length xs ≤ k → row ≡ before ++ take k xs
     → row ≡ before ++ xs
-taken_all before row xs k le so_far = so_far ∙ ap (λ (q : List _). before ++ q) (take_past xs k le)
+taken_all {A} before row xs k le so_far = so_far ∙ ap (λ (q : List A). before ++ q) (take_past xs k le)
 
 -- ---- the methods of the classes of numbers
 

@@ -133,23 +133,22 @@ classes_so p [] all e = refl
 classes_so p (c ∷ cs) all e =
     let first : Some c ≡ declared_at p.files.classes c.number = cc in
     let rest : map Some cs ≡ map (λ (d : Class). declared_at p.files.classes d.number) cs = cc in
-    by (slice_get p.files.classes c.number) refl first
+    by (classes_by (class_ref p) (method_offset p) p.files (map (table_of (world p)) cs))
+    (slice_get p.files.classes c.number) refl first
     ∙ ap (λ (q : List Wanted). wanted_info p c ∷ q) (classes_so p cs all.1 rest)
   where
-    behind : List Wanted
-    behind = classes_by (class_ref p) (method_offset p) p.files (map (table_of (world p)) cs)
-
-    by : (o : Option ClassTree) → slice_get p.files.classes c.number ≡ o → Some c ≡ option_map (declared c.number) o
+    by : (more : List Wanted) (o : Option ClassTree) → slice_get p.files.classes c.number ≡ o
+        → Some c ≡ option_map (declared c.number) o
         → class_where (class_ref p) (method_offset p) (world p) (table_of (world p) c)
-        (slice_get p.files.classes c.number) ++ behind ≡ wanted_info p c ∷ behind
-    by None at is = cc
-    by (Some tree) at is =
+        (slice_get p.files.classes c.number) ++ more ≡ wanted_info p c ∷ more
+    by more None at is = cc
+    by more (Some tree) at is =
         let same : c ≡ declared c.number tree = cc in
         let kind : is_interface tree.flags ≡ false = ap (λ (d : Class). is_interface d.flags) (sym same)
         ∙ not_true (is_interface c.flags) all.0 in
         ap (λ (o : Option ClassTree). class_where (class_ref p) (method_offset p) (world p) (table_of (world p) c) o
-        ++ behind) at
-        ∙ ap (λ (x : Wanted). x ∷ behind) (subst (λ (d : Class). wanted.Class (entry_by (class_ref p) (method_offset p)
+        ++ more) at
+        ∙ ap (λ (x : Wanted). x ∷ more) (subst (λ (d : Class). wanted.Class (entry_by (class_ref p) (method_offset p)
         (world p) (table_of (world p) d) tree) ≡ wanted_info p d) (sym same) (class_so p c.number tree at kind))
 
 -- ---- all

@@ -26,6 +26,7 @@ use std::alloc::Global;
 const INITIALISER: &[u8] = b"<clinit>";
 
 /// What is made of a package before.
+#[derive(Drop)]
 pub(crate) struct Made<'a> {
     pub(crate) world: &'a World<'a>,
     pub(crate) tokens: &'a Tokens,

@@ -114,6 +114,7 @@ pub(crate) fn unmade_of(
 }
 
 /// Whether classes of which objects are made have no abstract method.
+#[derive(Drop)]
 struct Abstracts<'a> {
     pair: &'a Package<'a>,
 }
