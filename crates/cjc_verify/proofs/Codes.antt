@@ -1,12 +1,14 @@
 -- Instructions stand one behind the other.
 use Rattle.std.proofs.Common.{◌≡◌, ℕ, zero, suc, ◌+◌, ◌-◌, ◌<◌, ◌≤◌, ◌==◌, Bool, true, false, List, [], ◌∷◌, take, drop}
 use Rattle.std.proofs.Common.{map, refl, sym, ap, ◌∙◌, subst, arith, Option, Some, None, Result, Ok, Err, slice_get}
+use Rattle.std.proofs.Common.{get_or, length}
 use Rattle.std.specs.Prelude.{if◌then◌else◌}
+use Rattle.cjc_bytes.proofs.Gets.{item_there, slice_get_at}
 use Rattle.cjc_capread.specs.Decode.{Instruction, decode, size, size_by}
 use Rattle.cjc_capread.specs.MethodHeader.{MethodHeader, method_header}
 use Rattle.cjc_capread.specs.Opcodes.{Form, form}
 use Rattle.cjc_capread.specs.declared.tree.MethodDescriptor.{MethodDescriptor}
-use Rattle.cjc_check.specs.Codes.Bodies.{AreBodies, IsBody, code_of, placed_of}
+use Rattle.cjc_check.specs.Codes.Bodies.{code_of, placed_of}
 use Rattle.cjc_check.specs.declared.codes.code.Body.{Body}
 use Rattle.cjc_check_rules.specs.Codes.{Code, all_codes, codes, codes_from, cut, instructions, onto, with_code}
 use Rattle.cjc_check_rules.specs.Codes.{with_header, with_instruction}
@@ -145,15 +147,7 @@ all_rise c = where_cut (cut c) (λ cs e. in_codes _ _ _ cs e)
 
 -- ---- one of several
 
-pub rise_here : (code : Body) (rest : List Body) → AllAscend (map code_of (code ∷ rest)) → Ascend (ats (map placed_of
-    code.insns))
-rise_here code rest all = all 0 (code_of code) refl
-
-pub rise_later : (code : Body) (rest : List Body) → AllAscend (map code_of (code ∷ rest)) → AllAscend (map code_of rest)
-rise_later code rest all = λ k c is. all (suc k) c is
-
-pub body_here : (code : Body) (rest : List Body) → AreBodies (code ∷ rest) → IsBody code
-body_here code rest all = all 0 code (omega arith)
-
-pub body_later : (code : Body) (rest : List Body) → AreBodies (code ∷ rest) → AreBodies rest
-body_later code rest all = λ k d less. all (suc k) d (omega (arith, less))
+pub ascends_at : (codes : List Body) (i : ℕ) (code : Body) → i < length codes → code ≡ get_or codes i code
+    → AllAscend (map code_of codes) → Ascend (ats (map placed_of code.insns))
+ascends_at codes i code lt is all = all i (code_of code) (item_there code_of codes i code (slice_get_at codes i code lt
+    is))

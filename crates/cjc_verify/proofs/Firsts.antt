@@ -66,3 +66,17 @@ either_first Q R left right (Some b) f g h =
           (λ r. below R right b c g (λ x i. h.least x (among_right x (option_to_list left) (option_to_list right) i)) r)
           s;
     }
+
+-- ---- what is answered
+
+-- where none is kept, none is broken
+pub none_broken : (Q : Break → Type 0) (o : Option Break) → IsFirstWhere Q o → option_to_list o ≡ [] → (b : Break) → Q b
+    → ⊥
+none_broken Q None f unbroken = f
+none_broken Q (Some x) f unbroken = absurd cc
+
+-- the one that is kept is the first
+pub first_kept : (Q : Break → Type 0) (o : Option Break) (b : Break) → IsFirstWhere Q o → IsFirst b (option_to_list o)
+    → IsFirstSo Q b
+first_kept Q None b f is = absurd (no_among b is.among)
+first_kept Q (Some x) b f is = subst (IsFirstSo Q) (sym (among_one b x is.among)) f

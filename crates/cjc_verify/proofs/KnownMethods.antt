@@ -1,6 +1,6 @@
 -- What is kept of methods is what the definitions say of them.
 use Rattle.std.proofs.Common.{◌≡◌, ℕ, zero, suc, ◌-◌, ◌≤◌, Bool, List, [], ◌∷◌, ◌++◌, length, map, refl, sym, ap, ◌∙◌}
-use Rattle.std.proofs.Common.{subst, arith, Option, Some, None, option_map, slice_get}
+use Rattle.std.proofs.Common.{append_assoc, append-nil, subst, arith, Option, Some, None, option_map, slice_get}
 use Rattle.std.specs.Prelude.{unwrap_or}
 use Rattle.cjc_bytes.proofs.Gets.{get_back, get_mapped, in_front}
 use Rattle.cjc_bytes.proofs.Lists.{length_mapped, map_append, map_map}
@@ -163,3 +163,21 @@ facts_are p files ns ds is_files is_classes same =
     ∙ sym (among p (class_order (world p)) ns (let c = p.components in let d = c.descriptor in d.classes)
     (subst (λ (fs : Files). map (λ (c : Class). Some c) (class_order (all_classes fs)) ≡ map (declared_at fs.classes)
     ns) (sym is_files) same))
+
+-- ---- as they are put together
+
+-- one more
+pub each_next : (row new total : List KnownMethod) (known : KnownMethod) (more : List KnownMethod)
+    → row ++ (known ∷ more) ≡ total → new ≡ row ++ known ∷ [] → new ++ more ≡ total
+each_next row new total known more so_far is =
+    ap (λ (ks : List KnownMethod). ks ++ more) is ∙ append_assoc row (known ∷ []) more ∙ so_far
+
+-- those of one class more
+pub among_next : (row new total some more : List KnownMethod) → row ++ (some ++ more) ≡ total → new ≡ row ++ some
+    → new ++ more ≡ total
+among_next row new total some more so_far is =
+    ap (λ (ks : List KnownMethod). ks ++ more) is ∙ append_assoc row some more ∙ so_far
+
+-- nothing more
+pub known_end : (row total : List KnownMethod) → row ++ [] ≡ total → row ≡ total
+known_end row total so_far = sym (append-nil row) ∙ so_far

@@ -11,3 +11,5 @@ pub mod Codes
 pub mod InCode
 pub mod Made
 pub mod Verified
+pub mod InBodies
+pub mod ListedMethods

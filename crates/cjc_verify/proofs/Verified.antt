@@ -1,20 +1,23 @@
 -- A rule is broken where it is one of those that are listed, or is broken by a method.
 use Rattle.std.proofs.Common.{◌≡◌, ◌⊎◌, ℕ, zero, suc, ◌+◌, List, [], ◌∷◌, ◌++◌, map, refl, sym, ap, subst, inl, inr}
 use Rattle.std.proofs.Common.{⊎_elim, Option, Some, None, slice_get}
-use Rattle.std.specs.Prelude.{flat_map}
+use Rattle.std.specs.Prelude.{flat_map, option_to_list}
 use Rattle.cjc_bytes.proofs.BrokenRules.{among_left, among_right, no_among}
 use Rattle.cjc_bytes.proofs.Firsts.{among_either}
 use Rattle.cjc_bytes.proofs.Lists.{map_append}
-use Rattle.cjc_bytes.specs.Breaks.{Among, Break}
+use Rattle.cjc_bytes.specs.Breaks.{Among, Break, IsFirstRefusal}
+use Rattle.cjc_bytes.specs.declared.fault.Fault.{Fault}
 use Rattle.cjc_check_rules.specs.Consistent.{break_at}
+use Rattle.cjc_verify.proofs.Firsts.{first_kept}
 use Rattle.cjc_verify.specs.Bodies.{Body, bodies}
 use Rattle.cjc_verify.specs.Described.{all_array_spots, described_spots}
 use Rattle.cjc_verify.specs.Headers.{header_spots}
 use Rattle.cjc_verify.specs.Infos.{all_abstract_spots, all_info_spots, all_table_spots}
 use Rattle.cjc_verify.specs.Pairs.{Pair}
-use Rattle.cjc_verify.specs.Verified.{Breaks, listed, class_breaks, header_breaks, listed_breaks}
+use Rattle.cjc_verify.specs.Verified.{Breaks, IsRefused, listed, class_breaks, header_breaks, listed_breaks}
 use Rattle.cjc_verify.specs.Verified as verified
 use Rattle.cjc_verify.specs.Working.Bodies.{InBodies, InBody, InCode, in_code}
+use Rattle.cjc_verify.specs.Working.Firsts.{IsFirstWhere}
 
 -- ---- methods
 
@@ -143,3 +146,15 @@ from_breaks p x (listed y i) =
     ⊎_elim (λ j. inl j) (λ j. inr (in_headers p (bodies p.components) y j)) (part y a b c (header_breaks p) d e i)
 from_breaks p x (verified.in_code k b rows place rule is least breach) =
     inr (at_place p (bodies p.components) k b _ is (in_code rows place rule least breach))
+
+-- ---- the answer
+
+-- what is answered of the first broken rule is its refusal
+pub is_refused : (p : Pair) (o : Option Break) (e : Fault) → IsFirstWhere (Breaks p) o
+    → IsFirstRefusal (option_to_list o) e → IsRefused p e
+is_refused p o e f h =
+    ⊎_elim
+    (λ none. inl none)
+    (λ one. let first = first_kept (Breaks p) o one.0 f one.1 in
+        inr (one.0, record { breaks = first.broken; first = first.first }, one.2))
+    h

@@ -185,6 +185,13 @@ fn header_spot(
 
 // ---- methods
 
+/// The cells of the locals, the arguments counted.
+fn local_count(header: Header) -> u16
+    ensures { result ≡ header.nargs + header.max_locals }
+{
+    u16::from(header.nargs) + u16::from(header.max_locals)
+}
+
 /// The first rule that the least table of a method breaks.
 fn first_in_code(
     alloc: Global,
@@ -208,7 +215,7 @@ fn first_in_code(
     let kinds = Kinds::new(pair.tables, pair.lines);
     let method = Method::new(
         header.max_stack,
-        u16::from(header.nargs) + u16::from(header.max_locals),
+        local_count(header),
         words.items(),
         steps.items(),
         catches,

@@ -72,6 +72,7 @@ fn by_names(
     names: &Names<'_>,
 ) -> Result<Option<Break<'static>>, NoMemory>
     requires ready { IsIndexed names.now }
+    requires small { AreSmall (complete_of names.now.parts.now) }
     requires same { complete_of names.now.parts.now ≡ pair.now.components }
     ensures { IfOk result (λ b. IsFirstWhere (InBodies pair.now (bodies pair.now.components)) (option_map break_of b)) }
 {

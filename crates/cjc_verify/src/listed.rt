@@ -144,6 +144,7 @@ fn put_body<'a, 'b>(
 }
 
 /// The methods of Method with their codes, as far as there are both.
+#[tactic(auto, using(crate::proofs::ListedMethods::bodies_more, crate::proofs::ListedMethods::bodies_short, crate::proofs::ListedMethods::bodies_all, crate::proofs::Codes::ascends_at))]
 pub(crate) fn bodies<'a, 'b>(
     alloc: Global,
     parts: &Parts<'_>,
@@ -157,15 +158,11 @@ pub(crate) fn bodies<'a, 'b>(
         (map code_of codes.now)) }
 {
     let mut all = Row::new(alloc);
-    let mut left = listed;
-    let mut cut = codes;
-    while let [method, more @ ..] = left {
-        let [code, rest @ ..] = cut else {
+    for (i, method) in listed.iter().enumerate() {
+        if i >= codes.len() {
             return Ok(all);
-        };
-        put_body(&mut all, parts, *method, code)?;
-        left = more;
-        cut = rest;
+        }
+        put_body(&mut all, parts, *method, &codes[i])?;
     }
     Ok(all)
 }

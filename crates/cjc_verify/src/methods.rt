@@ -116,6 +116,7 @@ fn known_by(
 }
 
 /// Puts members of a class beside what Descriptor says of them at the end, as far as there are both.
+#[tactic(auto, using(crate::proofs::KnownMethods::each_next, crate::proofs::KnownMethods::known_end))]
 fn put_each(
     alloc: Global,
     row: &mut Row<KnownMethod>,
@@ -162,6 +163,7 @@ fn put_known(
 }
 
 /// Puts the methods of the classes of these numbers at the end, as far as Descriptor lists classes.
+#[tactic(auto, using(crate::proofs::KnownMethods::among_next, crate::proofs::KnownMethods::known_end))]
 fn put_among(
     alloc: Global,
     row: &mut Row<KnownMethod>,
