@@ -232,8 +232,8 @@ pub(crate) fn is_virtual(method: &ExportMethod) -> bool
 
 /// Whether a method is virtual and of a name and descriptor.
 fn is_listed_as(method: &ExportMethod, id: ImportedMethod<'_>) -> bool
-    ensures { result ≡ (is_virtual method.now && bytes_eq method.now.name id.name.now
-        && bytes_eq method.now.desc id.desc.now) }
+    ensures { result ≡ (is_virtual method.now && bytes_eq method.now.name id.entry.name.now
+        && bytes_eq method.now.desc id.entry.desc.now) }
 {
     is_virtual(method) && method.name.items() == id.name && method.desc.items() == id.desc
 }

@@ -1,7 +1,7 @@
 //! Whether a class of which objects are made has an abstract method for one of its tokens (Java Card Virtual Machine
 //! Specification 2.2.2, section 6.8).
 
-ghost use Rattle.std.specs.Prelude.{◌≡◌, ◌+◌, ◌++◌, ◌||◌, ◌<◌, ◌^◌, ℕ, Bool, Unit, drop, length, map, not, IfOk, OnOk};
+ghost use Rattle.std.specs.Prelude.{◌≡◌, ◌+◌, ◌++◌, ◌||◌, ◌<◌, ◌^◌, ℕ, Bool, drop, length, map, not, IfOk, OnOk};
 ghost use Rattle.std.specs.List.{flat_map};
 ghost use Rattle.cjc_bytes.specs.AccessFlags.{acc_abstract, has, is_interface};
 ghost use Rattle.cjc_card_semantics.specs.Machine.Dispatch.{Hidden, Open};
