@@ -1,7 +1,7 @@
 pub mod Operands
 pub mod Jumps
 pub mod Known
-pub mod Methods
+pub mod KnownMethods
 pub mod Nibbles
 pub mod InfosLaws
 pub mod DescribedLaws

@@ -26,7 +26,7 @@ use crate::bodies::bodies_break;
 use crate::breaks::{either, with_rule};
 use crate::described::{array_spot, described_spot};
 use crate::infos::{all_starts, class_refs, info_spots, numbers_in_order};
-use crate::listed::{bodies, codes_of, listed};
+use crate::listed::{all_listed, bodies, codes_of};
 use crate::methods::{KnownMethod, known_methods};
 use crate::package::Package;
 use cjc_bytes::{Break, Fault, NoMemory, Row, answer};
@@ -75,7 +75,7 @@ fn by_names(
     requires same { complete_of names.now.parts.now ≡ pair.now.components }
     ensures { IfOk result (λ b. IsFirstWhere (InBodies pair.now (bodies pair.now.components)) (option_map break_of b)) }
 {
-    let listed = listed(alloc, names)?;
+    let listed = all_listed(alloc, names)?;
     let cutting = cut(alloc, names)?;
     let bodies = bodies(alloc, names.parts, listed.items(), codes_of(&cutting))?;
     bodies_break(alloc, pair, bodies.items())
@@ -136,7 +136,7 @@ impl Drop for Made {
 }
 
 /// What is made of a package and of Class and Descriptor.
-fn made(
+fn make(
     alloc: Global,
     parts: &Parts<'_>,
     world: &World<'_>,
@@ -261,7 +261,7 @@ fn break_of_parts(
     ensures { (applets : Bool) → tokens.now ≡ assigned applets world.now → IfOk result (λ b. IsFirstWhere
         (Breaks (pair_of applets world.now image.now (complete_of parts.now))) (option_map break_of b)) }
 {
-    let made = made(alloc, parts, world, tokens, image)?;
+    let made = make(alloc, parts, world, tokens, image)?;
     break_of_made(alloc, parts, world, tokens, image, &made)
 }
 

@@ -76,7 +76,7 @@ fn put_class(
 }
 
 /// The methods of all classes, in the order of Method.
-pub(crate) fn listed(alloc: Global, names: &Names<'_>) -> Result<Row<Listed>, NoMemory>
+pub(crate) fn all_listed(alloc: Global, names: &Names<'_>) -> Result<Row<Listed>, NoMemory>
     requires { IsIndexed names.now }
     ensures { IfOk result (λ all. all ≡ listed (complete_of names.now.parts.now)) }
 {

@@ -46,7 +46,7 @@ use Rattle.cjc_verify.specs.declared.described.wanted.WantedEntry.{WantedEntry}
 use Rattle.cjc_verify.specs.declared.described.wanted.WantedEntry.TheVariants as entries
 use Rattle.cjc_verify.specs.declared.methods.KnownMethod.{KnownMethod}
 use Rattle.cjc_verify.proofs.DescribedLaws.TypesFound.{one_later}
-use Rattle.cjc_verify.proofs.Methods.{desc_same}
+use Rattle.cjc_verify.proofs.KnownMethods.{desc_same}
 
 -- ---- static fields by their cells
 

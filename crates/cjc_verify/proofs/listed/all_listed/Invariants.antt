@@ -1,7 +1,7 @@
 use Rattle.std.proofs.Common.{◌≡◌, take}
 use Rattle.std.specs.List.{flat_map}
 use Rattle.cjc_verify.specs.Working.Bodies.{listed_where}
-use Rattle.cjc_verify.proofs.listed.listed.Given as goal
+use Rattle.cjc_verify.proofs.listed.all_listed.Given as goal
 
 abbrev pub invariant-loop-class : goal.invariant-loop-class
 invariant-loop-class l =
