@@ -11,8 +11,8 @@ use Rattle.cjc_verify.proofs.infos.offsets.methods_of.Goals as goal
 pub added-requires : goal.added-requires
 added-requires c = get_below c.args.world.now.classes c.args.number c.args.class.now c.requires
 
-pub returns-in_ok-put_methods : goal.returns-in_ok-put_methods
-returns-in_ok-put_methods c =
+pub returns : goal.returns
+returns c =
     let files = c.args.world.now in
     let n = c.args.number in
     let t = c.args.class.now in
