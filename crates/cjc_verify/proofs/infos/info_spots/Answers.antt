@@ -21,8 +21,10 @@ pub method_ats-requires : goal.method_ats-requires
 method_ats-requires c = c.pair.invariant.in_order
 
 pub wanted_infos-requires : goal.wanted_infos-requires
-wanted_infos-requires c = subst (λ (q : Pair). (applets : Bool) × (q.tokens ≡ assigned applets q.files)) (sym
-    c.pair.view_is) c.requires.tokens
+wanted_infos-requires c = record {
+  tokens = subst (λ (q : Pair). (applets : Bool) × (q.tokens ≡ assigned applets q.files)) (sym c.pair.view_is)
+      c.requires.tokens;
+}
 
 pub all_tables_beside-requires : goal.all_tables_beside-requires
 all_tables_beside-requires c = c.pair.invariant.small.class

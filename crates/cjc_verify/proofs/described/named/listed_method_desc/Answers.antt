@@ -1,4 +1,4 @@
-use Rattle.std.proofs.Common.{◌≡◌, ◌∙◌, ap, sym, Some}
+use Rattle.std.proofs.Common.{◌∙◌, ap, sym, Some}
 use Rattle.cjc_world.specs.Working.Known.{class_of}
 use Rattle.cjc_verify.proofs.DescribedLaws.Entries.{listed_desc, listed_never, listed_none}
 use Rattle.cjc_verify.proofs.described.named.listed_method_desc.Goals as goal

@@ -1,4 +1,4 @@
-use Rattle.std.proofs.Common.{◌≡◌, refl, sym}
+use Rattle.std.proofs.Common.{refl, sym}
 use Rattle.std.proofs.lemmas.Option.{slice_get_past, slice_get_read}
 use Rattle.cjc_verify.proofs.InfosLaws.Ats.{at_both, no_descriptor, no_member}
 use Rattle.cjc_verify.proofs.infos.offsets.at_place.Goals as goal

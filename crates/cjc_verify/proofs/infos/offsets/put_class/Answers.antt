@@ -1,7 +1,6 @@
 use Rattle.std.proofs.Common.{◌≡◌, ◌∙◌, ◌++◌, List, ap, sym, subst, append-nil, refl}
 use Rattle.std.proofs.lemmas.Option.{slice_get_past, slice_get_read}
 use Rattle.std.specs.Prelude.{OnOk, Option, Some, None, slice_get}
-use Rattle.cjc_components.specs.CapRead.declared.tree.MethodDescriptor.{MethodDescriptor}
 use Rattle.cjc_world.specs.ClassFile.declared.tree.ClassTree.{ClassTree}
 use Rattle.cjc_world.specs.declared.found.Found.{Found}
 use Rattle.cjc_world.specs.Classes.{all_classes, declared}
