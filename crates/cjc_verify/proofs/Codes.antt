@@ -12,11 +12,36 @@ use Rattle.cjc_check_rules.specs.Codes.{Code, all_codes, codes, codes_from, cut,
 use Rattle.cjc_check_rules.specs.Codes.{with_header, with_instruction}
 use Rattle.cjc_check_rules.specs.Complete.{Complete}
 use Rattle.cjc_check_rules.specs.Spots.{Placed}
-use Rattle.cjc_verify.specs.Working.Codes.{AllRise, Rises, ats}
+use Rattle.cjc_verify.specs.Working.Codes.{AllAscend, Ascend, ats}
 
 -- ---- instructions
 
-pub lower : (from to : ℕ) (xs : List ℕ) → from ≤ to → Rises to xs → Rises from xs
+-- numbers from one on, each above the one before
+abbrev Rises : (from : ℕ) → List ℕ → Type 0
+Rises from [] = Unit {0}
+Rises from (x ∷ xs) = (from ≤ x) × Rises (x + 1) xs
+
+from_on : (from : ℕ) (xs : List ℕ) (k x : ℕ) → Rises from xs → slice_get xs k ≡ Some x → from ≤ x
+from_on from [] k x h is = absurd cc
+from_on from (y ∷ xs) zero x h is = let le = h.0 in let same : y ≡ x = cc in omega (arith, le, same)
+from_on from (y ∷ xs) (suc k) x h is = let le = h.0 in let more = from_on (y + 1) xs k x h.1 is in omega (arith, le,
+    more)
+
+in_turn : (from : ℕ) (xs : List ℕ) (i j x y : ℕ) → Rises from xs → slice_get xs i ≡ Some x → slice_get xs j ≡ Some y
+    → i < j → x < y
+in_turn from [] i j x y h is_x is_y lt = absurd cc
+in_turn from (z ∷ xs) zero zero x y h is_x is_y lt = absurd (omega (arith, lt))
+in_turn from (z ∷ xs) zero (suc j) x y h is_x is_y lt =
+    let same : z ≡ x = cc in
+    let more = from_on (z + 1) xs j y h.1 is_y in
+    omega (arith, more, same)
+in_turn from (z ∷ xs) (suc i) zero x y h is_x is_y lt = absurd (omega (arith, lt))
+in_turn from (z ∷ xs) (suc i) (suc j) x y h is_x is_y lt = in_turn (z + 1) xs i j x y h.1 is_x is_y (omega (arith, lt))
+
+ascending : (from : ℕ) (xs : List ℕ) → Rises from xs → Ascend xs
+ascending from xs h = λ i j x y is_x is_y lt. in_turn from xs i j x y h is_x is_y lt
+
+lower : (from to : ℕ) (xs : List ℕ) → from ≤ to → Rises to xs → Rises from xs
 lower from to [] le h = tt
 lower from to (x ∷ xs) le h = let a = h.0 in (omega (arith, le, a), h.1)
 
@@ -60,19 +85,19 @@ rising (suc n) (suc count) at bs is e = found (decode (take (suc count) bs)) e
 
 -- ---- codes
 
-none_rise : AllRise []
+none_rise : AllAscend []
 none_rise k code is = absurd cc
 
-one_more : (code : Code) (codes : List Code) → Rises 0 (ats code.instructions) → AllRise codes
-    → AllRise (code ∷ codes)
-one_more code codes one all zero c is = let same : code ≡ c = cc in subst (λ (x : Code). Rises 0
+one_more : (code : Code) (codes : List Code) → Ascend (ats code.instructions) → AllAscend codes
+    → AllAscend (code ∷ codes)
+one_more code codes one all zero c is = let same : code ≡ c = cc in subst (λ (x : Code). Ascend
     (ats x.instructions)) same one
 one_more code codes one all (suc k) c is = all k c is
 
 after_code : (h : MethodHeader) (first count : ℕ) (r : Result (List (Placed Instruction)) ℕ)
     (go : Result (List Code) ℕ) (cs : List Code)
     → ((is : List (Placed Instruction)) → r ≡ Ok is → Rises first (ats is))
-    → ((rest : List Code) → go ≡ Ok rest → AllRise rest) → with_code h first count r go ≡ Ok cs → AllRise cs
+    → ((rest : List Code) → go ≡ Ok rest → AllAscend rest) → with_code h first count r go ≡ Ok cs → AllAscend cs
 after_code h first count (Err at) go cs rise next e = absurd cc
 after_code h first count (Ok is) (Err at) cs rise next e = absurd cc
 after_code h first count (Ok is) (Ok rest) cs rise next e =
@@ -83,12 +108,12 @@ after_code h first count (Ok is) (Ok rest) cs rise next e =
       instructions = is;
     } in
     let same : code ∷ rest ≡ cs = cc in
-    subst AllRise same (one_more code rest (lower 0 first (ats is) (omega arith) (rise is refl)) (next rest refl))
+    subst AllAscend same (one_more code rest (ascending first (ats is) (rise is refl)) (next rest refl))
 
 after_header : (at : ℕ) (m : MethodDescriptor) (bytes : List ℕ) (o : Option MethodHeader)
     (go : ℕ → List ℕ → Result (List Code) ℕ) (cs : List Code)
-    → ((next : ℕ) (rest : List ℕ) (more : List Code) → go next rest ≡ Ok more → AllRise more)
-    → with_header at m bytes o go ≡ Ok cs → AllRise cs
+    → ((next : ℕ) (rest : List ℕ) (more : List Code) → go next rest ≡ Ok more → AllAscend more)
+    → with_header at m bytes o go ≡ Ok cs → AllAscend cs
 after_header at m bytes None go cs next e = absurd cc
 after_header at m bytes (Some h) go cs next e =
     after_code h (at + h.size) m.bytecode_count
@@ -98,33 +123,33 @@ after_header at m bytes (Some h) go cs next e =
     (λ rest g. next (at + h.size + m.bytecode_count) (drop (h.size + m.bytecode_count) bytes) rest g) e
 
 in_codes : (at : ℕ) (ms : List MethodDescriptor) (bytes : List ℕ) (cs : List Code) → codes_from at ms bytes ≡ Ok cs
-    → AllRise cs
+    → AllAscend cs
 unfolding codes_from
-in_codes at [] [] cs e = let none : [] ≡ cs = cc in subst AllRise none none_rise
+in_codes at [] [] cs e = let none : [] ≡ cs = cc in subst AllAscend none none_rise
 in_codes at [] (b ∷ bytes) cs e = absurd cc
 in_codes at (m ∷ ms) bytes cs e = by (m.offset == at) (λ next rest more g. in_codes next ms rest more g) e
   where
     by : (b : Bool) → ((next : ℕ) (rest : List ℕ) (more : List Code) → codes_from next ms rest ≡ Ok more
-        → AllRise more) → (if b then with_header at m bytes (method_header bytes) (λ next rest. codes_from next ms rest)
-        else Err at) ≡ Ok cs → AllRise cs
+        → AllAscend more) → (if b then with_header at m bytes (method_header bytes) (λ next rest. codes_from next ms rest)
+        else Err at) ≡ Ok cs → AllAscend cs
     by true later f = after_header at m bytes (method_header bytes) (λ next rest. codes_from next ms rest) cs later f
     by false later f = absurd cc
 
-where_cut : (r : Result (List Code) ℕ) → ((cs : List Code) → r ≡ Ok cs → AllRise cs) → AllRise (all_codes r)
+where_cut : (r : Result (List Code) ℕ) → ((cs : List Code) → r ≡ Ok cs → AllAscend cs) → AllAscend (all_codes r)
 where_cut (Ok cs) h = h cs refl
 where_cut (Err at) h = none_rise
 
 -- the instructions of all methods of components rise
-pub all_rise : (c : Complete) → AllRise (codes c)
+pub all_rise : (c : Complete) → AllAscend (codes c)
 all_rise c = where_cut (cut c) (λ cs e. in_codes _ _ _ cs e)
 
 -- ---- one of several
 
-pub rise_here : (code : Body) (rest : List Body) → AllRise (map code_of (code ∷ rest)) → Rises 0 (ats (map placed_of
+pub rise_here : (code : Body) (rest : List Body) → AllAscend (map code_of (code ∷ rest)) → Ascend (ats (map placed_of
     code.insns))
 rise_here code rest all = all 0 (code_of code) refl
 
-pub rise_later : (code : Body) (rest : List Body) → AllRise (map code_of (code ∷ rest)) → AllRise (map code_of rest)
+pub rise_later : (code : Body) (rest : List Body) → AllAscend (map code_of (code ∷ rest)) → AllAscend (map code_of rest)
 rise_later code rest all = λ k c is. all (suc k) c is
 
 pub body_here : (code : Body) (rest : List Body) → AreBodies (code ∷ rest) → IsBody code

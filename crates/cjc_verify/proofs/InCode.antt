@@ -20,27 +20,10 @@ use Rattle.cjc_types.specs.declared.state.State.{State}
 use Rattle.cjc_verify.specs.Bodies.{Body, frames_of, step}
 use Rattle.cjc_verify.specs.Pairs.{Pair}
 use Rattle.cjc_verify.specs.Working.Bodies.{InCode, in_code, in_method}
-use Rattle.cjc_verify.specs.Working.Codes.{Rises, ats}
+use Rattle.cjc_verify.specs.Working.Codes.{Ascend, ats}
 use Rattle.cjc_verify.specs.Working.Firsts.{IsFirstWhere}
 
 -- ---- offsets
-
-from_on : (from : ℕ) (xs : List ℕ) (k x : ℕ) → Rises from xs → slice_get xs k ≡ Some x → from ≤ x
-from_on from [] k x h is = absurd cc
-from_on from (y ∷ xs) zero x h is = let le = h.0 in let same : y ≡ x = cc in omega (arith, le, same)
-from_on from (y ∷ xs) (suc k) x h is = let le = h.0 in let more = from_on (y + 1) xs k x h.1 is in omega (arith, le,
-    more)
-
-in_turn : (from : ℕ) (xs : List ℕ) (i j x y : ℕ) → Rises from xs → slice_get xs i ≡ Some x → slice_get xs j ≡ Some y
-    → i < j → x < y
-in_turn from [] i j x y h is_x is_y lt = absurd cc
-in_turn from (z ∷ xs) zero zero x y h is_x is_y lt = absurd (omega (arith, lt))
-in_turn from (z ∷ xs) zero (suc j) x y h is_x is_y lt =
-    let same : z ≡ x = cc in
-    let more = from_on (z + 1) xs j y h.1 is_y in
-    omega (arith, more, same)
-in_turn from (z ∷ xs) (suc i) zero x y h is_x is_y lt = absurd (omega (arith, lt))
-in_turn from (z ∷ xs) (suc i) (suc j) x y h is_x is_y lt = in_turn (z + 1) xs i j x y h.1 is_x is_y (omega (arith, lt))
 
 step_at : (p : Pair) (r : ValueType) (is : List (Placed Instruction)) (k : ℕ) (s : Step)
     → slice_get (map (step p r) is) k ≡ Some s → slice_get (ats is) k ≡ Some s.at
@@ -80,7 +63,7 @@ no_breach is_of b rows others place rule least other none breach =
     (one_least b others rows other least) breach)
 
 not_after : (p : Pair) (b : Body) (rows others : List (Option State)) (place rule other_place other_rule : ℕ)
-    → Rises 0 (ats b.instructions) → IsLeastTable (frames_of p b) rows → IsLeastTable (frames_of p b) others
+    → Ascend (ats b.instructions) → IsLeastTable (frames_of p b) rows → IsLeastTable (frames_of p b) others
     → (first : FirstBreach (is_type_of p.loaded) (frames_of p b) rows place rule)
     → (breach : Breach (is_type_of p.loaded) (frames_of p b) others other_place other_rule)
     → NotAfter (break_at rule (in_info 7 first.breach.step.at)).rank
@@ -95,12 +78,12 @@ not_after p b rows others place rule other_place other_rule rise least other fir
     in_order rule other_rule one.step.at breach.step.at (family one.state rule one.breaks)
     (family breach.state other_rule breach.breaks)
     (⊎_elim
-    (λ lt. inl (in_turn 0 (ats b.instructions) place other_place one.step.at breach.step.at rise at at_other lt))
+    (λ lt. inl (rise place other_place one.step.at breach.step.at at at_other lt))
     (λ e. let same : Some one.step.at ≡ Some breach.step.at = sym at ∙ ap (slice_get (ats b.instructions)) e.0
         ∙ at_other in inr (cc, e.1))
     (first.first other_place other_rule moved))
 
-pub code_first : (p : Pair) (b : Body) (o : Option BrokenAt) → Rises 0 (ats b.instructions)
+pub code_first : (p : Pair) (b : Body) (o : Option BrokenAt) → Ascend (ats b.instructions)
     → MatchOption o (IsUnbroken (is_type_of p.loaded) (frames_of p b)) (λ (x : BrokenAt). IsBrokenAt
     (is_type_of p.loaded) (frames_of p b) x.offset x.rule)
     → IsFirstWhere (InCode p b) (option_map in_method o)

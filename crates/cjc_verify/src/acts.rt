@@ -521,7 +521,7 @@ pub(crate) fn act(
     placed: &At<'_>,
 ) -> Result<Act, NoMemory>
     requires { IsAt placed.now }
-    ensures { IfOk result (λ act. act ≡ act pair.now (type_told type_.entry) (placed_of placed.now)) }
+    ensures { IfOk result (λ made. made ≡ act pair.now (type_told type_.entry) (placed_of placed.now)) }
 {
     act_by(alloc, pair, type_, placed, row(placed.insn.opcode))
 }

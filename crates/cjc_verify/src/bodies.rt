@@ -9,7 +9,7 @@ ghost use Rattle.cjc_card_acts.specs.Told.{type_told};
 ghost use Rattle.cjc_check.specs.Codes.Bodies.{AllAt, IsAt, placed_of};
 ghost use Rattle.cjc_check_rules.specs.Spots.{first};
 ghost use Rattle.cjc_frames.specs.Tables.{IsBrokenAt, IsUnbroken};
-ghost use Rattle.cjc_verify.specs.Bodies.{catch, catches, caught_type, frames_of, step, type_of_body};
+ghost use Rattle.cjc_verify.specs.Bodies.{catch, catches as all_catches, caught_type, frames_of, step, type_of_body};
 ghost use Rattle.cjc_verify.specs.Headers.{header_spots, is_fit_header};
 ghost use Rattle.cjc_verify.specs.Working.Arguments.{receiver_by};
 ghost use Rattle.cjc_verify.specs.Working.Bodies.{InBodies, InBody, body_of, has_code_at, in_method};
@@ -19,7 +19,7 @@ use crate::acts::act;
 use crate::breaks::{break_at, break_if, either};
 use crate::class_types::class_type;
 use crate::kinds::Kinds;
-use crate::listed::MethodBody;
+use crate::method_body::MethodBody;
 use crate::named::throwable;
 use crate::package::Package;
 use cjc_bytes::{Break, BrokenAt, Bytes, NoMemory, Row, is_static};
@@ -86,7 +86,7 @@ fn catch(alloc: Global, pair: &Package<'_>, handler: &Handler) -> Result<Catch, 
 
 /// The handlers of the package.
 pub(crate) fn catches(alloc: Global, pair: &Package<'_>) -> Result<Row<Catch>, NoMemory>
-    ensures { IfOk result (λ all. all ≡ catches pair.now) }
+    ensures { IfOk result (λ all. all ≡ all_catches pair.now) }
 {
     let mut catches = Row::new(alloc);
     for handler in pair.parts.method.handlers.items() {
@@ -193,7 +193,7 @@ fn first_in_code(
     body: &MethodBody<'_, '_>,
     type_: &MemberType<'_>,
 ) -> Result<Option<BrokenAt>, NoMemory>
-    requires catches { catches.now ≡ catches pair.now }
+    requires catches { catches.now ≡ all_catches pair.now }
     requires type_ { type_.now ≡ type_of_body pair.now.components (body_of body.now) }
     ensures { IfOk result (λ broken. MatchOption broken (IsUnbroken (is_type_of pair.now.loaded) (frames_of pair.now
         (body_of body.now))) (λ b. IsBrokenAt (is_type_of pair.now.loaded) (frames_of pair.now (body_of body.now))
@@ -240,7 +240,7 @@ fn body_break(
     catches: &[Catch],
     body: &MethodBody<'_, '_>,
 ) -> Result<Option<Break<'static>>, NoMemory>
-    requires { catches.now ≡ catches pair.now }
+    requires { catches.now ≡ all_catches pair.now }
     ensures { IfOk result (λ b. IsFirstWhere (InBody pair.now (body_of body.now)) (option_map break_of b)) }
 {
     let type_ = type_at(alloc, pair.parts.descriptor, body.method.type_offset)?;

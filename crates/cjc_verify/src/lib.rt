@@ -12,6 +12,7 @@ mod infos;
 mod kinds;
 mod listed;
 mod members;
+mod method_body;
 mod methods;
 mod named;
 mod package;

@@ -13,8 +13,9 @@ ghost use Rattle.cjc_check_rules.specs.Codes.{all_codes, methods_begin};
 ghost use Rattle.cjc_check_rules.specs.Complete.{AreSmall};
 ghost use Rattle.cjc_verify.specs.Bodies.{bodies_of, body_with, header_at, listed, listed_in};
 ghost use Rattle.cjc_verify.specs.Working.Bodies.{body_of, listed_where};
-ghost use Rattle.cjc_verify.specs.Working.Codes.{AllRise, Rises, ats};
+ghost use Rattle.cjc_verify.specs.Working.Codes.{AllAscend, Ascend, ats};
 
+use crate::method_body::MethodBody;
 use cjc_bytes::{NoMemory, Row};
 use cjc_capread::decoder::{Header, method_header};
 use cjc_capread::{ClassDescriptor, ClassRef, MethodDescriptor};
@@ -27,17 +28,6 @@ use std::alloc::Global;
 pub(crate) struct Listed {
     pub(crate) holder: ClassRef,
     pub(crate) method: MethodDescriptor,
-}
-
-/// A method with its header and its code.
-#[derive(Drop)]
-pub(crate) struct MethodBody<'a, 'b> {
-    pub(crate) holder: ClassRef,
-    pub(crate) method: MethodDescriptor,
-    pub(crate) header: Header,
-    pub(crate) code: &'a Body<'b>,
-    pub(crate) ghost whole: { IsBody code.now },
-    pub(crate) ghost rises: { Rises 0 (ats (map placed_of code.now.insns)) },
 }
 
 // ---- methods as Descriptor lists them
@@ -138,7 +128,7 @@ fn put_body<'a, 'b>(
 ) -> Result<(), NoMemory>
     requires small { AreSmall (complete_of parts.now) }
     requires whole { IsBody code.now }
-    requires rises { Rises 0 (ats (map placed_of code.now.insns)) }
+    requires rises { Ascend (ats (map placed_of code.now.insns)) }
     ensures { OnOk result (map body_of all.new ≡ map body_of all.old ++ body_with listed (header_at
         (complete_of parts.now) listed.method.offset) (code_of code.now)) }
 {
@@ -162,7 +152,7 @@ pub(crate) fn bodies<'a, 'b>(
 ) -> Result<Row<MethodBody<'a, 'b>>, NoMemory>
     requires small { AreSmall (complete_of parts.now) }
     requires kept { AreBodies codes.now }
-    requires rise { AllRise (map code_of codes.now) }
+    requires rise { AllAscend (map code_of codes.now) }
     ensures { IfOk result (λ all. map body_of all ≡ bodies_of (complete_of parts.now) listed.now
         (map code_of codes.now)) }
 {

@@ -17,7 +17,7 @@ use Rattle.cjc_verify.specs.Headers.{has_code, header_spots}
 use Rattle.cjc_verify.specs.Named.{holds}
 use Rattle.cjc_verify.specs.Pairs.{Pair, method_at}
 use Rattle.cjc_verify.specs.declared.listed.Listed.{Listed}
-use Rattle.cjc_verify.specs.declared.listed.MethodBody.{MethodBody}
+use Rattle.cjc_verify.specs.declared.method_body.MethodBody.{MethodBody}
 
 -- the methods of a class of the package that is no interface
 abbrev pub listed_where : ClassInfo → ClassDescriptor → List Listed

@@ -3,7 +3,7 @@ use Rattle.cjc_check.specs.Codes.Bodies.{AreBodies, code_of}
 use Rattle.cjc_check_index.specs.Lookup.Parts.{complete_of}
 use Rattle.cjc_verify.specs.Bodies.{bodies_of}
 use Rattle.cjc_verify.specs.Working.Bodies.{body_of}
-use Rattle.cjc_verify.specs.Working.Codes.{AllRise}
+use Rattle.cjc_verify.specs.Working.Codes.{AllAscend}
 use Rattle.cjc_verify.proofs.listed.bodies.Given as goal
 
 abbrev pub invariant-loop-method : goal.invariant-loop-method
@@ -13,7 +13,7 @@ invariant-loop-method l =
       so_far : map body_of l.all ++ bodies_of c l.left (map code_of l.cut) ≡ bodies_of c l.listed (map code_of
       l.codes);
       kept : AreBodies l.cut;
-      rise : AllRise (map code_of l.cut);
+      rise : AllAscend (map code_of l.cut);
     }
 
 abbrev pub decreases-loop-method : goal.decreases-loop-method
