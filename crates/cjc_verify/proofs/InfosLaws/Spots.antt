@@ -1,6 +1,6 @@
 -- Rules over Class are differences from the infos that the package wants.
 use Rattle.std.proofs.Common.{◌≡◌, ℕ, ◌+◌, ◌*◌, Bool, true, false, List, [], ◌∷◌, ◌++◌, length, drop, map, refl, sym, ap, ◌∙◌}
-use Rattle.std.specs.Prelude.{◌&&◌, ◌==◌, ◌||◌, not, if◌then◌else◌, sum_by}
+use Rattle.std.specs.Prelude.{◌&&◌, ◌==◌, if◌then◌else◌, sum_by}
 use Rattle.cjc_bytes.specs.AccessFlags.{is_interface}
 use Rattle.cjc_bytes.proofs.Lists.{length_mapped}
 use Rattle.cjc_capread.specs.declared.tree.ClassEntry.{ClassEntry}
@@ -16,8 +16,6 @@ use Rattle.cjc_check_rules.specs.Complete.{class_size, interface_size, map_size}
 use Rattle.cjc_check_rules.specs.Spots.{beside, in_info, unless}
 use Rattle.cjc_components.specs.Class.{fields_of, first_reference_token, implemented, info_flags, interface_entry}
 use Rattle.cjc_components.specs.Class.{reference_count, superclass}
-use Rattle.cjc_components.specs.VTable.declared.table.ClassTable.{ClassTable}
-use Rattle.cjc_components.specs.VTable.declared.table.InterfaceMap.{InterfaceMap}
 use Rattle.cjc_components.specs.VTable.Tables.{table_of}
 use Rattle.cjc_tokens.specs.Fields.{instance_cells}
 use Rattle.cjc_world.specs.Classes.{Class}

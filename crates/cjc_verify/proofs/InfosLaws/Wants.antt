@@ -24,7 +24,7 @@ use Rattle.cjc_order.specs.Classes.Numbers.{declared_at}
 use Rattle.cjc_classes.specs.ClassInfo.Entries.{entry_by, entry_by_offset, with_numbers}
 use Rattle.cjc_verify.specs.Infos.{public_entry}
 use Rattle.cjc_verify.specs.Pairs.{Pair, class_ref, method_offset, world}
-use Rattle.cjc_verify.specs.WantedBy.{class_by, class_where, classes_by, interface_by, interfaces_by}
+use Rattle.cjc_verify.specs.WantedBy.{class_where, classes_by, interface_by, interfaces_by}
 use Rattle.cjc_verify.specs.WantedInfos.{wanted_entry, wanted_info, wanted_infos}
 use Rattle.cjc_verify.specs.declared.infos.wanted.Wanted.{Wanted}
 use Rattle.cjc_verify.specs.declared.infos.wanted.Wanted.TheVariants as wanted
