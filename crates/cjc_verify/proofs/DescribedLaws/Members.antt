@@ -1,5 +1,5 @@
 -- The classes that code puts together for Descriptor are those that the package wants.
-use Rattle.std.proofs.Common.{◌≡◌, ℕ, zero, suc, ◌+◌, ◌-◌, Bool, true, false, List, [], ◌∷◌, ◌++◌, map, length}
+use Rattle.std.proofs.Common.{◌≡◌, ℕ, suc, ◌+◌, ◌-◌, Bool, true, false, List, [], ◌∷◌, ◌++◌, map, length}
 use Rattle.std.proofs.Common.{slice_get, refl, sym, ap, ◌∙◌, arith, Some}
 use Rattle.std.specs.Prelude.{if◌then◌else◌, option_map, option_and_then, unwrap_or, codes}
 use Rattle.std.specs.List.{flat_map}
@@ -33,9 +33,8 @@ use Rattle.cjc_world.specs.Order.{class_order, methods_of_class, places, written
 use Rattle.cjc_verify.specs.Described.{fields_from, member_token}
 use Rattle.cjc_verify.specs.Pairs.{Pair, class_ref, nibbles_of, world}
 use Rattle.cjc_verify.specs.WantedDescribed.{wanted_class, wanted_classes, wanted_field, wanted_method, wanted_type}
-use Rattle.cjc_verify.specs.WantedMembers.{Inputs, added_by, card_nibbles, class_by, class_where, classes_by, field_by}
+use Rattle.cjc_verify.specs.WantedMembers.{Inputs, added_by, class_by, class_where, classes_by, field_by}
 use Rattle.cjc_verify.specs.WantedMembers.{fields_by, method_by, methods_by, own_methods_by, type_by}
-use Rattle.cjc_verify.specs.declared.described.wanted.WantedClass.{WantedClass}
 use Rattle.cjc_verify.specs.declared.described.wanted.WantedField.{WantedField}
 use Rattle.cjc_verify.specs.declared.described.wanted.WantedMethod.{WantedMethod}
 
