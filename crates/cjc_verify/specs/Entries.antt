@@ -8,7 +8,7 @@ use Rattle.cjc_tokens.specs.Tokens.{method_of_token}
 use Rattle.cjc_world.specs.ClassFile.declared.tree.ClassTree.{ClassTree}
 use Rattle.cjc_world.specs.ClassFile.declared.tree.FieldTree.{FieldTree}
 use Rattle.cjc_world.specs.ExportFile.declared.tree.ExportClass.{ExportClass}
-use Rattle.cjc_world.specs.Classes.{Class, Member, all_classes, class_at, method_of_export}
+use Rattle.cjc_world.specs.Classes.{Class, all_classes, class_at, method_of_export}
 use Rattle.cjc_world.specs.Files.{Files}
 use Rattle.cjc_verify.specs.Named.{found_desc}
 use Rattle.cjc_verify.specs.Pairs.{Pair}

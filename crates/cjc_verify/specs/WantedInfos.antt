@@ -1,5 +1,5 @@
 -- The infos that a package wants of Class (Java Card Virtual Machine Specification 2.2.2, section 6.8).
-use Rattle.std.specs.Prelude.{ℕ, List, map, if◌then◌else◌}
+use Rattle.std.specs.Prelude.{List, map, if◌then◌else◌}
 use Rattle.cjc_bytes.specs.AccessFlags.{is_interface}
 use Rattle.cjc_components.specs.CapRead.declared.tree.ClassEntry.{ClassEntry}
 use Rattle.cjc_world.specs.Classes.{Class}

@@ -1,9 +1,8 @@
 -- Descriptors of members that entries of the constant pool name, as code looks for them.
 use Rattle.std.proofs.Common.{◌≡◌, ℕ, zero, suc, ◌-◌, ◌<◌, ◌==◌, Bool, true, false, List, [], ◌∷◌, ◌++◌, append-nil, length, map}
-use Rattle.std.proofs.Common.{refl, sym, ap, subst, ◌∙◌, Option, Some, None}
-use Rattle.std.specs.Prelude.{if◌then◌else◌, is_some, not, option_and_then, option_map, position, slice_get, unwrap_or}
+use Rattle.std.proofs.Common.{refl, sym, ap, ◌∙◌, Option, Some, None}
+use Rattle.std.specs.Prelude.{if◌then◌else◌, is_some, option_and_then, option_map, position, slice_get, unwrap_or}
 use Rattle.std.specs.List.{find}
-use Rattle.cjc_bytes.proofs.Bools.{both_front}
 use Rattle.cjc_bytes.proofs.Gets.{get_below, get_mapped}
 use Rattle.cjc_bytes.proofs.Lists.{length_mapped, map_map}
 use Rattle.cjc_bytes.specs.declared.fault.MemberId.{MemberId}
@@ -18,7 +17,7 @@ use Rattle.cjc_check_rules.specs.Classes.{imported as imported_class}
 use Rattle.cjc_classes.specs.Descriptor.Keys.{key_cell}
 use Rattle.cjc_components.proofs.TokensFacts.{position-cons}
 use Rattle.cjc_components.proofs.VTableNumbers.{at-kind, at-tree}
-use Rattle.cjc_components.specs.Descriptor.{as_added, method_in, methods_with_added, no_member}
+use Rattle.cjc_components.specs.Descriptor.{as_added, method_in, no_member}
 use Rattle.cjc_components.specs.NCode.declared.narrow.PoolKey.{PoolKey}
 use Rattle.cjc_components.specs.NCode.declared.narrow.PoolKey.TheVariants.{StaticField}
 use Rattle.cjc_components.specs.Statics.{cell_offset, cell_order}
@@ -26,7 +25,7 @@ use Rattle.cjc_export.specs.Supers.{classes_of, upwards}
 use Rattle.cjc_export.specs.declared.tree.ExportClass.{ExportClass}
 use Rattle.cjc_export.specs.declared.tree.ExportTree.{ExportTree}
 use Rattle.cjc_order.specs.Classes.Numbers.{declared_at}
-use Rattle.cjc_world.specs.Added.{added, added_at, takes_added}
+use Rattle.cjc_world.specs.Added.{added, added_at}
 use Rattle.cjc_world.specs.ClassFile.declared.tree.ClassTree.{ClassTree}
 use Rattle.cjc_world.specs.ClassFile.declared.tree.FieldTree.{FieldTree}
 use Rattle.cjc_world.specs.Classes.{Class, Member, all_classes, declared, field_of_class, field_of_export}
@@ -42,7 +41,6 @@ use Rattle.cjc_verify.specs.Pairs.{Described, Pair, class_at, class_ref, member_
 use Rattle.cjc_verify.specs.WantedDescribed.{wanted_entry}
 use Rattle.cjc_verify.specs.WantedMembers.{card_nibbles}
 use Rattle.cjc_verify.specs.Working.Methods.{facts_of, member_by}
-use Rattle.cjc_verify.specs.declared.described.wanted.WantedEntry.{WantedEntry}
 use Rattle.cjc_verify.specs.declared.described.wanted.WantedEntry.TheVariants as entries
 use Rattle.cjc_verify.specs.declared.methods.KnownMethod.{KnownMethod}
 use Rattle.cjc_verify.proofs.DescribedLaws.TypesFound.{one_later}

@@ -1,5 +1,5 @@
 -- The classes that code puts together for Descriptor are those that the package wants.
-use Rattle.std.proofs.Common.{◌≡◌, ℕ, zero, suc, ◌+◌, ◌-◌, Bool, true, false, List, [], ◌∷◌, ◌++◌, map, length}
+use Rattle.std.proofs.Common.{◌≡◌, ℕ, suc, ◌+◌, ◌-◌, Bool, true, false, List, [], ◌∷◌, ◌++◌, map, length}
 use Rattle.std.proofs.Common.{slice_get, refl, sym, ap, ◌∙◌, arith, Some}
 use Rattle.std.specs.Prelude.{if◌then◌else◌, option_map, option_and_then, unwrap_or, codes}
 use Rattle.std.specs.List.{flat_map}
@@ -10,7 +10,6 @@ use Rattle.std.proofs.lemmas.Option.{slice_get-map}
 use Rattle.cjc_bytes.specs.AccessFlags.{is_static}
 use Rattle.cjc_bytes.proofs.Gets.{get_behind, in_front}
 use Rattle.cjc_classes.proofs.TypeInfo.Order.{added_is, along_order}
-use Rattle.cjc_classes.specs.ClassInfo.Refs.{ref_of}
 use Rattle.cjc_classes.specs.Descriptor.Working.Described.{number_in}
 use Rattle.cjc_components.specs.CapRead.declared.tree.ClassRef.{ClassRef}
 use Rattle.cjc_components.specs.CapRead.declared.tree.FieldPlace.TheVariants as places
@@ -32,13 +31,10 @@ use Rattle.cjc_world.specs.Added.{added, named_by}
 use Rattle.cjc_world.specs.Lookup.{member_at}
 use Rattle.cjc_world.specs.Order.{class_order, methods_of_class, places, written}
 use Rattle.cjc_verify.specs.Described.{fields_from, member_token}
-use Rattle.cjc_verify.specs.Made.{inputs_of}
 use Rattle.cjc_verify.specs.Pairs.{Pair, class_ref, nibbles_of, world}
 use Rattle.cjc_verify.specs.WantedDescribed.{wanted_class, wanted_classes, wanted_field, wanted_method, wanted_type}
-use Rattle.cjc_verify.specs.WantedMembers.{Inputs, added_by, card_nibbles, class_by, class_where, classes_by, field_by}
+use Rattle.cjc_verify.specs.WantedMembers.{Inputs, added_by, class_by, class_where, classes_by, field_by}
 use Rattle.cjc_verify.specs.WantedMembers.{fields_by, method_by, methods_by, own_methods_by, type_by}
-use Rattle.cjc_verify.specs.declared.described.made.Made.{Made}
-use Rattle.cjc_verify.specs.declared.described.wanted.WantedClass.{WantedClass}
 use Rattle.cjc_verify.specs.declared.described.wanted.WantedField.{WantedField}
 use Rattle.cjc_verify.specs.declared.described.wanted.WantedMethod.{WantedMethod}
 
@@ -50,12 +46,13 @@ cells_of p = let files = p.files in map (λ c. map (λ f. cell_offset p.image (f
 abbrev pub made_of : Pair → Inputs
 made_of p = record { files = p.files; tokens = p.tokens; ref = class_ref p; cells = cells_of p }
 
-pub inputs_are : (p : Pair) (q : Made) → p.files ≡ q.world.now → p.tokens ≡ q.tokens.now
-    → ((name : List ℕ) → ref_of q.refs.now name ≡ class_ref p name) → q.cells.now ≡ cells_of p → inputs_of q ≡ made_of p
-inputs_are p q by_files by_tokens by_refs by_cells =
-    let files : q.world.now ≡ p.files = sym by_files in
-    let tokens : q.tokens.now ≡ p.tokens = sym by_tokens in
-    (λ i. record { files = files i; tokens = tokens i; ref = λ name. by_refs name i; cells = by_cells i })
+pub inputs_are : (p : Pair) (files : Files) (tokens : Assigned) (ref : List ℕ → ClassRef) (cells : List (List ℕ))
+    → p.files ≡ files → p.tokens ≡ tokens → ((name : List ℕ) → ref name ≡ class_ref p name) → cells ≡ cells_of p
+    → record { files = files; tokens = tokens; ref = ref; cells = cells } ≡ made_of p
+inputs_are p files tokens ref cells by_files by_tokens by_refs by_cells =
+    let same_files : files ≡ p.files = sym by_files in
+    let same_tokens : tokens ≡ p.tokens = sym by_tokens in
+    (λ i. record { files = same_files i; tokens = same_tokens i; ref = λ name. by_refs name i; cells = by_cells i })
 
 module _ (p : Pair) (n : ℕ) (t : ClassTree) (there : slice_get (let files = p.files in files.classes) n ≡ Some t) where
   -- ---- fields

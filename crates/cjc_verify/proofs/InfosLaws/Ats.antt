@@ -4,7 +4,7 @@ use Rattle.std.proofs.Common.{append_assoc, append-nil, get_or, refl, sym, ap, �
 use Rattle.std.specs.Prelude.{if◌then◌else◌, Option, Some, None, option_map, slice_get, unwrap_or}
 use Rattle.std.specs.List.{find}
 use Rattle.std.proofs.lemmas.List.{map-append}
-use Rattle.cjc_bytes.proofs.Gets.{drop_next, drop_past, get_past, one_taken, take_past}
+use Rattle.cjc_bytes.proofs.Gets.{drop_next, drop_past, one_taken, take_past}
 use Rattle.cjc_components.specs.CapRead.declared.tree.ClassDescriptor.{ClassDescriptor}
 use Rattle.cjc_components.specs.CapRead.declared.tree.ClassRef.{ClassRef}
 use Rattle.cjc_components.specs.CapRead.declared.tree.MethodDescriptor.{MethodDescriptor}

@@ -1,6 +1,6 @@
 -- Rules over Class are differences from the infos that the package wants.
 use Rattle.std.proofs.Common.{◌≡◌, ℕ, ◌+◌, ◌*◌, Bool, true, false, List, [], ◌∷◌, ◌++◌, length, drop, map, refl, sym, ap, ◌∙◌}
-use Rattle.std.specs.Prelude.{◌&&◌, ◌==◌, ◌||◌, not, if◌then◌else◌, sum_by}
+use Rattle.std.specs.Prelude.{◌&&◌, ◌==◌, if◌then◌else◌, sum_by}
 use Rattle.cjc_bytes.specs.AccessFlags.{is_interface}
 use Rattle.cjc_bytes.proofs.Lists.{length_mapped}
 use Rattle.cjc_capread.specs.declared.tree.ClassEntry.{ClassEntry}
@@ -14,10 +14,8 @@ use Rattle.cjc_check_rules.specs.ClassRefs.{maps_begin}
 use Rattle.cjc_check_rules.specs.Classes.{first_class, first_interface}
 use Rattle.cjc_check_rules.specs.Complete.{class_size, interface_size, map_size}
 use Rattle.cjc_check_rules.specs.Spots.{beside, in_info, unless}
-use Rattle.cjc_components.specs.Class.{fields_of, first_reference_token, implemented, info_flags, reference_count}
-use Rattle.cjc_components.specs.Class.{superclass}
-use Rattle.cjc_components.specs.VTable.declared.table.ClassTable.{ClassTable}
-use Rattle.cjc_components.specs.VTable.declared.table.InterfaceMap.{InterfaceMap}
+use Rattle.cjc_components.specs.Class.{fields_of, first_reference_token, implemented, info_flags, interface_entry}
+use Rattle.cjc_components.specs.Class.{reference_count, superclass}
 use Rattle.cjc_components.specs.VTable.Tables.{table_of}
 use Rattle.cjc_tokens.specs.Fields.{instance_cells}
 use Rattle.cjc_world.specs.Classes.{Class}
@@ -25,13 +23,14 @@ use Rattle.cjc_world.specs.Order.{class_order}
 use Rattle.std.proofs.lemmas.List.Sums.{sum_by-cons}
 use Rattle.cjc_verify.specs.Abstracts.{abstract_beside, all_abstract_beside}
 use Rattle.cjc_verify.specs.Infos.{abstract_spots, all_abstract_spots, all_info_spots, all_table_spots, class_spots}
-use Rattle.cjc_verify.specs.Infos.{entries_differ, head_of, info_spots, infos, map_interface, map_spots, public_entry}
-use Rattle.cjc_verify.specs.Infos.{table_items, table_spots}
+use Rattle.cjc_verify.specs.Infos.{entries_differ, head_of, info_spots, infos, interface_spots, map_interface, map_spots}
+use Rattle.cjc_verify.specs.Infos.{public_entry, table_items, table_spots}
 use Rattle.cjc_verify.specs.Named.{is_unmade}
 use Rattle.cjc_verify.specs.Pairs.{Pair, class_ref, method_offset, world}
 use Rattle.cjc_verify.specs.Wanted.{all_beside, all_tables_beside, class_beside, class_differs, interface_beside}
 use Rattle.cjc_verify.specs.Wanted.{map_differs, map_interface_differs, tables_beside, tables_differ}
 use Rattle.cjc_verify.specs.WantedInfos.{wanted_entry, wanted_info, wanted_infos}
+use Rattle.cjc_verify.specs.declared.infos.wanted.Wanted.TheVariants as wanted
 use Rattle.cjc_verify.proofs.InfosLaws.Besides.{behind, dropped, items_by, nothing, others_by}
 
 -- ---- interfaces, then classes
@@ -92,34 +91,35 @@ class_differs_so p at x y =
 
 interface_so : (p : Pair) (at : ℕ) (i : InterfaceEntry) (y : Class) → info_spots p at (IsInterface i) y
     ≡ interface_beside at i (wanted_info p y)
-interface_so p at i y = by (is_interface y.flags) refl
+interface_so p at i y = by (is_interface y.flags)
   where
-    by : (b : Bool) → is_interface y.flags ≡ b → info_spots p at (IsInterface i) y
-        ≡ interface_beside at i (wanted_info p y)
-    by true e = rw e refl
-    by false e = rw e refl
+    by : (b : Bool) → (if b then interface_spots p at i y else in_info 6 at ∷ []) ≡ interface_beside at i (if b
+        then wanted.Interface (interface_entry (class_ref p) (world p) y) else wanted.Class (wanted_entry p y))
+    by true = refl
+    by false = refl
 
 class_so : (p : Pair) (at : ℕ) (x : ClassEntry) (y : Class) → info_spots p at (IsClass x) y
     ≡ class_beside at x (wanted_info p y)
-class_so p at x y = by (is_interface y.flags) refl
+class_so p at x y = by (is_interface y.flags)
   where
-    by : (b : Bool) → is_interface y.flags ≡ b → info_spots p at (IsClass x) y ≡ class_beside at x (wanted_info p y)
-    by true e = rw e refl
-    by false e = rw e (class_differs_so p at x y)
+    by : (b : Bool) → (if b then in_info 6 at ∷ [] else class_spots p at x y) ≡ class_beside at x (if b
+        then wanted.Interface (interface_entry (class_ref p) (world p) y) else wanted.Class (wanted_entry p y))
+    by true = refl
+    by false = class_differs_so p at x y
 
 pub infos_beside_wanted : (p : Pair) → all_info_spots p ≡ all_beside p.components.class (wanted_infos p)
 infos_beside_wanted p =
     let c = p.components.class in
     let order = class_order (world p) in
-    let wanted = wanted_info p in
+    let made = wanted_info p in
     of_infos (info_spots p) c order
     ∙ ap (λ (s : List ComponentPlace). s ++ beside class_size (λ k x y. info_spots p k (IsClass x) y) (first_class c)
     c.classes (drop (length c.interfaces) order)) (others_by interface_size (λ k i y. info_spots p k (IsInterface i) y)
-    interface_beside wanted (interface_so p) first_interface c.interfaces order)
+    interface_beside made (interface_so p) first_interface c.interfaces order)
     ∙ ap (λ (s : List ComponentPlace). beside interface_size interface_beside first_interface c.interfaces
-    (map wanted order) ++ s) (others_by class_size (λ k x y. info_spots p k (IsClass x) y) class_beside wanted
+    (map made order) ++ s) (others_by class_size (λ k x y. info_spots p k (IsClass x) y) class_beside made
     (class_so p) (first_class c) c.classes (drop (length c.interfaces) order)
-    ∙ ap (beside class_size class_beside (first_class c) c.classes) (sym (dropped wanted (length c.interfaces) order)))
+    ∙ ap (beside class_size class_beside (first_class c) c.classes) (sym (dropped made (length c.interfaces) order)))
 
 -- ---- 725
 
@@ -149,23 +149,24 @@ tables_differ_so p at x y =
 
 table_so : (p : Pair) (at : ℕ) (x : ClassEntry) (y : Class) → table_spots p at (IsClass x) y
     ≡ tables_beside at x (wanted_info p y)
-table_so p at x y = by (is_interface y.flags) refl
+table_so p at x y = by (is_interface y.flags)
   where
-    by : (b : Bool) → is_interface y.flags ≡ b → table_spots p at (IsClass x) y ≡ tables_beside at x (wanted_info p y)
-    by true e = rw e refl
-    by false e = rw e (ap head_of (tables_differ_so p at x y))
+    by : (b : Bool) → (if b then [] else head_of (table_items p at x (table_of (world p) y))) ≡ tables_beside at x (if b
+        then wanted.Interface (interface_entry (class_ref p) (world p) y) else wanted.Class (wanted_entry p y))
+    by true = refl
+    by false = ap head_of (tables_differ_so p at x y)
 
 pub tables_beside_wanted : (p : Pair) → all_table_spots p ≡ all_tables_beside p.components.class (wanted_infos p)
 tables_beside_wanted p =
     let c = p.components.class in
     let order = class_order (world p) in
-    let wanted = wanted_info p in
+    let made = wanted_info p in
     of_infos (table_spots p) c order
     ∙ ap (λ (s : List ComponentPlace). s ++ beside class_size (λ k x y. table_spots p k (IsClass x) y) (first_class c)
     c.classes (drop (length c.interfaces) order)) (nothing interface_size first_interface c.interfaces order)
-    ∙ others_by class_size (λ k x y. table_spots p k (IsClass x) y) tables_beside wanted (table_so p) (first_class c)
+    ∙ others_by class_size (λ k x y. table_spots p k (IsClass x) y) tables_beside made (table_so p) (first_class c)
     c.classes (drop (length c.interfaces) order)
-    ∙ ap (beside class_size tables_beside (first_class c) c.classes) (sym (dropped wanted (length c.interfaces) order))
+    ∙ ap (beside class_size tables_beside (first_class c) c.classes) (sym (dropped made (length c.interfaces) order))
 
 -- ---- 727 at a class
 

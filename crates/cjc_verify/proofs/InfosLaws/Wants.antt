@@ -24,7 +24,7 @@ use Rattle.cjc_order.specs.Classes.Numbers.{declared_at}
 use Rattle.cjc_classes.specs.ClassInfo.Entries.{entry_by, entry_by_offset, with_numbers}
 use Rattle.cjc_verify.specs.Infos.{public_entry}
 use Rattle.cjc_verify.specs.Pairs.{Pair, class_ref, method_offset, world}
-use Rattle.cjc_verify.specs.WantedBy.{class_by, class_where, classes_by, interface_by, interfaces_by}
+use Rattle.cjc_verify.specs.WantedBy.{class_where, classes_by, interface_by, interfaces_by}
 use Rattle.cjc_verify.specs.WantedInfos.{wanted_entry, wanted_info, wanted_infos}
 use Rattle.cjc_verify.specs.declared.infos.wanted.Wanted.{Wanted}
 use Rattle.cjc_verify.specs.declared.infos.wanted.Wanted.TheVariants as wanted
@@ -88,7 +88,10 @@ numbers_are trees (n ∷ ns) (c ∷ cs) e =
 
 interface_so : (p : Pair) (c : Class) → is_of_kind true c ≡ true → interface_by (class_ref p) (world p) c
     ≡ wanted_info p c
-interface_so p c kind = rw kind refl
+interface_so p c kind =
+    let either : Bool → Wanted = λ b. if b then wanted.Interface (interface_entry (class_ref p) (world p) c)
+    else wanted.Class (wanted_entry p c) in
+    sym (ap either kind)
 
 -- ---- classes
 
@@ -124,7 +127,11 @@ class_so : (p : Pair) (n : ℕ) (tree : ClassTree) → slice_get p.files.classes
     → is_interface tree.flags ≡ false
     → wanted.Class (entry_by (class_ref p) (method_offset p) (world p) (table_of (world p) (declared n tree)) tree)
     ≡ wanted_info p (declared n tree)
-class_so p n tree at kind = rw kind (ap wanted.Class (entry_so p n tree at))
+class_so p n tree at kind =
+    let c = declared n tree in
+    let either : Bool → Wanted = λ b. if b then wanted.Interface (interface_entry (class_ref p) (world p) c)
+    else wanted.Class (wanted_entry p c) in
+    ap wanted.Class (entry_so p n tree at) ∙ sym (ap either kind)
 
 classes_so : (p : Pair) (cs : List Class) → AllByRecursion (λ (c : Class). is_of_kind false c ≡ true) cs
     → map Some cs ≡ map (λ c. declared_at p.files.classes c.number) cs

@@ -1,6 +1,5 @@
-use Rattle.std.proofs.Common.{◌≡◌, ◌∙◌, ℕ, Bool, List, Some, Option, map, refl, sym, ap, subst}
+use Rattle.std.proofs.Common.{◌≡◌, ◌∙◌, Bool, List, map, refl, sym, ap, subst}
 use Rattle.cjc_check_rules.specs.Spots.{first}
-use Rattle.cjc_check_rules.specs.declared.spot.ComponentPlace.{ComponentPlace}
 use Rattle.cjc_tokens.specs.Tokens.{assigned}
 use Rattle.cjc_world.specs.Classes.{Class}
 use Rattle.cjc_world.specs.Order.{class_order}
@@ -10,7 +9,6 @@ use Rattle.cjc_verify.specs.Named.{is_unmade}
 use Rattle.cjc_verify.specs.Offsets.{offset_among}
 use Rattle.cjc_verify.specs.Pairs.{Pair, world}
 use Rattle.cjc_verify.specs.Wanted.{all_beside, all_tables_beside}
-use Rattle.cjc_verify.specs.WantedInfos.{wanted_infos}
 use Rattle.cjc_verify.specs.Working.Ready.{pair_by}
 use Rattle.cjc_verify.specs.declared.infos.offsets.MethodAt.{MethodAt}
 use Rattle.cjc_verify.specs.declared.infos.wanted.Wanted.{Wanted}
@@ -21,8 +19,10 @@ pub method_ats-requires : goal.method_ats-requires
 method_ats-requires c = c.pair.invariant.in_order
 
 pub wanted_infos-requires : goal.wanted_infos-requires
-wanted_infos-requires c = subst (λ (q : Pair). (applets : Bool) × (q.tokens ≡ assigned applets q.files)) (sym
-    c.pair.view_is) c.requires
+wanted_infos-requires c = record {
+  tokens = subst (λ (q : Pair). (applets : Bool) × (q.tokens ≡ assigned applets q.files)) (sym c.pair.view_is)
+      c.requires.tokens;
+}
 
 pub all_tables_beside-requires : goal.all_tables_beside-requires
 all_tables_beside-requires c = c.pair.invariant.small.class

@@ -1,4 +1,4 @@
-use Rattle.std.proofs.Common.{◌≡◌, ◌∙◌}
+use Rattle.std.proofs.Common.{◌∙◌}
 use Rattle.cjc_verify.proofs.DescribedLaws.Entries.{declared_desc, declared_none, own_below}
 use Rattle.cjc_verify.proofs.described.named.declared_method_desc.Goals as goal
 

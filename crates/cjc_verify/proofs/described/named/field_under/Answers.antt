@@ -1,4 +1,4 @@
-use Rattle.std.proofs.Common.{◌≡◌, ◌∙◌, ℕ, ap, map, Option}
+use Rattle.std.proofs.Common.{◌∙◌, ℕ, ap, map, Option}
 use Rattle.std.specs.Prelude.{option_and_then, option_map, slice_get}
 use Rattle.cjc_world.specs.Classes.{Member, field_of_class}
 use Rattle.cjc_verify.proofs.DescribedLaws.Entries.{field_at}

@@ -1,4 +1,4 @@
-use Rattle.std.proofs.Common.{◌≡◌, ◌∙◌, ap, sym, Some}
+use Rattle.std.proofs.Common.{◌∙◌, ap, sym, Some}
 use Rattle.cjc_world.specs.Working.Known.{class_of}
 use Rattle.cjc_verify.proofs.DescribedLaws.Entries.{listed_desc, listed_never, listed_none}
 use Rattle.cjc_verify.proofs.described.named.listed_method_desc.Goals as goal
@@ -7,7 +7,7 @@ pub returns-in-Some-Imported : goal.returns-in-Some-Imported
 returns-in-Some-Imported c =
     let a = c.in-Some-Imported in
     ap Some c.desc_in_export.ensures
-    ∙ listed_desc c.args.world.now c.args.number c.args.member a.field-0-0 a.field-0-1.now
+    ∙ listed_desc c.args.world.now c.args.number c.args.member a.field-0-0 a.class.now
     (sym (ap (λ k. Some (class_of k)) a.field-0-is) ∙ a.ensures.at)
 
 pub returns-in-Some-Declared : goal.returns-in-Some-Declared

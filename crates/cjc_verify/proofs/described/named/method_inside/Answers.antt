@@ -1,4 +1,4 @@
-use Rattle.std.proofs.Common.{◌≡◌, ◌∙◌, ℕ, List, ap, Some}
+use Rattle.std.proofs.Common.{◌∙◌, ℕ, List, ap, Some}
 use Rattle.cjc_verify.specs.Pairs.{method_at}
 use Rattle.cjc_verify.proofs.DescribedLaws.Entries.{known_desc, known_none}
 use Rattle.cjc_verify.proofs.described.named.method_inside.Goals as goal

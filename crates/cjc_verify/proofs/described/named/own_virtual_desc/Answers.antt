@@ -1,4 +1,4 @@
-use Rattle.std.proofs.Common.{◌≡◌, ◌∙◌}
+use Rattle.std.proofs.Common.{◌∙◌}
 use Rattle.cjc_verify.specs.Named.{own_virtual_desc}
 use Rattle.cjc_verify.proofs.DescribedLaws.Entries.{by_declared, by_none}
 use Rattle.cjc_verify.proofs.described.named.own_virtual_desc.Goals as goal

@@ -1,4 +1,4 @@
-use Rattle.std.proofs.Common.{◌≡◌, ◌∙◌, ℕ, Bool, sym}
+use Rattle.std.proofs.Common.{◌∙◌, ℕ, Bool, sym}
 use Rattle.cjc_card_semantics.specs.Machine.Dispatch.{Hidden}
 use Rattle.cjc_verify.specs.Abstracts.{any_between, is_abstract_token}
 use Rattle.cjc_verify.proofs.InfosLaws.Abstracts.{any_end, any_next, any_stop}

@@ -1,10 +1,9 @@
-use Rattle.std.proofs.Common.{◌≡◌, ◌+◌, ◌<◌, ◌∙◌, ◌++◌, ℕ, List, length, ap, sym}
+use Rattle.std.proofs.Common.{◌+◌, ◌∙◌, ◌++◌, ℕ, List, length, ap, sym}
 use Rattle.cjc_bytes.specs.declared.fault.MemberId.{MemberId}
 use Rattle.cjc_bytes.proofs.Gets.{get_below}
 use Rattle.cjc_methods.specs.Working.Members.{places, written}
 use Rattle.cjc_methods.proofs.Members.{added_long, class_methods}
 use Rattle.cjc_world.specs.declared.found.Found.{Found}
-use Rattle.cjc_world.specs.Added.{added_at}
 use Rattle.cjc_world.specs.Classes.{all_classes}
 use Rattle.cjc_verify.proofs.infos.offsets.methods_of.Goals as goal
 

@@ -1,9 +1,4 @@
-use Rattle.std.proofs.Common.{◌≡◌, ◌∙◌, ◌++◌, ℕ, List, ap, false, true, map, sym}
-use Rattle.std.specs.Prelude.{Option, Some}
-use Rattle.std.proofs.lemmas.List.{map-append}
-use Rattle.cjc_order.specs.Classes.Numbers.{declared_at}
-use Rattle.cjc_world.specs.Classes.{Class, all_classes}
-use Rattle.cjc_world.specs.Order.{class_order, in_order}
+use Rattle.std.proofs.Common.{◌∙◌, ◌++◌, ℕ, List, ap}
 use Rattle.cjc_verify.proofs.InfosLaws.Wants.{order_parts}
 use Rattle.cjc_verify.proofs.infos.offsets.numbers_in_order.Goals as goal
 

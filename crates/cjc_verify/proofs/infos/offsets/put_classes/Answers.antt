@@ -1,4 +1,4 @@
-use Rattle.std.proofs.Common.{◌++◌, ℕ, get_or}
+use Rattle.std.proofs.Common.{◌++◌, get_or}
 use Rattle.std.proofs.lemmas.List.{get_or_default}
 use Rattle.cjc_verify.specs.Offsets.{ats_by}
 use Rattle.cjc_verify.proofs.InfosLaws.Ats.{ats_end, ats_more, ats_short}

@@ -1,4 +1,4 @@
-use Rattle.std.proofs.Common.{◌≡◌, ◌∙◌, ℕ, List, sym, ap, get_or, cond}
+use Rattle.std.proofs.Common.{◌∙◌, List, sym, ap, get_or, cond}
 use Rattle.std.specs.Prelude.{Some, None}
 use Rattle.std.proofs.lemmas.List.{get_or_default}
 use Rattle.cjc_capread.specs.declared.tree.ClassRef.TheVariants.{Inside}
