@@ -1,5 +1,6 @@
 -- Members that entries of the constant pool name, as code looks for their descriptors.
-use Rattle.std.specs.Prelude.{ℕ, ◌-◌, List, length, map, option_and_then, option_map, slice_get, unwrap_or, Option, Bool, true}
+use Rattle.std.specs.Prelude.{ℕ, ◌-◌, List, length, map, option_and_then, option_map, slice_get, unwrap_or, Option}
+use Rattle.std.specs.Prelude.{Bool, true}
 use Rattle.std.specs.Prelude.{false, if◌then◌else◌, is_some, None}
 use Rattle.cjc_capread.specs.declared.tree.PoolEntry.{PoolEntry}
 use Rattle.cjc_capread.specs.declared.tree.PoolEntry.TheVariants.{Classref}

@@ -1,6 +1,7 @@
-//! Descriptor and StaticField beside the package (Java Card Virtual Machine Specification 2.2.2, sections 6.10 and 6.13):
-//! where a token, flags, a place or a type is another than the package's, and where an array is of another type than its
-//! field. What Descriptor is to say is put together first, and then compared item by item. Called by `verify`.
+//! Descriptor and StaticField beside the package (Java Card Virtual Machine Specification 2.2.2, sections 6.10 and
+//! 6.13): where a token, flags, a place or a type is another than the package's, and where an array is of another
+//! type than its field. What Descriptor is to say is put together first, and then compared item by item. Called by
+//! `verify`.
 mod arrays;
 mod cells;
 mod desc;

@@ -1,5 +1,6 @@
 -- Descriptors of members that entries of the constant pool name, as code looks for them.
-use Rattle.std.proofs.Common.{◌≡◌, ℕ, zero, suc, ◌-◌, ◌<◌, ◌==◌, Bool, true, false, List, [], ◌∷◌, ◌++◌, append-nil, length, map}
+use Rattle.std.proofs.Common.{◌≡◌, ℕ, zero, suc, ◌-◌, ◌<◌, ◌==◌, Bool, true, false, List, [], ◌∷◌, ◌++◌, append-nil}
+use Rattle.std.proofs.Common.{length, map}
 use Rattle.std.proofs.Common.{refl, sym, ap, ◌∙◌, Option, Some, None}
 use Rattle.std.specs.Prelude.{if◌then◌else◌, is_some, option_and_then, option_map, position, slice_get, unwrap_or}
 use Rattle.std.specs.List.{find}
@@ -78,7 +79,8 @@ cells_are image keys offsets are at offset =
     ∙ map_map (key_cell (cell_offset image)) (λ (f : MemberId). StaticField f) fs in
     ap (λ (ks : List PoolKey). option_and_then desc_of_key (option_and_then (slice_get ks) (position (λ n. n == offset)
     offsets))) are
-    ∙ ap (λ (ns : List ℕ). option_and_then desc_of_key (option_and_then (slice_get (map (λ (f : MemberId). StaticField f)
+    ∙ ap (λ (ns : List ℕ). option_and_then desc_of_key (option_and_then (slice_get (map (λ (f : MemberId). StaticField
+    f)
     fs)) (position (λ n. n == offset) ns))) same
     ∙ by_offset (cell_offset image) fs offset
 
@@ -141,7 +143,8 @@ listed_desc files n k m e is =
     let w = all_classes files in
     let c = imported m e in
     let methods = map method_of_export e.methods in
-    let at : List Member → ℕ → Option (List ℕ) = λ ms i. Some (let x = unwrap_or (slice_get ms i) no_member in x.desc) in
+    let at : List Member → ℕ → Option (List ℕ) = λ ms i. Some (let x = unwrap_or (slice_get ms i) no_member in x.desc)
+    in
     ap (λ (i : ℕ). at methods (k - i)) (sym (length_mapped field_of_export e.fields))
     ∙ ap (λ (ms : List Member). at ms (k - length (map field_of_export e.fields))) (sym (append-nil methods)
     ∙ ap (λ (ms : List Member). methods ++ map as_added ms) (sym (none_added w m e)))
@@ -156,7 +159,8 @@ listed_never files n k m t is =
 
 pub listed_none : (files : Files) (n k : ℕ) → None ≡ world_of.class_at (all_classes files) true n
     → None ≡ own_method_desc files true n k
-listed_none files n k is = ap (λ (o : Option Class). option_map (λ (c : Class). let x = method_in (all_classes files) c k
+listed_none files n k is = ap (λ (o : Option Class). option_map (λ (c : Class). let x = method_in (all_classes files)
+    c k
     in x.desc) o) is
 
 -- of a class of the package
@@ -225,7 +229,8 @@ with_found (c ∷ classes) token = by (c.token == token) (with_found classes tok
 external_is : (l : Loaded) (exports : List ExportTree) (import class : ℕ) → l.trees ≡ exports
     → external l import class ≡ imported_class exports import class
 external_is l exports import class same =
-    ap (λ (ts : List ExportTree). option_and_then (λ (t : ExportTree). with_token t.classes class) (slice_get ts import))
+    ap (λ (ts : List ExportTree). option_and_then (λ (t : ExportTree). with_token t.classes class) (slice_get ts
+    import))
     same
     ∙ by (slice_get exports import)
   where

@@ -92,7 +92,8 @@ module _ (p : Pair) (n : ℕ) (t : ClassTree) (there : slice_get (let files = p.
   fields_are k (f ∷ fs) h =
       let z : k + 0 ≡ k = omega arith in
       let here : slice_get t.fields k ≡ Some f = ap (slice_get t.fields) (sym z) ∙ h 0 f refl in
-      by (is_constant f) (field_is k f here) (fields_are (k + 1) fs (λ j g e. let s : k + 1 + j ≡ k + suc j = omega arith
+      by (is_constant f) (field_is k f here) (fields_are (k + 1) fs (λ j g e. let s : k + 1 + j ≡ k + suc j = omega
+      arith
       in ap (slice_get t.fields) s ∙ h (suc j) g e))
     where
       by : (b : Bool) → field_by (made_of p) n t.name k f ≡ wanted_field p (declared n t) (record {
@@ -153,7 +154,8 @@ module _ (p : Pair) (n : ℕ) (t : ClassTree) (there : slice_get (let files = p.
           ∷ written (declared n t) (length t.fields + j + 1) (map method_of_class ms))
       by true one more = more
       by false one more = ap (λ (w : WantedMethod). w ∷ own_methods_by (made_of p) n (length t.fields + j + 1) ms) one
-          ∙ ap (λ (ws : List WantedMethod). wanted_method p (declared n t) (member_at (declared n t) (length t.fields + j))
+          ∙ ap (λ (ws : List WantedMethod). wanted_method p (declared n t) (member_at (declared n t) (length t.fields
+          + j))
           ∷ ws) more
 
   -- those that the class got, from one on

@@ -7,7 +7,8 @@ use Rattle.cjc_world.specs.declared.image.ArrayCell.{ArrayCell}
 use Rattle.cjc_world.specs.declared.image.StaticImage.{StaticImage}
 use Rattle.cjc_world.specs.declared.image.ValueCell.{ValueCell}
 
-pub in_parts : {B : Type 0} (of : MemberId → B) (image : StaticImage) (arrays : List ArrayCell) (nulls zeros : List MemberId) (others : List ValueCell)
+pub in_parts : {B : Type 0} (of : MemberId → B) (image : StaticImage) (arrays : List ArrayCell) (nulls zeros : List
+    MemberId) (others : List ValueCell)
     (none first second third all : List B) → arrays ≡ image.arrays → nulls ≡ image.nulls
     → zeros ≡ image.zeros → others ≡ image.others → none ≡ []
     → first ≡ none ++ map (λ (a : ArrayCell). of a.field) arrays

@@ -1,5 +1,6 @@
 -- The offsets of methods that code keeps are those of Descriptor.
-use Rattle.std.proofs.Common.{◌≡◌, ℕ, zero, suc, ◌+◌, ◌<◌, ◌≤◌, Bool, true, false, List, [], ◌∷◌, ◌++◌, length, drop, map}
+use Rattle.std.proofs.Common.{◌≡◌, ℕ, zero, suc, ◌+◌, ◌<◌, ◌≤◌, Bool, true, false, List, [], ◌∷◌, ◌++◌, length, drop}
+use Rattle.std.proofs.Common.{map}
 use Rattle.std.proofs.Common.{append_assoc, append-nil, get_or, refl, sym, ap, ◌∙◌, take, arith}
 use Rattle.std.specs.Prelude.{if◌then◌else◌, Option, Some, None, option_map, slice_get, unwrap_or}
 use Rattle.std.specs.List.{find}

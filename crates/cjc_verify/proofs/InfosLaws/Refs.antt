@@ -1,5 +1,6 @@
 -- The class_refs that are noted are those of the package.
-use Rattle.std.proofs.Common.{◌≡◌, ℕ, zero, suc, ◌+◌, ◌<◌, ◌≤◌, Bool, true, false, List, [], ◌∷◌, length, drop, map, get_or}
+use Rattle.std.proofs.Common.{◌≡◌, ℕ, zero, suc, ◌+◌, ◌<◌, ◌≤◌, Bool, true, false, List, [], ◌∷◌, length, drop, map}
+use Rattle.std.proofs.Common.{get_or}
 use Rattle.std.proofs.Common.{refl, sym, ap, ◌∙◌, cond}
 use Rattle.std.specs.Prelude.{if◌then◌else◌, Option, Some, None, option_and_then, option_map, position, slice_get}
 use Rattle.std.specs.Prelude.{unwrap_or}
@@ -114,5 +115,6 @@ refs_are p files is ns ss begin order none own all first second third x =
     ∙ ap (λ (s : Option ℕ). ref_to (unwrap_or (or_else (option_map (Own 0) s) outside) (Own 0 0))) (spots_are
     files.classes ns (class_order (all_classes files)) ss x order
     ∙ ap (λ (q : List ℕ). at_name q (class_order (all_classes files)) x) begin)
-    ∙ ap (λ (q : Files). ref_to (unwrap_or (or_else (option_map (Own 0) (at_name (starts p) (class_order (all_classes q))
+    ∙ ap (λ (q : Files). ref_to (unwrap_or (or_else (option_map (Own 0) (at_name (starts p) (class_order (all_classes
+    q))
     x)) (external_from 0 q.exports x)) (Own 0 0))) (sym is)

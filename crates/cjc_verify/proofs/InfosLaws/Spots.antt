@@ -1,5 +1,6 @@
 -- Rules over Class are differences from the infos that the package wants.
-use Rattle.std.proofs.Common.{◌≡◌, ℕ, ◌+◌, ◌*◌, Bool, true, false, List, [], ◌∷◌, ◌++◌, length, drop, map, refl, sym, ap, ◌∙◌}
+use Rattle.std.proofs.Common.{◌≡◌, ℕ, ◌+◌, ◌*◌, Bool, true, false, List, [], ◌∷◌, ◌++◌, length, drop, map, refl, sym}
+use Rattle.std.proofs.Common.{ap, ◌∙◌}
 use Rattle.std.specs.Prelude.{◌&&◌, ◌==◌, if◌then◌else◌, sum_by}
 use Rattle.cjc_bytes.specs.AccessFlags.{is_interface}
 use Rattle.cjc_bytes.proofs.Lists.{length_mapped}
@@ -23,7 +24,8 @@ use Rattle.cjc_world.specs.Order.{class_order}
 use Rattle.std.proofs.lemmas.List.Sums.{sum_by-cons}
 use Rattle.cjc_verify.specs.Abstracts.{abstract_beside, all_abstract_beside}
 use Rattle.cjc_verify.specs.Infos.{abstract_spots, all_abstract_spots, all_info_spots, all_table_spots, class_spots}
-use Rattle.cjc_verify.specs.Infos.{entries_differ, head_of, info_spots, infos, interface_spots, map_interface, map_spots}
+use Rattle.cjc_verify.specs.Infos.{entries_differ, head_of, info_spots, infos, interface_spots, map_interface}
+use Rattle.cjc_verify.specs.Infos.{map_spots}
 use Rattle.cjc_verify.specs.Infos.{public_entry, table_items, table_spots}
 use Rattle.cjc_verify.specs.Named.{is_unmade}
 use Rattle.cjc_verify.specs.Pairs.{Pair, class_ref, method_offset, world}
@@ -59,7 +61,8 @@ of_infos broken c order =
     let cs = map IsClass c.classes in
     behind info_size broken first_interface is cs order
     ∙ ap (λ (s : List ComponentPlace). s ++ beside info_size broken (first_interface + sum_by info_size is) cs
-    (drop (length is) order)) (items_by interface_size info_size broken (λ k i y. broken k (IsInterface i) y) IsInterface
+    (drop (length is) order)) (items_by interface_size info_size broken (λ k i y. broken k (IsInterface i) y)
+    IsInterface
     (λ i. refl) (λ k i y. refl) first_interface c.interfaces order)
     ∙ ap (λ (n : ℕ). beside interface_size (λ k i y. broken k (IsInterface i) y) first_interface c.interfaces order
     ++ beside info_size broken (first_interface + n) cs (drop (length is) order)) (interfaces_sized c.interfaces)
@@ -177,7 +180,8 @@ abstracts_beside p =
     let order = class_order (world p) in
     let unmade : Class → Bool = λ y. is_unmade y.flags in
     of_infos (abstract_spots p) c order
-    ∙ ap (λ (s : List ComponentPlace). s ++ beside class_size (λ k x y. abstract_spots p k (IsClass x) y) (first_class c)
+    ∙ ap (λ (s : List ComponentPlace). s ++ beside class_size (λ k x y. abstract_spots p k (IsClass x) y) (first_class
+    c)
     c.classes (drop (length c.interfaces) order)) (nothing interface_size first_interface c.interfaces order)
     ∙ others_by class_size (λ k x y. abstract_spots p k (IsClass x) y) (abstract_beside p) unmade (λ k x y. refl)
     (first_class c) c.classes (drop (length c.interfaces) order)

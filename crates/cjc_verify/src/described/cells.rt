@@ -1,5 +1,5 @@
-//! The static fields of a package in the order of their cells, each with the offset of its cell (Java Card Virtual Machine
-//! Specification 2.2.2, section 6.10). Made once; entries of the constant pool are looked up in it.
+//! The static fields of a package in the order of their cells, each with the offset of its cell (Java Card Virtual
+//! Machine Specification 2.2.2, section 6.10). Made once; entries of the constant pool are looked up in it.
 
 ghost use Rattle.std.specs.Prelude.{◌≡◌, ◌++◌, ◌==◌, map, option_and_then, option_map, position, slice_get, IfOk, OnOk};
 ghost use Rattle.cjc_bytes.specs.declared.fault.MemberId.{MemberId as Member};

@@ -1,5 +1,6 @@
-//! The class_ref of each name of a class, by where the infos of Class begin: the i-th is that of the i-th class of the
-//! package (Java Card Virtual Machine Specification 2.2.2, section 6.1). Called by whoever compares class_refs and types.
+//! The class_ref of each name of a class, by where the infos of Class begin: the i-th is that of the i-th class of
+//! the package (Java Card Virtual Machine Specification 2.2.2, section 6.1). Called by whoever compares class_refs
+//! and types.
 
 ghost use Rattle.std.specs.Prelude.{◌≡◌, ◌+◌, ◌++◌, ◌<◌, ◌^◌, ℕ, List, Some, map, option_map, IfOk, OnOk};
 ghost use Rattle.cjc_components.specs.CapRead.declared.tree.ClassRef.TheVariants.{Inside};

@@ -20,7 +20,8 @@ returns c =
     let offsets : List ClassTree → List (List ℕ) = λ ts. map (λ (d : ClassTree). map (λ f. cell_offset i.image.now
     (field_id d.name f)) d.fields) ts in
     let cells = c.items-2.ensures ∙ c.in_ok-cells.ensures ∙ ap offsets (c.items.ensures ∙ c.classes.ensures) in
-    let inputs = inputs_are p i.world.now i.tokens.now (ref_of i.refs.now) c.items-2.result.now refl refl c.pair.invariant.refs_kept cells in
+    let inputs = inputs_are p i.world.now i.tokens.now (ref_of i.refs.now) c.items-2.result.now refl refl
+    c.pair.invariant.refs_kept cells in
     subst (λ (q : Pair). IfOk c.wanted_classes.result (λ row. row ≡ wanted_classes q)) c.pair.view_is
     (subst (λ (ws : List WantedClass). IfOk c.wanted_classes.result (λ row. row ≡ ws))
     (ap (λ (q : Inputs). flat_map (classes_by q) i.order.now) inputs ∙ classes_are p i.order.now

@@ -11,7 +11,9 @@ returns-in-Some c =
     c.virtual_desc_in.ensures
     ∙ ap (λ (name : List ℕ). virtual_desc_in c.args.pair.now c.args.token (class_named (world c.args.pair.now) name))
     c.items.ensures
-    ∙ by_declared (λ (d : Class). virtual_desc_in c.args.pair.now c.args.token (class_named (world c.args.pair.now) (superclass d))) c.args.pair.now.files.classes c.args.number c.in-Some.class.now c.in-Some.ensures
+    ∙ by_declared (λ (d : Class). virtual_desc_in c.args.pair.now c.args.token (class_named (world c.args.pair.now)
+    (superclass d))) c.args.pair.now.files.classes c.args.number c.in-Some.class.now c.in-Some.ensures
 
 pub returns-in-None : goal.returns-in-None
-returns-in-None c = by_none (λ (d : Class). virtual_desc_in c.args.pair.now c.args.token (class_named (world c.args.pair.now) (superclass d))) c.args.pair.now.files.classes c.args.number c.in-None.ensures
+returns-in-None c = by_none (λ (d : Class). virtual_desc_in c.args.pair.now c.args.token (class_named (world
+    c.args.pair.now) (superclass d))) c.args.pair.now.files.classes c.args.number c.in-None.ensures

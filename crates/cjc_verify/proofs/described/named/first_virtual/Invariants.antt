@@ -6,4 +6,5 @@ use Rattle.cjc_verify.proofs.described.named.first_virtual.Given as goal
 
 abbrev pub invariant-loop-class : goal.invariant-loop-class
 invariant-loop-class l =
-    first_of (virtual_method l.token) (classes_at (drop l.class-index l.line)) ≡ first_of (virtual_method l.token) (classes_at l.line)
+    first_of (virtual_method l.token) (classes_at (drop l.class-index l.line)) ≡ first_of (virtual_method l.token)
+    (classes_at l.line)

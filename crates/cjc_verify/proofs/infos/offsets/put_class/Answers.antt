@@ -39,7 +39,8 @@ returns-in_ok-members-in-Some c =
     let some : slice_get files.classes n ≡ Some c.in-Some.tree.now = ap (λ (ts : List ClassTree). slice_get ts n)
     (sym same) ∙ slice_get_read c.items.result.now _ n c.in-Some.tree.now refl lookup.3.0 lookup.1 in
     subst (λ (q : List MethodAt). OnOk c.put_ats.result (c.put_ats.new.row ≡ c.args.row.now ++ q))
-    (ap (λ (fs : List Found). ats_in fs c.items-in-Some-2.result.now) (c.items-in-Some.ensures ∙ c.in_ok-members-in-Some.ensures)
+    (ap (λ (fs : List Found). ats_in fs c.items-in-Some-2.result.now) (c.items-in-Some.ensures ∙
+    c.in_ok-members-in-Some.ensures)
     ∙ ap (ats_in (methods_of_class (all_classes files) (declared n c.in-Some.tree.now))) c.items-in-Some-2.ensures
     ∙ ap (λ (o : Option ClassTree). ats_where files n d o) (sym some))
     c.put_ats.ensures
