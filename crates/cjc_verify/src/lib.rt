@@ -2,13 +2,24 @@
 //! components say of classes and members what the package says.
 #![tactic(auto)]
 
-pub mod class_types;
+mod acts;
+mod bodies;
+mod breaks;
+mod checker;
+mod class_types;
 mod described;
 mod infos;
-pub mod kinds;
-pub mod members;
-pub mod plain;
-pub mod targets;
+mod kinds;
+mod listed;
+mod members;
+mod method_body;
+mod methods;
+mod named;
+mod package;
+mod plain;
+mod targets;
+
+pub use checker::verify;
 
 ghost use Rattle.std.specs.Prelude.{◌≡◌};
 ghost use Rattle.cjc_capread.specs.Bytes.Breaks.{Break};
