@@ -3,4 +3,7 @@
 #![tactic(auto)]
 
 pub mod arrays;
+pub mod fields;
 pub mod rows;
+pub mod slots;
+pub mod statics;
