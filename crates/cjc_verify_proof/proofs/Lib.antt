@@ -16,3 +16,4 @@ pub mod ImageLaws
 pub mod FirstLaws
 pub mod MemoryLaws
 pub mod FieldLaws
+pub mod ArrayLaws

@@ -148,26 +148,26 @@ module _ (l : Loaded) (t : FieldTypes) where
 
 -- ---- effects
 
+-- what keeps memory as it is keeps what it holds
+pub onward_go : (l : Loaded) (t : FieldTypes) (next : ℕ) (m : Memory Class Field (List Image)) → IsMemory l t m
+    → (s c : List Cell) (e : Effect Class Field Callee (List Image)) → Onward l next s c m e → Goes l t next s c m e
+onward_go l t next m fit s c (Go at stack locals memory) h =
+    subst (λ (x : Memory Class Field (List Image)). (at ≡ next) × (AreWords (object_is l x.heap) s stack
+    × (AreLocals (object_is l x.heap) c locals × (IsMemory l t x × Extends m.heap x.heap)))) (sym h.1.1.1)
+    (h.0, (h.1.0, (h.1.1.0, (fit, extends_itself m.heap))))
+onward_go l t next m fit s c (Raise fault) h = tt
+onward_go l t next m fit s c (Toss object) h = absurd h
+onward_go l t next m fit s c (Invoke method) h = absurd h
+onward_go l t next m fit s c (Leave words) h = absurd h
+onward_go l t next m fit s c Stick h = absurd h
+
 module _ (l : Loaded) (t : FieldTypes) (room next : ℕ) (lc : List Cell) (lv : List (Option Value))
     (m : Memory Class Field (List Image)) (k : AreLocals (object_is l m.heap) lc lv) (fit : IsMemory l t m) where
-  -- what keeps memory as it is keeps what it holds
-  pub onward_goes : (s c : List Cell) (e : Effect Class Field Callee (List Image)) → Onward l next s c m e
-      → Goes l t next s c m e
-  onward_goes s c (Go at stack locals memory) h =
-      subst (λ (x : Memory Class Field (List Image)). (at ≡ next) × (AreWords (object_is l x.heap) s stack
-      × (AreLocals (object_is l x.heap) c locals × (IsMemory l t x × Extends m.heap x.heap)))) (sym h.1.1.1)
-      (h.0, (h.1.0, (h.1.1.0, (fit, extends_itself m.heap))))
-  onward_goes s c (Raise fault) h = tt
-  onward_goes s c (Toss object) h = absurd h
-  onward_goes s c (Invoke method) h = absurd h
-  onward_goes s c (Leave words) h = absurd h
-  onward_goes s c Stick h = absurd h
-
   -- words that are pushed
   pub push_goes : (cs : List Cell) (vs : List Value) → AreWords (object_is l m.heap) cs vs → (new : List Cell)
       (ws : List Value) → AreWords (object_is l m.heap) new ws → nat_lt room (length (new ++ cs)) ≡ false
       → Goes l t next (new ++ cs) lc m (onward ws room next lv m vs)
-  push_goes cs vs w new ws n h = onward_goes (new ++ cs) lc (onward ws room next lv m vs) (goes_on l room next lc lv m k
+  push_goes cs vs w new ws n h = onward_go l t next m fit (new ++ cs) lc (onward ws room next lv m vs) (goes_on l room next lc lv m k
       cs vs w new ws n h)
 
   -- a value of a type that is pushed by a letter which moves such values

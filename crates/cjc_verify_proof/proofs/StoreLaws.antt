@@ -70,7 +70,7 @@ IsGiven Byte z = is_word z ≡ true
 IsGiven Short z = is_word z ≡ true
 IsGiven Int z = Unit {0}
 
-items_set : (letter : Letter) (element : Element) (items : List ℤ) (n : ℕ) (z : ℤ) → is_element letter element ≡ true
+pub items_set : (letter : Letter) (element : Element) (items : List ℤ) (n : ℕ) (z : ℤ) → is_element letter element ≡ true
     → IsGiven letter z → AreItems element items → AreItems element (slice_set items n z)
 items_set letter Ints items n z is g fit = tt
 items_set Byte Booleans items n z is g fit = All-set (λ z. is_word z ≡ true) items n z g fit

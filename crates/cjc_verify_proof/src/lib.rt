@@ -4,6 +4,7 @@
 
 pub mod arrays;
 pub mod fields;
+pub mod memories;
 pub mod rows;
 pub mod slots;
 pub mod statics;

@@ -1,0 +1,2 @@
+pub mod PackageTypes
+pub mod Entries

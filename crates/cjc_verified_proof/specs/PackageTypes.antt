@@ -1,0 +1,36 @@
+-- The types of the fields of a package, by the descriptors of its class files.
+use Rattle.std.specs.Prelude.{ℕ, ◌==◌, List, Option, Some, None, option_and_then, option_map, if◌then◌else◌}
+use Rattle.cjc_card_calls.specs.CardSemantics.Machine.Classes.{Class, Own, External}
+use Rattle.cjc_card_acts.specs.CardTypes.{ValueType, type_by, types_in}
+use Rattle.cjc_verify.specs.Pairs.{Pair, class_at, nibbles_of}
+use Rattle.cjc_verify.specs.Named.{cell_desc, own_field_desc}
+use Rattle.cjc_verify_proof.specs.Memories.{FieldTypes}
+
+-- the type that nibbles say of a field
+abbrev pub type_said : List ℕ → ValueType
+type_said nibbles = let t = type_by (types_in nibbles) in t.result
+
+-- the type that a descriptor of a class file says of a field
+abbrev pub type_of_desc : Pair → (desc : List ℕ) → Option ValueType
+type_of_desc p desc = option_map type_said (nibbles_of p desc)
+
+-- the descriptor of the instance field of a token of the class whose info stands at an offset
+abbrev pub instance_desc : Pair → (offset token : ℕ) → Option (List ℕ)
+instance_desc p offset token = option_and_then (own_field_desc p token) (class_at p offset)
+
+-- the type of the instance field of a token that a class declares
+abbrev pub instance_type : Pair → Class → (token : ℕ) → Option ValueType
+instance_type p (Own part offset) token = if part == 0 then option_and_then (type_of_desc p) (instance_desc p offset
+    token) else None
+instance_type p (External tree class) token = None
+
+-- the type of the static field whose cell stands at an offset
+abbrev pub cell_type : Pair → (part offset : ℕ) → Option ValueType
+cell_type p part offset = if part == 0 then option_and_then (type_of_desc p) (cell_desc p offset) else None
+
+-- The types of all fields of the package; those of imported classes have none.
+abbrev pub field_types : Pair → FieldTypes
+field_types p = record {
+  field = λ f. instance_type p f.class f.token;
+  cell = λ c. cell_type p c.part c.offset;
+}
