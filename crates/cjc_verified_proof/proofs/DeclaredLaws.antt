@@ -1,7 +1,7 @@
 -- Class infos have slots for the fields of their classes, by the three items on instance fields.
 use Rattle.std.proofs.Common.{◌≡◌, ◌<◌, ◌+◌, ◌*◌, ℕ, zero, suc, Bool, true, false, List, [], ◌∷◌, ◌++◌, length, map}
 use Rattle.std.proofs.Common.{slice_get, Option, Some, None, refl, sym, ap, subst, ◌∙◌, arith}
-use Rattle.std.specs.Prelude.{◌==◌, ◌&&◌, position, option_and_then, option_map, if◌then◌else◌}
+use Rattle.std.specs.Prelude.{◌==◌, ◌&&◌, nat_le, nat_lt, position, option_and_then, option_map, if◌then◌else◌}
 use Rattle.cjc_bytes.specs.Descriptor.{Parts}
 use Rattle.cjc_bytes.specs.Spots.{desc_of}
 use Rattle.cjc_capread.specs.Bytes.Breaks.{Break, Among}
@@ -25,22 +25,24 @@ use Rattle.cjc_world.specs.Files.{Files}
 use Rattle.cjc_world.specs.Order.{class_order}
 use Rattle.cjc_tokens.specs.Fields.{instance_cells, instance_field_token, instance_token, instance_tokens, is_instance}
 use Rattle.cjc_tokens.specs.Fields.{is_reference}
-use Rattle.cjc_tokens.specs.Tokens.{OfClass, assigned, classes_from, field_of_token, has_token, of_class, one_more}
+use Rattle.cjc_tokens.specs.Tokens.{assigned, classes_from, field_of_token, has_token, of_class, one_more}
+use Rattle.cjc_tokens.specs.Tokens as tokens
 use Rattle.cjc_script.specs.Sorts.{Element, Booleans, Bytes, Shorts, Ints, Shape, OfClass, OfNumbers, OfReferences, Sort}
-use Rattle.cjc_script.specs.Sorts.{Boolean, Byte, Short, Int, Reference, NoValue, field_sort, signature_by, signature_of}
+use Rattle.cjc_script.specs.Sorts.{Boolean, Byte, Short, Int, Reference, NoValue, Signature, field_sort, result_by}
+use Rattle.cjc_script.specs.Sorts.{signature_by, signature_of, sort_of}
 use Rattle.cjc_card_semantics.specs.Machine.Classes.{Own, External, Info, IsInterface, IsClass, info_of, info_size}
 use Rattle.cjc_card_semantics.specs.Machine.Classes.{is_reference_token, number_from}
 use Rattle.cjc_card_semantics.specs.Machine.Classes as card
 use Rattle.cjc_card_acts.specs.CardTypes.{ValueType, types_in}
-use Rattle.cjc_components.specs.Class.{fields_of, first_reference_token, info_flags, reference_count, superclass}
-use Rattle.cjc_components.specs.Types.{sort_nibbles}
+use Rattle.cjc_components.specs.Class.{fields_in, fields_of, first_reference_token, info_flags, reference_count, superclass}
+use Rattle.cjc_components.specs.Types.{nibbles_by, sort_nibbles}
 use Rattle.cjc_components.specs.VTable.Tables.{table_of}
 use Rattle.cjc_token_proof.specs.ByToken.Objects.{is_reference as is_reference_sort}
 use Rattle.cjc_token_proof.specs.Tables.Sound.{IsSound, AreTyped, AreFieldDescs, IsTyped, IsFieldDesc}
 use Rattle.cjc_verify.specs.Infos.{all_abstract_spots, all_info_spots, all_table_spots, class_spots, info_spots, infos}
-use Rattle.cjc_verify.specs.Infos.{map_interface}
+use Rattle.cjc_verify.specs.Infos.{interface_spots, map_interface}
 use Rattle.cjc_verify.specs.Named.{own_field_desc}
-use Rattle.cjc_verify.specs.Pairs.{Pair, class_at, class_ref, is_card_sort, nibbles_of, pair_of, world}
+use Rattle.cjc_verify.specs.Pairs.{Pair, class_at, class_ref, is_card_sort, is_card_type, nibbles_of, pair_of, world}
 use Rattle.cjc_verify.specs.Pairs as pairs
 use Rattle.cjc_verify.specs.Described.{all_array_spots, described_spots}
 use Rattle.cjc_verify.specs.Verified.{IsVerified, class_breaks, header_breaks, listed}
@@ -94,7 +96,7 @@ record IsField (fs : List FieldTree) (token : ℕ) (desc : List ℕ) : Type 0 wh
   place : ℕ
   field : FieldTree
   there : slice_get fs place ≡ Some field
-  instance : is_instance field ≡ true
+  is_one : is_instance field ≡ true
   token_is : token ≡ instance_token fs place field
   desc_is : field.desc ≡ desc
 
@@ -114,7 +116,7 @@ module _ (applets : Bool) (files : Files) (n : ℕ) (t : ClassTree)
   unfolding assigned
   place_of token i e =
       let r = class_row (all_classes files) applets 0 0 files.classes n t is_class in
-      sym (ap (option_and_then (λ (c : OfClass). position (λ (o : Option ℕ). has_token token o) c.instances)) r.1) ∙ e
+      sym (ap (option_and_then (λ (c : tokens.OfClass). position (λ (o : Option ℕ). has_token token o) c.instances)) r.1) ∙ e
 
   field_there : (token : ℕ) (desc : List ℕ) → option_map (λ (f : Member). f.desc) (option_and_then
       (slice_get (map field_of_class t.fields)) (field_of_token (assigned applets files) n token)) ≡ Some desc
@@ -141,7 +143,7 @@ module _ (applets : Bool) (files : Files) (n : ℕ) (t : ClassTree)
             place = i;
             field = r.0;
             there = r.1;
-            instance = q.0;
+            is_one = q.0;
             token_is = q.1;
             desc_is = ap (λ (x : FieldTree). x.desc) (sym one) ∙ f_desc ∙ m_desc;
           }
@@ -180,25 +182,210 @@ sort_said ref (Reference (OfNumbers Ints)) e = refl
 sort_said ref (Reference (OfClass class)) e = (reference_said ref class (ref class) refl).0
 sort_said ref (Reference (OfReferences class)) e = (reference_said ref class (ref class) refl).1
 
-kind_said : (p : Pair) (desc : List ℕ) (type : ValueType) → IsTyped desc → IsFieldDesc desc
-    → type_of_desc p desc ≡ Some type → begins_as (is_reference desc) type ≡ true
-kind_said p desc type typed field e = by (is_card_sort (field_sort desc)) refl (sym (ap (option_map type_said) plain)
-    ∙ e)
+no_signature : (d : Parts) → d.is_method ≡ false → signature_by d ≡ None
+no_signature d e = ap (λ b. if b then Some (record {
+  params = map sort_of d.params;
+  result = (let r = d.result in result_by r.kind r);
+}) else None) e
+
+-- the type that a field's descriptor says
+pub said_of : (p : Pair) (desc : List ℕ) (type : ValueType) → IsFieldDesc desc → type_of_desc p desc ≡ Some type
+    → (is_card_sort (field_sort desc) ≡ true) × (type ≡ type_said (sort_nibbles (class_ref p) (field_sort desc)))
+said_of p desc type field e = by (is_card_sort (field_sort desc)) refl (sym (ap (option_map type_said) plain) ∙ e)
   where
     no_method : signature_of desc ≡ None
-    no_method = ap (option_and_then signature_by) field.is_desc ∙ ap (λ b. if b then Some (record {
-      params = map card_sort (let d = field.parts in d.params);
-      result = None;
-    }) else None) field.is_field
+    no_method = ap (option_and_then signature_by) field.is_desc ∙ no_signature field.parts field.is_field
 
     plain : nibbles_of p desc ≡ (if is_card_sort (field_sort desc) then Some (sort_nibbles (class_ref p) (field_sort
         desc)) else None)
-    plain = ap (pairs_nibbles p desc) no_method
+    plain = ap (λ (s : Option Signature). if is_card_type desc s then Some (nibbles_by (class_ref p) desc s) else None)
+        no_method
 
     by : (b : Bool) → is_card_sort (field_sort desc) ≡ b → option_map type_said (if b then Some (sort_nibbles
-        (class_ref p) (field_sort desc)) else None) ≡ Some type → begins_as (is_reference desc) type ≡ true
+        (class_ref p) (field_sort desc)) else None) ≡ Some type → (is_card_sort (field_sort desc) ≡ true) × (type
+        ≡ type_said (sort_nibbles (class_ref p) (field_sort desc)))
     by false is h = cc
     by true is h =
         let same : type_said (sort_nibbles (class_ref p) (field_sort desc)) ≡ type = cc in
-        subst (λ x. begins_as (is_reference desc) x ≡ true) same (subst (λ b. begins_as b (type_said (sort_nibbles
-        (class_ref p) (field_sort desc))) ≡ true) typed.reference (sort_said (class_ref p) (field_sort desc) is))
+        (is, sym same)
+
+kind_said : (p : Pair) (desc : List ℕ) (type : ValueType) → IsTyped desc → IsFieldDesc desc
+    → type_of_desc p desc ≡ Some type → begins_as (is_reference desc) type ≡ true
+kind_said p desc type typed field e =
+    let r = said_of p desc type field e in
+    subst (λ x. begins_as (is_reference desc) x ≡ true) (sym r.1) (subst (λ b. begins_as b (type_said (sort_nibbles
+    (class_ref p) (field_sort desc))) ≡ true) typed.reference (sort_said (class_ref p) (field_sort desc) r.0))
+
+-- ---- class infos
+
+-- the number of the info at an offset
+position_number : (at : ℕ) (is : List Info) (offset : ℕ) → position (λ n. n == offset) (starts info_size at is)
+    ≡ number_from at is offset
+unfolding placed
+position_number at [] offset = refl
+position_number at (i ∷ is) offset =
+    position-cons (λ (n : ℕ). n == offset) at (starts info_size (at + info_size i) is)
+    ∙ ap (λ (o : Option ℕ). if at == offset then Some 0 else option_map suc o)
+    (position_number (at + info_size i) is offset)
+
+-- tests of which none is broken
+six : (a b c d e : Bool) (s t u v w : ComponentPlace) (rest : List ComponentPlace) → unless a s ++ unless b t
+    ++ unless c u ++ unless d v ++ unless e w ++ rest ≡ [] → (c ≡ true) × (d ≡ true) × (e ≡ true)
+six true true true true true s t u v w rest h = (refl, refl, refl)
+six false b c d e s t u v w rest h = cc
+six true false c d e s t u v w rest h = cc
+six true true false d e s t u v w rest h = cc
+six true true true false e s t u v w rest h = cc
+six true true true true false s t u v w rest h = cc
+
+otherwise : (b : Bool) (xs ys : List ComponentPlace) → b ≡ false → (if b then xs else ys) ≡ [] → ys ≡ []
+otherwise true xs ys e h = cc
+otherwise false xs ys e h = h
+
+module _ (applets : Bool) (list : List ℕ) (files : Files) (image : StaticImage) (c : Complete)
+    (sound : IsSound list files) (typed : AreTyped files) (descs : AreFieldDescs files)
+    (static_ones : StaticInInterfaces files) (verified : IsVerified (pair_of applets files image c)) where
+  abbrev p : Pair
+  p = pair_of applets files image c
+
+  infos_none : all_info_spots p ≡ []
+  infos_none = no_spots 729 (all_info_spots p) (λ b among. verified b (listed b (among_left b (class_breaks p)
+      (header_breaks p ++ map (break_at 728) (all_array_spots p) ++ map (break_at 721) (described_spots p))
+      (among_right b (map (break_at 725) (all_table_spots p)) (map (break_at 727) (all_abstract_spots p)
+      ++ map (break_at 729) (all_info_spots p)) (among_right b (map (break_at 727) (all_abstract_spots p))
+      (map (break_at 729) (all_info_spots p)) among)))))
+
+  -- a class of the package has a number among the infos
+  record IsNumbered (offset : ℕ) (cl : Class) : Type 0 where
+    number : ℕ
+    from : number_from 2 (infos c.class) offset ≡ Some number
+    ordered : slice_get (class_order (all_classes files)) number ≡ Some cl
+
+  numbered : (offset : ℕ) (cl : Class) → class_at p offset ≡ Some cl → IsNumbered offset cl
+  numbered offset cl e = by (position (λ at. at == offset) (pairs.starts p)) refl e
+    where
+      place : position (λ at. at == offset) (pairs.starts p) ≡ number_from 2 (infos c.class) offset
+      place = ap (position (λ at. at == offset)) (all_starts c.class) ∙ position_number 2 (infos c.class) offset
+
+      by : (o : Option ℕ) → position (λ at. at == offset) (pairs.starts p) ≡ o
+          → option_and_then (slice_get (class_order (all_classes files))) o ≡ Some cl → IsNumbered offset cl
+      by None f h = cc
+      by (Some k) f h = record { number = k; from = sym place ∙ f; ordered = h }
+
+  -- the items on instance fields are those of the class
+  record HasInfo (offset : ℕ) (cl : Class) : Type 0 where
+    entry : ClassEntry
+    info : info_of p.loaded 0 offset ≡ Some (IsClass entry)
+    cells : entry.declared_instance_size ≡ instance_cells (fields_of files cl)
+    first : entry.first_reference_token ≡ first_reference_token (fields_of files cl)
+    count : entry.reference_count ≡ reference_count (fields_of files cl)
+
+  has_info : (offset : ℕ) (cl : Class) → class_at p offset ≡ Some cl → is_interface cl.flags ≡ false
+      → HasInfo offset cl
+  has_info offset cl e plain =
+      let k = numbered offset cl e in
+      let got = get_inside (infos c.class) k.number (number_within 2 (infos c.class) offset k.number k.from) in
+      let none = beside_none info_size (info_spots p) first_interface (infos c.class) (class_order (all_classes files))
+      k.number got.0 cl infos_none got.1 k.ordered in
+      by got.0 (ap (option_and_then (slice_get (infos c.class))) k.from ∙ got.1) none.0 none.1
+    where
+      by : (i : Info) → info_of p.loaded 0 offset ≡ Some i → (at : ℕ) → info_spots p at i cl ≡ [] → HasInfo offset cl
+      by (IsInterface i) is at h = let no = otherwise (is_interface cl.flags) (interface_spots p at i cl)
+          (in_info 6 at ∷ []) plain h in cc
+      by (IsClass x) is at h =
+          let fields = fields_of files cl in
+          let table = table_of (world p) cl in
+          let clean = otherwise (is_interface cl.flags) (in_info 6 at ∷ []) (class_spots p at x cl) plain h in
+          let r = six ((x.flags == info_flags (world p) cl) && (length x.interfaces == length table.maps))
+          (same_class x.superclass (class_ref p (superclass cl))) (x.declared_instance_size == instance_cells fields)
+          (x.first_reference_token == first_reference_token fields) (x.reference_count == reference_count fields)
+          (in_info 6 at) (in_info 6 (at + 1)) (in_info 6 (at + 3)) (in_info 6 (at + 4)) (in_info 6 (at + 5))
+          (beside map_size (map_interface p) (maps_begin at x) x.interfaces table.maps) clean in
+          record {
+            entry = x;
+            info = is;
+            cells = number_same x.declared_instance_size (instance_cells fields) r.0;
+            first = number_same x.first_reference_token (first_reference_token fields) r.1;
+            count = number_same x.reference_count (reference_count fields) r.2;
+          }
+
+  -- the slot of an instance field
+  slot_there : (offset token : ℕ) (cl : Class) (desc : List ℕ) (type : ValueType) → class_at p offset ≡ Some cl
+      → own_field_desc p token cl ≡ Some desc → type_of_desc p desc ≡ Some type
+      → IsDeclared p.loaded (record { class = Own 0 offset; token = token }) type
+  slot_there offset token cl desc type e own is_type =
+      let k = numbered offset cl e in
+      let in_world = order_in list files sound cl (get-has cl (class_order (all_classes files)) k.number k.ordered) in
+      let filed = own_filed files sound.classes sound.exports cl in_world.0 in_world.1 in
+      by filed.0 filed.1 filed.2 filed.3
+    where
+      by : (n : ℕ) (t : ClassTree) → slice_get files.classes n ≡ Some t → cl ≡ declared n t
+          → IsDeclared p.loaded (record { class = Own 0 offset; token = token }) type
+      by n t is_class same =
+          let f = field_there applets files n t is_class token desc (subst (λ (x : Class). own_field_desc p token x
+          ≡ Some desc) same own) in
+          let i = has_info offset cl e (ap (λ (x : Class). is_interface x.flags) same ∙ plain (is_interface t.flags) refl f)
+          in
+          let fields : fields_of files cl ≡ t.fields = ap (λ (x : Class). fields_of files x) same ∙ ap fields_in is_class
+          in
+          let cells = i.cells ∙ ap instance_cells fields in
+          let first = i.first ∙ ap first_reference_token fields in
+          let count = i.count ∙ ap reference_count fields in
+          let lt = token_below t.fields f.place f.field f.there f.is_one in
+          let token_is = f.token_is in
+          let span = span_is t.fields f.place f.field f.there f.is_one in
+          let entry = i.entry in
+          let test : is_reference_token entry token ≡ is_reference f.field.desc =
+          ap (λ (a : ℕ). nat_le a token && nat_lt token (a + entry.reference_count)) first
+          ∙ ap (λ (b : ℕ). nat_le (first_reference_token t.fields) token && nat_lt token (first_reference_token t.fields
+          + b)) count
+          ∙ ap (λ (x : ℕ). nat_le (first_reference_token t.fields) x && nat_lt x (first_reference_token t.fields
+          + reference_count t.fields)) token_is ∙ span in
+          let kind = kind_said p f.field.desc type (typed n f.place t f.field is_class f.there) (descs n f.place t f.field
+          is_class f.there) (ap (type_of_desc p) f.desc_is ∙ is_type) in
+          record {
+            part = 0;
+            offset = offset;
+            entry = entry;
+            class = refl;
+            info = i.info;
+            below = omega (arith, lt, token_is, cells);
+            kind = ap (λ b. begins_as b type) test ∙ kind;
+          }
+        where
+          plain : (b : Bool) → is_interface t.flags ≡ b → IsField t.fields token desc → b ≡ false
+          plain false h f = refl
+          plain true h f = let no = static_ones n f.place t f.field is_class f.there h in
+              let clash : true ≡ false = sym f.is_one ∙ no in cc
+
+  pub all_declared : AreDeclared p.loaded (field_types p)
+  all_declared f type e = by f.class refl e
+    where
+      found : (offset : ℕ) (o : Option Class) → class_at p offset ≡ o
+          → option_and_then (type_of_desc p) (option_and_then (own_field_desc p f.token) o) ≡ Some type
+          → IsDeclared p.loaded (record { class = Own 0 offset; token = f.token }) type
+      found offset None g h = cc
+      found offset (Some cl) g h = desc_of_field (own_field_desc p f.token cl) refl h
+        where
+          desc_of_field : (o : Option (List ℕ)) → own_field_desc p f.token cl ≡ o
+              → option_and_then (type_of_desc p) o ≡ Some type
+              → IsDeclared p.loaded (record { class = Own 0 offset; token = f.token }) type
+          desc_of_field None q r = cc
+          desc_of_field (Some desc) q r = slot_there offset f.token cl desc type g q r
+
+      by : (class : card.Class) → f.class ≡ class → instance_type p class f.token ≡ Some type
+          → IsDeclared p.loaded f type
+      by (External tree token) g h = cc
+      by (Own part offset) g h = at (part == 0) refl h
+        where
+          at : (b : Bool) → (part == 0) ≡ b
+              → (if b then option_and_then (type_of_desc p) (instance_desc p offset f.token) else None) ≡ Some type
+              → IsDeclared p.loaded f type
+          at false is r = cc
+          at true is r =
+              let zero_part = number_same part 0 is in
+              let same : record { class = Own 0 offset; token = f.token } ≡ f = ap (λ x. record {
+                class = x;
+                token = f.token;
+              }) (sym (g ∙ ap (λ n. Own n offset) zero_part)) in
+              subst (λ x. IsDeclared p.loaded x type) same (found offset (class_at p offset) refl r)

@@ -34,7 +34,7 @@ use Rattle.cjc_bytes.proofs.Gets.{get_below, get_inside}
 -- ---- nothing is broken
 
 -- no place of a rule is broken
-no_spots : (rule : ℕ) (spots : List ComponentPlace) → ((b : Break) → Among b (map (break_at rule) spots) → ⊥)
+pub no_spots : (rule : ℕ) (spots : List ComponentPlace) → ((b : Break) → Among b (map (break_at rule) spots) → ⊥)
     → spots ≡ []
 no_spots rule [] never = refl
 no_spots rule (s ∷ spots) never = absurd (never (break_at rule s) foremost)

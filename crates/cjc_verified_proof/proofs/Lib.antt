@@ -1,3 +1,6 @@
 pub mod PlainRows
 pub mod EntryLaws
 pub mod UseLaws
+pub mod DeclaredLaws
+pub mod ImageFitsLaws
+pub mod SupersLaws

@@ -82,7 +82,7 @@ number_rises at (i ∷ is) o p k j e f lt = by (at == o) (at == p) refl refl e f
         let j_is = q.2 in
         omega (arith, less, k_is, j_is)
 
-number_within : (at : ℕ) (is : List Info) (offset k : ℕ) → number_from at is offset ≡ Some k → k < length is
+pub number_within : (at : ℕ) (is : List Info) (offset k : ℕ) → number_from at is offset ≡ Some k → k < length is
 number_within at [] offset k e = cc
 number_within at (i ∷ is) offset k e = by (at == offset) e (number_within (at + info_size i) is offset)
   where
