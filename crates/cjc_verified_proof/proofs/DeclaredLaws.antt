@@ -273,14 +273,14 @@ module _ (applets : Bool) (list : List ℕ) (files : Files) (image : StaticImage
       by (Some k) f h = record { number = k; from = sym place ∙ f; ordered = h }
 
   -- the items on instance fields are those of the class
-  record HasInfo (offset : ℕ) (cl : Class) : Type 0 where
-    entry : ClassEntry
-    info : info_of p.loaded 0 offset ≡ Some (IsClass entry)
-    cells : entry.declared_instance_size ≡ instance_cells (fields_of files cl)
-    first : entry.first_reference_token ≡ first_reference_token (fields_of files cl)
-    count : entry.reference_count ≡ reference_count (fields_of files cl)
+  pub record HasInfo (offset : ℕ) (cl : Class) : Type 0 where
+    pub entry : ClassEntry
+    pub info : info_of p.loaded 0 offset ≡ Some (IsClass entry)
+    pub cells : entry.declared_instance_size ≡ instance_cells (fields_of files cl)
+    pub first : entry.first_reference_token ≡ first_reference_token (fields_of files cl)
+    pub count : entry.reference_count ≡ reference_count (fields_of files cl)
 
-  has_info : (offset : ℕ) (cl : Class) → class_at p offset ≡ Some cl → is_interface cl.flags ≡ false
+  pub has_info : (offset : ℕ) (cl : Class) → class_at p offset ≡ Some cl → is_interface cl.flags ≡ false
       → HasInfo offset cl
   has_info offset cl e plain =
       let k = numbered offset cl e in

@@ -4,3 +4,4 @@ pub mod UseLaws
 pub mod DeclaredLaws
 pub mod ImageFitsLaws
 pub mod SupersLaws
+pub mod MakeLaws

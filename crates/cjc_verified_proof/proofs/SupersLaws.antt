@@ -161,7 +161,7 @@ import_is k (t ∷ trees) zero x e = let z : k ≡ k + 0 = omega arith in let sa
 import_is k (t ∷ trees) (suc i) x e = import_is (k + 1) trees i x e ∙ (let s : k + 1 + i ≡ k + suc i = omega arith
     in ap OfFile s)
 
-found_token : (classes : List ExportClass) (token : ℕ) → find (λ (c : ExportClass). c.token == token) classes
+pub found_token : (classes : List ExportClass) (token : ℕ) → find (λ (c : ExportClass). c.token == token) classes
     ≡ with_token classes token
 found_token [] token = refl
 found_token (c ∷ classes) token = by (c.token == token) (found_token classes token)

@@ -43,7 +43,7 @@ use Rattle.cjc_verified_proof.proofs.EntryLaws.{instance_typed, cell_typed}
 -- ---- class_refs
 
 -- the number that four nibbles spell
-abbrev spelt : List ℕ → ℕ
+abbrev pub spelt : List ℕ → ℕ
 spelt (a ∷ b ∷ c ∷ d ∷ []) = 4096 * a + 256 * b + 16 * c + d
 spelt nibbles = 0
 
