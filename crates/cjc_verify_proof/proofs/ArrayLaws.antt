@@ -1,7 +1,7 @@
 -- Memory holds what it may behind new arrays and behind stores into arrays.
-use Rattle.std.proofs.Common.{◌≡◌, inl, ℕ, Bool, true, false, List, [], ◌∷◌, ◌++◌, slice_get, slice_set, Option, Some}
+use Rattle.std.proofs.Common.{◌≡◌, ℕ, Bool, true, false, List, [], ◌∷◌, ◌++◌, slice_get, slice_set, Option, Some}
 use Rattle.std.proofs.Common.{None, refl, sym, subst, ℤ, pos, negsuc}
-use Rattle.std.specs.Prelude.{if◌then◌else◌, replicate}
+use Rattle.std.specs.Prelude.{if◌then◌else◌}
 use Rattle.std.proofs.lemmas.List.Elements.{All-weaker, All-replicate, All-set}
 use Rattle.cjc_card_semantics.specs.Range.Words.{low_word, low_byte}
 use Rattle.cjc_card_semantics.specs.Script.declared.value.Value.{Value}
@@ -25,7 +25,7 @@ use Rattle.cjc_card_acts.specs.CardTypes.{arrays_of}
 use Rattle.cjc_verify_proof.specs.Words.{IsWord, AreWords, AreLocals}
 use Rattle.cjc_verify_proof.specs.Heaps.{object_is, IsFit}
 use Rattle.cjc_verify_proof.specs.Growth.{Extends, AreZeros, AreNulls, Adds}
-use Rattle.cjc_verify_proof.specs.References.{IsItem, HoldsItems, PutsReference, Puts}
+use Rattle.cjc_verify_proof.specs.References.{IsItem, HoldsItems, Puts}
 use Rattle.cjc_verify_proof.specs.Memories.{FieldTypes, HasSlots, IsMemory, Goes}
 use Rattle.cjc_verify_proof.proofs.HeapLaws.{IsNumbers, numbers_of, passes_in}
 use Rattle.cjc_verify_proof.proofs.StoreLaws.{IsGiven, items_set, byte_is_word, word_is_word}
@@ -49,8 +49,7 @@ module _ (l : Loaded) (t : FieldTypes) (next : ℕ) (cs lc : List Cell) (m : Mem
       let is = one.1.1 in
       let all : IsMemory l t (record m { heap = m.heap ++ thing ∷ [] }) = memory_pushed l t m thing fit
       (subst IsFit (sym what.1) (zeros_fit element what.0))
-      (subst (HoldsItems l (m.heap ++ thing ∷ [])) (sym what.1) tt) (subst (HasSlots l t m.heap) (sym what.1) tt) in
-      (
+      (subst (HoldsItems l (m.heap ++ thing ∷ [])) (sym what.1) tt) (subst (HasSlots l t m.heap) (sym what.1) tt) in (
         h.0,
         (
           h.1.0,
@@ -80,8 +79,7 @@ module _ (l : Loaded) (t : FieldTypes) (next : ℕ) (cs lc : List Cell) (m : Mem
       let all : IsMemory l t (record m { heap = m.heap ++ thing ∷ [] }) = memory_pushed l t m thing fit
       (subst IsFit (sym what.1) tt)
       (subst (HoldsItems l (m.heap ++ thing ∷ [])) (sym what.1) (All-replicate (IsItem l (m.heap ++ thing ∷ []) class)
-      what.0 Null tt)) (subst (HasSlots l t m.heap) (sym what.1) tt) in
-      (
+      what.0 Null tt)) (subst (HasSlots l t m.heap) (sym what.1) tt) in (
         h.0,
         (
           h.1.0,
@@ -111,8 +109,7 @@ module _ (l : Loaded) (t : FieldTypes) (next : ℕ) (cs lc : List Cell) (m : Mem
   array_set k old new at same is held slots stack locals w lw =
       let after = slice_set m.heap k new in
       let more = set_extends m.heap k old new at same in
-      let still = object_still l m.heap after more in
-      (
+      let still = object_still l m.heap after more in (
         refl,
         (
           words_stay (object_is l m.heap) (object_is l after) still cs stack w,

@@ -1,16 +1,15 @@
 -- What instructions on fields and static cells, and new, leave, where operands are what their rows need.
-use Rattle.std.proofs.Common.{◌≡◌, ◌≤◌, ◌<◌, ◌||◌, ℕ, zero, suc, Bool, true, false, not, List, [], ◌∷◌, ◌++◌, length, map}
+use Rattle.std.proofs.Common.{◌≡◌, ◌≤◌, ◌<◌, ℕ, zero, suc, true, false, not, List, [], ◌∷◌, ◌++◌, length, map}
 use Rattle.std.proofs.Common.{drop, slice_get, slice_set, Option, Some, None, refl, sym, ap, subst, ◌∙◌, arith, ℤ}
-use Rattle.std.proofs.Common.{nat_lt, nat_le, leb-false, length-append, length-drop}
+use Rattle.std.proofs.Common.{nat_lt, nat_le, leb-false, length-drop}
 use Rattle.std.proofs.Common.{append-nil}
 use Rattle.std.specs.Prelude.{if◌then◌else◌}
 use Rattle.std.specs.List.{list_any}
 use Rattle.std.proofs.lemmas.Bool.{or_parts}
-use Rattle.cjc_card_semantics.specs.CapRead.declared.tree.ClassEntry.{ClassEntry}
 use Rattle.cjc_card_semantics.specs.Range.Words.{low_word, low_byte}
 use Rattle.cjc_card_semantics.specs.Script.declared.value.Value.{Value}
 use Rattle.cjc_card_semantics.specs.Script.declared.value.Value.TheVariants.{Num, Null, Obj}
-use Rattle.cjc_card_semantics.specs.Script.Sorts.{Shape, OfClass}
+use Rattle.cjc_card_semantics.specs.Script.Sorts.{OfClass}
 use Rattle.cjc_card_acts.specs.Types.declared.cell.Cell.{Cell}
 use Rattle.cjc_card_acts.specs.Types.declared.cell.Cell.TheVariants.{Number, Refs, Unusable}
 use Rattle.cjc_card_acts.specs.Types.Rules.{all_types, is_number}
@@ -18,13 +17,13 @@ use Rattle.cjc_card_semantics.specs.Bytecode.Numbers.{spelt_by}
 use Rattle.cjc_card_semantics.specs.Bytecode.Effects.{Letter, Reference, Byte, Short, Int, HeapObject, Numbers}
 use Rattle.cjc_card_semantics.specs.Bytecode.Effects.{References, Object, Slot, slot_of, slots_with, Memory, Effect, Go}
 use Rattle.cjc_card_semantics.specs.Bytecode.Effects.{Stick, Get, Put, GetStatic, PutStatic, New, effect, made, object_in}
-use Rattle.cjc_card_semantics.specs.Bytecode.Effects.{onward, put_slot, receiver, same_kind, thing_of, with_some, words_of}
+use Rattle.cjc_card_semantics.specs.Bytecode.Effects.{onward, put_slot, receiver, thing_of, with_some, words_of}
 use Rattle.cjc_card_semantics.specs.Bytecode.Effects.{with_thing}
 use Rattle.cjc_card_semantics.specs.Bytecode.Effects as effects
 use Rattle.cjc_card_semantics.specs.Machine.Loaded.{Loaded}
-use Rattle.cjc_card_semantics.specs.Machine.Classes.{Class, Own, Field, IsClass, fresh, info_of, is_interface_info}
+use Rattle.cjc_card_semantics.specs.Machine.Classes.{Class, Field, fresh, is_interface_info}
 use Rattle.cjc_card_semantics.specs.Machine.Classes.{depth, is_interface, is_kind_of, is_object, same_field, slots_upwards}
-use Rattle.cjc_card_semantics.specs.Machine.Statics.{Image, StaticCell, get_static, put_static}
+use Rattle.cjc_card_semantics.specs.Machine.Statics.{Image, StaticCell, put_static}
 use Rattle.cjc_card_semantics.specs.Machine.Operations.{Callee}
 use Rattle.cjc_card_semantics.specs.Machine.ByToken.{classes}
 use Rattle.cjc_card_acts.specs.Frames.declared.acts.Act.{Act}
@@ -34,7 +33,7 @@ use Rattle.cjc_card_acts.specs.Frames.declared.acts.Given.{Given}
 use Rattle.cjc_card_acts.specs.Frames.declared.acts.Given.TheVariants.{AnObject}
 use Rattle.cjc_card_acts.specs.Frames.declared.acts.Read.{Read}
 use Rattle.cjc_card_acts.specs.Frames.declared.acts.Write.{Write}
-use Rattle.cjc_card_acts.specs.Frames.Acts.{Subtype, given, has_wrong, has_wrong_local, is_wrong_local, lacks_local, meets}
+use Rattle.cjc_card_acts.specs.Frames.Acts.{Subtype, given, has_wrong, has_wrong_local, is_wrong_local, lacks_local}
 use Rattle.cjc_card_acts.specs.Frames.Acts.{stack_behind}
 use Rattle.cjc_card_acts.specs.Rows.{reading}
 use Rattle.cjc_card_acts.specs.CardTypes.{ValueType, is_moved_by, is_type_of, needs_of, shape_by, words}
@@ -44,8 +43,8 @@ use Rattle.cjc_verify_proof.specs.Acts.{Passes}
 use Rattle.cjc_verify_proof.specs.Heaps.{thing_is, object_is}
 use Rattle.cjc_verify_proof.specs.Control.{cells_of}
 use Rattle.cjc_verify_proof.specs.Values.{IsValue, Holds}
-use Rattle.cjc_verify_proof.specs.Memories.{FieldTypes, AreSlots, IsMemory, Goes, SupersStand, IsDeclared, AreDeclared}
-use Rattle.cjc_verify_proof.proofs.WordLaws.{true_of, number_is}
+use Rattle.cjc_verify_proof.specs.Memories.{FieldTypes, IsMemory, Goes, SupersStand, AreDeclared}
+use Rattle.cjc_verify_proof.proofs.WordLaws.{true_of}
 use Rattle.cjc_verify_proof.proofs.WordLaws as word_laws
 use Rattle.cjc_verify_proof.proofs.StackLaws.{met}
 use Rattle.cjc_verify_proof.proofs.PlainLaws.{parts}
@@ -112,13 +111,13 @@ module _ (l : Loaded) (t : FieldTypes) (room next : ℕ) (lc : List Cell) (lv : 
 
   -- a value that a letter takes from the stack
   record IsOperand (letter : Letter) (type : ValueType) (needs : List Need) (cs : List Cell) (vs : List Value) : Type 0
-      where
-    value : Value
-    rest : List Value
-    is : (go : Value → List Value → Outcome) → effects.operand letter Stick vs go ≡ go value rest
-    typed : IsValue (object_is l m.heap) type value
-    below : AreWords (object_is l m.heap) (drop (length (needs_of type)) cs) rest
-    right : has_wrong (is_type_of l) needs (drop (length (needs_of type)) cs) ≡ false
+    where
+      value : Value
+      rest : List Value
+      is : (go : Value → List Value → Outcome) → effects.operand letter Stick vs go ≡ go value rest
+      typed : IsValue (object_is l m.heap) type value
+      below : AreWords (object_is l m.heap) (drop (length (needs_of type)) cs) rest
+      right : has_wrong (is_type_of l) needs (drop (length (needs_of type)) cs) ≡ false
 
   number_there : (c : Cell) (v : Value) → not (is_number c) ≡ false → IsWord (object_is l m.heap) c v → (z : ℤ)
       × (v ≡ Num z)
@@ -325,8 +324,7 @@ module _ (l : Loaded) (t : FieldTypes) (room next : ℕ) (lc : List Cell) (lv : 
           let more = set_extends m.heap j (Object c slots) changed at refl in
           let still = object_still l m.heap (slice_set m.heap j changed) more in
           subst (λ b. Goes l t next cs lc m (if b then Go next vs lv (with_thing m j changed) else Stick))
-          (sym (kind_of_type (object_is l m.heap) type old v h new))
-          (
+          (sym (kind_of_type (object_is l m.heap) type old v h new)) (
             refl,
             (
               words_stay (object_is l m.heap) (object_is l (slice_set m.heap j changed)) still cs vs w,
@@ -484,13 +482,24 @@ module _ (l : Loaded) (t : FieldTypes) (room next : ℕ) (lc : List Cell) (lv : 
         (sym (behind a lc cs (needs_of type) [] e g))
         (subst (λ (x : Outcome). Goes l t next (drop (length (needs_of type)) cs) lc m x) (sym (o.is go))
         (subst (λ (q : Option (List Image)). Goes l t next (drop (length (needs_of type)) cs) lc m (with_some Stick q
-        (λ (x : List Image). Go next o.rest lv (record m { statics = x })))) (sym put.1)
-        (refl, (o.below, (k, (record {
-          numbers = fit.numbers;
-          references = fit.references;
-          slots = fit.slots;
-          cells = put.2;
-        }, extends_itself m.heap))))))
+        (λ (x : List Image). Go next o.rest lv (record m { statics = x })))) (sym put.1) (
+          refl,
+          (
+            o.below,
+            (
+              k,
+              (
+                record {
+                  numbers = fit.numbers;
+                  references = fit.references;
+                  slots = fit.slots;
+                  cells = put.2;
+                },
+                extends_itself m.heap,
+              ),
+            ),
+          ),
+        )))
 
   -- new
   pub new_object : SupersStand l → AreDeclared l t → (class : Class) → is_interface l class ≡ false → (name : List ℕ)

@@ -1,22 +1,22 @@
 -- What arrays and static cells hold before the first entry.
-use Rattle.std.proofs.Common.{◌≡◌, ◌≤◌, ◌<◌, ◌+◌, ◌-◌, ◌*◌, ◌/◌, ◌%◌, ℕ, zero, suc, Bool, true, false, List, [], ◌∷◌}
-use Rattle.std.proofs.Common.{◌++◌, length, map, replicate, slice_get, Option, Some, None, refl, sym, ap, subst, ◌∙◌}
-use Rattle.std.proofs.Common.{arith, inl, inr, ℤ, pos, nat_lt, ltb-true, ltb-false, length-append, append-nil}
+use Rattle.std.proofs.Common.{◌≡◌, ◌<◌, ◌+◌, ◌-◌, ◌*◌, ◌/◌, ◌%◌, ℕ, zero, suc, Bool, true, false, List, [], ◌∷◌}
+use Rattle.std.proofs.Common.{◌++◌, length, map, replicate, slice_get, Some, None, refl, sym, ap, subst, ◌∙◌}
+use Rattle.std.proofs.Common.{arith, inl, nat_lt, ltb-true, ltb-false, length-append, append-nil}
 use Rattle.std.specs.Prelude.{◌==◌, if◌then◌else◌, option_and_then}
 use Rattle.std.proofs.lemmas.List.Elements.{All-nil, All-cons}
 use Rattle.std.specs.Int.{w8, w16, cast_signed}
 use Rattle.cjc_card_semantics.specs.CapRead.declared.tree.ArrayInit.{ArrayInit}
 use Rattle.cjc_card_semantics.specs.CapRead.declared.tree.StaticField.{StaticField}
 use Rattle.cjc_card_semantics.specs.Script.declared.value.Value.{Value}
-use Rattle.cjc_card_semantics.specs.Script.declared.value.Value.TheVariants.{Num, Null, Obj}
-use Rattle.cjc_card_semantics.specs.Script.Sorts.{Element, Booleans, Bytes, Shorts, Ints, OfNumbers}
+use Rattle.cjc_card_semantics.specs.Script.declared.value.Value.TheVariants.{Null, Obj}
+use Rattle.cjc_card_semantics.specs.Script.Sorts.{Element, Booleans, Bytes, Shorts, Ints}
 use Rattle.cjc_card_semantics.specs.Bytecode.Numbers.{is_word}
-use Rattle.cjc_card_semantics.specs.Bytecode.Effects.{HeapObject, Letter, Reference, Byte, Short, Int, Memory}
+use Rattle.cjc_card_semantics.specs.Bytecode.Effects.{HeapObject, Letter, Byte, Short, Int}
 use Rattle.cjc_card_semantics.specs.Machine.Loaded.{Loaded, Part}
 use Rattle.cjc_card_semantics.specs.Machine.Classes.{Class, Field}
-use Rattle.cjc_card_semantics.specs.Machine.Statics.{Image, StaticCell, cell_in, cell_number, element_of, elements}
+use Rattle.cjc_card_semantics.specs.Machine.Statics.{Image, cell_in, cell_number, element_of, elements}
 use Rattle.cjc_card_semantics.specs.Machine.Statics.{first_array, first_arrays, first_image, first_images, first_memory}
-use Rattle.cjc_card_semantics.specs.Machine.Statics.{get_static, objects_from}
+use Rattle.cjc_card_semantics.specs.Machine.Statics.{objects_from}
 use Rattle.cjc_card_acts.specs.CardTypes.{ValueType, shape_by}
 use Rattle.cjc_card_acts.specs.CardTypes as types
 use Rattle.cjc_verify_proof.specs.Heaps.{thing_is, object_is, AreItems, IsFit, AreFit}
@@ -24,7 +24,7 @@ use Rattle.cjc_verify_proof.specs.References.{HoldsItems, AreHeld}
 use Rattle.cjc_verify_proof.specs.Values.{Holds}
 use Rattle.cjc_verify_proof.specs.Memories.{FieldTypes, HasSlots, HaveSlots, AreCells, IsMemory, AreBytes}
 use Rattle.cjc_verify_proof.specs.Memories.{IsReferenceCell, IsCellOf, ImageFits}
-use Rattle.cjc_card_semantics.proofs.BytesGets.{get_back, get_front, get_inside, in_front, item_there, mapped_at}
+use Rattle.cjc_card_semantics.proofs.BytesGets.{get_back, get_inside, in_front, item_there, mapped_at}
 use Rattle.cjc_card_semantics.proofs.BytesNumbers.{length_replicated, number_same_number}
 use Rattle.cjc_verify_proof.proofs.TypeLaws.{element_itself}
 use Rattle.cjc_verify_proof.proofs.ImageLaws.{Moves, of_booleans, of_bytes, of_shorts, of_ints, of_references, moves, HasBytes, size}

@@ -2,7 +2,6 @@
 use Rattle.std.proofs.Common.{◌≡◌, ℕ, zero, suc, ◌+◌, ◌<◌, ◌≤◌, refl, sym, ap, subst, ◌∙◌, arith, Bool, true, false}
 use Rattle.std.proofs.Common.{List, [], ◌∷◌, ◌++◌, length, map, pos, inl, inr, Option, Some, None, slice_get}
 use Rattle.std.specs.Prelude.{if◌then◌else◌, ◌==◌, option_map, option_and_then, option_to_list, is_some}
-use Rattle.std.proofs.lemmas.Bool.Decides.{nat_tests}
 use Rattle.cjc_card_semantics.specs.CapRead.declared.tree.ClassEntry.{ClassEntry}
 use Rattle.cjc_card_semantics.specs.Script.declared.value.Value.{Value}
 use Rattle.cjc_card_semantics.specs.Script.declared.value.Value.TheVariants.{Num, Null}
@@ -11,7 +10,7 @@ use Rattle.cjc_card_semantics.specs.CapRead.declared.tree.ExportedClass.{Exporte
 use Rattle.cjc_card_semantics.specs.Machine.Loaded.{Loaded, Part, Import, OfGroup, OfFile}
 use Rattle.cjc_card_semantics.specs.Machine.Classes.{Class, Own, External, Field, Info, IsInterface, IsClass, all_supers}
 use Rattle.cjc_card_semantics.specs.Machine.Classes.{class_of, depth, fresh, info_at, info_count, info_of, info_size}
-use Rattle.cjc_card_semantics.specs.Machine.Classes.{infos, is_in, is_interface, is_interface_info, is_kind_of, is_there}
+use Rattle.cjc_card_semantics.specs.Machine.Classes.{infos, is_in, is_interface, is_interface_info, is_there}
 use Rattle.cjc_card_semantics.specs.Machine.Classes.{is_reference_token, number_from, number_of, object_above, own_slots}
 use Rattle.cjc_card_semantics.specs.Machine.Classes.{same_class, same_field, slots_from, slots_upwards, some_of, supers}
 use Rattle.cjc_card_semantics.specs.Machine.Classes.{superclass, superclass_by, where_there, imported_class, import_of}
@@ -239,7 +238,7 @@ module _ (l : Loaded) (s : SupersStand l) (q o : ℕ) (entry : ClassEntry) (is :
           let same : Some mine.part ≡ Some part = sym mine.at ∙ ap (slice_get l.parts) (sym first.0) ∙ at_part in
           let parts : mine.part ≡ part = cc in
           let own : number_of part offset ≡ Some mine.number = ap (λ (y : Part). number_of y offset) (sym parts)
-              ∙ mine.is in
+          ∙ mine.is in
           let lower = number_rises 2 (infos part) offset above mine.number k own number first.1 in
           let high = enough mine.number mine.part mine.at mine.is in
           omega (arith, lower, high)
@@ -250,9 +249,9 @@ module _ (l : Loaded) (s : SupersStand l) (q o : ℕ) (entry : ClassEntry) (is :
       up c e None f h go = cc
       up c e (Some x) f h go = elim (first_or_later b x [] h) [
         | inl same ↦ (let super : superclass l p offset ≡ Some x = ap (superclass_by l p) e ∙ f in
-        front_found (slots_upwards l n (superclass l p offset)) (own_slots (Own p offset) (info_of l p offset))
-        (subst (λ y. Found (slots_upwards l n y)) (sym super) (go x (subst (λ y. Over (supers l) y d) same more)
-        (less c e x f))))
+            front_found (slots_upwards l n (superclass l p offset)) (own_slots (Own p offset) (info_of l p offset))
+            (subst (λ y. Found (slots_upwards l n y)) (sym super) (go x (subst (λ y. Over (supers l) y d) same more)
+            (less c e x f))))
         | inr never ↦ cc
       ]
 
@@ -297,8 +296,10 @@ module _ (l : Loaded) (s : SupersStand l) (q o : ℕ) (entry : ClassEntry) (is :
               let same = class_tells (Own p offset) (Own q o) on in
               let infos_same : Some (IsClass c) ≡ Some (IsClass entry) = sym f ∙ ap (info_at_class l) same ∙ is in
               let entries : c ≡ entry = cc in
-              let got = of_token (Own q o) entry 0 entry.declared_instance_size token (omega arith) (omega (arith,
-              below)) in
+              let got = of_token (Own q o) entry 0 entry.declared_instance_size token (omega arith) (omega (
+                arith,
+                below,
+              )) in
               let there_is : slot_of same_field (slots_from (Own q o) entry 0 entry.declared_instance_size) key ≡ Some v =
               subst (λ x. slot_of same_field (slots_from (Own q o) x 0 x.declared_instance_size) key ≡ Some v) entries
               (subst (λ x. slot_of same_field (slots_from x c 0 c.declared_instance_size) key ≡ Some v) same h) in

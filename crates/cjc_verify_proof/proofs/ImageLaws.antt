@@ -1,17 +1,16 @@
 -- What static cells hold, and what a put leaves of them.
 use Rattle.std.proofs.Common.{◌≡◌, ◌≤◌, ◌<◌, ◌+◌, ◌-◌, ◌*◌, ◌/◌, ◌%◌, ℕ, zero, suc, Bool, true, false, List, [], ◌∷◌}
 use Rattle.std.proofs.Common.{length, drop, slice_get, slice_set, Option, Some, None, refl, sym, ap, subst, ◌∙◌, arith}
-use Rattle.std.proofs.Common.{inl, inr, ℤ, pos, negsuc, leb-true, leb-false, length-drop}
+use Rattle.std.proofs.Common.{inl, inr, leb-true, leb-false, length-drop}
 use Rattle.std.specs.Prelude.{◌==◌, nat_le, if◌then◌else◌, option_and_then, option_map}
 use Rattle.std.specs.Int.{w8, w16, cast_signed}
 use Rattle.std.proofs.lemmas.Int.{ints}
 use Rattle.cjc_card_semantics.specs.Script.declared.value.Value.{Value}
-use Rattle.cjc_card_semantics.specs.Script.declared.value.Value.TheVariants.{Num, Null, Obj}
 use Rattle.cjc_card_semantics.specs.Bytecode.Numbers.{is_word}
 use Rattle.cjc_card_semantics.specs.Bytecode.Effects.{HeapObject, Letter, Reference, Byte, Short, Int}
 use Rattle.cjc_card_semantics.specs.Machine.Loaded.{Loaded}
 use Rattle.cjc_card_semantics.specs.Machine.Classes.{Class, Field}
-use Rattle.cjc_card_semantics.specs.Machine.Statics.{Image, StaticCell, bytes_at, cell_in, cell_number, cell_put, get_static}
+use Rattle.cjc_card_semantics.specs.Machine.Statics.{Image, StaticCell, bytes_at, cell_in, cell_put, get_static}
 use Rattle.cjc_card_semantics.specs.Machine.Statics.{image_put, number_bytes, number_in, overwritten, put_static}
 use Rattle.cjc_card_acts.specs.CardTypes.{ValueType, is_moved_by}
 use Rattle.cjc_card_acts.specs.CardTypes as types
@@ -290,19 +289,19 @@ module _ (l : Loaded) (t : FieldTypes) (heap : List (HeapObject Class Field)) (i
             go false odd f = absurd f
             go true even f = elim (same_place (u.offset / 2) (s.offset / 2)) [
               | inl same ↦ (let a = number_same (u.offset % 2) 0 even in
-              let b = number_same (s.offset % 2) 0 r.even in
-              let offsets : u.offset ≡ s.offset = omega (arith, a, b, same) in
-              let is_cell = same_cell u s parts offsets in
-              let both : Some (types.Reference mine) ≡ Some (types.Reference name) = sym my_type
-              ∙ sym (ap t.cell is_cell) ∙ is in
-              let type_same : types.Reference mine ≡ types.Reference name = cc in
-              let got : slice_get (slice_set (let i = x.image in i.references) (s.offset / 2) v) (u.offset / 2)
-              ≡ Some v = ap (slice_get (slice_set (let i = x.image in i.references) (s.offset / 2) v)) same
-              ∙ set_same (let i = x.image in i.references) (s.offset / 2) v x.old r.held in
-              subst (Holds (object_is l heap) (types.Reference name)) (sym got) (subst (λ ty. IsValue (object_is l heap)
-              ty v) type_same w))
+                  let b = number_same (s.offset % 2) 0 r.even in
+                  let offsets : u.offset ≡ s.offset = omega (arith, a, b, same) in
+                  let is_cell = same_cell u s parts offsets in
+                  let both : Some (types.Reference mine) ≡ Some (types.Reference name) = sym my_type
+                  ∙ sym (ap t.cell is_cell) ∙ is in
+                  let type_same : types.Reference mine ≡ types.Reference name = cc in
+                  let got : slice_get (slice_set (let i = x.image in i.references) (s.offset / 2) v) (u.offset / 2)
+                  ≡ Some v = ap (slice_get (slice_set (let i = x.image in i.references) (s.offset / 2) v)) same
+                  ∙ set_same (let i = x.image in i.references) (s.offset / 2) v x.old r.held in
+                  subst (Holds (object_is l heap) (types.Reference name)) (sym got) (subst (λ ty. IsValue (object_is l heap)
+                  ty v) type_same w))
               | inr differs ↦ subst (Holds (object_is l heap) (types.Reference name)) (sym (get_set_other
-              (let i = x.image in i.references) (s.offset / 2) (u.offset / 2) v differs)) f
+                  (let i = x.image in i.references) (s.offset / 2) (u.offset / 2) v differs)) f
             ]
 
         by : (letter : Letter) {type : ValueType} → Moves letter type → cell_in letter x.image s.offset ≡ Some x.old
@@ -334,15 +333,15 @@ module _ (l : Loaded) (t : FieldTypes) (heap : List (HeapObject Class Field)) (i
     pub put_cells : AreCells l t heap after
     put_cells u its other is moved = elim (same_place u.part s.part) [
       | inl same ↦ (let was : slice_get images u.part ≡ Some x.image = ap (slice_get images) same ∙ x.at in
-      let now : slice_get after u.part ≡ Some changed = ap (slice_get after) same ∙ set_same images s.part changed
-      x.image x.at in
-      let before : Holds (object_is l heap) its (cell_in other x.image u.offset) = subst
-      (λ (o : Option Image). Holds (object_is l heap) its (option_and_then (λ (i : Image). cell_in other i
-      u.offset) o)) was (cells u its other is moved) in
-      subst (λ (o : Option Image). Holds (object_is l heap) its (option_and_then (λ (i : Image). cell_in other i
-      u.offset) o)) (sym now) (image_kept u its other same is (moves other its moved) before))
+          let now : slice_get after u.part ≡ Some changed = ap (slice_get after) same ∙ set_same images s.part changed
+          x.image x.at in
+          let before : Holds (object_is l heap) its (cell_in other x.image u.offset) = subst
+          (λ (o : Option Image). Holds (object_is l heap) its (option_and_then (λ (i : Image). cell_in other i
+          u.offset) o)) was (cells u its other is moved) in
+          subst (λ (o : Option Image). Holds (object_is l heap) its (option_and_then (λ (i : Image). cell_in other i
+          u.offset) o)) (sym now) (image_kept u its other same is (moves other its moved) before))
       | inr differs ↦ subst (λ (o : Option Image). Holds (object_is l heap) its (option_and_then (λ (i : Image). cell_in
-      other i u.offset) o)) (sym (get_set_other images s.part u.part changed differs)) (cells u its other is moved)
+          other i u.offset) o)) (sym (get_set_other images s.part u.part changed differs)) (cells u its other is moved)
     ]
 
 -- a put into a cell that has a type
@@ -352,8 +351,7 @@ pub puts_cell : (l : Loaded) (t : FieldTypes) (heap : List (HeapObject Class Fie
     → (after : List Image) × (put_static letter s v images ≡ Some after) × AreCells l t heap after
 puts_cell l t heap images cells s type letter typed moved v new =
     let mv = moves letter type moved in
-    let x = there l t heap images cells s type typed letter mv in
-    (
+    let x = there l t heap images cells s type typed letter mv in (
       after l t heap images cells s type typed letter mv v new x,
       put_is l t heap images cells s type typed letter mv v new x,
       put_cells l t heap images cells s type typed letter mv v new x,

@@ -1,36 +1,33 @@
 -- Values, slots and static cells stay what they are while a heap grows, and effects that keep memory.
-use Rattle.std.proofs.Common.{◌≡◌, ◌≤◌, ◌<◌, ◌+◌, ℕ, zero, suc, Bool, true, false, List, [], ◌∷◌, ◌++◌, length, map}
-use Rattle.std.proofs.Common.{slice_get, slice_set, Option, Some, None, refl, sym, ap, subst, ◌∙◌, inl, ℤ, nat_lt}
-use Rattle.std.specs.Prelude.{if◌then◌else◌, drop}
+use Rattle.std.proofs.Common.{◌≡◌, ◌+◌, ℕ, suc, Bool, true, false, List, [], ◌∷◌, ◌++◌, length}
+use Rattle.std.proofs.Common.{slice_get, slice_set, Option, Some, None, refl, sym, ap, subst, ◌∙◌, inl, nat_lt}
+use Rattle.std.specs.Prelude.{if◌then◌else◌}
 use Rattle.cjc_card_semantics.specs.Script.declared.value.Value.{Value}
 use Rattle.cjc_card_semantics.specs.Script.declared.value.Value.TheVariants.{Num, Null, Obj}
-use Rattle.cjc_card_semantics.specs.Script.Sorts.{Shape}
 use Rattle.cjc_card_acts.specs.Types.declared.cell.Cell.{Cell}
-use Rattle.cjc_card_acts.specs.Types.declared.cell.Cell.TheVariants.{Number, Refs, Unusable}
-use Rattle.cjc_card_semantics.specs.Bytecode.Numbers.{is_word}
+use Rattle.cjc_card_acts.specs.Types.declared.cell.Cell.TheVariants.{Number, Refs}
 use Rattle.cjc_card_semantics.specs.Bytecode.Calculations as machine
 use Rattle.cjc_card_semantics.specs.Bytecode.Effects.{Letter, HeapObject, Numbers, References, Object, shape, Slot, slot_of}
 use Rattle.cjc_card_semantics.specs.Bytecode.Effects.{slots_with, Memory, Effect, Go, Raise, Toss, Invoke, Leave, Stick}
-use Rattle.cjc_card_semantics.specs.Bytecode.Effects.{words_of, word_of, onward, made, same_kind, with_some, with_thing}
+use Rattle.cjc_card_semantics.specs.Bytecode.Effects.{words_of, onward, made, same_kind, with_some, with_thing}
 use Rattle.cjc_card_semantics.specs.Machine.Loaded.{Loaded}
-use Rattle.cjc_card_semantics.specs.Machine.Classes.{Class, Field, is_kind_of, is_of, same_field}
-use Rattle.cjc_card_semantics.specs.Machine.Statics.{Image, StaticCell, get_static}
+use Rattle.cjc_card_semantics.specs.Machine.Classes.{Class, Field, same_field}
+use Rattle.cjc_card_semantics.specs.Machine.Statics.{Image, get_static}
 use Rattle.cjc_card_semantics.specs.Machine.Operations.{Callee}
 use Rattle.cjc_card_acts.specs.CardTypes.{ValueType, shape_by}
 use Rattle.cjc_card_acts.specs.CardTypes as types
-use Rattle.cjc_verify_proof.specs.Words.{IsOneOf, AreWords, AreLocals}
-use Rattle.cjc_verify_proof.specs.Heaps.{thing_is, object_is, IsFit, AreFit, Onward}
+use Rattle.cjc_verify_proof.specs.Words.{AreWords, AreLocals}
+use Rattle.cjc_verify_proof.specs.Heaps.{thing_is, object_is, IsFit, Onward}
 use Rattle.cjc_verify_proof.specs.Growth.{Extends}
-use Rattle.cjc_verify_proof.specs.References.{HoldsItems, AreHeld}
+use Rattle.cjc_verify_proof.specs.References.{HoldsItems}
 use Rattle.cjc_verify_proof.specs.Control.{cells_of}
 use Rattle.cjc_verify_proof.specs.Values.{IsValue, Holds}
-use Rattle.cjc_verify_proof.specs.Memories.{FieldTypes, AreSlots, HasSlots, HaveSlots, AreCells, IsMemory, Goes}
+use Rattle.cjc_verify_proof.specs.Memories.{FieldTypes, AreSlots, HasSlots, AreCells, IsMemory, Goes}
 use Rattle.cjc_card_semantics.proofs.BytesGets.{at_end}
 use Rattle.cjc_verify_proof.proofs.GrowthLaws.{word_stays, words_stay, locals_stay, object_still, extends_itself}
 use Rattle.cjc_verify_proof.proofs.GrowthLaws.{pushed_extends, set_extends, each_pushed, each_set, fit_pushed, held_pushed}
 use Rattle.cjc_verify_proof.proofs.GrowthLaws.{fit_set, held_set}
 use Rattle.cjc_verify_proof.proofs.HeapLaws.{goes_on}
-use Rattle.cjc_verify_proof.proofs.TypeLaws.{of_itself}
 use Rattle.cjc_verify_proof.proofs.KeyLaws.{field_tells, put_here, put_other}
 use Rattle.cjc_verify_proof.proofs.ImageLaws.{Moves, of_booleans, of_bytes, of_shorts, of_ints, of_references}
 
