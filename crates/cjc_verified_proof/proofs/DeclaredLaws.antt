@@ -1,10 +1,8 @@
 -- Class infos have slots for the fields of their classes, by the three items on instance fields.
-use Rattle.std.proofs.Common.{◌≡◌, ◌<◌, ◌+◌, ◌*◌, ℕ, zero, suc, Bool, true, false, List, [], ◌∷◌, ◌++◌, length, map}
+use Rattle.std.proofs.Common.{◌≡◌, ◌+◌, ℕ, zero, suc, Bool, true, false, List, [], ◌∷◌, ◌++◌, length, map}
 use Rattle.std.proofs.Common.{slice_get, Option, Some, None, refl, sym, ap, subst, ◌∙◌, arith}
 use Rattle.std.specs.Prelude.{◌==◌, ◌&&◌, nat_le, nat_lt, position, option_and_then, option_map, if◌then◌else◌}
 use Rattle.cjc_bytes.specs.Descriptor.{Parts}
-use Rattle.cjc_bytes.specs.Spots.{desc_of}
-use Rattle.cjc_capread.specs.Bytes.Breaks.{Break, Among}
 use Rattle.cjc_capread.specs.Bytes.AccessFlags.{is_interface}
 use Rattle.cjc_capread.specs.declared.tree.ClassEntry.{ClassEntry}
 use Rattle.cjc_capread.specs.declared.tree.ClassRef.{ClassRef}
@@ -27,7 +25,7 @@ use Rattle.cjc_tokens.specs.Fields.{instance_cells, instance_field_token, instan
 use Rattle.cjc_tokens.specs.Fields.{is_reference}
 use Rattle.cjc_tokens.specs.Tokens.{assigned, classes_from, field_of_token, has_token, of_class, one_more}
 use Rattle.cjc_tokens.specs.Tokens as tokens
-use Rattle.cjc_script.specs.Sorts.{Element, Booleans, Bytes, Shorts, Ints, Shape, OfClass, OfNumbers, OfReferences, Sort}
+use Rattle.cjc_script.specs.Sorts.{Booleans, Bytes, Shorts, Ints, OfClass, OfNumbers, OfReferences, Sort}
 use Rattle.cjc_script.specs.Sorts.{Boolean, Byte, Short, Int, Reference, NoValue, Signature, field_sort, result_by}
 use Rattle.cjc_script.specs.Sorts.{signature_by, signature_of, sort_of}
 use Rattle.cjc_card_semantics.specs.Machine.Classes.{Own, External, Info, IsInterface, IsClass, info_of, info_size}
@@ -249,11 +247,11 @@ module _ (applets : Bool) (list : List ℕ) (files : Files) (image : StaticImage
   p = pair_of applets files image c
 
   infos_none : all_info_spots p ≡ []
-  infos_none = no_spots 729 (all_info_spots p) (λ b among. verified b (listed b (among_left b (class_breaks p)
-      (header_breaks p ++ map (break_at 728) (all_array_spots p) ++ map (break_at 721) (described_spots p))
-      (among_right b (map (break_at 725) (all_table_spots p)) (map (break_at 727) (all_abstract_spots p)
-      ++ map (break_at 729) (all_info_spots p)) (among_right b (map (break_at 727) (all_abstract_spots p))
-      (map (break_at 729) (all_info_spots p)) among)))))
+  infos_none = no_spots 729 (all_info_spots p) (λ b among. verified b (listed b (among_left b (class_breaks p
+      ++ header_breaks p ++ map (break_at 728) (all_array_spots p)) (map (break_at 721) (described_spots p))
+      (among_left b (class_breaks p ++ header_breaks p) (map (break_at 728) (all_array_spots p)) (among_left b
+      (class_breaks p) (header_breaks p) (among_right b (map (break_at 725) (all_table_spots p)
+      ++ map (break_at 727) (all_abstract_spots p)) (map (break_at 729) (all_info_spots p)) among))))))
 
   -- a class of the package has a number among the infos
   record IsNumbered (offset : ℕ) (cl : Class) : Type 0 where

@@ -1,12 +1,10 @@
 -- What the rule of Descriptor's types says of entries of the constant pool.
-use Rattle.std.proofs.Common.{◌≡◌, ◌<◌, ◌+◌, ℕ, zero, suc, Bool, true, false, List, [], ◌∷◌, ◌++◌, length, map, slice_get}
-use Rattle.std.proofs.Common.{get_or, Option, Some, None, refl, sym, ap, subst, ◌∙◌, arith}
-use Rattle.std.specs.Prelude.{option_and_then, option_map, if◌then◌else◌}
-use Rattle.std.specs.Str.{bytes_eq}
+use Rattle.std.proofs.Common.{◌≡◌, ◌+◌, ℕ, zero, suc, Bool, true, false, List, [], ◌∷◌, ◌++◌, length, map, slice_get}
+use Rattle.std.proofs.Common.{get_or, Option, Some, None, refl, sym, ap, ◌∙◌, arith}
+use Rattle.std.specs.Prelude.{option_and_then, option_map}
 use Rattle.cjc_capread.specs.Bytes.Breaks.{Break, Among, foremost}
 use Rattle.cjc_capread.specs.declared.tree.ClassRef.TheVariants as refs
 use Rattle.cjc_capread.specs.declared.tree.StaticRef.TheVariants as statics
-use Rattle.cjc_capread.specs.declared.tree.Descriptor.{Descriptor}
 use Rattle.cjc_capread.specs.declared.tree.PoolEntry.{PoolEntry}
 use Rattle.cjc_capread.specs.declared.tree.PoolEntry.TheVariants.{InstanceFieldref, StaticFieldref}
 use Rattle.cjc_capread.specs.declared.tree.TypeDescriptor.{TypeDescriptor}
@@ -18,15 +16,13 @@ use Rattle.cjc_check_rules.specs.Complete.{described_size}
 use Rattle.cjc_check_rules.specs.Described.{types_at}
 use Rattle.cjc_card_semantics.specs.Machine.Classes.{Own}
 use Rattle.cjc_card_acts.specs.CardTypes.{MemberType, type_at, type_by, type_of, types_in}
-use Rattle.cjc_components.specs.Tokens.Tokens.{Assigned}
 use Rattle.cjc_card_calls.specs.World.Order.{class_order}
-use Rattle.cjc_verify.specs.Described.{are_nibbles, class_spots, described_spots, entry_spots, is_entry_type, nibbles_at}
+use Rattle.cjc_verify.specs.Described.{are_nibbles, class_spots, described_spots, entry_spots, is_entry_type}
 use Rattle.cjc_verify.specs.Described.{says, all_array_spots}
-use Rattle.cjc_verify.specs.Named.{cell_desc, entry_of, entry_type, named_desc}
-use Rattle.cjc_verify.specs.Pairs.{Pair, class_at, nibbles_of, world}
-use Rattle.cjc_verify.specs.Verified.{IsVerified, class_breaks, header_breaks, listed, listed_breaks}
-use Rattle.cjc_verify_proof.specs.Memories.{FieldTypes}
-use Rattle.cjc_verified_proof.specs.PackageTypes.{field_types, instance_desc, type_of_desc, type_said}
+use Rattle.cjc_verify.specs.Named.{entry_of, entry_type, named_desc}
+use Rattle.cjc_verify.specs.Pairs.{Pair, nibbles_of, world}
+use Rattle.cjc_verify.specs.Verified.{IsVerified, class_breaks, header_breaks, listed}
+use Rattle.cjc_verified_proof.specs.PackageTypes.{field_types, type_of_desc, type_said}
 use Rattle.cjc_bytes.proofs.BrokenRules.{among_right}
 use Rattle.cjc_bytes.proofs.Lists.{bytes_true, none_left, none_right}
 use Rattle.cjc_bytes.proofs.Gets.{get_below, get_inside}
@@ -41,10 +37,8 @@ no_spots rule (s ∷ spots) never = absurd (never (break_at rule s) foremost)
 
 pub described_none : (p : Pair) → IsVerified p → described_spots p ≡ []
 described_none p verified = no_spots 721 (described_spots p) (λ b among. verified b (listed b (among_right b
-    (class_breaks p) (header_breaks p ++ map (break_at 728) (all_array_spots p) ++ map (break_at 721)
-    (described_spots p)) (among_right b (header_breaks p) (map (break_at 728) (all_array_spots p) ++ map
-    (break_at 721) (described_spots p)) (among_right b (map (break_at 728) (all_array_spots p)) (map (break_at 721)
-    (described_spots p)) among)))))
+    (class_breaks p ++ header_breaks p ++ map (break_at 728) (all_array_spots p)) (map (break_at 721)
+    (described_spots p)) among)))
 
 -- items beside each other of which none is broken
 pub beside_none : {A B : Type 0} (size : A → ℕ) (broken : ℕ → A → B → List ComponentPlace) (at : ℕ) (xs : List A)
@@ -55,8 +49,7 @@ beside_none size broken at [] ys k x y e f g = cc
 beside_none size broken at (u ∷ xs) [] k x y e f g = cc
 beside_none size broken at (u ∷ xs) (v ∷ ys) zero x y e f g =
     let first : u ≡ x = cc in
-    let second : v ≡ y = cc in
-    (
+    let second : v ≡ y = cc in (
       at,
       ap (λ w. broken at w y) (sym first) ∙ ap (broken at u) (sym second) ∙ none_left (broken at u v)
           (beside size broken (at + size u) xs ys) e,
@@ -124,8 +117,7 @@ entry_says p verified counts k item is spots =
         let s = said p offset desc h in
         let at = item_or (let c = p.components in let d = c.descriptor in d.pool_types) k offset 0xFFFF got in
         let type_here : entry_type p k ≡ type_by (types_in s.nibbles) = ap (type_at (let c = p.components
-        in c.descriptor)) at ∙ s.type_is in
-        (
+        in c.descriptor)) at ∙ s.type_is in (
           desc,
           e,
           ap (option_map type_said) s.wanted ∙ ap (λ (t : MemberType). Some t.result) (sym type_here),

@@ -2,18 +2,17 @@
 use Rattle.std.proofs.Common.{◌≡◌, ◌≤◌, ◌<◌, ◌+◌, ◌-◌, ◌*◌, ℕ, zero, suc, Bool, true, false, List, [], ◌∷◌, ◌++◌}
 use Rattle.std.proofs.Common.{length, map, slice_get, Option, Some, None, refl, sym, ap, subst, ◌∙◌, arith}
 use Rattle.std.proofs.Common.{append_assoc, length-append, leb-false, leb-true}
-use Rattle.std.specs.Prelude.{◌==◌, ◌&&◌, codes, nat_le, sum_by, option_and_then, option_map, if◌then◌else◌}
+use Rattle.std.specs.Prelude.{◌==◌, codes, nat_le, sum_by, option_and_then, option_map, if◌then◌else◌}
 use Rattle.std.specs.Str.{bytes_eq}
 use Rattle.std.specs.List.{find}
 use Rattle.std.proofs.lemmas.List.Sums.{sum_by-cons, sum_by-append}
-use Rattle.cjc_capread.specs.Bytes.Breaks.{Break, Among}
+use Rattle.cjc_bytes.specs.Spots.{after, bad_at, desc_of, parts_of, types_from}
 use Rattle.cjc_capread.specs.Bytes.declared.fault.MemberId.{MemberId}
-use Rattle.cjc_capread.specs.declared.tree.ArrayInit.{ArrayInit}
 use Rattle.cjc_capread.specs.declared.tree.ClassRef.{ClassRef}
 use Rattle.cjc_capread.specs.declared.tree.ClassRef.TheVariants.{Inside, Outside}
 use Rattle.cjc_capread.specs.declared.tree.StaticField.{StaticField}
 use Rattle.cjc_check_rules.specs.declared.spot.ComponentPlace.{ComponentPlace}
-use Rattle.cjc_check_rules.specs.Spots.{beside, in_info, unless}
+use Rattle.cjc_check_rules.specs.Spots.{in_info}
 use Rattle.cjc_check_rules.specs.Complete.{Complete, array_size}
 use Rattle.cjc_check_rules.specs.Consistent.{break_at}
 use Rattle.cjc_world.specs.declared.image.ArrayCell.{ArrayCell}
@@ -24,7 +23,6 @@ use Rattle.cjc_world.specs.Files.{Files}
 use Rattle.cjc_ncode.specs.PoolOrder.{same_member}
 use Rattle.cjc_script.specs.Sorts.{Element, Booleans, Bytes, Shorts, Ints, Shape, OfClass, OfNumbers, OfReferences, Sort}
 use Rattle.cjc_script.specs.Sorts.{Boolean, Byte, Short, Int, Reference, NoValue, field_sort}
-use Rattle.cjc_tokens.specs.Fields.{is_reference}
 use Rattle.cjc_card_semantics.specs.Machine.Loaded.{Loaded}
 use Rattle.cjc_card_semantics.specs.Machine.Statics.{StaticCell, element_of}
 use Rattle.cjc_card_acts.specs.CardTypes.{ValueType, shape_by, types_in}
@@ -34,13 +32,13 @@ use Rattle.cjc_components.specs.Paired.Pairs as paired
 use Rattle.cjc_components.specs.Statics.{cell_offset, cell_order, cell_size, offset_from, size_of_field}
 use Rattle.cjc_components.specs.Types.{array_nibble, ref_nibbles, shape_nibbles, sort_nibbles}
 use Rattle.cjc_token_proof.specs.ByToken.Objects.{is_reference as is_reference_sort}
-use Rattle.cjc_token_proof.specs.Tables.Sound.{IsTyped, IsFieldDesc}
+use Rattle.cjc_token_proof.specs.Tables.Sound.{IsTyped}
 use Rattle.cjc_verify.specs.Described.{all_array_spots, array_number, array_spots, described_spots, is_number}
 use Rattle.cjc_verify.specs.Named.{cell_desc}
 use Rattle.cjc_verify.specs.Pairs.{Pair, class_ref, is_card_sort, pair_of}
 use Rattle.cjc_verify.specs.Verified.{IsVerified, class_breaks, header_breaks, listed}
-use Rattle.cjc_verify_proof.specs.Memories.{AreBytes, IsReferenceCell, IsCellOf, ImageFits}
-use Rattle.cjc_verified_proof.specs.PackageTypes.{HasSorts, cell_type, field_types, type_of_desc, type_said}
+use Rattle.cjc_verify_proof.specs.Memories.{AreBytes, IsCellOf, ImageFits}
+use Rattle.cjc_verified_proof.specs.PackageTypes.{HasSorts, field_types, type_of_desc, type_said}
 use Rattle.cjc_bytes.proofs.Bools.{and_true}
 use Rattle.cjc_bytes.proofs.BrokenRules.{among_left, among_right}
 use Rattle.cjc_bytes.proofs.Gets.{find_got, get_back, get_below, get_front}
@@ -165,15 +163,20 @@ type_is ref (OfNumbers Ints) = refl
 type_is ref (OfClass class) = by (ref class)
   where
     by : (r : ClassRef) → type_said (6 ∷ ref_nibbles r) ≡ types.Reference (6 ∷ ref_nibbles r)
-    unfolding types_in
     by (Inside offset) = refl
     by (Outside import token) = refl
 type_is ref (OfReferences class) = by (ref class)
   where
     by : (r : ClassRef) → type_said (0xE ∷ ref_nibbles r) ≡ types.Reference (0xE ∷ ref_nibbles r)
-    unfolding types_in
     by (Inside offset) = refl
     by (Outside import token) = refl
+
+-- the sorts of arrays of numbers
+array_sorts : (field_sort (codes "[Z") ≡ Reference (OfNumbers Booleans)) × (field_sort (codes "[B")
+    ≡ Reference (OfNumbers Bytes)) × (field_sort (codes "[S") ≡ Reference (OfNumbers Shorts)) × (field_sort (codes "[I")
+    ≡ Reference (OfNumbers Ints))
+unfolding after bad_at types_from parts_of desc_of
+array_sorts = (refl, refl, refl, refl)
 
 -- an array that has the number of a field's type is of the field's shape
 array_shape : (l : Loaded) (ref : List ℕ → ClassRef) (desc : List ℕ) (shape : Shape (List ℕ)) (n : ℕ)
@@ -197,10 +200,10 @@ array_shape l ref desc shape n e h =
         → (c ≡ true → desc ≡ codes "[S") → (d ≡ true → desc ≡ codes "[I") → is_number n (if a then Some 2 else if b
         then Some 3 else if c then Some 4 else if d then Some 5 else None) ≡ true
         → shape_by l (shape_nibbles ref shape) ≡ Some (OfNumbers (element_of n))
-    by true b c d p q r s f = at (codes "[Z") Booleans (p refl) refl refl (ap element_of (number_same n 2 f))
-    by false true c d p q r s f = at (codes "[B") Bytes (q refl) refl refl (ap element_of (number_same n 3 f))
-    by false false true d p q r s f = at (codes "[S") Shorts (r refl) refl refl (ap element_of (number_same n 4 f))
-    by false false false true p q r s f = at (codes "[I") Ints (s refl) refl refl (ap element_of (number_same n 5 f))
+    by true b c d p q r s f = at (codes "[Z") Booleans (p refl) array_sorts.0 refl (ap element_of (number_same n 2 f))
+    by false true c d p q r s f = at (codes "[B") Bytes (q refl) array_sorts.1 refl (ap element_of (number_same n 3 f))
+    by false false true d p q r s f = at (codes "[S") Shorts (r refl) array_sorts.2 refl (ap element_of (number_same n 4 f))
+    by false false false true p q r s f = at (codes "[I") Ints (s refl) array_sorts.3 refl (ap element_of (number_same n 5 f))
     by false false false false p q r s f = cc
 
 -- ---- the image
@@ -252,10 +255,9 @@ module _ (applets : Bool) (files : Files) (image : StaticImage) (c : Complete) (
       omega (arith, e, a, b)
 
   arrays_none : all_array_spots p ≡ []
-  arrays_none = no_spots 728 (all_array_spots p) (λ b among. verified b (listed b (among_right b (class_breaks p)
-      (header_breaks p ++ map (break_at 728) (all_array_spots p) ++ map (break_at 721) (described_spots p))
-      (among_right b (header_breaks p) (map (break_at 728) (all_array_spots p) ++ map (break_at 721) (described_spots
-      p)) (among_left b (map (break_at 728) (all_array_spots p)) (map (break_at 721) (described_spots p)) among)))))
+  arrays_none = no_spots 728 (all_array_spots p) (λ b among. verified b (listed b (among_left b (class_breaks p
+      ++ header_breaks p ++ map (break_at 728) (all_array_spots p)) (map (break_at 721) (described_spots p))
+      (among_right b (class_breaks p ++ header_breaks p) (map (break_at 728) (all_array_spots p)) among))))
 
   two_each : (k : ℕ) (f : MemberId) → slice_get rs k ≡ Some f → size_of_field f ≡ 2
   two_each k f e =

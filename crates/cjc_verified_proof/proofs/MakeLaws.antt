@@ -1,6 +1,6 @@
 -- Objects of classes that the type checker lets an instruction make.
-use Rattle.std.proofs.Common.{◌≡◌, ◌<◌, ◌+◌, ◌*◌, ◌-◌, ◌/◌, ◌%◌, ◌^◌, ℕ, zero, suc, Bool, true, false, List, [], ◌∷◌}
-use Rattle.std.proofs.Common.{length, slice_get, Option, Some, None, refl, sym, ap, subst, ◌∙◌, arith, nat_lt}
+use Rattle.std.proofs.Common.{◌≡◌, ◌<◌, ◌+◌, ◌*◌, ◌-◌, ◌/◌, ◌%◌, ◌^◌, ℕ, zero, suc, Bool, false, List, [], ◌∷◌}
+use Rattle.std.proofs.Common.{slice_get, Option, Some, None, refl, sym, ap, subst, ◌∙◌, arith, nat_lt}
 use Rattle.std.specs.Prelude.{if◌then◌else◌, is_some, option_and_then, option_map}
 use Rattle.std.proofs.lemmas.Bool.Decides.{nat_tests}
 use Rattle.cjc_capread.specs.Bytes.AccessFlags.{acc_abstract, has}
@@ -21,10 +21,10 @@ use Rattle.cjc_card_semantics.specs.Script.Sorts.{OfClass}
 use Rattle.cjc_card_acts.specs.Types.declared.cell.Cell.{Cell}
 use Rattle.cjc_card_semantics.specs.Bytecode.Effects.{Memory, New, effect}
 use Rattle.cjc_card_semantics.specs.Bytecode.Meanings.{Makes}
-use Rattle.cjc_card_semantics.specs.Machine.Loaded.{Import, Loaded, OfFile}
+use Rattle.cjc_card_semantics.specs.Machine.Loaded.{Loaded, OfFile}
 use Rattle.cjc_card_semantics.specs.Machine.Classes.{Class, Own, External, Field, class_of, external, imported_class}
 use Rattle.cjc_card_semantics.specs.Machine.Classes.{is_interface, is_interface_file, is_interface_info, with_token}
-use Rattle.cjc_card_semantics.specs.Machine.Operations.{Resolved, or_undone}
+use Rattle.cjc_card_semantics.specs.Machine.Operations.{or_undone}
 use Rattle.cjc_card_semantics.specs.Machine.Operations as machine
 use Rattle.cjc_card_semantics.specs.Machine.Statics.{Image}
 use Rattle.cjc_card_semantics.specs.Machine.ByToken.{classes}
@@ -35,7 +35,7 @@ use Rattle.cjc_card_acts.specs.CardTypes.{MemberType, class_by, is_type_of, shap
 use Rattle.cjc_token_proof.specs.Tables.Sound.{IsSound, AreTyped, AreFieldDescs}
 use Rattle.cjc_verify.specs.ClassTypes.{class_type}
 use Rattle.cjc_verify.specs.Instructions.{using}
-use Rattle.cjc_verify.specs.Named.{exported, is_unmade_class, is_unmade_export, names_unmade}
+use Rattle.cjc_verify.specs.Named.{is_unmade_class, is_unmade_export, names_unmade}
 use Rattle.cjc_verify.specs.Pairs.{Pair, class_at, pair_of}
 use Rattle.cjc_verify.specs.Verified.{IsVerified}
 use Rattle.cjc_verify_proof.specs.Words.{AreWords, AreLocals}

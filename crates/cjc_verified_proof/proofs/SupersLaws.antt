@@ -1,10 +1,9 @@
 -- What stands above the classes of a package, by the rule of superclasses and interfaces.
-use Rattle.std.proofs.Common.{◌≡◌, ◌≤◌, ◌<◌, ◌+◌, ◌*◌, ℕ, zero, suc, Bool, true, false, List, [], ◌∷◌, ◌++◌, length, map}
+use Rattle.std.proofs.Common.{◌≡◌, ◌<◌, ◌+◌, ◌*◌, ℕ, zero, suc, Bool, true, false, List, [], ◌∷◌, ◌++◌, length, map}
 use Rattle.std.proofs.Common.{slice_get, Option, Some, None, refl, sym, ap, subst, ◌∙◌, arith, inl, inr, append-nil}
-use Rattle.std.specs.Prelude.{◌==◌, ◌&&◌, ◌||◌, ◌⊎◌, codes, flat_map, nat_lt, sum_by, option_and_then, option_map}
-use Rattle.std.specs.Prelude.{option_to_list, is_some, if◌then◌else◌}
-use Rattle.std.specs.Str.{bytes_eq}
-use Rattle.std.specs.List.{find, list_any}
+use Rattle.std.specs.Prelude.{◌==◌, ◌||◌, ◌⊎◌, codes, flat_map, nat_lt, sum_by, option_and_then, option_map}
+use Rattle.std.specs.Prelude.{cond, option_to_list, if◌then◌else◌}
+use Rattle.std.specs.List.{find}
 use Rattle.std.proofs.lemmas.Bool.Decides.{nat_tests}
 use Rattle.std.proofs.lemmas.List.Sums.{sum_by-cons}
 use Rattle.cjc_capread.specs.declared.tree.ClassEntry.{ClassEntry}
@@ -15,21 +14,21 @@ use Rattle.cjc_capread.specs.declared.tree.InterfaceEntry.{InterfaceEntry}
 use Rattle.cjc_check_rules.specs.ExportFile.declared.tree.ExportClass.{ExportClass}
 use Rattle.cjc_check_rules.specs.ExportFile.declared.tree.ExportTree.{ExportTree}
 use Rattle.cjc_check_rules.specs.declared.spot.ComponentPlace.{ComponentPlace}
-use Rattle.cjc_check_rules.specs.Spots.{Placed, along, begins, in_info, placed, unless}
-use Rattle.cjc_check_rules.specs.Classes.{class_with, first_class, first_interface, imported, interfaces_at}
+use Rattle.cjc_check_rules.specs.Spots.{along, begins, in_info, placed, unless}
+use Rattle.cjc_check_rules.specs.Classes.{class_with, first_class, first_interface}
 use Rattle.cjc_check_rules.specs.Classes.{is_exported_interface, names_class, names_interface}
-use Rattle.cjc_check_rules.specs.ClassRefs.{each_ref, has_superclass, in_interface, in_map, in_maps, interfaces_in_described}
+use Rattle.cjc_check_rules.specs.ClassRefs.{has_superclass, in_interface, in_map, in_maps, interfaces_in_described}
 use Rattle.cjc_check_rules.specs.ClassRefs.{maps_begin, one_ref, stands_earlier, super_in_class, super_spots}
 use Rattle.cjc_check_rules.specs.Complete.{Complete, class_size, described_size, interface_size, map_size}
 use Rattle.cjc_world.specs.declared.image.StaticImage.{StaticImage}
 use Rattle.cjc_world.specs.Files.{Files}
-use Rattle.cjc_card_semantics.specs.Machine.Loaded.{ClassNames, Import, OfFile, OfGroup, Loaded, Part}
+use Rattle.cjc_card_semantics.specs.Machine.Loaded.{Import, OfFile, Loaded}
 use Rattle.cjc_card_semantics.specs.Machine.Classes.{Class, Own, External, Info, IsInterface, IsClass, class_of, external}
-use Rattle.cjc_card_semantics.specs.Machine.Classes.{external_from, external_named, import_of, imported_class, info_of}
-use Rattle.cjc_card_semantics.specs.Machine.Classes.{info_size, infos, is_in, is_interface, is_interface_file, is_interface_info}
-use Rattle.cjc_card_semantics.specs.Machine.Classes.{is_there, offset_of, own_from}
-use Rattle.cjc_card_semantics.specs.Machine.Classes.{map_sizes, number_from, number_named, object_class, or_else, some_of}
-use Rattle.cjc_card_semantics.specs.Machine.Classes.{supers, token_named, where_there, with_token}
+use Rattle.cjc_card_semantics.specs.Machine.Classes.{external_from, external_named, imported_class, info_of}
+use Rattle.cjc_card_semantics.specs.Machine.Classes.{info_size, is_in, is_interface, is_interface_file, is_interface_info}
+use Rattle.cjc_card_semantics.specs.Machine.Classes.{is_there, offset_of}
+use Rattle.cjc_card_semantics.specs.Machine.Classes.{map_sizes, number_from, object_class, or_else, some_of}
+use Rattle.cjc_card_semantics.specs.Machine.Classes.{supers, token_named, with_token}
 use Rattle.cjc_components.specs.Paired.Naming.{files_from, part_of}
 use Rattle.cjc_verify.specs.Pairs.{Pair, pair_of}
 use Rattle.cjc_verify_proof.specs.Memories.{SupersStand, interfaces_of}
@@ -140,8 +139,11 @@ interface_there at (i ∷ is) cs offset e = by (at == offset) e (interface_there
         (if b then Some 0 else option_map suc (number_from (at + interface_size i) (map IsInterface is
         ++ map IsClass cs) offset)) ≡ Some (IsInterface j))
     by true h rest = (i, refl)
-    by false h rest = let r = rest h in (r.0, more (number_from (at + interface_size i) (map IsInterface is
-        ++ map IsClass cs) offset) ∙ r.1)
+    by false h rest = let r = rest h in (
+      r.0,
+      more (number_from (at + interface_size i) (map IsInterface is
+          ++ map IsClass cs) offset) ∙ r.1,
+    )
 
 -- an interface among all infos is one of the interfaces
 interface_number : (is : List InterfaceEntry) (cs : List ClassEntry) (k : ℕ) (i : InterfaceEntry)
@@ -208,19 +210,21 @@ module _ (applets : Bool) (files : Files) (image : StaticImage) (c : Complete)
   abbrev tested : ClassRef → Bool
   tested r = names_interface c.class files.exports r
 
-  interfaces_clean : along interface_size (in_interface tested) first_interface (let i = c.class in i.interfaces) ≡ []
-  interfaces_clean = none_left (along interface_size (in_interface tested) first_interface (let i = c.class
-      in i.interfaces)) (along class_size (super_in_class c.class files.exports) (first_class c.class) (let i = c.class
-      in i.classes) ++ along described_size (interfaces_in_described tested) 1 (let d = c.descriptor in d.classes)) clean
+  abbrev in_interfaces : List ComponentPlace
+  in_interfaces = along interface_size (in_interface tested) first_interface (let i = c.class in i.interfaces)
 
-  classes_clean : along class_size (super_in_class c.class files.exports) (first_class c.class) (let i = c.class
-      in i.classes) ≡ []
-  classes_clean = none_left (along class_size (super_in_class c.class files.exports) (first_class c.class)
-      (let i = c.class in i.classes)) (along described_size (interfaces_in_described tested) 1 (let d = c.descriptor
-      in d.classes)) (none_right (along interface_size (in_interface tested) first_interface (let i = c.class
-      in i.interfaces)) (along class_size (super_in_class c.class files.exports) (first_class c.class) (let i = c.class
-      in i.classes) ++ along described_size (interfaces_in_described tested) 1 (let d = c.descriptor in d.classes))
-      clean)
+  abbrev in_classes : List ComponentPlace
+  in_classes = along class_size (super_in_class c.class files.exports) (first_class c.class) (let i = c.class
+      in i.classes)
+
+  abbrev in_descriptor : List ComponentPlace
+  in_descriptor = along described_size (interfaces_in_described tested) 1 (let d = c.descriptor in d.classes)
+
+  interfaces_clean : in_interfaces ≡ []
+  interfaces_clean = none_left in_interfaces in_classes (none_left (in_interfaces ++ in_classes) in_descriptor clean)
+
+  classes_clean : in_classes ≡ []
+  classes_clean = none_right in_interfaces in_classes (none_left (in_interfaces ++ in_classes) in_descriptor clean)
 
   abbrev all : List Info
   all = let i = c.class in map IsInterface i.interfaces ++ map IsClass i.classes

@@ -1,9 +1,8 @@
 -- Instructions on fields of the package go on, where the state before them breaks no rule.
-use Rattle.std.proofs.Common.{◌≡◌, ◌<◌, ◌+◌, ◌*◌, ◌-◌, ◌/◌, ◌%◌, ◌^◌, ℕ, Bool, true, false, not, List, [], ◌∷◌, ◌++◌, length}
-use Rattle.std.proofs.Common.{slice_get, Option, Some, None, refl, sym, ap, subst, ◌∙◌, arith, nat_lt, append-nil}
+use Rattle.std.proofs.Common.{◌≡◌, ◌<◌, ◌+◌, ◌*◌, ◌-◌, ◌/◌, ◌%◌, ◌^◌, ℕ, true, false, not, List, [], ◌∷◌, length}
+use Rattle.std.proofs.Common.{Option, Some, None, refl, sym, ap, subst, ◌∙◌, arith, nat_lt, append-nil}
 use Rattle.std.specs.Prelude.{if◌then◌else◌, is_some, option_map}
 use Rattle.std.proofs.lemmas.Bool.Decides.{nat_tests}
-use Rattle.cjc_capread.specs.declared.tree.ClassRef.{ClassRef}
 use Rattle.cjc_capread.specs.declared.tree.ClassRef.TheVariants.{Inside, Outside}
 use Rattle.cjc_capread.specs.declared.tree.StaticRef.TheVariants as statics
 use Rattle.cjc_capread.specs.declared.tree.PoolEntry.{PoolEntry}
@@ -12,18 +11,18 @@ use Rattle.cjc_capread.specs.Parts as parts
 use Rattle.cjc_card_semantics.specs.Script.declared.value.Value.{Value}
 use Rattle.cjc_card_semantics.specs.Script.Sorts.{OfClass}
 use Rattle.cjc_card_acts.specs.Types.declared.cell.Cell.{Cell}
-use Rattle.cjc_card_semantics.specs.Bytecode.Effects.{Letter, Memory, Get, Put, GetStatic, PutStatic, effect}
+use Rattle.cjc_card_semantics.specs.Bytecode.Effects.{Letter, Memory, Get, Put, effect}
 use Rattle.cjc_card_semantics.specs.Bytecode.Meanings.{Use, Gets, Puts, GetsStatic, PutsStatic}
 use Rattle.cjc_card_semantics.specs.Machine.Loaded.{Loaded}
-use Rattle.cjc_card_semantics.specs.Machine.Classes.{Class, Own, Field, class_of, info_of, is_there, where_there}
+use Rattle.cjc_card_semantics.specs.Machine.Classes.{Class, Own, Field, class_of, is_there}
 use Rattle.cjc_card_semantics.specs.Machine.Operations.{Resolved, or_undone}
 use Rattle.cjc_card_semantics.specs.Machine.Operations as machine
-use Rattle.cjc_card_semantics.specs.Machine.Statics.{Image, StaticCell}
+use Rattle.cjc_card_semantics.specs.Machine.Statics.{Image}
 use Rattle.cjc_card_semantics.specs.Machine.ByToken.{classes}
 use Rattle.cjc_components.specs.Types.{ref_nibbles}
 use Rattle.cjc_card_acts.specs.Frames.declared.acts.Act.{Act}
 use Rattle.cjc_card_acts.specs.Frames.Acts.{has_wrong, has_wrong_local, stack_behind}
-use Rattle.cjc_card_acts.specs.CardTypes.{MemberType, ValueType, class_by, is_moved_by, is_type_of, shape_by}
+use Rattle.cjc_card_acts.specs.CardTypes.{ValueType, class_by, is_moved_by, is_type_of, shape_by}
 use Rattle.cjc_verify.specs.ClassTypes.{class_type}
 use Rattle.cjc_verify.specs.Instructions.{using}
 use Rattle.cjc_verify.specs.Named.{entry_of, entry_type}
@@ -32,7 +31,7 @@ use Rattle.cjc_verify.specs.Verified.{IsVerified}
 use Rattle.cjc_verify_proof.specs.Words.{AreWords, AreLocals}
 use Rattle.cjc_verify_proof.specs.Acts.{Passes}
 use Rattle.cjc_verify_proof.specs.Heaps.{object_is}
-use Rattle.cjc_verify_proof.specs.Memories.{FieldTypes, IsMemory, Goes, SupersStand, IsDeclared, AreDeclared}
+use Rattle.cjc_verify_proof.specs.Memories.{FieldTypes, IsMemory, Goes, SupersStand, AreDeclared}
 use Rattle.cjc_verify_proof.proofs.WordLaws.{true_of}
 use Rattle.cjc_verify_proof.proofs.PlainLaws.{three}
 use Rattle.cjc_verify_proof.proofs.FieldLaws.{get_field, get_field_this, put_field, put_field_this, get_cell, put_cell}

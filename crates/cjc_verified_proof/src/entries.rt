@@ -12,7 +12,7 @@ ghost use Rattle.cjc_card_semantics.specs.Bytecode.Meanings.{Use};
 ghost use Rattle.cjc_card_semantics.specs.Machine.Classes.{Class, Own, Field};
 ghost use Rattle.cjc_card_semantics.specs.Machine.Operations.{or_undone};
 ghost use Rattle.cjc_card_semantics.specs.Machine.Operations as machine;
-ghost use Rattle.cjc_card_semantics.specs.Machine.Statics.{Image, StaticCell};
+ghost use Rattle.cjc_card_semantics.specs.Machine.Statics.{Image};
 ghost use Rattle.cjc_card_semantics.specs.Machine.ByToken.{classes};
 ghost use Rattle.cjc_card_acts.specs.CardTypes.{is_type_of};
 ghost use Rattle.cjc_card_acts.specs.Frames.Acts.{stack_behind};
