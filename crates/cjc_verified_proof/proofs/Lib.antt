@@ -5,3 +5,5 @@ pub mod DeclaredLaws
 pub mod ImageFitsLaws
 pub mod SupersLaws
 pub mod MakeLaws
+pub mod SortLaws
+pub mod CheckedLaws
