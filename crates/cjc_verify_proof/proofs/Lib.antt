@@ -6,3 +6,14 @@ pub mod OperandLaws
 pub mod TestLaws
 pub mod HeapLaws
 pub mod StoreLaws
+pub mod Upwards
+pub mod TypeLaws
+pub mod GrowthLaws
+pub mod OffLaws
+pub mod KeyLaws
+pub mod FreshLaws
+pub mod ImageLaws
+pub mod FirstLaws
+pub mod MemoryLaws
+pub mod FieldLaws
+pub mod ArrayLaws

@@ -2,3 +2,8 @@ pub mod Words
 pub mod Beside
 pub mod Acts
 pub mod Heaps
+pub mod Growth
+pub mod References
+pub mod Control
+pub mod Values
+pub mod Memories

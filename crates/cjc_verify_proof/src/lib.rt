@@ -3,4 +3,8 @@
 #![tactic(auto)]
 
 pub mod arrays;
+pub mod fields;
+pub mod memories;
 pub mod rows;
+pub mod slots;
+pub mod statics;
