@@ -6,3 +6,13 @@ pub mod OperandLaws
 pub mod TestLaws
 pub mod HeapLaws
 pub mod StoreLaws
+pub mod Upwards
+pub mod TypeLaws
+pub mod GrowthLaws
+pub mod ControlLaws
+pub mod ReferenceLaws
+pub mod FlowLaws
+pub mod FrameLaws
+pub mod CallLaws
+pub mod ScriptLaws
+pub mod ImportLaws

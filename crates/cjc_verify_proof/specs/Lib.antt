@@ -2,3 +2,9 @@ pub mod Words
 pub mod Beside
 pub mod Acts
 pub mod Heaps
+pub mod Growth
+pub mod References
+pub mod Control
+pub mod Frames
+pub mod Calls
+pub mod Scripts

@@ -3,4 +3,9 @@
 #![tactic(auto)]
 
 pub mod arrays;
+pub mod calls;
+pub mod control;
+pub mod frames;
+pub mod growth;
+pub mod references;
 pub mod rows;
