@@ -16,3 +16,4 @@ pub mod FrameLaws
 pub mod CallLaws
 pub mod ScriptLaws
 pub mod ImportLaws
+pub mod TurnLaws

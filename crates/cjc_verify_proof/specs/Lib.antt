@@ -8,3 +8,4 @@ pub mod Control
 pub mod Frames
 pub mod Calls
 pub mod Scripts
+pub mod Turns

@@ -9,3 +9,4 @@ pub mod frames;
 pub mod growth;
 pub mod references;
 pub mod rows;
+pub mod turns;

@@ -1,0 +1,67 @@
+-- What instructions ask of the machine beside what they take and give, where the constant pool is read.
+use Rattle.std.specs.Prelude.{◌≡◌, ℕ, Bool, true, false, List, [], ◌∷◌, map, Option, Some, ℤ}
+use Rattle.cjc_card_semantics.specs.CapRead.Opcodes.{Operand}
+use Rattle.cjc_card_semantics.specs.Script.Sorts.{Element, Shape, OfNumbers, OfReferences}
+use Rattle.cjc_card_semantics.specs.Bytecode.Calculations.{Calculation, Test}
+use Rattle.cjc_card_semantics.specs.Bytecode.Effects.{Letter, Arm, Operation, Do, Branch, Pick, Touch, Load, Store}
+use Rattle.cjc_card_semantics.specs.Bytecode.Effects.{Length, Throw, Return, Call, NewNumbers, NewReferences, Cast, Ask}
+use Rattle.cjc_card_semantics.specs.Bytecode.Effects.{Memory, Effect, Go, Raise, Toss, Invoke, Leave, Stick}
+use Rattle.cjc_card_semantics.specs.Machine.Loaded.{Loaded}
+use Rattle.cjc_card_semantics.specs.Machine.Classes.{Class, Field}
+use Rattle.cjc_card_semantics.specs.Machine.Statics.{Image, StaticCell}
+use Rattle.cjc_card_semantics.specs.Machine.Operations.{Callee}
+use Rattle.cjc_card_acts.specs.Frames.declared.acts.Need.{Need}
+use Rattle.cjc_card_acts.specs.Frames.declared.acts.Need.TheVariants.{NumberWord, ReferenceWord, OfType, OfArrays}
+use Rattle.cjc_card_acts.specs.Frames.declared.acts.Given.TheVariants.{ANumber, AnObject}
+use Rattle.cjc_card_acts.specs.Frames.declared.acts.Act.{Act}
+use Rattle.cjc_card_acts.specs.Rows.{Row, idle, number_words, loading_item, storing_item}
+use Rattle.cjc_card_acts.specs.CardTypes.{ValueType, needs_of, is_returned_by, all_arrays, shape_by}
+use Rattle.cjc_verify_proof.specs.Beside.{BesidePlain, BesideTest, AreRead}
+use Rattle.cjc_verify_proof.specs.Acts.{plain_act}
+use Rattle.cjc_verify_proof.specs.Heaps.{AreFit}
+use Rattle.cjc_verify_proof.specs.References.{AreHeld}
+use Rattle.cjc_verify_proof.specs.Control.{switched_words}
+use Rattle.cjc_verify_proof.specs.Turns.{Calls}
+
+-- An instruction of a method with this result is so: what it takes and gives, and its operation.
+pub data Suits (l : Loaded) (exceptions : List ℕ) (result : ValueType) : Act → Operation Class Field StaticCell Callee
+    → Type 0 where
+  plain : {r : Row} {f : List ℤ → Calculation} {kinds : List Operand} (operands : List ℤ) → BesidePlain r f kinds
+      → AreRead kinds operands → Suits l exceptions result (plain_act r operands) (Do (f operands))
+  jump : {needs : List Need} {falls : Bool} {test : Test} (to : ℕ) → BesideTest needs falls test
+      → Suits l exceptions result (record idle { takes = needs; falls = falls; targets = to ∷ [] }) (Branch test to)
+  switch : (is_int : Bool) (other : ℕ) (arms : List Arm) → Suits l exceptions result (record idle {
+    takes = number_words (switched_words is_int);
+    falls = false;
+    targets = other ∷ map (λ (a : Arm). a.to) arms;
+  }) (Pick is_int other arms)
+  load : (letter : Letter) → Suits l exceptions result (loading_item letter) (Touch (Load letter))
+  store : (letter : Letter) → Suits l exceptions result (storing_item letter) (Touch (Store letter))
+  arraylength : Suits l exceptions result (record idle {
+    takes = OfArrays all_arrays ∷ [];
+    gives = ANumber ∷ [];
+  }) (Touch Length)
+  athrow : Suits l exceptions result (record idle { takes = OfType exceptions ∷ []; falls = false }) (Touch Throw)
+  return : (letter : Option Letter) → is_returned_by letter result ≡ true
+      → Suits l exceptions result (record idle { takes = needs_of result; falls = false }) (Touch (Return letter))
+  newarray : (element : Element) (type : List ℕ) → shape_by l type ≡ Some (OfNumbers element)
+      → Suits l exceptions result (record idle { takes = NumberWord ∷ []; gives = AnObject type ∷ [] })
+      (NewNumbers element)
+  anewarray : (class : Class) (type : List ℕ) → shape_by l type ≡ Some (OfReferences class)
+      → Suits l exceptions result (record idle { takes = NumberWord ∷ []; gives = AnObject type ∷ [] })
+      (NewReferences class)
+  checkcast : (target : Shape Class) (type : List ℕ) → shape_by l type ≡ Some target
+      → Suits l exceptions result (record idle { takes = ReferenceWord ∷ []; gives = AnObject type ∷ [] }) (Cast target)
+  instanceof : (target : Shape Class)
+      → Suits l exceptions result (record idle { takes = ReferenceWord ∷ []; gives = ANumber ∷ [] }) (Ask target)
+  call : {a : Act} {callee : Callee} → Calls l exceptions a callee → Suits l exceptions result a (Call callee)
+
+-- Where an instruction goes on, arrays hold what they may, and static fields what they held.
+abbrev pub HoldsOn : Loaded → (m : Memory Class Field (List Image)) → Effect Class Field Callee (List Image) → Type 0
+HoldsOn l m (Go at stack locals memory) = AreFit memory.heap × (AreHeld l memory.heap
+    × (memory.statics ≡ m.statics))
+HoldsOn l m (Raise fault) = Unit {0}
+HoldsOn l m (Toss object) = Unit {0}
+HoldsOn l m (Invoke callee) = Unit {0}
+HoldsOn l m (Leave words) = Unit {0}
+HoldsOn l m Stick = Unit {0}
