@@ -180,7 +180,7 @@ module _ (l : Loaded) (heap : List (HeapObject Class Field)) where
 
   -- ---- results
 
-  object_result : (shape : Shape (List ℕ)) (type : List ℕ) → shape_of (by_token l) shape ≡ shape_by l type → (k : ℕ)
+  pub object_result : (shape : Shape (List ℕ)) (type : List ℕ) → shape_of (by_token l) shape ≡ shape_by l type → (k : ℕ)
       → object_fits (by_token l) heap k shape ≡ true → IsOneOf (object_is l heap) (type ∷ []) k
   unfolding by_token
   object_result shape type same k e = record {

@@ -45,7 +45,7 @@ use Rattle.cjc_verify_proof.specs.Words.{IsWord, IsLocal, AreWords, AreLocals}
 use Rattle.cjc_verify_proof.specs.Heaps.{thing_is, object_is, shape_in}
 use Rattle.cjc_verify_proof.specs.Growth.{Extends}
 use Rattle.cjc_verify_proof.specs.Control.{next_if, cells_of}
-use Rattle.cjc_verify_proof.specs.Frames.{Typing, IsCaught, IsCatch, IsMethod, Stands, Runs, Waits, AreOuter, AreFrames}
+use Rattle.cjc_verify_proof.specs.Frames.{Typing, IsCaught, IsCatch, IsMethod, Program, AreMethods, Stands, Runs, Waits, AreOuter, AreFrames}
 use Rattle.cjc_verify_proof.specs.Frames.{GoesOn, Begins}
 use Rattle.cjc_verify_proof.proofs.WordLaws.{word_up, words_up, locals_up, words_length}
 use Rattle.cjc_verify_proof.proofs.WordLaws as words
@@ -185,7 +185,7 @@ module _ (l : Loaded) (exceptions : List ℕ) (t : Typing) (method : IsMethod l 
       go false e h = absurd h
 
 -- a frame in a heap that grew
-module _ (l : Loaded) (exceptions : List ℕ) (heap more : List (HeapObject Class Field)) (grows : Extends heap more)
+module _ (l : Loaded) (program : Program) (heap more : List (HeapObject Class Field)) (grows : Extends heap more)
   where
     pub stands_still : (t : Typing) (f : Frame Code) → Stands l heap t f → Stands l more t f
     stands_still t f s = record {
@@ -214,8 +214,8 @@ module _ (l : Loaded) (exceptions : List ℕ) (heap more : List (HeapObject Clas
       at_next = w.at_next;
     }
 
-    pub outer_still : (r : ValueType) (fs : List (Frame Code)) → AreOuter l exceptions heap r fs
-        → AreOuter l exceptions more r fs
+    pub outer_still : (r : ValueType) (fs : List (Frame Code)) → AreOuter l program heap r fs
+        → AreOuter l program more r fs
     outer_still r [] o = tt
     outer_still r (f ∷ fs) o =
         let t = o.0 in
@@ -362,23 +362,26 @@ module _ (l : Loaded) (exceptions : List ℕ) (t : Typing) (method : IsMethod l 
 
 -- ---- exceptions
 
-module _ (l : Loaded) (exceptions : List ℕ) (m : Memory Class Field (List Image)) (kind : Shape Class) (object : ℕ)
+module _ (l : Loaded) (program : Program) (all : AreMethods l program) (m : Memory Class Field (List Image)) (kind : Shape Class) (object : ℕ)
     (of_kind : thing_is l (slice_get m.heap object) (Some kind) ≡ true)
-    (thrown : both_of l (Some kind) (shape_by l exceptions) ≡ true)
+    (thrown : both_of l (Some kind) (shape_by l program.exceptions) ≡ true)
     (from : ℕ) (s : Run Code Class Field (List Image)) (same : s.memory ≡ m) where
   abbrev Goes : Turn Code Class Field (List Image) → Type 0
-  Goes turn = GoesOn l exceptions m turn
+  Goes turn = GoesOn l program m turn
 
-  caught_here : (t : Typing) → IsMethod l exceptions t → (f : Frame Code) → Stands l m.heap t f
-      → (outer : List (Frame Code)) → AreOuter l exceptions m.heap t.result outer
+  caught_here : (t : Typing) → Contains program.methods t → (f : Frame Code) → Stands l m.heap t f
+      → (outer : List (Frame Code)) → AreOuter l program m.heap t.result outer
       → (past : Turn Code Class Field (List Image)) → Goes past → (o : Option ℕ)
       → handler l f.code f.at kind ≡ o
       → Goes (caught_at (by_token l) o from f outer object s past)
   unfolding by_token
-  caught_here t method f st outer o past goes None is = goes
-  caught_here t method f st outer o past goes (Some target) is =
-      go (nat_lt 0 (let c = f.code in c.room)) (has_room l exceptions t method m.heap new runs (omega arith))
+  caught_here t among f st outer o past goes None is = goes
+  caught_here t among f st outer o past goes (Some target) is =
+      go (nat_lt 0 (let c = f.code in c.room)) (has_room l program.exceptions t (all t among) m.heap new runs (omega arith))
     where
+      method : IsMethod l program.exceptions t
+      method = all t among
+
       new : Frame Code
       new = record f { at = target; stack = Obj object ∷ [] }
 
@@ -389,55 +392,55 @@ module _ (l : Loaded) (exceptions : List ℕ) (m : Memory Class Field (List Imag
       taken (Some part) e h =
           let here : slice_get l.parts t.code.part ≡ Some part =
           ap (λ (c : Code). slice_get l.parts c.part) (sym st.is_code) ∙ e in
-          handler_taken l t.code.part part.pool exceptions f.at kind thrown (let p = part.method in p.handlers)
+          handler_taken l t.code.part part.pool program.exceptions f.at kind thrown (let p = part.method in p.handlers)
           t.body.catches (method.catches part here) target
           (ap (λ (c : Code). handler_among l c.part part.pool (let p = part.method in p.handlers) f.at kind)
           (sym st.is_code) ∙ h)
 
       runs : Runs l m.heap t new
-      runs = at_handler l exceptions t method m.heap f st kind object of_kind target
+      runs = at_handler l program.exceptions t (all t among) m.heap f st kind object of_kind target
           (taken (slice_get l.parts (let c = f.code in c.part)) refl is)
 
       go : (b : Bool) → b ≡ true → Goes (if b then Next (record s { frames = new ∷ outer }) else StuckAt from s)
-      go true e = (same, (t, (method, (runs, o))))
+      go true e = (same, (t, (among, (runs, o))))
       go false e = cc
 
   -- an exception is caught by a frame, or ends its entry
-  pub is_caught_or_ends : (t : Typing) → IsMethod l exceptions t → (f : Frame Code) → Stands l m.heap t f
-      → (outer : List (Frame Code)) → AreOuter l exceptions m.heap t.result outer
+  pub is_caught_or_ends : (t : Typing) → Contains program.methods t → (f : Frame Code) → Stands l m.heap t f
+      → (outer : List (Frame Code)) → AreOuter l program m.heap t.result outer
       → Goes (caught (by_token l) from (f ∷ outer) object kind s)
   unfolding by_token
-  is_caught_or_ends t method f st [] o = caught_here t method f st [] o (caught (by_token l) from [] object kind s)
+  is_caught_or_ends t among f st [] o = caught_here t among f st [] o (caught (by_token l) from [] object kind s)
       (same, tt) (handler l f.code f.at kind) refl
-  is_caught_or_ends t method f st (g ∷ outer) o =
+  is_caught_or_ends t among f st (g ∷ outer) o =
       let u = o.0 in
-      caught_here t method f st (g ∷ outer) o (caught (by_token l) from (g ∷ outer) object kind s)
+      caught_here t among f st (g ∷ outer) o (caught (by_token l) from (g ∷ outer) object kind s)
       (is_caught_or_ends u o.1.0 g (stood u o.1.1.0) outer o.1.1.1)
       (handler l f.code f.at kind) refl
     where
       stood : (u : Typing) → Waits l m.heap t.result u g → Stands l m.heap u g
       stood u w = w.stands
 
-module _ (l : Loaded) (exceptions : List ℕ) (s : Run Code Class Field (List Image)) (t : Typing)
-    (method : IsMethod l exceptions t) (f : Frame Code) (outer : List (Frame Code)) where
+module _ (l : Loaded) (program : Program) (all : AreMethods l program) (s : Run Code Class Field (List Image)) (t : Typing)
+    (among : Contains program.methods t) (f : Frame Code) (outer : List (Frame Code)) where
   -- an array or object is thrown
-  pub tossed : Stands l s.memory.heap t f → AreOuter l exceptions s.memory.heap t.result outer → (object : ℕ)
-      → object_is l s.memory.heap exceptions object ≡ true
-      → GoesOn l exceptions s.memory (turn_after_toss (by_token l) (slice_get s.memory.heap object) f outer object s)
+  pub tossed : Stands l s.memory.heap t f → AreOuter l program s.memory.heap t.result outer → (object : ℕ)
+      → object_is l s.memory.heap program.exceptions object ≡ true
+      → GoesOn l program s.memory (turn_after_toss (by_token l) (slice_get s.memory.heap object) f outer object s)
   unfolding by_token
   tossed st o object is = go (slice_get s.memory.heap object) refl is
     where
       go : (x : Option (HeapObject Class Field)) → slice_get s.memory.heap object ≡ x
-          → thing_is l x (shape_by l exceptions) ≡ true
-          → GoesOn l exceptions s.memory (turn_after_toss (by_token l) x f outer object s)
-      go None at e = never (shape_by l exceptions) e
+          → thing_is l x (shape_by l program.exceptions) ≡ true
+          → GoesOn l program s.memory (turn_after_toss (by_token l) x f outer object s)
+      go None at e = never (shape_by l program.exceptions) e
         where
           never : {A : Type 0} (k : Option (Shape Class)) → thing_is l None k ≡ true → A
           never None e = cc
           never (Some k) e = cc
-      go (Some thing) at e = is_caught_or_ends l exceptions s.memory (shape thing) object
+      go (Some thing) at e = is_caught_or_ends l program all s.memory (shape thing) object
           (subst (λ y. thing_is l y (Some (shape thing)) ≡ true) (sym at) (of_itself l (shape thing)))
-          (both (shape_by l exceptions) e) f.at s refl t method f st outer o
+          (both (shape_by l program.exceptions) e) f.at s refl t among f st outer o
         where
           both : (k : Option (Shape Class)) → thing_is l (Some thing) k ≡ true → both_of l (Some (shape thing)) k ≡ true
           both (Some k) e = e
@@ -448,14 +451,14 @@ module _ (l : Loaded) (exceptions : List ℕ) (s : Run Code Class Field (List Im
   with_exception c = record (s.memory) { heap = s.memory.heap ++ Object c [] ∷ [] }
 
   -- an exception of a class that is one
-  pub raised : Stands l s.memory.heap t f → AreOuter l exceptions s.memory.heap t.result outer → (c : Class)
-      → both_of l (Some (OfClass c)) (shape_by l exceptions) ≡ true → (otherwise : Turn Code Class Field (List Image))
-      → GoesOn l exceptions (with_exception c) (turn_after_raise (by_token l) (Some c) f outer s otherwise)
-  raised st o c is otherwise = is_caught_or_ends l exceptions (with_exception c) (OfClass c) (length s.memory.heap)
+  pub raised : Stands l s.memory.heap t f → AreOuter l program s.memory.heap t.result outer → (c : Class)
+      → both_of l (Some (OfClass c)) (shape_by l program.exceptions) ≡ true → (otherwise : Turn Code Class Field (List Image))
+      → GoesOn l program (with_exception c) (turn_after_raise (by_token l) (Some c) f outer s otherwise)
+  raised st o c is otherwise = is_caught_or_ends l program all (with_exception c) (OfClass c) (length s.memory.heap)
       (subst (λ y. thing_is l y (Some (OfClass c)) ≡ true) (sym (at_end s.memory.heap (Object c [])))
-      (of_itself l (OfClass c))) is f.at (with_last (Object c []) s) refl t method f
-      (stands_still l exceptions s.memory.heap (s.memory.heap ++ Object c [] ∷ []) grows t f st) outer
-      (outer_still l exceptions s.memory.heap (s.memory.heap ++ Object c [] ∷ []) grows t.result outer o)
+      (of_itself l (OfClass c))) is f.at (with_last (Object c []) s) refl t among f
+      (stands_still l program s.memory.heap (s.memory.heap ++ Object c [] ∷ []) grows t f st) outer
+      (outer_still l program s.memory.heap (s.memory.heap ++ Object c [] ∷ []) grows t.result outer o)
     where
       grows : Extends s.memory.heap (s.memory.heap ++ Object c [] ∷ [])
       grows = pushed_extends s.memory.heap (Object c [])
@@ -477,16 +480,19 @@ result_cells lc cs types.Short = refl
 result_cells lc cs types.Int = refl
 result_cells lc cs (types.Reference type) = refl
 
-module _ (l : Loaded) (exceptions : List ℕ) (m : Memory Class Field (List Image)) (result : ValueType)
+module _ (l : Loaded) (program : Program) (all : AreMethods l program) (m : Memory Class Field (List Image)) (result : ValueType)
     (ws : List Value) (typed : AreWords (object_is l m.heap) (cells_of result) (reverse ws))
     (s : Run Code Class Field (List Image)) (same : s.memory ≡ m) where
   -- a frame that waits goes on with the result
-  pub resumed : (from : ℕ) (t : Typing) → IsMethod l exceptions t → (g : Frame Code) → Waits l m.heap result t g
-      → (outer : List (Frame Code)) → AreOuter l exceptions m.heap t.result outer
-      → GoesOn l exceptions m (returned (by_token l) from ws g outer s)
+  pub resumed : (from : ℕ) (t : Typing) → Contains program.methods t → (g : Frame Code) → Waits l m.heap result t g
+      → (outer : List (Frame Code)) → AreOuter l program m.heap t.result outer
+      → GoesOn l program m (returned (by_token l) from ws g outer s)
   unfolding by_token
-  resumed from t method g w outer o = go (nat_le (length (reverse ws ++ g.stack)) (let c = g.code in c.room)) refl
+  resumed from t among g w outer o = go (nat_le (length (reverse ws ++ g.stack)) (let c = g.code in c.room)) refl
     where
+      method : IsMethod l program.exceptions t
+      method = all t among
+
       st : Stands l m.heap t g
       st = w.stands
 
@@ -511,14 +517,14 @@ module _ (l : Loaded) (exceptions : List ℕ) (m : Memory Class Field (List Imag
       new = record g { at = g.next; stack = reverse ws ++ g.stack }
 
       runs : Runs l m.heap t new
-      runs = behind_next l exceptions t method m.heap st.place st.step st.is_step st.cells st.locals st.reached w.falls
+      runs = behind_next l program.exceptions t method m.heap st.place st.step st.is_step st.cells st.locals st.reached w.falls
           w.next w.is_next new st.is_code w.at_next stack locals
 
       go : (b : Bool) → nat_le (length (reverse ws ++ g.stack)) (let c = g.code in c.room) ≡ b
-          → GoesOn l exceptions m (if b then Next (record s { frames = new ∷ outer }) else StuckAt from s)
-      go true e = (same, (t, (method, (runs, o))))
+          → GoesOn l program m (if b then Next (record s { frames = new ∷ outer }) else StuckAt from s)
+      go true e = (same, (t, (among, (runs, o))))
       go false e =
-          let p = parts (is_type_of l) t.body.max_stack a st.locals st.cells (sound l exceptions t method st.place
+          let p = parts (is_type_of l) t.body.max_stack a st.locals st.cells (sound l program.exceptions t method st.place
           st.step st.is_step st.cells st.locals st.reached).passes in
           let high = ltb-false t.body.max_stack (length (stack_behind a st.locals st.cells)) p.after in
           let long = words_length (object_is l m.heap) (stack_behind a st.locals st.cells) (reverse ws ++ g.stack) stack
@@ -531,8 +537,8 @@ module _ (l : Loaded) (exceptions : List ℕ) (m : Memory Class Field (List Imag
           room_of c = c.room
 
   -- a method leaves with its result
-  pub leaves_frames : (f : Frame Code) (outer : List (Frame Code)) → AreOuter l exceptions m.heap result outer
-      → GoesOn l exceptions m (left (by_token l) ws f outer s)
+  pub leaves_frames : (f : Frame Code) (outer : List (Frame Code)) → AreOuter l program m.heap result outer
+      → GoesOn l program m (left (by_token l) ws f outer s)
   leaves_frames f [] o = (same, tt)
   leaves_frames f (g ∷ outer) o = let t = o.0 in resumed f.at t o.1.0 g o.1.1.0 outer o.1.1.1
 
@@ -596,15 +602,15 @@ module _ (l : Loaded) (exceptions : List ℕ) (heap : List (HeapObject Class Fie
       same_of o x y e f = cc
 
 -- a call begins a method inside a frame that waits for its result
-pub inside_goes : (l : Loaded) (exceptions : List ℕ) (s : Run Code Class Field (List Image)) (t : Typing)
-    → IsMethod l exceptions t → (m : Start Code) → Begins t m → (args : List Value)
+pub inside_goes : (l : Loaded) (program : Program) → AreMethods l program → (s : Run Code Class Field (List Image)) (t : Typing)
+    → Contains program.methods t → (m : Start Code) → Begins t m → (args : List Value)
     → AreWords (object_is l s.memory.heap) (map (given [] []) t.body.arguments) args → (f : Frame Code)
-    (outer : List (Frame Code)) → AreOuter l exceptions s.memory.heap t.result (f ∷ outer)
-    → GoesOn l exceptions s.memory (inside (by_token l) m args f outer s)
-inside_goes l exceptions s t method m begins args typed f outer o = go m.is_abstract begins.concrete
+    (outer : List (Frame Code)) → AreOuter l program s.memory.heap t.result (f ∷ outer)
+    → GoesOn l program s.memory (inside (by_token l) m args f outer s)
+inside_goes l program all s t among m begins args typed f outer o = go m.is_abstract begins.concrete
   where
-    go : (b : Bool) → b ≡ false → GoesOn l exceptions s.memory (if b then StuckAt f.at s else Next (record s {
+    go : (b : Bool) → b ≡ false → GoesOn l program s.memory (if b then StuckAt f.at s else Next (record s {
       frames = frame_for_call m args ∷ f ∷ outer;
     }))
-    go false e = (refl, (t, (method, (entered l exceptions s.memory.heap t method m begins args typed, o))))
+    go false e = (refl, (t, (among, (entered l program.exceptions s.memory.heap t (all t among) m begins args typed, o))))
     go true e = cc

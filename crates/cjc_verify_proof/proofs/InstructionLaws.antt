@@ -49,6 +49,7 @@ use Rattle.cjc_verify_proof.specs.Heaps.{object_is, AreFit, Onward, Stored, Keep
 use Rattle.cjc_verify_proof.specs.Growth.{Extends, IsWithOneMore, AreZeros, AreNulls, Adds}
 use Rattle.cjc_verify_proof.specs.References.{AreHeld, Puts}
 use Rattle.cjc_verify_proof.specs.Control.{next_if, switched_words, Leads, Throws as IsThrown, Returns as IsLeft}
+use Rattle.cjc_verify_proof.specs.Frames.{Program}
 use Rattle.cjc_verify_proof.specs.Turns.{Does}
 use Rattle.cjc_verify_proof.specs.Instructions.{Suits, HoldsOn, plain, jump, switch, load, store, arraylength, athrow}
 use Rattle.cjc_verify_proof.specs.Instructions.{return, newarray, anewarray, checkcast, instanceof, call}
@@ -237,12 +238,12 @@ switching is_int other arms = record idle {
 
 -- ---- one instruction
 
-module _ (l : Loaded) (exceptions : List ℕ) (result : ValueType) (room next : ℕ) (lc : List Cell)
+module _ (l : Loaded) (program : Program) (result : ValueType) (room next : ℕ) (lc : List Cell)
     (lv : List (Option Value)) (m : Memory Class Field (List Image)) (k : AreLocals (object_is l m.heap) lc lv)
     (fit : AreFit m.heap) (held : AreHeld l m.heap) where
   -- what is to be shown of an act on a stack
   abbrev Done : Act → List Cell → Effect Class Field Callee (List Image) → Type 0
-  Done a cs e = Does l exceptions result a next lc cs m e × HoldsOn l m e
+  Done a cs e = Does l program result a next lc cs m e × HoldsOn l m e
 
   -- it goes on in the same memory
   same_done : (a : Act) (cs : List Cell) (at : ℕ) (stack : List Value) (locals : List (Option Value))
@@ -378,8 +379,7 @@ module _ (l : Loaded) (exceptions : List ℕ) (result : ValueType) (room next : 
       let grows : Extends m.heap memory.heap = keeps_extends m.heap memory.heap keeps in
       let still = object_still l m.heap memory.heap grows in
       let old = Numbers n.1.0 n.1.1.0 in
-      let new = Numbers n.1.0 n.1.1.1.0 in
-      (
+      let new = Numbers n.1.0 n.1.1.1.0 in (
         (
           subst (λ x. Contains (next_if (falls_of a) next ++ (let b = a in b.targets)) x) (sym h.0)
               (next_follows a next falls),
@@ -463,8 +463,7 @@ module _ (l : Loaded) (exceptions : List ℕ) (result : ValueType) (room next : 
   puts_done a cs falls none (Go at stack locals memory) h =
       let put = reference_put l m memory h.1.1.1 in
       let grows : Extends m.heap memory.heap = put.0 in
-      let still = object_still l m.heap memory.heap grows in
-      (
+      let still = object_still l m.heap memory.heap grows in (
         (
           subst (λ x. Contains (next_if (falls_of a) next ++ (let b = a in b.targets)) x) (sym h.0)
               (next_follows a next falls),
@@ -544,8 +543,7 @@ module _ (l : Loaded) (exceptions : List ℕ) (result : ValueType) (room next : 
   adds_done a cs P kept falls none (Go at stack locals memory) h =
       let thing = h.1.1.1.0 in
       let is = h.1.1.1.1.1 in
-      let both = kept thing h.1.1.1.1.0 in
-      (
+      let both = kept thing h.1.1.1.1.0 in (
         (
           subst (λ x. Contains (next_if (falls_of a) next ++ (let b = a in b.targets)) x) (sym h.0)
               (next_follows a next falls),
@@ -605,13 +603,13 @@ module _ (l : Loaded) (exceptions : List ℕ) (result : ValueType) (room next : 
       (effect_of_access (classes l) Length room next lv m (v ∷ vs))
       (lengths_go l room next lc lv m k (classes l) c cs v vs e w)
 
-  throw_done : {cs : List Cell} {vs : List Value} → IsTop (OfType exceptions) cs vs
-      → Done (throwing exceptions) cs (effect_of_access (classes l) Throw room next lv m vs)
+  throw_done : {cs : List Cell} {vs : List Value} → IsTop (OfType program.exceptions) cs vs
+      → Done (throwing program.exceptions) cs (effect_of_access (classes l) Throw room next lv m vs)
   throw_done (top c cs v vs e w) = go (effect_of_access (classes l) Throw room next lv m (v ∷ vs))
-      (throws l room next lc lv m k (classes l) exceptions c cs v vs e w)
+      (throws l room next lc lv m k (classes l) program.exceptions c cs v vs e w)
     where
-      go : (e : Effect Class Field Callee (List Image)) → IsThrown l exceptions m e
-          → Done (throwing exceptions) (c ∷ cs) e
+      go : (e : Effect Class Field Callee (List Image)) → IsThrown l program.exceptions m e
+          → Done (throwing program.exceptions) (c ∷ cs) e
       go (Go at stack locals memory) h = absurd h
       go (Raise fault) h = (tt, tt)
       go (Toss object) h = (h, tt)
@@ -637,7 +635,7 @@ module _ (l : Loaded) (exceptions : List ℕ) (result : ValueType) (room next : 
   -- ---- all
 
   pub instruction_done : (a : Act) (operation : Operation Class Field StaticCell Callee)
-      → Suits l exceptions result a operation → (cs : List Cell) (vs : List Value)
+      → Suits l program result a operation → (cs : List Cell) (vs : List Value)
       → AreWords (object_is l m.heap) cs vs → Parts (is_type_of l) room a lc cs
       → Done a cs (effect (classes l) operation room next lv m vs)
   instruction_done _ _ (plain {r = r} {f = f} {kinds = kinds} operands beside read) cs vs w p = plain_done r f operands
@@ -657,7 +655,7 @@ module _ (l : Loaded) (exceptions : List ℕ) (result : ValueType) (room next : 
   instruction_done _ _ (load letter) cs vs w p = load_done letter cs vs w p
   instruction_done _ _ (store letter) cs vs w p = store_done letter cs vs w p
   instruction_done _ _ arraylength cs vs w p = length_done (top_of (OfArrays all_arrays) cs vs w p.enough p.operands)
-  instruction_done _ _ athrow cs vs w p = throw_done (top_of (OfType exceptions) cs vs w p.enough p.operands)
+  instruction_done _ _ athrow cs vs w p = throw_done (top_of (OfType program.exceptions) cs vs w p.enough p.operands)
   instruction_done _ _ (return letter is) cs vs w p = return_done letter is cs vs w p.operands p.enough
   instruction_done _ _ (newarray element type kind) cs vs w p = newarray_done element type kind
       (top_of NumberWord cs vs w p.enough p.operands) (ltb_high room (length cs) p.before)
@@ -668,4 +666,3 @@ module _ (l : Loaded) (exceptions : List ℕ) (result : ValueType) (room next : 
   instruction_done _ _ (instanceof target) cs vs w p = instanceof_done target
       (top_of ReferenceWord cs vs w p.enough p.operands)
   instruction_done _ _ (call is) cs vs w p = (is, tt)
-

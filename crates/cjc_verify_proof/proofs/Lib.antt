@@ -17,3 +17,5 @@ pub mod CallLaws
 pub mod ScriptLaws
 pub mod ImportLaws
 pub mod TurnLaws
+pub mod InstructionLaws
+pub mod RunLaws

@@ -30,6 +30,7 @@ use Rattle.cjc_card_semantics.specs.Machine.ByToken.{by_token}
 use Rattle.cjc_verify_proof.specs.Heaps.{thing_is, IsFit, AreFit, AreItems}
 use Rattle.cjc_verify_proof.specs.Growth.{Extends}
 use Rattle.cjc_verify_proof.specs.References.{IsItem, HoldsItems, AreHeld}
+use Rattle.cjc_verify_proof.specs.Frames.{Program}
 use Rattle.cjc_verify_proof.specs.Scripts.{IsImported, IsPrepared, GoesOnPrepared}
 use Rattle.cjc_verify_proof.proofs.GrowthLaws.{extends_itself, extends_through, pushed_extends, set_extends}
 use Rattle.cjc_verify_proof.proofs.GrowthLaws.{fit_pushed, held_pushed, fit_set, held_set, item_stays, zeros_fit}
@@ -277,19 +278,19 @@ module _ (l : Loaded) where
   heap_prepared heap after a e = subst (ArePrepared l heap) e (act_prepared heap a)
 
   -- acts lead to what follows them on a prepared heap, or end the run
-  pub acts_go : (exceptions : List ℕ) (m : Memory Class Field (List Image)) (go : State Code Class Field (List Image)
+  pub acts_go : (program : Program) (m : Memory Class Field (List Image)) (go : State Code Class Field (List Image)
       → Turn Code Class Field (List Image)) → ((t : State Code Class Field (List Image))
-      → IsPrepared l m.heap t.memory.heap → t.memory.statics ≡ m.statics → GoesOnPrepared l exceptions m (go t))
+      → IsPrepared l m.heap t.memory.heap → t.memory.statics ≡ m.statics → GoesOnPrepared l program m (go t))
       → (list : List Act) (number : ℕ) (s : State Code Class Field (List Image)) → IsPrepared l m.heap s.memory.heap
-      → s.memory.statics ≡ m.statics → GoesOnPrepared l exceptions m (turn_after_acts (by_token l) list number s go)
-  acts_go exceptions m go goes [] number s p same = goes s p same
-  acts_go exceptions m go goes (a ∷ list) number s p same = by (heap_after (by_token l) a s.memory.heap)
-      (act_prepared s.memory.heap a) (acts_go exceptions m go goes list number)
+      → s.memory.statics ≡ m.statics → GoesOnPrepared l program m (turn_after_acts (by_token l) list number s go)
+  acts_go program m go goes [] number s p same = goes s p same
+  acts_go program m go goes (a ∷ list) number s p same = by (heap_after (by_token l) a s.memory.heap)
+      (act_prepared s.memory.heap a) (acts_go program m go goes list number)
     where
       by : (o : Option (List (HeapObject Class Field))) → ArePrepared l s.memory.heap o
           → ((t : State Code Class Field (List Image)) → IsPrepared l m.heap t.memory.heap
-          → t.memory.statics ≡ m.statics → GoesOnPrepared l exceptions m (turn_after_acts (by_token l) list number t go))
-          → GoesOnPrepared l exceptions m (prepared_by (by_token l) o number s (λ t. turn_after_acts (by_token l) list
+          → t.memory.statics ≡ m.statics → GoesOnPrepared l program m (turn_after_acts (by_token l) list number t go))
+          → GoesOnPrepared l program m (prepared_by (by_token l) o number s (λ t. turn_after_acts (by_token l) list
           number t go))
       by None h more = tt
       by (Some heap) h more = more (with_heap (by_token l) heap s) (prepared_through l m.heap s.memory.heap heap p h) same

@@ -34,7 +34,7 @@ use Rattle.cjc_verify_proof.specs.Words.{IsWord, AreWords, AreLocals}
 use Rattle.cjc_verify_proof.specs.Heaps.{thing_is, object_is}
 use Rattle.cjc_verify_proof.specs.Growth.{Extends}
 use Rattle.cjc_verify_proof.specs.Control.{next_if, cells_of}
-use Rattle.cjc_verify_proof.specs.Frames.{Typing, IsMethod, Stands, Runs, Waits, AreOuter, AreFrames, GoesOn, Begins}
+use Rattle.cjc_verify_proof.specs.Frames.{Typing, Program, AreMethods, Stands, Runs, Waits, AreOuter, AreFrames, GoesOn, Begins}
 use Rattle.cjc_verify_proof.specs.Calls.{receiver_needs, has_receiver, receiver_cells, argument_cells, AreSorts}
 use Rattle.cjc_verify_proof.specs.Calls.{IsResult}
 use Rattle.cjc_verify_proof.specs.Scripts.{IsPrepared, GoesOnPrepared, HasExceptions}
@@ -51,29 +51,29 @@ use Rattle.cjc_card_semantics.proofs.BytesNumbers.{at_most}
 
 -- ---- what calls reach
 
-module _ (l : Loaded) (exceptions : List ℕ) (has : HasExceptions l exceptions)
-    (s : State Code Class Field (List Image)) (t : Typing) (method : IsMethod l exceptions t) (f : Frame Code)
-    (outer : List (Frame Code)) (o : AreOuter l exceptions s.memory.heap t.result outer) (result : ValueType)
+module _ (l : Loaded) (program : Program) (all : AreMethods l program) (has : HasExceptions l program.exceptions)
+    (s : State Code Class Field (List Image)) (t : Typing) (among : Contains program.methods t) (f : Frame Code)
+    (outer : List (Frame Code)) (o : AreOuter l program s.memory.heap t.result outer) (result : ValueType)
     (w : Waits l s.memory.heap result t f) (params : List ValueType) where
   abbrev Prepared : Turn Code Class Field (List Image) → Type 0
-  Prepared turn = GoesOnPrepared l exceptions s.memory turn
+  Prepared turn = GoesOnPrepared l program s.memory turn
 
   -- a turn in the same memory
-  still : (turn : Turn Code Class Field (List Image)) → GoesOn l exceptions s.memory turn → Prepared turn
-  still turn g = goes_prepared l exceptions s.memory s.memory (prepared_itself l s.memory.heap) refl turn g
+  still : (turn : Turn Code Class Field (List Image)) → GoesOn l program s.memory turn → Prepared turn
+  still turn g = goes_prepared l program s.memory s.memory (prepared_itself l s.memory.heap) refl turn g
 
   module _ (receiver : Option (List ℕ)) (kind : Option (Shape Class)) (args : List Value)
       (words_of : AreWords (object_is l s.memory.heap) (argument_cells receiver params) args)
       (of_kind : (holder : Option (List ℕ)) → IsHeld l kind holder
       → AreWords (object_is l s.memory.heap) (argument_cells holder params) args) where
-    reached_goes : (r : Reached Code) → IsReached l exceptions kind params result r
+    reached_goes : (r : Reached Code) → IsReached l program kind params result r
         → Prepared (reaches (by_token l) r (has_receiver receiver) args f outer s)
     reached_goes _ (within m u holder is begins held arguments same) = still (inside (by_token l) m args f outer s)
-        (inside_goes l exceptions s u is m begins args (subst (λ cs. AreWords (object_is l s.memory.heap) cs args)
+        (inside_goes l program all s u is m begins args (subst (λ cs. AreWords (object_is l s.memory.heap) cs args)
         (sym arguments) (of_kind holder held)) f outer (
           t,
           (
-            method,
+            among,
             (
               subst (λ r. Waits l s.memory.heap r t f) (sym same)
                   w,
@@ -81,20 +81,20 @@ module _ (l : Loaded) (exceptions : List ℕ) (has : HasExceptions l exceptions)
             ),
           ),
         ))
-    reached_goes _ (abroad id signature is sorts results) = outside_goes l exceptions has s.memory t method result f w
+    reached_goes _ (abroad id signature is sorts results) = outside_goes l program all has s.memory t among result f w
         outer o (has_receiver receiver) id signature is receiver refl params sorts results args words_of s refl
 
   -- ---- receivers
 
   module _ (callee : Callee) (st : Stands l s.memory.heap t f) where
-    on_type : (type : List ℕ) → Reaches l exceptions callee (Some type) params result → (args : List Value)
+    on_type : (type : List ℕ) → Reaches l program callee (Some type) params result → (args : List Value)
         → AreWords (object_is l s.memory.heap) (argument_cells (Some type) params) args
         → Prepared (on_receiver (by_token l) callee args f outer s)
     unfolding by_token
     on_type type r [] ws = absurd ws
     on_type type r (Num z ∷ args) ws = absurd ws.0
-    on_type type r (Null ∷ args) ws = faults_go l exceptions has s.memory s (prepared_itself l s.memory.heap) refl t
-        method f st outer o NullPointer
+    on_type type r (Null ∷ args) ws = faults_go l program all has s.memory s (prepared_itself l s.memory.heap) refl t
+        among f st outer o NullPointer
     on_type type r (Obj k ∷ args) ws = go (slice_get s.memory.heap k) refl (of_only l s.memory.heap type k ws.0)
       where
         go : (x : Option (HeapObject Class Field)) → slice_get s.memory.heap k ≡ x
@@ -130,7 +130,7 @@ module _ (l : Loaded) (exceptions : List ℕ) (has : HasExceptions l exceptions)
               ws.1,
             )
 
-    with_any : (receiver : Option (List ℕ)) → Reaches l exceptions callee receiver params result
+    with_any : (receiver : Option (List ℕ)) → Reaches l program callee receiver params result
         → (args : List Value) → AreWords (object_is l s.memory.heap) (argument_cells receiver params) args
         → Prepared (with_args (by_token l) (has_receiver receiver) callee args f outer s)
     unfolding by_token
@@ -147,10 +147,10 @@ module _ (l : Loaded) (exceptions : List ℕ) (has : HasExceptions l exceptions)
 abbrev takes_of : Act → List Need
 takes_of a = a.takes
 
-module _ (l : Loaded) (exceptions : List ℕ) (has : HasExceptions l exceptions)
-    (s : State Code Class Field (List Image)) (t : Typing) (method : IsMethod l exceptions t) (f : Frame Code)
+module _ (l : Loaded) (program : Program) (all : AreMethods l program) (has : HasExceptions l program.exceptions)
+    (s : State Code Class Field (List Image)) (t : Typing) (among : Contains program.methods t) (f : Frame Code)
     (runs : Runs l s.memory.heap t f) (outer : List (Frame Code))
-    (o : AreOuter l exceptions s.memory.heap t.result outer)
+    (o : AreOuter l program s.memory.heap t.result outer)
     (i : Fetched Class Field StaticCell Callee) (fetched : fetch l f.code f.at ≡ Some i) where
   abbrev st : Stands l s.memory.heap t f
   st = runs.stands
@@ -159,11 +159,11 @@ module _ (l : Loaded) (exceptions : List ℕ) (has : HasExceptions l exceptions)
   a = let x = st.step in x.act
 
   -- a call goes on
-  pub call_goes : (callee : Callee) → (let x = runs.stands in let y = x.step in Calls l exceptions y.act callee)
-      → GoesOnPrepared l exceptions s.memory (counted (by_token l) (words l callee) callee (record f { next = i.next })
+  pub call_goes : (callee : Callee) → (let x = runs.stands in let y = x.step in Calls l program y.act callee)
+      → GoesOnPrepared l program s.memory (counted (by_token l) (words l callee) callee (record f { next = i.next })
       outer s)
   unfolding by_token
-  call_goes callee c = subst (λ n. GoesOnPrepared l exceptions s.memory (counted (by_token l) n callee new outer s))
+  call_goes callee c = subst (λ n. GoesOnPrepared l program s.memory (counted (by_token l) n callee new outer s))
       (sym c.count) (go (nat_le (length (takes_of a)) (length f.stack)) (at_most (length (takes_of a))
       (length f.stack) enough))
     where
@@ -181,7 +181,7 @@ module _ (l : Loaded) (exceptions : List ℕ) (has : HasExceptions l exceptions)
           (sym st.is_at) fetched)
 
       after : (n : Step) × ((slice_get t.body.steps (st.place + 1) ≡ Some n) × (n.at ≡ i.next))
-      after = method.follows st.place st.step st.is_step c.falls i here
+      after = (all t among).follows st.place st.step st.is_step c.falls i here
 
       stands : Stands l s.memory.heap t waiting
       stands = record {
@@ -209,7 +209,7 @@ module _ (l : Loaded) (exceptions : List ℕ) (has : HasExceptions l exceptions)
       }
 
       said : Parts (is_type_of l) t.body.max_stack a st.locals st.cells
-      said = parts (is_type_of l) t.body.max_stack a st.locals st.cells (sound l exceptions t method st.place st.step
+      said = parts (is_type_of l) t.body.max_stack a st.locals st.cells (sound l program.exceptions t (all t among) st.place st.step
           st.is_step st.cells st.locals st.reached).passes
 
       enough : length (takes_of a) ≤ length f.stack
@@ -223,76 +223,76 @@ module _ (l : Loaded) (exceptions : List ℕ) (has : HasExceptions l exceptions)
           runs.words (subst (λ ns. has_wrong (is_type_of l) ns st.cells ≡ false) c.takes said.operands)
           (subst (λ ns. length ns ≤ length st.cells) c.takes said.enough))
 
-      go : (b : Bool) → b ≡ true → GoesOnPrepared l exceptions s.memory (if b then with_args (by_token l)
+      go : (b : Bool) → b ≡ true → GoesOnPrepared l program s.memory (if b then with_args (by_token l)
           (on_object callee) callee (reverse (take (length (takes_of a)) f.stack)) waiting outer s else StuckAt f.at s)
       go false e = cc
-      go true e = subst (λ on. GoesOnPrepared l exceptions s.memory (with_args (by_token l) on callee
+      go true e = subst (λ on. GoesOnPrepared l program s.memory (with_args (by_token l) on callee
           (reverse (take (length (takes_of a)) f.stack)) waiting outer s)) (sym c.on)
-          (with_any l exceptions has s t method waiting outer o c.result waits c.params callee stands c.receiver c.reaches
+          (with_any l program all has s t among waiting outer o c.result waits c.params callee stands c.receiver c.reaches
           (reverse (take (length (takes_of a)) f.stack)) args)
 
   -- a turn in the same memory
-  unchanged : (turn : Turn Code Class Field (List Image)) → GoesOn l exceptions s.memory turn
-      → GoesOnPrepared l exceptions s.memory turn
-  unchanged turn g = goes_prepared l exceptions s.memory s.memory (prepared_itself l s.memory.heap) refl turn g
+  unchanged : (turn : Turn Code Class Field (List Image)) → GoesOn l program s.memory turn
+      → GoesOnPrepared l program s.memory turn
+  unchanged turn g = goes_prepared l program s.memory s.memory (prepared_itself l s.memory.heap) refl turn g
 
   -- what follows from what an instruction does
   pub made_goes : (e : Effect Class Field Callee (List Image)) → (let x = runs.stands in let y = x.step in Does l
-      exceptions t.result y.act i.next x.locals x.cells s.memory e)
-      → GoesOnBy l exceptions s.memory e (made (by_token l) e i.next f outer s)
+      program t.result y.act i.next x.locals x.cells s.memory e)
+      → GoesOnBy l program s.memory e (made (by_token l) e i.next f outer s)
   unfolding by_token
   made_goes (Go at stack locals memory) d = (
     refl,
     (
       t,
       (
-        method,
+        among,
         (
-          goes l exceptions t method s.memory.heap memory.heap f st i fetched at d.0 stack locals d.1.1.0 d.1.1.1,
-          outer_still l exceptions s.memory.heap memory.heap d.1.0 t.result outer o,
+          goes l program.exceptions t (all t among) s.memory.heap memory.heap f st i fetched at d.0 stack locals d.1.1.0 d.1.1.1,
+          outer_still l program s.memory.heap memory.heap d.1.0 t.result outer o,
         ),
       ),
     ),
   )
-  made_goes (Raise fault) d = faults_go l exceptions has s.memory s (prepared_itself l s.memory.heap) refl t method f st
+  made_goes (Raise fault) d = faults_go l program all has s.memory s (prepared_itself l s.memory.heap) refl t among f st
       outer o fault
   made_goes (Toss object) d = unchanged (turn_after_toss (by_token l) (slice_get s.memory.heap object) f outer object s)
-      (tossed l exceptions s t method f outer st o object d)
+      (tossed l program all s t among f outer st o object d)
   made_goes (Invoke callee) d = call_goes callee d
   made_goes (Leave words) d = unchanged (left (by_token l) words f outer s)
-      (leaves_frames l exceptions s.memory t.result words d s refl f outer o)
+      (leaves_frames l program all s.memory t.result words d s refl f outer o)
   made_goes Stick d = absurd d
 
 -- a turn that is spent
-spent_goes : (l : Loaded) (exceptions : List ℕ) (m : Memory Class Field (List Image))
+spent_goes : (l : Loaded) (program : Program) (m : Memory Class Field (List Image))
     (e : Effect Class Field Callee (List Image)) (n : ℕ) (turn : Turn Code Class Field (List Image))
-    → GoesOnBy l exceptions m e turn → GoesOnBy l exceptions m e (spent_by (by_token l) n turn)
-spent_goes l exceptions m e n (Next s) g = g
-spent_goes l exceptions m e n (Ended outcome s) g = g
-spent_goes l exceptions m (Go at stack locals memory) n (StuckAt at_place s) g = absurd g
-spent_goes l exceptions m (Raise fault) n (StuckAt at s) g = absurd g
-spent_goes l exceptions m (Toss object) n (StuckAt at s) g = absurd g
-spent_goes l exceptions m (Invoke callee) n (StuckAt at s) g = absurd g
-spent_goes l exceptions m (Leave words) n (StuckAt at s) g = absurd g
-spent_goes l exceptions m Stick n (StuckAt at s) g = absurd g
+    → GoesOnBy l program m e turn → GoesOnBy l program m e (spent_by (by_token l) n turn)
+spent_goes l program m e n (Next s) g = g
+spent_goes l program m e n (Ended outcome s) g = g
+spent_goes l program m (Go at stack locals memory) n (StuckAt at_place s) g = absurd g
+spent_goes l program m (Raise fault) n (StuckAt at s) g = absurd g
+spent_goes l program m (Toss object) n (StuckAt at s) g = absurd g
+spent_goes l program m (Invoke callee) n (StuckAt at s) g = absurd g
+spent_goes l program m (Leave words) n (StuckAt at s) g = absurd g
+spent_goes l program m Stick n (StuckAt at s) g = absurd g
 
 -- one instruction of the innermost frame
-pub step_goes : (l : Loaded) (exceptions : List ℕ) → HasExceptions l exceptions
-    → (s : State Code Class Field (List Image)) (t : Typing) → IsMethod l exceptions t → (f : Frame Code)
-    (runs : Runs l s.memory.heap t f) (outer : List (Frame Code)) → AreOuter l exceptions s.memory.heap t.result outer
+pub step_goes : (l : Loaded) (program : Program) → AreMethods l program → HasExceptions l program.exceptions
+    → (s : State Code Class Field (List Image)) (t : Typing) → Contains program.methods t → (f : Frame Code)
+    (runs : Runs l s.memory.heap t f) (outer : List (Frame Code)) → AreOuter l program s.memory.heap t.result outer
     → (i : Fetched Class Field StaticCell Callee) → fetch l f.code f.at ≡ Some i
     → (e : Effect Class Field Callee (List Image))
     → e ≡ effect (classes l) i.operation (let c = f.code in c.room) i.next f.locals s.memory f.stack
-    → (let x = runs.stands in let y = x.step in Does l exceptions t.result y.act i.next x.locals x.cells s.memory e)
-    → GoesOnBy l exceptions s.memory e (step (by_token l) (f ∷ outer) s)
+    → (let x = runs.stands in let y = x.step in Does l program t.result y.act i.next x.locals x.cells s.memory e)
+    → GoesOnBy l program s.memory e (step (by_token l) (f ∷ outer) s)
 unfolding by_token
-step_goes l exceptions has s t method f runs outer o i fetched e is d =
-    subst (λ x. GoesOnBy l exceptions s.memory e (spent_by (by_token l) s.spent (turn_after_fetch (by_token l) x f outer
+step_goes l program all has s t among f runs outer o i fetched e is d =
+    subst (λ x. GoesOnBy l program s.memory e (spent_by (by_token l) s.spent (turn_after_fetch (by_token l) x f outer
     spent))) (sym fetched)
-    (subst (λ x. GoesOnBy l exceptions s.memory e (spent_by (by_token l) s.spent (made (by_token l) x i.next f outer
+    (subst (λ x. GoesOnBy l program s.memory e (spent_by (by_token l) s.spent (made (by_token l) x i.next f outer
     spent))) is
-    (spent_goes l exceptions s.memory e s.spent (made (by_token l) e i.next f outer spent)
-    (made_goes l exceptions has spent t method f runs outer o i fetched e d)))
+    (spent_goes l program s.memory e s.spent (made (by_token l) e i.next f outer spent)
+    (made_goes l program all has spent t among f runs outer o i fetched e d)))
   where
     spent : State Code Class Field (List Image)
     spent = record s { spent = s.spent + 1 }

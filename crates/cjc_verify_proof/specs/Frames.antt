@@ -5,6 +5,8 @@ use Rattle.std.specs.List.{AllZip}
 use Rattle.cjc_fixpoint.specs.Tables.{HasRow, IsClosed}
 use Rattle.cjc_card_semantics.specs.CapRead.declared.tree.Handler.{Handler}
 use Rattle.cjc_card_semantics.specs.CapRead.declared.tree.PoolEntry.{PoolEntry}
+use Rattle.cjc_card_semantics.specs.Script.declared.report.Outcome.{Outcome}
+use Rattle.cjc_card_semantics.specs.Script.declared.report.Outcome.TheVariants.{Done, Running, Waiting, Unfit, Stuck}
 use Rattle.cjc_card_semantics.specs.Script.Sorts.{OfClass}
 use Rattle.cjc_card_acts.specs.Types.declared.cell.Cell.{Cell}
 use Rattle.cjc_card_acts.specs.Types.declared.state.Stack.TheVariants.{Cells}
@@ -70,6 +72,15 @@ pub record IsMethod (l : Loaded) (exceptions : List ℕ) (t : Typing) : Type 0 w
       → (i : Fetched Class Field StaticCell Callee) → fetch l t.code s.at ≡ Some i
       → (n : Step) × ((slice_get t.body.steps (place + 1) ≡ Some n) × (n.at ≡ i.next))
 
+-- the methods of a program, and the type of all exceptions
+pub record Program : Type 0 where
+  pub methods : List Typing
+  pub exceptions : List ℕ
+
+-- each is so
+abbrev pub AreMethods : Loaded → Program → Type 0
+AreMethods l program = (t : Typing) → Contains program.methods t → IsMethod l program.exceptions t
+
 -- ---- frames
 
 -- A frame stands at an instruction that is reached, with locals of its row.
@@ -102,27 +113,35 @@ pub record Waits (l : Loaded) (heap : List (HeapObject Class Field)) (result : V
   pub is_next : slice_get t.body.steps (stands.place + 1) ≡ Some next
   pub at_next : next.at ≡ f.next
 
--- frames that wait, each for the result of the method inside it
-abbrev pub AreOuter : Loaded → (exceptions : List ℕ) → List (HeapObject Class Field) → ValueType → List (Frame Code)
+-- frames of methods of the program that wait, each for the result of the method inside it
+abbrev pub AreOuter : Loaded → Program → List (HeapObject Class Field) → ValueType → List (Frame Code)
     → Type 0
-AreOuter l exceptions heap result [] = Unit {0}
-AreOuter l exceptions heap result (f ∷ outer) = (t : Typing) × (IsMethod l exceptions t × (Waits l heap result t f
-    × AreOuter l exceptions heap t.result outer))
+AreOuter l program heap result [] = Unit {0}
+AreOuter l program heap result (f ∷ outer) = (t : Typing) × (Contains program.methods t × (Waits l heap result t f
+    × AreOuter l program heap t.result outer))
 
 -- The innermost frame runs, and the others wait.
-abbrev pub AreFrames : Loaded → (exceptions : List ℕ) → List (HeapObject Class Field) → List (Frame Code) → Type 0
-AreFrames l exceptions heap [] = Unit {0}
-AreFrames l exceptions heap (f ∷ outer) = (t : Typing) × (IsMethod l exceptions t × (Runs l heap t f
-    × AreOuter l exceptions heap t.result outer))
+abbrev pub AreFrames : Loaded → Program → List (HeapObject Class Field) → List (Frame Code) → Type 0
+AreFrames l program heap [] = Unit {0}
+AreFrames l program heap (f ∷ outer) = (t : Typing) × (Contains program.methods t × (Runs l heap t f
+    × AreOuter l program heap t.result outer))
 
 -- ---- turns
 
+-- a run that ends is not stuck
+abbrev pub IsEnd : Outcome → Type 0
+IsEnd Done = Unit {0}
+IsEnd Running = Unit {0}
+IsEnd Waiting = Unit {0}
+IsEnd (Unfit number) = Unit {0}
+IsEnd (Stuck at) = ⊥
+
 -- A turn is not stuck, and where it goes on its memory is this and its frames are typed.
-abbrev pub GoesOn : Loaded → (exceptions : List ℕ) → Memory Class Field (List Image)
+abbrev pub GoesOn : Loaded → Program → Memory Class Field (List Image)
     → Turn Code Class Field (List Image) → Type 0
-GoesOn l exceptions m (Next s) = (s.memory ≡ m) × AreFrames l exceptions m.heap s.frames
-GoesOn l exceptions m (Ended outcome s) = Unit {0}
-GoesOn l exceptions m (StuckAt at s) = ⊥
+GoesOn l program m (Next s) = (s.memory ≡ m) × AreFrames l program m.heap s.frames
+GoesOn l program m (Ended outcome s) = IsEnd outcome
+GoesOn l program m (StuckAt at s) = ⊥
 
 -- A method that begins is this one: its first instruction is the first that runs, it has as many locals, and it is not
 -- abstract.

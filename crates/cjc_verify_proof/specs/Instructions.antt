@@ -21,40 +21,41 @@ use Rattle.cjc_verify_proof.specs.Acts.{plain_act}
 use Rattle.cjc_verify_proof.specs.Heaps.{AreFit}
 use Rattle.cjc_verify_proof.specs.References.{AreHeld}
 use Rattle.cjc_verify_proof.specs.Control.{switched_words}
+use Rattle.cjc_verify_proof.specs.Frames.{Program}
 use Rattle.cjc_verify_proof.specs.Turns.{Calls}
 
 -- An instruction of a method with this result is so: what it takes and gives, and its operation.
-pub data Suits (l : Loaded) (exceptions : List ℕ) (result : ValueType) : Act → Operation Class Field StaticCell Callee
+pub data Suits (l : Loaded) (program : Program) (result : ValueType) : Act → Operation Class Field StaticCell Callee
     → Type 0 where
   plain : {r : Row} {f : List ℤ → Calculation} {kinds : List Operand} (operands : List ℤ) → BesidePlain r f kinds
-      → AreRead kinds operands → Suits l exceptions result (plain_act r operands) (Do (f operands))
+      → AreRead kinds operands → Suits l program result (plain_act r operands) (Do (f operands))
   jump : {needs : List Need} {falls : Bool} {test : Test} (to : ℕ) → BesideTest needs falls test
-      → Suits l exceptions result (record idle { takes = needs; falls = falls; targets = to ∷ [] }) (Branch test to)
-  switch : (is_int : Bool) (other : ℕ) (arms : List Arm) → Suits l exceptions result (record idle {
+      → Suits l program result (record idle { takes = needs; falls = falls; targets = to ∷ [] }) (Branch test to)
+  switch : (is_int : Bool) (other : ℕ) (arms : List Arm) → Suits l program result (record idle {
     takes = number_words (switched_words is_int);
     falls = false;
     targets = other ∷ map (λ (a : Arm). a.to) arms;
   }) (Pick is_int other arms)
-  load : (letter : Letter) → Suits l exceptions result (loading_item letter) (Touch (Load letter))
-  store : (letter : Letter) → Suits l exceptions result (storing_item letter) (Touch (Store letter))
-  arraylength : Suits l exceptions result (record idle {
+  load : (letter : Letter) → Suits l program result (loading_item letter) (Touch (Load letter))
+  store : (letter : Letter) → Suits l program result (storing_item letter) (Touch (Store letter))
+  arraylength : Suits l program result (record idle {
     takes = OfArrays all_arrays ∷ [];
     gives = ANumber ∷ [];
   }) (Touch Length)
-  athrow : Suits l exceptions result (record idle { takes = OfType exceptions ∷ []; falls = false }) (Touch Throw)
+  athrow : Suits l program result (record idle { takes = OfType program.exceptions ∷ []; falls = false }) (Touch Throw)
   return : (letter : Option Letter) → is_returned_by letter result ≡ true
-      → Suits l exceptions result (record idle { takes = needs_of result; falls = false }) (Touch (Return letter))
+      → Suits l program result (record idle { takes = needs_of result; falls = false }) (Touch (Return letter))
   newarray : (element : Element) (type : List ℕ) → shape_by l type ≡ Some (OfNumbers element)
-      → Suits l exceptions result (record idle { takes = NumberWord ∷ []; gives = AnObject type ∷ [] })
+      → Suits l program result (record idle { takes = NumberWord ∷ []; gives = AnObject type ∷ [] })
       (NewNumbers element)
   anewarray : (class : Class) (type : List ℕ) → shape_by l type ≡ Some (OfReferences class)
-      → Suits l exceptions result (record idle { takes = NumberWord ∷ []; gives = AnObject type ∷ [] })
+      → Suits l program result (record idle { takes = NumberWord ∷ []; gives = AnObject type ∷ [] })
       (NewReferences class)
   checkcast : (target : Shape Class) (type : List ℕ) → shape_by l type ≡ Some target
-      → Suits l exceptions result (record idle { takes = ReferenceWord ∷ []; gives = AnObject type ∷ [] }) (Cast target)
+      → Suits l program result (record idle { takes = ReferenceWord ∷ []; gives = AnObject type ∷ [] }) (Cast target)
   instanceof : (target : Shape Class)
-      → Suits l exceptions result (record idle { takes = ReferenceWord ∷ []; gives = ANumber ∷ [] }) (Ask target)
-  call : {a : Act} {callee : Callee} → Calls l exceptions a callee → Suits l exceptions result a (Call callee)
+      → Suits l program result (record idle { takes = ReferenceWord ∷ []; gives = ANumber ∷ [] }) (Ask target)
+  call : {a : Act} {callee : Callee} → Calls l program a callee → Suits l program result a (Call callee)
 
 -- Where an instruction goes on, arrays hold what they may, and static fields what they held.
 abbrev pub HoldsOn : Loaded → (m : Memory Class Field (List Image)) → Effect Class Field Callee (List Image) → Type 0

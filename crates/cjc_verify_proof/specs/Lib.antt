@@ -9,3 +9,5 @@ pub mod Frames
 pub mod Calls
 pub mod Scripts
 pub mod Turns
+pub mod Instructions
+pub mod Runs

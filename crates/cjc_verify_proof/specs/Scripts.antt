@@ -1,6 +1,5 @@
 -- What acts and answers of a script leave of a heap.
 use Rattle.std.specs.Prelude.{◌≡◌, ◌⊎◌, ℕ, true, List, [], slice_get, Option, Some, codes}
-use Rattle.cjc_card_semantics.specs.Script.declared.report.Outcome.{Outcome}
 use Rattle.cjc_card_semantics.specs.Bytecode.Effects.{Slot, HeapObject, Object, Memory}
 use Rattle.cjc_card_semantics.specs.Bytecode.Machine.{State, Turn, Next, Ended, StuckAt}
 use Rattle.cjc_card_semantics.specs.Machine.Loaded.{Loaded}
@@ -14,7 +13,7 @@ use Rattle.cjc_card_semantics.specs.Machine.Methods.{Code}
 use Rattle.cjc_verify_proof.specs.Heaps.{AreFit}
 use Rattle.cjc_verify_proof.specs.Growth.{Extends}
 use Rattle.cjc_verify_proof.specs.References.{AreHeld}
-use Rattle.cjc_verify_proof.specs.Frames.{AreFrames}
+use Rattle.cjc_verify_proof.specs.Frames.{Program, AreFrames, IsEnd}
 
 -- a class of an export file
 abbrev pub IsImported : Class → Type 0
@@ -31,12 +30,12 @@ pub record IsPrepared (l : Loaded) (heap after : List (HeapObject Class Field)) 
       → (slice_get heap k ≡ Some (Object class slots)) ⊎ ((slots ≡ []) × IsImported class)
 
 -- A turn is not stuck, and where it goes on its heap is that of acts and its frames are typed.
-abbrev pub GoesOnPrepared : Loaded → (exceptions : List ℕ) → Memory Class Field (List Image)
+abbrev pub GoesOnPrepared : Loaded → Program → Memory Class Field (List Image)
     → Turn Code Class Field (List Image) → Type 0
-GoesOnPrepared l exceptions m (Next s) = IsPrepared l m.heap s.memory.heap × ((s.memory.statics ≡ m.statics)
-    × AreFrames l exceptions s.memory.heap s.frames)
-GoesOnPrepared l exceptions m (Ended outcome s) = Unit {0}
-GoesOnPrepared l exceptions m (StuckAt at s) = ⊥
+GoesOnPrepared l program m (Next s) = IsPrepared l m.heap s.memory.heap × ((s.memory.statics ≡ m.statics)
+    × AreFrames l program s.memory.heap s.frames)
+GoesOnPrepared l program m (Ended outcome s) = IsEnd outcome
+GoesOnPrepared l program m (StuckAt at s) = ⊥
 
 -- There is Throwable, which the type of all exceptions means, and each exception of the machine's own is a subclass.
 pub record HasExceptions (l : Loaded) (exceptions : List ℕ) : Type 0 where

@@ -21,7 +21,7 @@ use Rattle.cjc_verify_proof.specs.Words.{AreWords, AreLocals}
 use Rattle.cjc_verify_proof.specs.Heaps.{object_is}
 use Rattle.cjc_verify_proof.specs.Growth.{Extends}
 use Rattle.cjc_verify_proof.specs.Control.{next_if, cells_of}
-use Rattle.cjc_verify_proof.specs.Frames.{Typing, IsMethod, GoesOn, Begins}
+use Rattle.cjc_verify_proof.specs.Frames.{Typing, Program, GoesOn, Begins}
 use Rattle.cjc_verify_proof.specs.Calls.{receiver_needs, has_receiver, argument_cells, AreSorts, IsResult}
 use Rattle.cjc_verify_proof.specs.Scripts.{GoesOnPrepared}
 
@@ -36,25 +36,25 @@ IsHeld l (Some kind) (Some type) = both_of l (Some kind) (shape_by l type) ≡ t
 
 -- What a call on a receiver of a type reaches has these parameters and this result: a method that begins, or an imported
 -- one.
-pub data IsReached (l : Loaded) (exceptions : List ℕ) (receiver : Option (Shape Class)) (params : List ValueType)
+pub data IsReached (l : Loaded) (program : Program) (receiver : Option (Shape Class)) (params : List ValueType)
     (result : ValueType) : Reached Code → Type 0 where
-  within : (m : Start Code) (t : Typing) (holder : Option (List ℕ)) → IsMethod l exceptions t → Begins t m
+  within : (m : Start Code) (t : Typing) (holder : Option (List ℕ)) → Contains program.methods t → Begins t m
       → IsHeld l receiver holder → map (given [] []) (let b = t.body in b.arguments) ≡ argument_cells holder params
-      → t.result ≡ result → IsReached l exceptions receiver params result (Within m)
+      → t.result ≡ result → IsReached l program receiver params result (Within m)
   abroad : (id : MemberId) (signature : Signature) → signature_of id.desc ≡ Some signature
       → AreSorts l signature.params params → IsResult l signature.result result
-      → IsReached l exceptions receiver params result (Abroad id)
+      → IsReached l program receiver params result (Abroad id)
 
 -- a call reaches such a method, on each receiver of its type
-abbrev pub Reaches : Loaded → (exceptions : List ℕ) → Callee → (receiver : Option (List ℕ)) → List ValueType → ValueType
+abbrev pub Reaches : Loaded → (program : Program) → Callee → (receiver : Option (List ℕ)) → List ValueType → ValueType
     → Type 0
-Reaches l exceptions callee None params result = IsReached l exceptions None params result (reached l callee None)
-Reaches l exceptions callee (Some type) params result = (kind : Shape Class)
+Reaches l program callee None params result = IsReached l program None params result (reached l callee None)
+Reaches l program callee (Some type) params result = (kind : Shape Class)
     → both_of l (Some kind) (shape_by l type) ≡ true
-    → IsReached l exceptions (Some kind) params result (reached l callee (Some kind))
+    → IsReached l program (Some kind) params result (reached l callee (Some kind))
 
 -- An instruction is a call of a method with these parameters and this result.
-pub record Calls (l : Loaded) (exceptions : List ℕ) (a : Act) (callee : Callee) : Type 0 where
+pub record Calls (l : Loaded) (program : Program) (a : Act) (callee : Callee) : Type 0 where
   pub receiver : Option (List ℕ)
   pub params : List ValueType
   pub result : ValueType
@@ -64,30 +64,30 @@ pub record Calls (l : Loaded) (exceptions : List ℕ) (a : Act) (callee : Callee
   pub falls : a.falls ≡ true
   pub count : words l callee ≡ Some (length a.takes)
   pub on : on_object callee ≡ has_receiver receiver
-  pub reaches : Reaches l exceptions callee receiver params result
+  pub reaches : Reaches l program callee receiver params result
 
 -- ---- turns
 
 -- What the machine does at an instruction of a method with this result is what the act says: it goes on where that
 -- leads, with a stack and locals of what it gives, or raises, or throws an exception, or leaves with a result, or calls.
-abbrev pub Does : Loaded → (exceptions : List ℕ) → (result : ValueType) → Act → (next : ℕ) (locals cells : List Cell)
+abbrev pub Does : Loaded → (program : Program) → (result : ValueType) → Act → (next : ℕ) (locals cells : List Cell)
     → (m : Memory Class Field (List Image)) → Effect Class Field Callee (List Image) → Type 0
-Does l exceptions result a next lc cs m (Go at stack locals memory) = Contains (next_if a.falls next ++ a.targets) at
+Does l program result a next lc cs m (Go at stack locals memory) = Contains (next_if a.falls next ++ a.targets) at
     × (Extends m.heap memory.heap × (AreWords (object_is l memory.heap) (stack_behind a lc cs) stack
     × AreLocals (object_is l memory.heap) (with_writes a lc (Cells cs) a.writes lc) locals))
-Does l exceptions result a next lc cs m (Raise fault) = Unit {0}
-Does l exceptions result a next lc cs m (Toss object) = object_is l m.heap exceptions object ≡ true
-Does l exceptions result a next lc cs m (Invoke callee) = Calls l exceptions a callee
-Does l exceptions result a next lc cs m (Leave words) = AreWords (object_is l m.heap) (cells_of result) (reverse words)
-Does l exceptions result a next lc cs m Stick = ⊥
+Does l program result a next lc cs m (Raise fault) = Unit {0}
+Does l program result a next lc cs m (Toss object) = object_is l m.heap program.exceptions object ≡ true
+Does l program result a next lc cs m (Invoke callee) = Calls l program a callee
+Does l program result a next lc cs m (Leave words) = AreWords (object_is l m.heap) (cells_of result) (reverse words)
+Does l program result a next lc cs m Stick = ⊥
 
 -- A turn is not stuck, and where it goes on its memory is that of the effect, or one of a script's acts, and its frames
 -- are typed.
-abbrev pub GoesOnBy : Loaded → (exceptions : List ℕ) → Memory Class Field (List Image)
+abbrev pub GoesOnBy : Loaded → (program : Program) → Memory Class Field (List Image)
     → Effect Class Field Callee (List Image) → Turn Code Class Field (List Image) → Type 0
-GoesOnBy l exceptions m (Go at stack locals memory) turn = GoesOn l exceptions memory turn
-GoesOnBy l exceptions m (Raise fault) turn = GoesOnPrepared l exceptions m turn
-GoesOnBy l exceptions m (Toss object) turn = GoesOnPrepared l exceptions m turn
-GoesOnBy l exceptions m (Invoke callee) turn = GoesOnPrepared l exceptions m turn
-GoesOnBy l exceptions m (Leave words) turn = GoesOnPrepared l exceptions m turn
-GoesOnBy l exceptions m Stick turn = GoesOnPrepared l exceptions m turn
+GoesOnBy l program m (Go at stack locals memory) turn = GoesOn l program memory turn
+GoesOnBy l program m (Raise fault) turn = GoesOnPrepared l program m turn
+GoesOnBy l program m (Toss object) turn = GoesOnPrepared l program m turn
+GoesOnBy l program m (Invoke callee) turn = GoesOnPrepared l program m turn
+GoesOnBy l program m (Leave words) turn = GoesOnPrepared l program m turn
+GoesOnBy l program m Stick turn = GoesOnPrepared l program m turn

@@ -2,6 +2,7 @@
 //! value of its result's type or an exception. It has laws alone, for whoever proves that components which break no rule
 //! are never stuck.
 ghost use Rattle.std.specs.Prelude.{◌≡◌, ◌≤◌, ℕ, Bool, true, false, List, ◌++◌, length, take, reverse, Option, Some};
+ghost use Rattle.std.specs.Prelude.{Contains};
 ghost use Rattle.cjc_card_semantics.specs.Bytes.declared.fault.MemberId.{MemberId};
 ghost use Rattle.cjc_card_semantics.specs.Script.declared.value.Value.{Value};
 ghost use Rattle.cjc_card_semantics.specs.Script.declared.script.Act.{Act};
@@ -22,7 +23,7 @@ ghost use Rattle.cjc_card_acts.specs.CardTypes.{ValueType, needs_of_all, is_type
 ghost use Rattle.cjc_verify_proof.specs.Words.{AreWords};
 ghost use Rattle.cjc_verify_proof.specs.Heaps.{object_is};
 ghost use Rattle.cjc_verify_proof.specs.Control.{cells_of};
-ghost use Rattle.cjc_verify_proof.specs.Frames.{Typing, IsMethod, Stands, Waits, AreOuter};
+ghost use Rattle.cjc_verify_proof.specs.Frames.{Typing, Program, AreMethods, Stands, Waits, AreOuter};
 ghost use Rattle.cjc_verify_proof.specs.Calls.{receiver_needs, has_receiver, argument_cells, AreSorts, IsResult};
 ghost use Rattle.cjc_verify_proof.specs.Scripts.{IsPrepared, GoesOnPrepared, HasExceptions};
 
@@ -52,21 +53,21 @@ pub fn results_are_words()
 
 /// An exception of the machine's own is made and caught by a frame, or ends its entry.
 pub fn faults_are_caught()
-    ensures { (l : Loaded) (exceptions : List ℕ) → HasExceptions l exceptions
-        → (s : State Code Class Field (List Image)) (t : Typing) → IsMethod l exceptions t → (f : Frame Code)
-        → Stands l s.memory.heap t f → (outer : List (Frame Code)) → AreOuter l exceptions s.memory.heap t.result outer
-        → (fault : Fault) → GoesOnPrepared l exceptions s.memory (turn_after_fault (by_token l) fault f outer s) }
+    ensures { (l : Loaded) (program : Program) → AreMethods l program → HasExceptions l program.exceptions
+        → (s : State Code Class Field (List Image)) (t : Typing) → Contains program.methods t → (f : Frame Code)
+        → Stands l s.memory.heap t f → (outer : List (Frame Code)) → AreOuter l program s.memory.heap t.result outer
+        → (fault : Fault) → GoesOnPrepared l program s.memory (turn_after_fault (by_token l) fault f outer s) }
 {}
 
 /// An imported call waits for an answer or ends the run, or its frame goes on with a value of its result's type or an
 /// exception, where its words are arguments of the types that its descriptor says.
 pub fn imported_calls_go_on()
-    ensures { (l : Loaded) (exceptions : List ℕ) → HasExceptions l exceptions
-        → (s : State Code Class Field (List Image)) (t : Typing) → IsMethod l exceptions t → (result : ValueType)
+    ensures { (l : Loaded) (program : Program) → AreMethods l program → HasExceptions l program.exceptions
+        → (s : State Code Class Field (List Image)) (t : Typing) → Contains program.methods t → (result : ValueType)
         (f : Frame Code) → Waits l s.memory.heap result t f → (outer : List (Frame Code))
-        → AreOuter l exceptions s.memory.heap t.result outer → (on_object : Bool) (id : MemberId) (types : Signature)
+        → AreOuter l program s.memory.heap t.result outer → (on_object : Bool) (id : MemberId) (types : Signature)
         → signature_of id.desc ≡ Some types → (receiver : Option (List ℕ)) → on_object ≡ has_receiver receiver
         → (params : List ValueType) → AreSorts l types.params params → IsResult l types.result result
         → (args : List Value) → AreWords (object_is l s.memory.heap) (argument_cells receiver params) args
-        → GoesOnPrepared l exceptions s.memory (outside (by_token l) on_object id args f outer s) }
+        → GoesOnPrepared l program s.memory (outside (by_token l) on_object id args f outer s) }
 {}

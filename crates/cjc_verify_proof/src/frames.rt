@@ -21,7 +21,8 @@ ghost use Rattle.cjc_verify_proof.specs.Words.{AreWords, AreLocals};
 ghost use Rattle.cjc_verify_proof.specs.Heaps.{object_is};
 ghost use Rattle.cjc_verify_proof.specs.Acts.{Passes};
 ghost use Rattle.cjc_verify_proof.specs.Control.{next_if, cells_of};
-ghost use Rattle.cjc_verify_proof.specs.Frames.{Typing, IsMethod, Stands, Runs, AreOuter, GoesOn, Begins};
+ghost use Rattle.cjc_verify_proof.specs.Frames.{Typing, IsMethod, Program, AreMethods, Stands, Runs};
+ghost use Rattle.cjc_verify_proof.specs.Frames.{AreOuter, GoesOn, Begins};
 
 /// What an instruction takes and reads is what it needs, where a frame stands at it, and it may be named as it is.
 pub fn frames_pass()
@@ -48,26 +49,26 @@ pub fn frames_go_on()
 /// What is thrown is caught by a frame, or ends its entry: an object or array of the type of all exceptions, and a new
 /// object of a class of that type.
 pub fn exceptions_are_caught()
-    ensures thrown { (l : Loaded) (exceptions : List ℕ) (s : State Code Class Field (List Image)) (t : Typing)
-        → IsMethod l exceptions t → (f : Frame Code) (outer : List (Frame Code)) → Stands l s.memory.heap t f
-        → AreOuter l exceptions s.memory.heap t.result outer → (object : ℕ)
-        → object_is l s.memory.heap exceptions object ≡ true → GoesOn l exceptions s.memory
+    ensures thrown { (l : Loaded) (program : Program) → AreMethods l program → (s : State Code Class Field (List Image)) (t : Typing)
+        → Contains program.methods t → (f : Frame Code) (outer : List (Frame Code)) → Stands l s.memory.heap t f
+        → AreOuter l program s.memory.heap t.result outer → (object : ℕ)
+        → object_is l s.memory.heap program.exceptions object ≡ true → GoesOn l program s.memory
         (turn_after_toss (by_token l) (slice_get s.memory.heap object) f outer object s) }
-    ensures raised { (l : Loaded) (exceptions : List ℕ) (s : State Code Class Field (List Image)) (t : Typing)
-        → IsMethod l exceptions t → (f : Frame Code) (outer : List (Frame Code)) → Stands l s.memory.heap t f
-        → AreOuter l exceptions s.memory.heap t.result outer → (c : Class)
-        → both_of l (Some (OfClass c)) (shape_by l exceptions) ≡ true
-        → (otherwise : Turn Code Class Field (List Image)) → GoesOn l exceptions
+    ensures raised { (l : Loaded) (program : Program) → AreMethods l program → (s : State Code Class Field (List Image)) (t : Typing)
+        → Contains program.methods t → (f : Frame Code) (outer : List (Frame Code)) → Stands l s.memory.heap t f
+        → AreOuter l program s.memory.heap t.result outer → (c : Class)
+        → both_of l (Some (OfClass c)) (shape_by l program.exceptions) ≡ true
+        → (otherwise : Turn Code Class Field (List Image)) → GoesOn l program
         (record (s.memory) { heap = s.memory.heap ++ Object c [] ∷ [] })
         (turn_after_raise (by_token l) (Some c) f outer s otherwise) }
 {}
 
 /// A frame that waits goes on with the words of a result, or the entry ends.
 pub fn results_are_returned()
-    ensures { (l : Loaded) (exceptions : List ℕ) (s : State Code Class Field (List Image)) (t : Typing)
+    ensures { (l : Loaded) (program : Program) → AreMethods l program → (s : State Code Class Field (List Image)) (t : Typing)
         (words : List Value) → AreWords (object_is l s.memory.heap) (cells_of t.result) (reverse words)
-        → (f : Frame Code) (outer : List (Frame Code)) → AreOuter l exceptions s.memory.heap t.result outer
-        → GoesOn l exceptions s.memory (left (by_token l) words f outer s) }
+        → (f : Frame Code) (outer : List (Frame Code)) → AreOuter l program s.memory.heap t.result outer
+        → GoesOn l program s.memory (left (by_token l) words f outer s) }
 {}
 
 /// A method begins with words of its arguments, inside a frame that waits for its result or as an entry.
@@ -76,9 +77,9 @@ pub fn methods_begin()
         → IsMethod l exceptions t → (m : Start Code) → Begins t m → (args : List Value)
         → AreWords (object_is l heap) (map (given [] []) t.body.arguments) args
         → Runs l heap t (frame_for_call m args) }
-    ensures calls { (l : Loaded) (exceptions : List ℕ) (s : State Code Class Field (List Image)) (t : Typing)
-        → IsMethod l exceptions t → (m : Start Code) → Begins t m → (args : List Value)
+    ensures calls { (l : Loaded) (program : Program) → AreMethods l program → (s : State Code Class Field (List Image)) (t : Typing)
+        → Contains program.methods t → (m : Start Code) → Begins t m → (args : List Value)
         → AreWords (object_is l s.memory.heap) (map (given [] []) t.body.arguments) args → (f : Frame Code)
-        (outer : List (Frame Code)) → AreOuter l exceptions s.memory.heap t.result (f ∷ outer)
-        → GoesOn l exceptions s.memory (inside (by_token l) m args f outer s) }
+        (outer : List (Frame Code)) → AreOuter l program s.memory.heap t.result (f ∷ outer)
+        → GoesOn l program s.memory (inside (by_token l) m args f outer s) }
 {}

@@ -6,5 +6,5 @@ returns-clause-entries c l exceptions heap t method m begins args typed = entere
     args typed
 
 pub returns-clause-calls : goal.returns-clause-calls
-returns-clause-calls c l exceptions s t method m begins args typed f outer o = inside_goes l exceptions s t method m
+returns-clause-calls c l program all s t among m begins args typed f outer o = inside_goes l program all s t among m
     begins args typed f outer o
