@@ -107,9 +107,9 @@ module _ (l : Loaded) (heap : List (HeapObject Class Field)) where
           → (a : Option (List Value)) → value_words k v ≡ a → (b : Option (List Value)) → words_of sorts vs ≡ b
           → both_words a b ≡ Some ws → Are (flat_map cells_of (t ∷ params)) ws
       go rest None h b i e = cc
-      go rest (Some as) h None i e = cc
-      go rest (Some as) h (Some bs) i e = subst (Are (flat_map cells_of (t ∷ params))) (same_words e)
-          (words_append (object_is l heap) (cells_of t) (flat_map cells_of params) as bs (value_has k t s.0 v both.0 as
+      go rest (Some us) h None i e = cc
+      go rest (Some us) h (Some bs) i e = subst (Are (flat_map cells_of (t ∷ params))) (same_words e)
+          (words_append (object_is l heap) (cells_of t) (flat_map cells_of params) us bs (value_has k t s.0 v both.0 us
           h) (rest bs i))
 
   -- the words of values that fit
@@ -342,7 +342,7 @@ module _ (l : Loaded) (program : Program) (is : IsProgram l program) where
       runs : Runs l s.memory.heap t f
       runs = h.1.1.0
 
-      abbrev st : Stands l s.memory.heap t f
+      st : Stands l s.memory.heap t f
       st = runs.stands
 
       i : (x : Fetched Class Field StaticCell Callee) × ((fetch l t.code (at_of st.step) ≡ Some x) × Suits l program
