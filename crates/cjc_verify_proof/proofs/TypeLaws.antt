@@ -41,7 +41,7 @@ element_through Ints Booleans c e f = cc
 element_through Ints Bytes c e f = cc
 element_through Ints Shorts c e f = cc
 
-element_itself : (a : Element) → same_element a a ≡ true
+pub element_itself : (a : Element) → same_element a a ≡ true
 element_itself Booleans = refl
 element_itself Bytes = refl
 element_itself Shorts = refl

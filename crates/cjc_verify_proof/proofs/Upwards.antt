@@ -26,7 +26,7 @@ like_itself n = grind (arith, nat_tests)
 same_number : (m n : ℕ) → (m == n) ≡ true → m ≡ n
 same_number m n e = eqb-true m n e
 
-class_tells : (a b : Class) → same_class a b ≡ true → a ≡ b
+pub class_tells : (a b : Class) → same_class a b ≡ true → a ≡ b
 class_tells (Own p a) (Own q b) e =
     let h = both_hold (p == q) (a == b) e in
     ap (λ x. Own x a) (same_number p q h.0) ∙ ap (Own q) (same_number a b h.1)
@@ -36,7 +36,7 @@ class_tells (External p a) (External q b) e =
 class_tells (Own p a) (External q b) e = cc
 class_tells (External p a) (Own q b) e = cc
 
-class_same : (a : Class) → same_class a a ≡ true
+pub class_same : (a : Class) → same_class a a ≡ true
 class_same (Own p a) = ap (λ t. t && (a == a)) (like_itself p) ∙ like_itself a
 class_same (External p a) = ap (λ t. t && (a == a)) (like_itself p) ∙ like_itself a
 
@@ -82,7 +82,7 @@ length_both (x ∷ xs) ys = let h = length_both xs ys in omega (arith, h)
 -- ---- going upwards by any steps
 
 module _ (next : Class → List Class) where
-  data Over : Class → Class → Type 0 where
+  pub data Over : Class → Class → Type 0 where
     here : {c : Class} → Over c c
     up : {c b d : Class} → is_in b (next c) ≡ true → Over b d → Over c d
 
@@ -494,13 +494,13 @@ over_over : (next : Class → List Class) {c b d : Class} → Over next c b → 
 over_over next here more = more
 over_over next (up direct over) more = up direct (over_over next over more)
 
-told_over : (l : Loaded) (c d : Class) → is_kind_of l c d ≡ true → Over (supers l) c d
+pub told_over : (l : Loaded) (c d : Class) → is_kind_of l c d ≡ true → Over (supers l) c d
 told_over l c d e = by (found_above (supers l) (steps l) [] (c ∷ []) d e)
   where
     by : FromOne (supers l) (c ∷ []) d → Over (supers l) c d
     by r = ⊎_elim (λ is. subst (λ x. Over (supers l) x d) is r.over) (λ no. cc) (first_or_later r.start c [] r.among)
 
-over_told : (l : Loaded) (c d : Class) → Over (supers l) c d → is_kind_of l c d ≡ true
+pub over_told : (l : Loaded) (c d : Class) → Over (supers l) c d → is_kind_of l c d ≡ true
 over_told l c d over =
     let a = parts_cost 0 l.parts in
     let b = trees_cost 0 l.trees in
