@@ -254,20 +254,20 @@ module _ (l : Loaded) (program : Program) (result : ValueType) (room next : ℕ)
   same_done a cs at stack locals memory among w k e = subst (λ x. Done a cs (Go at stack locals x)) (sym e)
       ((among, (extends_itself m.heap, (w, k))), (fit, (held, refl)))
 
-  onward_done : (a : Act) (cs behind : List Cell) → falls_of a ≡ true → stack_behind a lc cs ≡ behind
-      → (let b = a in b.writes) ≡ [] → (e : Effect Class Field Callee (List Image)) → Onward l next behind lc m e
+  onward_done : (a : Act) (cs given_by : List Cell) → falls_of a ≡ true → stack_behind a lc cs ≡ given_by
+      → (let b = a in b.writes) ≡ [] → (e : Effect Class Field Callee (List Image)) → Onward l next given_by lc m e
       → Done a cs e
-  onward_done a cs behind falls is none (Go at stack locals memory) h = same_done a cs at stack locals memory
+  onward_done a cs given_by falls is none (Go at stack locals memory) h = same_done a cs at stack locals memory
       (subst (λ x. Contains (next_if (falls_of a) next ++ (let b = a in b.targets)) x) (sym h.0) (next_follows a next
       falls))
       (subst (λ x. AreWords (object_is l m.heap) x stack) (sym is) h.1.0)
       (subst (λ ws. AreLocals (object_is l m.heap) (with_writes a lc (Cells cs) ws lc) locals) (sym none) h.1.1.0)
       h.1.1.1
-  onward_done a cs behind falls is none (Raise fault) h = (tt, tt)
-  onward_done a cs behind falls is none (Toss object) h = absurd h
-  onward_done a cs behind falls is none (Invoke callee) h = absurd h
-  onward_done a cs behind falls is none (Leave words) h = absurd h
-  onward_done a cs behind falls is none Stick h = absurd h
+  onward_done a cs given_by falls is none (Raise fault) h = (tt, tt)
+  onward_done a cs given_by falls is none (Toss object) h = absurd h
+  onward_done a cs given_by falls is none (Invoke callee) h = absurd h
+  onward_done a cs given_by falls is none (Leave words) h = absurd h
+  onward_done a cs given_by falls is none Stick h = absurd h
 
   -- ---- plain rows
 
@@ -343,11 +343,11 @@ module _ (l : Loaded) (program : Program) (result : ValueType) (room next : ℕ)
       → Done (loading_item letter) (c ∷ d ∷ cs) (load_number (classes l) letter room next lv m (u ∷ v ∷ vs))
   numbers_done letter other c d cs u v vs w p =
       let h = over_array (arrays_of letter) c d cs p.operands in
-      let behind = load_behind letter other c d cs h.1 in
-      onward_done (loading_item letter) (c ∷ d ∷ cs) (item_cells letter ++ cs) refl behind refl
+      let gives = load_behind letter other c d cs h.1 in
+      onward_done (loading_item letter) (c ∷ d ∷ cs) (item_cells letter ++ cs) refl gives refl
       (load_number (classes l) letter room next lv m (u ∷ v ∷ vs))
       (loads_number l room next lc lv m k (classes l) fit letter other c d cs u v vs h.0 h.1 w
-      (subst (λ x. nat_lt room (length x) ≡ false) behind p.after))
+      (subst (λ x. nat_lt room (length x) ≡ false) gives p.after))
 
   load_done : (letter : Letter) (cs : List Cell) (vs : List Value) → AreWords (object_is l m.heap) cs vs
       → Parts (is_type_of l) room (loading_item letter) lc cs
@@ -378,8 +378,8 @@ module _ (l : Loaded) (program : Program) (result : ValueType) (room next : ℕ)
       let keeps : Keeps m.heap memory.heap = h.1.1.1.1.0 in
       let grows : Extends m.heap memory.heap = keeps_extends m.heap memory.heap keeps in
       let still = object_still l m.heap memory.heap grows in
-      let old = Numbers n.1.0 n.1.1.0 in
-      let new = Numbers n.1.0 n.1.1.1.0 in (
+      let old : HeapObject Class Field = Numbers n.1.0 n.1.1.0 in
+      let new : HeapObject Class Field = Numbers n.1.0 n.1.1.1.0 in (
         (
           subst (λ x. Contains (next_if (falls_of a) next ++ (let b = a in b.targets)) x) (sym h.0)
               (next_follows a next falls),
