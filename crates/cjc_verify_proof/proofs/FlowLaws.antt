@@ -5,8 +5,8 @@ use Rattle.std.proofs.Common.{option_map, filter_map, ◌⊎◌}
 use Rattle.std.proofs.lemmas.Bool.Decides.{nat_tests}
 use Rattle.std.specs.Prelude.{Contains, if◌then◌else◌}
 use Rattle.std.specs.List.{AllZip, cons_option}
-use Rattle.cjc_fixpoint.specs.declared.flow.Edge.{Edge}
-use Rattle.cjc_fixpoint.specs.Tables.{HasRow, Covers}
+use Rattle.cjc_card_acts.specs.Types.Fixpoint.declared.flow.Edge.{Edge}
+use Rattle.cjc_card_acts.specs.Types.Fixpoint.Tables.{HasRow, Covers}
 use Rattle.cjc_card_semantics.specs.Machine.Loaded.{Loaded}
 use Rattle.cjc_card_acts.specs.Types.declared.cell.Cell.{Cell}
 use Rattle.cjc_card_acts.specs.Types.declared.state.Stack.{Stack}

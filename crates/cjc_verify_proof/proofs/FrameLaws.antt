@@ -5,7 +5,7 @@ use Rattle.std.proofs.Common.{◌⊎◌, ◌∙◌, arith, replicate, ◌==◌, 
 use Rattle.std.proofs.lemmas.Bool.Decides.{nat_tests}
 use Rattle.std.specs.Prelude.{Contains, if◌then◌else◌, reverse, option_and_then, option_to_list}
 use Rattle.std.specs.List.{AllZip}
-use Rattle.cjc_fixpoint.specs.Tables.{HasRow}
+use Rattle.cjc_card_acts.specs.Types.Fixpoint.Tables.{HasRow}
 use Rattle.cjc_card_semantics.specs.CapRead.declared.tree.Handler.{Handler}
 use Rattle.cjc_card_semantics.specs.CapRead.declared.tree.PoolEntry.{PoolEntry}
 use Rattle.cjc_card_semantics.specs.Script.declared.value.Value.{Value}

@@ -39,7 +39,7 @@ IsSort l Byte types.Byte = Unit {0}
 IsSort l Short types.Short = Unit {0}
 IsSort l Int types.Int = Unit {0}
 IsSort l (Reference shape) (types.Reference type) = shape_of (by_token l) shape ≡ shape_by l type
-IsSort l sort type = ⊥
+IsSort l other type = ⊥
 
 -- the same of several
 abbrev pub AreSorts : Loaded → List Sort → List ValueType → Type 0

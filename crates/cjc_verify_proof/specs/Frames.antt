@@ -2,7 +2,7 @@
 use Rattle.std.specs.Prelude.{◌≡◌, ℕ, suc, zero, ◌+◌, Bool, true, false, List, [], ◌∷◌, length, drop, slice_get, Option}
 use Rattle.std.specs.Prelude.{Some, Contains}
 use Rattle.std.specs.List.{AllZip}
-use Rattle.cjc_fixpoint.specs.Tables.{HasRow, IsClosed}
+use Rattle.cjc_card_acts.specs.Types.Fixpoint.Tables.{HasRow, IsClosed}
 use Rattle.cjc_card_semantics.specs.CapRead.declared.tree.Handler.{Handler}
 use Rattle.cjc_card_semantics.specs.CapRead.declared.tree.PoolEntry.{PoolEntry}
 use Rattle.cjc_card_semantics.specs.Script.declared.report.Outcome.{Outcome}
