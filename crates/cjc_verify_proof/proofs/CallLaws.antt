@@ -1,17 +1,15 @@
 -- What a call takes off the stack are its arguments, and what an imported method gives are words of its result.
-use Rattle.std.proofs.Common.{◌≡◌, ◌≤◌, ◌+◌, ◌||◌, inl, inr, ℕ, zero, suc, Bool, true, false, not, List, [], ◌∷◌, ◌++◌}
+use Rattle.std.proofs.Common.{◌≡◌, ◌≤◌, inl, ℕ, Bool, true, false, not, List, [], ◌∷◌, ◌++◌}
 use Rattle.std.proofs.Common.{length, map, take, reverse, slice_get, Option, Some, None, refl, sym, ap, subst, ◌∙◌, arith}
-use Rattle.std.proofs.Common.{length-append, append_assoc}
 use Rattle.std.specs.Prelude.{flat_map}
 use Rattle.std.proofs.lemmas.Bool.{or_parts}
-use Rattle.std.proofs.lemmas.List.{reverse-append, append-nil}
+use Rattle.std.proofs.lemmas.List.{reverse-append}
 use Rattle.cjc_card_semantics.specs.Script.declared.value.Value.{Value}
 use Rattle.cjc_card_semantics.specs.Script.declared.value.Value.TheVariants.{Num, Null, Obj}
-use Rattle.cjc_card_semantics.specs.Script.Sorts.{Sort, Boolean, Byte, Short, Int, Reference, NoValue, Shape, fits}
+use Rattle.cjc_card_semantics.specs.Script.Sorts.{Sort, Boolean, Byte, Short, Int, Reference, Shape}
 use Rattle.cjc_card_semantics.specs.Script.Sorts.{result_fits}
 use Rattle.cjc_card_acts.specs.Types.declared.cell.Cell.{Cell}
 use Rattle.cjc_card_acts.specs.Types.declared.cell.Cell.TheVariants.{Number, Refs, Unusable}
-use Rattle.cjc_card_acts.specs.Types.Rules.{is_number, all_types}
 use Rattle.cjc_card_semantics.specs.Bytecode.Numbers.{spelt_by}
 use Rattle.cjc_card_semantics.specs.Bytecode.Effects.{HeapObject}
 use Rattle.cjc_card_semantics.specs.Bytecode.Arguments.{values_of, first_and, event_values, result_words}
@@ -28,7 +26,7 @@ use Rattle.cjc_card_acts.specs.CardTypes as types
 use Rattle.cjc_verify_proof.specs.Words.{IsOneOf, IsWord, AreWords}
 use Rattle.cjc_verify_proof.specs.Heaps.{thing_is, object_is}
 use Rattle.cjc_verify_proof.specs.Control.{cells_of}
-use Rattle.cjc_verify_proof.specs.Calls.{receiver_needs, has_receiver, receiver_cells, argument_cells, IsSort, AreSorts, IsResult}
+use Rattle.cjc_verify_proof.specs.Calls.{receiver_needs, has_receiver, receiver_cells, argument_cells, AreSorts, IsResult}
 use Rattle.cjc_verify_proof.proofs.WordLaws.{true_of, number_is, words_append}
 use Rattle.cjc_verify_proof.proofs.TypeLaws.{word_of_type}
 use Rattle.cjc_card_semantics.proofs.BytesLists.{map_append}

@@ -1,16 +1,16 @@
 -- Instructions that jump, throw or return lead where their rows say.
-use Rattle.std.proofs.Common.{◌≡◌, ◌≤◌, ◌||◌, inl, inr, ℕ, zero, suc, Bool, true, false, not, List, [], ◌∷◌, length, drop, map}
-use Rattle.std.proofs.Common.{slice_get, Option, Some, None, refl, sym, ap, subst, ◌∙◌, arith, ℤ}
-use Rattle.std.specs.Prelude.{if◌then◌else◌, Contains, reverse}
+use Rattle.std.proofs.Common.{◌≡◌, ◌≤◌, ℕ, zero, suc, Bool, true, false, not, List, [], ◌∷◌, length, drop, map}
+use Rattle.std.proofs.Common.{slice_get, Option, Some, None, refl, arith, ℤ}
+use Rattle.std.specs.Prelude.{if◌then◌else◌, Contains}
 use Rattle.std.specs.Int.RustNames.{int_le}
 use Rattle.std.proofs.lemmas.Bool.{or_parts}
 use Rattle.cjc_card_semantics.specs.Script.declared.value.Value.{Value}
 use Rattle.cjc_card_semantics.specs.Script.declared.value.Value.TheVariants.{Num, Null, Obj}
 use Rattle.cjc_card_acts.specs.Types.declared.cell.Cell.{Cell}
-use Rattle.cjc_card_acts.specs.Types.declared.cell.Cell.TheVariants.{Number, Refs, Unusable}
+use Rattle.cjc_card_acts.specs.Types.declared.cell.Cell.TheVariants.{Number, Refs}
 use Rattle.cjc_card_acts.specs.Types.Rules.{all_types}
 use Rattle.cjc_card_semantics.specs.Bytecode.Calculations.{Test, Choice, Takes, Neither, one_number, one_int}
-use Rattle.cjc_card_semantics.specs.Bytecode.Effects.{Letter, Reference, Byte, Short, Int, Access, Throw, Return, Arm}
+use Rattle.cjc_card_semantics.specs.Bytecode.Effects.{Letter, Reference, Short, Int, Throw, Return, Arm}
 use Rattle.cjc_card_semantics.specs.Bytecode.Effects.{Memory, Classes, Effect, Go, Stick, arm_of, chosen, thrown}
 use Rattle.cjc_card_semantics.specs.Bytecode.Effects.{effect_of_access, effect, Pick, Branch}
 use Rattle.cjc_card_semantics.specs.Machine.Loaded.{Loaded}

@@ -1,5 +1,5 @@
 -- Rows that are reached break no rule, and where an instruction leads there is one, with a row above what is handed on.
-use Rattle.std.proofs.Common.{◌≡◌, ◌≤◌, ◌<◌, ◌+◌, inl, inr, ℕ, zero, suc, Bool, true, false, nat_lt, nat_le, List, []}
+use Rattle.std.proofs.Common.{◌≡◌, ◌<◌, ◌+◌, inl, inr, ℕ, zero, suc, Bool, true, false, nat_lt, List, []}
 use Rattle.std.proofs.Common.{◌∷◌, ◌++◌, length, map, slice_get, Option, Some, None, refl, sym, ap, subst, ◌∙◌, arith}
 use Rattle.std.proofs.Common.{option_map, filter_map, ◌⊎◌}
 use Rattle.std.proofs.lemmas.Bool.Decides.{nat_tests}
@@ -19,9 +19,8 @@ use Rattle.cjc_card_acts.specs.Frames.declared.acts.Step.{Step}
 use Rattle.cjc_card_acts.specs.Frames.declared.acts.Catch.{Catch}
 use Rattle.cjc_card_acts.specs.Frames.Acts.{Subtype, is_wrong, is_off, after, Breaks, clash, wrong, off, unknown}
 use Rattle.cjc_card_acts.specs.Frames.Acts.{misnamed}
-use Rattle.cjc_card_acts.specs.Frames.Flow.{Body, place_at, next_place, successors, edge, covers, caught, handler_edge}
+use Rattle.cjc_card_acts.specs.Frames.Flow.{place_at, next_place, successors, edge, covers, caught, handler_edge}
 use Rattle.cjc_card_acts.specs.Frames.Flow.{step_edges, place_edges, frame_flow}
-use Rattle.cjc_card_acts.specs.Frames.Tables.{Breach}
 use Rattle.cjc_card_acts.specs.Frames.Working.FlowLaws.{frame_flow_stays}
 use Rattle.cjc_card_acts.specs.CardTypes.{is_type_of}
 use Rattle.cjc_verify_proof.specs.Acts.{Passes}

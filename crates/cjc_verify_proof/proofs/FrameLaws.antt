@@ -1,5 +1,5 @@
 -- Frames stay typed where instructions go on, methods begin and return, and exceptions are thrown.
-use Rattle.std.proofs.Common.{◌≡◌, ◌≤◌, ◌<◌, ◌+◌, ◌&&◌, inl, inr, ℕ, zero, suc, Bool, true, false, nat_lt, nat_le, List}
+use Rattle.std.proofs.Common.{◌≡◌, ◌<◌, ◌+◌, ◌&&◌, inl, inr, ℕ, zero, suc, Bool, true, false, nat_lt, nat_le, List}
 use Rattle.std.proofs.Common.{[], ◌∷◌, ◌++◌, length, map, drop, take, slice_get, Option, Some, None, refl, sym, ap, subst}
 use Rattle.std.proofs.Common.{◌⊎◌, ◌∙◌, arith, replicate, ◌==◌, leb-false, ltb-false, eqb-true}
 use Rattle.std.proofs.lemmas.Bool.Decides.{nat_tests}
@@ -9,22 +9,20 @@ use Rattle.cjc_card_acts.specs.Types.Fixpoint.Tables.{HasRow}
 use Rattle.cjc_card_semantics.specs.CapRead.declared.tree.Handler.{Handler}
 use Rattle.cjc_card_semantics.specs.CapRead.declared.tree.PoolEntry.{PoolEntry}
 use Rattle.cjc_card_semantics.specs.Script.declared.value.Value.{Value}
-use Rattle.cjc_card_semantics.specs.Script.declared.value.Value.TheVariants.{Num, Null, Obj}
+use Rattle.cjc_card_semantics.specs.Script.declared.value.Value.TheVariants.{Obj}
 use Rattle.cjc_card_semantics.specs.Script.Sorts.{Shape, OfClass}
 use Rattle.cjc_card_acts.specs.Types.declared.cell.Cell.{Cell}
-use Rattle.cjc_card_acts.specs.Types.declared.cell.Cell.TheVariants.{Number, Refs, Unusable}
+use Rattle.cjc_card_acts.specs.Types.declared.cell.Cell.TheVariants.{Refs, Unusable}
 use Rattle.cjc_card_acts.specs.Types.declared.state.Stack.TheVariants.{Cells, Clash}
 use Rattle.cjc_card_acts.specs.Types.declared.state.State.{State}
-use Rattle.cjc_card_acts.specs.Types.Cells.{IsCellBelow}
 use Rattle.cjc_card_acts.specs.Types.States.{most_cells, stack_of, IsStackBelow}
-use Rattle.cjc_card_semantics.specs.Bytecode.Calculations.{Fault}
 use Rattle.cjc_card_semantics.specs.Bytecode.Effects.{HeapObject, Object, shape, Memory}
 use Rattle.cjc_card_semantics.specs.Bytecode.Machine.{Start, Frame, State as Run, Turn, Next, StuckAt, locals_of}
 use Rattle.cjc_card_semantics.specs.Bytecode.Machine.{Fetched}
 use Rattle.cjc_card_semantics.specs.Bytecode.Machine.{frame_for_call, caught, caught_at, with_last, turn_after_raise}
-use Rattle.cjc_card_semantics.specs.Bytecode.Machine.{turn_after_fault, turn_after_toss, returned, left, inside}
+use Rattle.cjc_card_semantics.specs.Bytecode.Machine.{turn_after_toss, returned, left, inside}
 use Rattle.cjc_card_semantics.specs.Machine.Loaded.{Part, Loaded}
-use Rattle.cjc_card_semantics.specs.Machine.Classes.{Class, Field, fault_class, is_of}
+use Rattle.cjc_card_semantics.specs.Machine.Classes.{Class, Field}
 use Rattle.cjc_card_semantics.specs.Machine.Statics.{Image, StaticCell}
 use Rattle.cjc_card_semantics.specs.Machine.Operations.{Callee, class_at}
 use Rattle.cjc_card_semantics.specs.Machine.Methods.{Code, is_caught, takes, handler_among, handler_in, handler}
@@ -41,11 +39,11 @@ use Rattle.cjc_card_acts.specs.Frames.Flow.{Body, place_at, covers, successors}
 use Rattle.cjc_card_acts.specs.Frames.Flow as flow
 use Rattle.cjc_card_acts.specs.CardTypes.{ValueType, shape_by, both_of, is_type_of}
 use Rattle.cjc_card_acts.specs.CardTypes as types
-use Rattle.cjc_verify_proof.specs.Words.{IsWord, IsLocal, AreWords, AreLocals}
-use Rattle.cjc_verify_proof.specs.Heaps.{thing_is, object_is, shape_in}
+use Rattle.cjc_verify_proof.specs.Words.{IsWord, AreWords, AreLocals}
+use Rattle.cjc_verify_proof.specs.Heaps.{thing_is, object_is}
 use Rattle.cjc_verify_proof.specs.Growth.{Extends}
 use Rattle.cjc_verify_proof.specs.Control.{next_if, cells_of}
-use Rattle.cjc_verify_proof.specs.Frames.{Typing, IsCaught, IsCatch, IsMethod, Program, AreMethods, Stands, Runs, Waits, AreOuter, AreFrames}
+use Rattle.cjc_verify_proof.specs.Frames.{Typing, IsCaught, IsCatch, IsMethod, Program, AreMethods, Stands, Runs, Waits, AreOuter}
 use Rattle.cjc_verify_proof.specs.Frames.{GoesOn, Begins}
 use Rattle.cjc_verify_proof.proofs.WordLaws.{word_up, words_up, locals_up, words_length}
 use Rattle.cjc_verify_proof.proofs.WordLaws as words
@@ -202,6 +200,7 @@ module _ (l : Loaded) (program : Program) (heap more : List (HeapObject Class Fi
     }
 
     pub waits_still : (r : ValueType) (t : Typing) (f : Frame Code) → Waits l heap r t f → Waits l more r t f
+    unfolding stands_still
     waits_still r t f w = record {
       stands = stands_still t f w.stands;
       words = words_stay (object_is l heap) (object_is l more) (object_still l heap more grows)
@@ -456,7 +455,7 @@ module _ (l : Loaded) (program : Program) (all : AreMethods l program) (s : Run 
       → GoesOn l program (with_exception c) (turn_after_raise (by_token l) (Some c) f outer s otherwise)
   raised st o c is otherwise = is_caught_or_ends l program all (with_exception c) (OfClass c) (length s.memory.heap)
       (subst (λ y. thing_is l y (Some (OfClass c)) ≡ true) (sym (at_end s.memory.heap (Object c [])))
-      (of_itself l (OfClass c))) is f.at (with_last (Object c []) s) refl t among f
+      (of_itself l (OfClass c))) is f.at (with_last (by_token l) (Object c []) s) refl t among f
       (stands_still l program s.memory.heap (s.memory.heap ++ Object c [] ∷ []) grows t f st) outer
       (outer_still l program s.memory.heap (s.memory.heap ++ Object c [] ∷ []) grows t.result outer o)
     where

@@ -3,6 +3,7 @@ use Rattle.std.proofs.Common.{◌≡◌, ◌&&◌, ℕ, Bool, true, false, List,
 use Rattle.std.proofs.Common.{subst, ◌∙◌}
 use Rattle.std.specs.Prelude.{if◌then◌else◌, option_and_then, codes, reverse, Contains}
 use Rattle.std.specs.Str.{bytes_eq}
+use Rattle.cjc_card_semantics.specs.Bytes.Spots.{desc_of, bad_at, parts_of, after, types_from}
 use Rattle.cjc_card_semantics.specs.Bytes.declared.fault.MemberId.{MemberId}
 use Rattle.cjc_card_semantics.specs.Script.declared.value.Value.{Value}
 use Rattle.cjc_card_semantics.specs.Script.declared.script.Reply.{Reply}
@@ -13,13 +14,13 @@ use Rattle.cjc_card_semantics.specs.Script.declared.report.Note.TheVariants.{Eve
 use Rattle.cjc_card_semantics.specs.Script.declared.report.Outcome.TheVariants.{Unfit}
 use Rattle.cjc_card_semantics.specs.Script.Sorts.{Sort, Signature, signature_of, OfClass, result_fits}
 use Rattle.cjc_card_semantics.specs.Bytecode.Calculations.{Fault}
-use Rattle.cjc_card_semantics.specs.Bytecode.Effects.{HeapObject, Object, Memory}
+use Rattle.cjc_card_semantics.specs.Bytecode.Effects.{Object, Memory}
 use Rattle.cjc_card_semantics.specs.Bytecode.Arguments.{event_values, result_words}
 use Rattle.cjc_card_semantics.specs.Bytecode.Machine.{Frame, State, Turn, Next, Ended, StuckAt, object_fits, is_at_once}
 use Rattle.cjc_card_semantics.specs.Bytecode.Machine.{returned, turn_after_raise, turn_after_fault, turn_after_reply}
 use Rattle.cjc_card_semantics.specs.Bytecode.Machine.{turn_after_answer, turn_after_event, typed, outside}
 use Rattle.cjc_card_semantics.specs.Machine.Loaded.{Loaded}
-use Rattle.cjc_card_semantics.specs.Machine.Classes.{Class, Field, external_named, fault_class, fault_name, is_kind_of}
+use Rattle.cjc_card_semantics.specs.Machine.Classes.{Class, Field, external_named, fault_name, is_kind_of}
 use Rattle.cjc_card_semantics.specs.Machine.Statics.{Image}
 use Rattle.cjc_card_semantics.specs.Machine.Methods.{Code}
 use Rattle.cjc_card_semantics.specs.Machine.Calls.{imported, if_below, throwable}
@@ -38,6 +39,13 @@ use Rattle.cjc_verify_proof.proofs.ScriptLaws.{prepared_itself, prepared_through
 use Rattle.cjc_verify_proof.proofs.ScriptLaws.{imported_is, IsImportedIf, acts_go}
 use Rattle.cjc_card_semantics.proofs.BytesBools.{and_true}
 use Rattle.cjc_card_semantics.proofs.BytesLists.{bytes_true}
+use Rattle.cjc_card_semantics.proofs.BytesPlain.{the_same}
+
+-- ---- java/lang/Object.<init>()V
+
+nothing_given : signature_of (codes "()V") ≡ Some (record { params = []; result = None })
+unfolding desc_of bad_at parts_of after types_from
+nothing_given = refl
 
 -- ---- turns on prepared heaps
 
@@ -214,10 +222,7 @@ module _ (l : Loaded) (program : Program) (all : AreMethods l program) (has : Ha
             more.1)) ∙ is)) s e
           where
             no_result : (x : Signature) → signature_of (codes "()V") ≡ Some x → x.result ≡ None
-            no_result x f = ap result_of (back x f)
+            no_result x f = ap result_of (the_same x (record { params = []; result = None }) (sym f ∙ nothing_given))
               where
                 result_of : Signature → Option Sort
                 result_of y = y.result
-
-                back : (x : Signature) → signature_of (codes "()V") ≡ Some x → x ≡ record { params = []; result = None }
-                back x f = cc

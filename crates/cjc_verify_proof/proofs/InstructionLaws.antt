@@ -1,12 +1,11 @@
 -- Each instruction does what its act says.
-use Rattle.std.proofs.Common.{◌≡◌, ◌≤◌, ◌||◌, ◌+◌, ◌==◌, ◌/◌, ◌%◌, ◌&&◌, inl, inr, ℕ, zero, suc, Bool, true, false, not}
-use Rattle.std.proofs.Common.{nat_lt, nat_le, List, [], ◌∷◌, ◌++◌, length, map, drop, slice_get, slice_set, Option, Some}
-use Rattle.std.proofs.Common.{None, refl, sym, ap, subst, ◌∙◌, arith, ℤ, pos, negsuc}
+use Rattle.std.proofs.Common.{◌≡◌, ◌≤◌, ◌||◌, ◌==◌, ◌/◌, ◌%◌, ◌&&◌, inl, inr, ℕ, suc, Bool, true, false, not}
+use Rattle.std.proofs.Common.{nat_lt, List, [], ◌∷◌, ◌++◌, length, map, drop, slice_get, slice_set, Option, Some}
+use Rattle.std.proofs.Common.{None, refl, sym, ap, subst, arith, ℤ, pos, negsuc}
 use Rattle.std.specs.Prelude.{if◌then◌else◌, Contains}
 use Rattle.std.proofs.lemmas.Bool.{or_parts}
 use Rattle.std.proofs.lemmas.Bool.Decides.{nat_tests}
 use Rattle.cjc_card_semantics.specs.Range.Words.{low_word, low_byte}
-use Rattle.cjc_card_semantics.specs.CapRead.Opcodes.{Operand as Kind}
 use Rattle.cjc_card_semantics.specs.Script.declared.value.Value.{Value}
 use Rattle.cjc_card_semantics.specs.Script.declared.value.Value.TheVariants.{Num, Null, Obj}
 use Rattle.cjc_card_semantics.specs.Script.Sorts.{Element, Shape, OfNumbers, OfReferences}
@@ -19,12 +18,11 @@ use Rattle.cjc_card_semantics.specs.Bytecode.Calculations.{Calculation, Result, 
 use Rattle.cjc_card_semantics.specs.Bytecode.Calculations.{is_copy, is_swap}
 use Rattle.cjc_card_semantics.specs.Bytecode.Effects.{Letter, Reference, Byte, Short, Int, Load, Store, Length, Throw}
 use Rattle.cjc_card_semantics.specs.Bytecode.Effects.{Return, HeapObject, Numbers, References, Object, Memory, Effect, Go}
-use Rattle.cjc_card_semantics.specs.Bytecode.Effects.{Raise, Toss, Invoke, Leave, Stick, Operation, Do, Touch, effect}
+use Rattle.cjc_card_semantics.specs.Bytecode.Effects.{Raise, Toss, Invoke, Leave, Stick, Operation, effect}
 use Rattle.cjc_card_semantics.specs.Bytecode.Effects.{effect_of_result, effect_of_access, store_number, with_thing}
 use Rattle.cjc_card_semantics.specs.Bytecode.Effects.{numbers_in, thing_of, with_some, item_at, is_element, Arm}
 use Rattle.cjc_card_semantics.specs.Bytecode.Effects.{load_number, load_reference_item, store_reference, NewNumbers}
 use Rattle.cjc_card_semantics.specs.Bytecode.Effects.{NewReferences, Cast, Ask, Branch, Pick}
-use Rattle.cjc_card_semantics.specs.Bytecode.Effects as effects
 use Rattle.cjc_card_semantics.specs.Machine.Loaded.{Loaded}
 use Rattle.cjc_card_semantics.specs.Machine.Classes.{Class, Field}
 use Rattle.cjc_card_semantics.specs.Machine.Statics.{Image, StaticCell}
@@ -34,8 +32,8 @@ use Rattle.cjc_card_acts.specs.Frames.declared.acts.Act.{Act}
 use Rattle.cjc_card_acts.specs.Frames.declared.acts.Need.{Need}
 use Rattle.cjc_card_acts.specs.Frames.declared.acts.Need.TheVariants.{NumberWord, ReferenceWord, OfType, OfArrays}
 use Rattle.cjc_card_acts.specs.Frames.declared.acts.Given.TheVariants.{ANumber, AnObject}
-use Rattle.cjc_card_acts.specs.Frames.Acts.{Subtype, given, stack_behind, with_writes, meets, has_wrong}
-use Rattle.cjc_card_acts.specs.Frames.Types.{begins_with, element_of, item_of}
+use Rattle.cjc_card_acts.specs.Frames.Acts.{Subtype, stack_behind, with_writes, meets, has_wrong}
+use Rattle.cjc_card_acts.specs.Frames.Types.{begins_with, element_of}
 use Rattle.cjc_card_acts.specs.Rows.{Row, Pushes, Loads, Stores, Increases, Pops, Copies, CopiesBelow, Swaps}
 use Rattle.cjc_card_acts.specs.Rows.{Calculates, LoadsItem, StoresItem, CountsItems, Throws, Jumps, Switches, Returns}
 use Rattle.cjc_card_acts.specs.Rows.{Uses, CallsInterface, MakesNumbers, Casts, Asks, Forbidden}
@@ -43,10 +41,10 @@ use Rattle.cjc_card_acts.specs.Rows.{idle, loading, storing, increasing, with_lo
 use Rattle.cjc_card_acts.specs.Rows.{swapping_by, copying, swapping, unknown, loading_item, storing_item, number_words}
 use Rattle.cjc_card_acts.specs.CardTypes.{ValueType, needs_of, is_returned_by, arrays_of, all_arrays, shape_by}
 use Rattle.cjc_card_acts.specs.CardTypes.{is_type_of}
-use Rattle.cjc_verify_proof.specs.Words.{IsWord, AreWords, AreLocals, Leaves}
-use Rattle.cjc_verify_proof.specs.Acts.{Passes, plain_act}
+use Rattle.cjc_verify_proof.specs.Words.{AreWords, AreLocals, Leaves}
+use Rattle.cjc_verify_proof.specs.Acts.{plain_act}
 use Rattle.cjc_verify_proof.specs.Heaps.{object_is, AreFit, Onward, Stored, Keeps, item_cells}
-use Rattle.cjc_verify_proof.specs.Growth.{Extends, IsWithOneMore, AreZeros, AreNulls, Adds}
+use Rattle.cjc_verify_proof.specs.Growth.{Extends, AreZeros, AreNulls, Adds}
 use Rattle.cjc_verify_proof.specs.References.{AreHeld, Puts}
 use Rattle.cjc_verify_proof.specs.Control.{next_if, switched_words, Leads, Throws as IsThrown, Returns as IsLeft}
 use Rattle.cjc_verify_proof.specs.Frames.{Program}
@@ -54,7 +52,7 @@ use Rattle.cjc_verify_proof.specs.Turns.{Does}
 use Rattle.cjc_verify_proof.specs.Instructions.{Suits, HoldsOn, plain, jump, switch, load, store, arraylength, athrow}
 use Rattle.cjc_verify_proof.specs.Instructions.{return, newarray, anewarray, checkcast, instanceof, call}
 use Rattle.cjc_verify_proof.proofs.WordLaws.{true_of, number_is, Tops, behind, number, tops}
-use Rattle.cjc_verify_proof.proofs.PlainLaws.{Parts, parts, plain_kept}
+use Rattle.cjc_verify_proof.proofs.PlainLaws.{Parts, plain_kept}
 use Rattle.cjc_verify_proof.proofs.HeapLaws.{loads_number, lengths_go}
 use Rattle.cjc_verify_proof.proofs.StoreLaws.{stores_byte, stores_short, stores_int}
 use Rattle.cjc_verify_proof.proofs.GrowthLaws.{extends_itself, keeps_extends, pushed_extends, object_still, words_stay}

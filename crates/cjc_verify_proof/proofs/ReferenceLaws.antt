@@ -1,6 +1,6 @@
 -- Instructions that make arrays, test types, and read or write arrays of references.
-use Rattle.std.proofs.Common.{◌≡◌, ◌≤◌, ◌<◌, ◌||◌, inl, inr, ℕ, suc, Bool, true, false, nat_lt, nat_le, ◌==◌, List, []}
-use Rattle.std.proofs.Common.{◌∷◌, ◌++◌, length, slice_get, slice_set, Option, Some, None, All, refl, sym, ap, subst}
+use Rattle.std.proofs.Common.{◌≡◌, inl, inr, ℕ, suc, Bool, true, false, nat_lt, nat_le, ◌==◌, List, []}
+use Rattle.std.proofs.Common.{◌∷◌, ◌++◌, length, slice_get, slice_set, Option, Some, None, refl, sym, ap, subst}
 use Rattle.std.proofs.Common.{◌∙◌, arith, ℤ, pos, negsuc, leb-false, ltb-false, eqb-true}
 use Rattle.std.specs.Prelude.{if◌then◌else◌, option_map, replicate}
 use Rattle.cjc_card_semantics.specs.Script.declared.value.Value.{Value}
@@ -9,26 +9,25 @@ use Rattle.cjc_card_semantics.specs.Script.Sorts.{Element, Shape, OfClass, OfNum
 use Rattle.cjc_card_acts.specs.Types.declared.cell.Cell.{Cell}
 use Rattle.cjc_card_acts.specs.Types.declared.cell.Cell.TheVariants.{Number, Refs, Unusable}
 use Rattle.cjc_card_acts.specs.Types.Names.{In}
-use Rattle.cjc_card_acts.specs.Types.Cells.{most_names, refs}
+use Rattle.cjc_card_acts.specs.Types.Cells.{most_names}
 use Rattle.cjc_card_acts.specs.Types.Rules.{is_reference, all_types}
 use Rattle.cjc_card_acts.specs.Types.Working.NameLaws.{insert_new, insert_old}
-use Rattle.cjc_card_semantics.specs.Bytecode.Calculations.{IndexOutside, NegativeSize, ClassCast, ArrayStore}
+use Rattle.cjc_card_semantics.specs.Bytecode.Calculations.{IndexOutside, ClassCast, ArrayStore}
 use Rattle.cjc_card_semantics.specs.Bytecode.Effects.{Reference, HeapObject, Numbers, References, Object, shape, Memory}
-use Rattle.cjc_card_semantics.specs.Bytecode.Effects.{Classes, Effect, Go, Raise, Stick, with_some, item_at, onward}
-use Rattle.cjc_card_semantics.specs.Bytecode.Effects.{references_in, thing_of, with_thing, kept, cast, cast_of, asked}
+use Rattle.cjc_card_semantics.specs.Bytecode.Effects.{Classes, Go, Raise, Stick, with_some, item_at, onward}
+use Rattle.cjc_card_semantics.specs.Bytecode.Effects.{references_in, thing_of, with_thing, kept}
 use Rattle.cjc_card_semantics.specs.Bytecode.Effects.{truth, sized, made, effect, NewNumbers, NewReferences, Cast, Ask}
 use Rattle.cjc_card_semantics.specs.Bytecode.Effects.{load_reference_item, store_reference}
 use Rattle.cjc_card_semantics.specs.Machine.Loaded.{Loaded}
 use Rattle.cjc_card_semantics.specs.Machine.Classes.{Class, Field, is_kind_of, is_of}
 use Rattle.cjc_card_semantics.specs.Machine.Statics.{Image, StaticCell}
-use Rattle.cjc_card_semantics.specs.Machine.Operations.{Callee}
 use Rattle.cjc_card_semantics.specs.Machine.ByToken.{classes}
 use Rattle.cjc_card_acts.specs.Frames.Types.{begins_with, held, with_held, elements, element_of}
 use Rattle.cjc_card_acts.specs.CardTypes.{shape_by, class_by, arrays_of}
 use Rattle.cjc_verify_proof.specs.Words.{IsWord, AreWords, AreLocals}
 use Rattle.cjc_verify_proof.specs.Heaps.{thing_is, object_is, Onward}
 use Rattle.cjc_verify_proof.specs.Growth.{AreZeros, AreNulls, Adds}
-use Rattle.cjc_verify_proof.specs.References.{IsItem, HoldsItems, AreHeld, Puts, PutsReference}
+use Rattle.cjc_verify_proof.specs.References.{IsItem, AreHeld, Puts}
 use Rattle.cjc_verify_proof.proofs.WordLaws as words
 use Rattle.cjc_verify_proof.proofs.HeapLaws.{passes_in, goes_on}
 use Rattle.cjc_verify_proof.proofs.TypeLaws.{of_itself, of_through}

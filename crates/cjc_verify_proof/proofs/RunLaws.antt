@@ -1,7 +1,7 @@
 -- Runs of a program are never stuck.
-use Rattle.std.proofs.Common.{◌≡◌, ◌&&◌, inl, inr, ℕ, zero, suc, Bool, true, false, List, [], ◌∷◌, ◌++◌, map, slice_get}
-use Rattle.std.proofs.Common.{Option, Some, None, refl, sym, ap, subst, ◌∙◌, ◌+◌}
-use Rattle.std.specs.Prelude.{if◌then◌else◌, flat_map, Contains}
+use Rattle.std.proofs.Common.{◌≡◌, inl, ℕ, zero, suc, Bool, true, false, List, [], ◌∷◌, slice_get}
+use Rattle.std.proofs.Common.{Option, Some, None, refl, sym, ap, subst, ◌∙◌}
+use Rattle.std.specs.Prelude.{if◌then◌else◌, flat_map}
 use Rattle.cjc_card_semantics.specs.Bytes.declared.fault.MemberId.{MemberId}
 use Rattle.cjc_card_semantics.specs.Script.declared.value.Value.{Value}
 use Rattle.cjc_card_semantics.specs.Script.declared.value.Value.TheVariants.{Num, Null, Obj}
@@ -9,9 +9,8 @@ use Rattle.cjc_card_semantics.specs.Script.declared.script.Act.{Act as ScriptAct
 use Rattle.cjc_card_semantics.specs.Script.declared.script.Entry.{Entry}
 use Rattle.cjc_card_semantics.specs.Script.declared.script.Script.{Script}
 use Rattle.cjc_card_semantics.specs.Script.declared.report.Report.{Report}
-use Rattle.cjc_card_semantics.specs.Script.declared.report.Outcome.{Outcome}
-use Rattle.cjc_card_semantics.specs.Script.declared.report.Outcome.TheVariants.{Done, Running, Waiting, Unfit, Stuck}
-use Rattle.cjc_card_semantics.specs.Script.Sorts.{Sort, Boolean, Byte, Short, Int, Reference, NoValue, Signature, Shape}
+use Rattle.cjc_card_semantics.specs.Script.declared.report.Outcome.TheVariants.{Stuck}
+use Rattle.cjc_card_semantics.specs.Script.Sorts.{Sort, Boolean, Byte, Short, Int, Reference, Signature, Shape}
 use Rattle.cjc_card_semantics.specs.Script.Sorts.{signature_of, fits, all_fit}
 use Rattle.cjc_card_acts.specs.Types.declared.cell.Cell.{Cell}
 use Rattle.cjc_card_semantics.specs.Bytecode.Effects.{HeapObject, shape, Memory, Effect, Go, Raise, Toss, Invoke, Leave}
@@ -27,25 +26,23 @@ use Rattle.cjc_card_semantics.specs.Machine.Classes.{Class, Field}
 use Rattle.cjc_card_semantics.specs.Machine.Statics.{Image, StaticCell}
 use Rattle.cjc_card_semantics.specs.Machine.Operations.{Callee}
 use Rattle.cjc_card_semantics.specs.Machine.Methods.{Code, fetch}
-use Rattle.cjc_card_semantics.specs.Machine.Calls.{called, sent}
+use Rattle.cjc_card_semantics.specs.Machine.Calls.{called}
 use Rattle.cjc_card_semantics.specs.Machine.ByToken.{classes, by_token, start, run}
 use Rattle.cjc_card_acts.specs.Frames.declared.acts.Act.{Act}
 use Rattle.cjc_card_acts.specs.Frames.declared.acts.Step.{Step}
-use Rattle.cjc_card_acts.specs.Frames.Acts.{given}
 use Rattle.cjc_card_acts.specs.CardTypes.{ValueType, shape_by, both_of, is_type_of}
 use Rattle.cjc_card_acts.specs.CardTypes as types
 use Rattle.cjc_verify_proof.specs.Words.{AreWords}
-use Rattle.cjc_verify_proof.specs.Acts.{Passes}
 use Rattle.cjc_verify_proof.specs.Heaps.{thing_is, object_is, AreFit}
 use Rattle.cjc_verify_proof.specs.References.{AreHeld}
 use Rattle.cjc_verify_proof.specs.Control.{cells_of}
-use Rattle.cjc_verify_proof.specs.Frames.{Typing, Program, AreMethods, Stands, Runs, AreOuter, AreFrames, IsEnd, GoesOn}
-use Rattle.cjc_verify_proof.specs.Frames.{IsMethod, Begins}
-use Rattle.cjc_verify_proof.specs.Calls.{receiver_cells, argument_cells, IsSort, AreSorts}
-use Rattle.cjc_verify_proof.specs.Scripts.{IsPrepared, GoesOnPrepared, HasExceptions}
+use Rattle.cjc_verify_proof.specs.Frames.{Typing, Program, AreMethods, Stands, Runs, AreFrames, IsEnd}
+use Rattle.cjc_verify_proof.specs.Frames.{IsMethod}
+use Rattle.cjc_verify_proof.specs.Calls.{argument_cells, IsSort, AreSorts}
+use Rattle.cjc_verify_proof.specs.Scripts.{IsPrepared, GoesOnPrepared}
 use Rattle.cjc_verify_proof.specs.Turns.{IsHeld, Does, GoesOnBy}
 use Rattle.cjc_verify_proof.specs.Instructions.{Suits, HoldsOn}
-use Rattle.cjc_verify_proof.specs.Runs.{AreSuited, IsEntry, IsProgram}
+use Rattle.cjc_verify_proof.specs.Runs.{IsEntry, IsProgram}
 use Rattle.cjc_verify_proof.proofs.WordLaws.{words_append}
 use Rattle.cjc_verify_proof.proofs.PlainLaws.{Parts, parts}
 use Rattle.cjc_verify_proof.proofs.FlowLaws.{sound}

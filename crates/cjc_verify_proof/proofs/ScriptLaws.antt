@@ -1,6 +1,6 @@
 -- Acts of a script leave a heap on which words and frames stay typed.
-use Rattle.std.proofs.Common.{◌≡◌, ◌≤◌, ◌⊎◌, ◌&&◌, inl, inr, ℕ, zero, suc, Bool, true, false, nat_lt, nat_le, List, []}
-use Rattle.std.proofs.Common.{◌∷◌, ◌++◌, length, slice_get, slice_set, Option, Some, None, All, refl, sym, ap, subst}
+use Rattle.std.proofs.Common.{◌≡◌, ◌⊎◌, ◌&&◌, inl, inr, ℕ, zero, suc, Bool, true, false, nat_lt, nat_le, List, []}
+use Rattle.std.proofs.Common.{◌∷◌, ◌++◌, length, slice_get, slice_set, Option, Some, None, refl, sym, subst}
 use Rattle.std.proofs.Common.{◌∙◌, arith, ℤ, pos, negsuc, ◌≤ℤ◌, ◌+◌}
 use Rattle.std.specs.Prelude.{if◌then◌else◌, option_map, option_and_then, replicate}
 use Rattle.std.specs.Int.RustNames.{int_le}
@@ -16,12 +16,12 @@ use Rattle.cjc_card_semantics.specs.Script.Sorts.{Element, Booleans, Bytes, Shor
 use Rattle.cjc_card_semantics.specs.Script.Sorts.{OfReferences, shape_named, fits, element_sort, lies_in}
 use Rattle.cjc_card_semantics.specs.Bytecode.Numbers.{is_word}
 use Rattle.cjc_card_semantics.specs.Bytecode.Effects.{Slot, HeapObject, Numbers, References, Object, shape, Memory}
-use Rattle.cjc_card_semantics.specs.Bytecode.Machine.{State, Turn, Next, Ended, StuckAt, shape_of, thing_fits}
+use Rattle.cjc_card_semantics.specs.Bytecode.Machine.{State, Turn, shape_of, thing_fits}
 use Rattle.cjc_card_semantics.specs.Bytecode.Machine.{object_fits, sized_array, array_of, object_of, item_fits}
 use Rattle.cjc_card_semantics.specs.Bytecode.Machine.{with_item, with_array, put_item, heap_with, heap_after, with_heap}
 use Rattle.cjc_card_semantics.specs.Bytecode.Machine.{prepared_by, turn_after_acts}
 use Rattle.cjc_card_semantics.specs.Machine.Loaded.{Loaded}
-use Rattle.cjc_card_semantics.specs.Machine.Classes.{Class, Own, External, Field, external_from, external_named}
+use Rattle.cjc_card_semantics.specs.Machine.Classes.{Class, External, Field, external_from, external_named}
 use Rattle.cjc_card_semantics.specs.Machine.Classes.{token_named, or_else, is_interface}
 use Rattle.cjc_card_semantics.specs.Machine.Statics.{Image}
 use Rattle.cjc_card_semantics.specs.Machine.Methods.{Code}

@@ -1,22 +1,18 @@
 -- Calls and turns are not stuck, and leave typed frames.
-use Rattle.std.proofs.Common.{◌≡◌, ◌≤◌, ◌<◌, ◌+◌, inl, inr, ℕ, suc, Bool, true, false, nat_lt, nat_le, List, [], ◌∷◌, ◌++◌}
-use Rattle.std.proofs.Common.{length, map, take, drop, reverse, slice_get, Option, Some, None, refl, sym, ap, subst, ◌∙◌}
+use Rattle.std.proofs.Common.{◌≡◌, ◌≤◌, ◌+◌, inl, ℕ, Bool, true, false, nat_le, List, [], ◌∷◌}
+use Rattle.std.proofs.Common.{length, take, drop, reverse, slice_get, Option, Some, None, refl, sym, subst}
 use Rattle.std.proofs.Common.{arith}
-use Rattle.std.proofs.lemmas.Bool.Decides.{nat_tests}
 use Rattle.std.specs.Prelude.{if◌then◌else◌, Contains}
 use Rattle.cjc_card_semantics.specs.Script.declared.value.Value.{Value}
 use Rattle.cjc_card_semantics.specs.Script.declared.value.Value.TheVariants.{Num, Null, Obj}
-use Rattle.cjc_card_semantics.specs.Script.Sorts.{Shape, Signature, OfClass}
-use Rattle.cjc_card_acts.specs.Types.declared.cell.Cell.{Cell}
-use Rattle.cjc_card_acts.specs.Types.declared.cell.Cell.TheVariants.{Number, Refs, Unusable}
-use Rattle.cjc_card_acts.specs.Types.declared.state.Stack.TheVariants.{Cells}
+use Rattle.cjc_card_semantics.specs.Script.Sorts.{Shape}
 use Rattle.cjc_card_semantics.specs.Bytecode.Calculations.{NullPointer}
 use Rattle.cjc_card_semantics.specs.Bytecode.Effects.{HeapObject, shape, Memory, Effect, Go, Raise, Toss, Invoke, Leave}
 use Rattle.cjc_card_semantics.specs.Bytecode.Effects.{Stick, effect}
-use Rattle.cjc_card_semantics.specs.Bytecode.Machine.{Start, Reached, Nowhere, Within, Abroad, Frame, State, Turn, Next}
+use Rattle.cjc_card_semantics.specs.Bytecode.Machine.{Reached, Frame, State, Turn, Next}
 use Rattle.cjc_card_semantics.specs.Bytecode.Machine.{Ended, StuckAt, Fetched, reaches, reaches_on, on_receiver}
-use Rattle.cjc_card_semantics.specs.Bytecode.Machine.{with_args, counted, made, inside, outside, turn_after_fetch, step}
-use Rattle.cjc_card_semantics.specs.Bytecode.Machine.{spent_by, turn_after_fault, turn_after_toss, left}
+use Rattle.cjc_card_semantics.specs.Bytecode.Machine.{with_args, counted, made, inside, turn_after_fetch, step}
+use Rattle.cjc_card_semantics.specs.Bytecode.Machine.{spent_by, turn_after_toss, left}
 use Rattle.cjc_card_semantics.specs.Machine.Loaded.{Loaded}
 use Rattle.cjc_card_semantics.specs.Machine.Classes.{Class, Field}
 use Rattle.cjc_card_semantics.specs.Machine.Statics.{Image, StaticCell}
@@ -27,17 +23,13 @@ use Rattle.cjc_card_semantics.specs.Machine.ByToken.{classes, by_token}
 use Rattle.cjc_card_acts.specs.Frames.declared.acts.Act.{Act}
 use Rattle.cjc_card_acts.specs.Frames.declared.acts.Step.{Step}
 use Rattle.cjc_card_acts.specs.Frames.declared.acts.Need.{Need}
-use Rattle.cjc_card_acts.specs.Frames.Acts.{given, has_wrong, stack_behind, with_writes}
-use Rattle.cjc_card_acts.specs.CardTypes.{ValueType, needs_of_all, shape_by, both_of, is_type_of}
-use Rattle.cjc_card_acts.specs.CardTypes as types
-use Rattle.cjc_verify_proof.specs.Words.{IsWord, AreWords, AreLocals}
+use Rattle.cjc_card_acts.specs.Frames.Acts.{has_wrong}
+use Rattle.cjc_card_acts.specs.CardTypes.{ValueType, shape_by, both_of, is_type_of}
+use Rattle.cjc_verify_proof.specs.Words.{AreWords}
 use Rattle.cjc_verify_proof.specs.Heaps.{thing_is, object_is}
-use Rattle.cjc_verify_proof.specs.Growth.{Extends}
-use Rattle.cjc_verify_proof.specs.Control.{next_if, cells_of}
-use Rattle.cjc_verify_proof.specs.Frames.{Typing, Program, AreMethods, Stands, Runs, Waits, AreOuter, AreFrames, GoesOn, Begins}
-use Rattle.cjc_verify_proof.specs.Calls.{receiver_needs, has_receiver, receiver_cells, argument_cells, AreSorts}
-use Rattle.cjc_verify_proof.specs.Calls.{IsResult}
-use Rattle.cjc_verify_proof.specs.Scripts.{IsPrepared, GoesOnPrepared, HasExceptions}
+use Rattle.cjc_verify_proof.specs.Frames.{Typing, Program, AreMethods, Stands, Runs, Waits, AreOuter, GoesOn}
+use Rattle.cjc_verify_proof.specs.Calls.{has_receiver, argument_cells}
+use Rattle.cjc_verify_proof.specs.Scripts.{GoesOnPrepared, HasExceptions}
 use Rattle.cjc_verify_proof.specs.Turns.{IsHeld, IsReached, within, abroad, Reaches, Calls, Does, GoesOnBy}
 use Rattle.cjc_verify_proof.proofs.WordLaws.{words_length, words_drop}
 use Rattle.cjc_verify_proof.proofs.PlainLaws.{Parts, parts}

@@ -1,7 +1,7 @@
 -- What a call takes and what an imported method returns.
 use Rattle.std.specs.Prelude.{◌≡◌, ℕ, Bool, true, false, List, [], ◌∷◌, ◌++◌, flat_map, Option, Some, None}
 use Rattle.std.specs.List.{AllZip}
-use Rattle.cjc_card_semantics.specs.Script.Sorts.{Sort, Boolean, Byte, Short, Int, Reference, NoValue}
+use Rattle.cjc_card_semantics.specs.Script.Sorts.{Sort, Boolean, Byte, Short, Int, Reference}
 use Rattle.cjc_card_acts.specs.Types.declared.cell.Cell.{Cell}
 use Rattle.cjc_card_acts.specs.Types.declared.cell.Cell.TheVariants.{Refs}
 use Rattle.cjc_card_semantics.specs.Bytecode.Machine.{shape_of}

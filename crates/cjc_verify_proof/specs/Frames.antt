@@ -1,5 +1,5 @@
 -- Frames of a run that stand where the least tables of their methods say, with stacks and locals of their cells.
-use Rattle.std.specs.Prelude.{◌≡◌, ℕ, suc, zero, ◌+◌, Bool, true, false, List, [], ◌∷◌, length, drop, slice_get, Option}
+use Rattle.std.specs.Prelude.{◌≡◌, ℕ, suc, zero, ◌+◌, true, false, List, [], ◌∷◌, length, drop, slice_get, Option}
 use Rattle.std.specs.Prelude.{Some, Contains}
 use Rattle.std.specs.List.{AllZip}
 use Rattle.cjc_card_acts.specs.Types.Fixpoint.Tables.{HasRow, IsClosed}
@@ -18,7 +18,6 @@ use Rattle.cjc_card_semantics.specs.Machine.Classes.{Class, Field}
 use Rattle.cjc_card_semantics.specs.Machine.Statics.{Image, StaticCell}
 use Rattle.cjc_card_semantics.specs.Machine.Operations.{Callee, class_at}
 use Rattle.cjc_card_semantics.specs.Machine.Methods.{Code, fetch}
-use Rattle.cjc_card_acts.specs.Frames.declared.acts.Act.{Act}
 use Rattle.cjc_card_acts.specs.Frames.declared.acts.Step.{Step}
 use Rattle.cjc_card_acts.specs.Frames.declared.acts.Catch.{Catch}
 use Rattle.cjc_card_acts.specs.Frames.Flow.{Body, place_at, covers, frame_flow}

@@ -5,7 +5,7 @@ use Rattle.cjc_card_semantics.specs.Script.Sorts.{Shape, Signature, signature_of
 use Rattle.cjc_card_semantics.specs.Bytecode.Machine.{Start, Fetched}
 use Rattle.cjc_card_semantics.specs.Machine.Loaded.{Loaded}
 use Rattle.cjc_card_semantics.specs.Machine.Classes.{Class, Field}
-use Rattle.cjc_card_semantics.specs.Machine.Statics.{Image, StaticCell, first_memory}
+use Rattle.cjc_card_semantics.specs.Machine.Statics.{StaticCell, first_memory}
 use Rattle.cjc_card_semantics.specs.Machine.Operations.{Callee}
 use Rattle.cjc_card_semantics.specs.Machine.Methods.{Code, fetch}
 use Rattle.cjc_card_semantics.specs.Machine.Calls.{called, sent}

@@ -1,7 +1,7 @@
 -- What acts and answers of a script leave of a heap.
-use Rattle.std.specs.Prelude.{◌≡◌, ◌⊎◌, ℕ, true, List, [], slice_get, Option, Some, codes}
+use Rattle.std.specs.Prelude.{◌≡◌, ◌⊎◌, ℕ, true, List, [], slice_get, Some, codes}
 use Rattle.cjc_card_semantics.specs.Bytecode.Effects.{Slot, HeapObject, Object, Memory}
-use Rattle.cjc_card_semantics.specs.Bytecode.Machine.{State, Turn, Next, Ended, StuckAt}
+use Rattle.cjc_card_semantics.specs.Bytecode.Machine.{Turn, Next, Ended, StuckAt}
 use Rattle.cjc_card_semantics.specs.Machine.Loaded.{Loaded}
 use Rattle.cjc_card_semantics.specs.Machine.Classes.{Class, Own, External, Field, external_named, fault_class}
 use Rattle.cjc_card_semantics.specs.Machine.Classes.{is_kind_of}

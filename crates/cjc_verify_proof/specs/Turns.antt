@@ -1,12 +1,12 @@
 -- Calls and turns of a run whose frames are typed.
-use Rattle.std.specs.Prelude.{◌≡◌, ℕ, ◌+◌, true, List, [], ◌++◌, map, length, reverse, slice_get, Option, Some, None}
+use Rattle.std.specs.Prelude.{◌≡◌, ℕ, true, List, [], ◌++◌, map, length, reverse, Option, Some, None}
 use Rattle.std.specs.Prelude.{Contains}
 use Rattle.cjc_card_semantics.specs.Bytes.declared.fault.MemberId.{MemberId}
 use Rattle.cjc_card_semantics.specs.Script.Sorts.{Shape, Signature, signature_of}
 use Rattle.cjc_card_acts.specs.Types.declared.cell.Cell.{Cell}
 use Rattle.cjc_card_acts.specs.Types.declared.state.Stack.TheVariants.{Cells}
 use Rattle.cjc_card_semantics.specs.Bytecode.Effects.{Memory, Effect, Go, Raise, Toss, Invoke, Leave, Stick}
-use Rattle.cjc_card_semantics.specs.Bytecode.Machine.{Start, Reached, Nowhere, Within, Abroad, Turn}
+use Rattle.cjc_card_semantics.specs.Bytecode.Machine.{Start, Reached, Within, Abroad, Turn}
 use Rattle.cjc_card_semantics.specs.Machine.Loaded.{Loaded}
 use Rattle.cjc_card_semantics.specs.Machine.Classes.{Class, Field}
 use Rattle.cjc_card_semantics.specs.Machine.Statics.{Image}
