@@ -1,26 +1,24 @@
 -- Each instruction does what its act says.
 use Rattle.std.proofs.Common.{◌≡◌, ◌≤◌, ◌||◌, ◌==◌, ◌/◌, ◌%◌, ◌&&◌, inl, inr, ℕ, suc, Bool, true, false, not}
-use Rattle.std.proofs.Common.{nat_lt, List, [], ◌∷◌, ◌++◌, length, map, drop, slice_get, slice_set, Option, Some}
-use Rattle.std.proofs.Common.{None, refl, sym, ap, subst, arith, ℤ, pos, negsuc}
+use Rattle.std.proofs.Common.{nat_lt, List, [], ◌∷◌, ◌++◌, length, map, drop, Option, Some}
+use Rattle.std.proofs.Common.{None, refl, sym, subst, arith, ℤ, pos, negsuc}
 use Rattle.std.specs.Prelude.{if◌then◌else◌, Contains}
 use Rattle.std.proofs.lemmas.Bool.{or_parts}
 use Rattle.std.proofs.lemmas.Bool.Decides.{nat_tests}
-use Rattle.cjc_card_semantics.specs.Range.Words.{low_word, low_byte}
 use Rattle.cjc_card_semantics.specs.Script.declared.value.Value.{Value}
-use Rattle.cjc_card_semantics.specs.Script.declared.value.Value.TheVariants.{Num, Null, Obj}
+use Rattle.cjc_card_semantics.specs.Script.declared.value.Value.TheVariants.{Num}
 use Rattle.cjc_card_semantics.specs.Script.Sorts.{Element, Shape, OfNumbers, OfReferences}
 use Rattle.cjc_card_acts.specs.Types.declared.cell.Cell.{Cell}
 use Rattle.cjc_card_acts.specs.Types.declared.cell.Cell.TheVariants.{Number, Refs, Unusable}
 use Rattle.cjc_card_acts.specs.Types.declared.state.Stack.TheVariants.{Cells}
 use Rattle.cjc_card_acts.specs.Types.Rules.{is_number, is_reference, all_types}
-use Rattle.cjc_card_semantics.specs.Bytecode.Numbers.{spelt_by}
-use Rattle.cjc_card_semantics.specs.Bytecode.Calculations.{Calculation, Result, Fine, Fails, Wrong, IndexOutside}
+use Rattle.cjc_card_semantics.specs.Bytecode.Calculations.{Calculation, Result, Fine, Fails, Wrong}
 use Rattle.cjc_card_semantics.specs.Bytecode.Calculations.{is_copy, is_swap}
 use Rattle.cjc_card_semantics.specs.Bytecode.Effects.{Letter, Reference, Byte, Short, Int, Load, Store, Length, Throw}
-use Rattle.cjc_card_semantics.specs.Bytecode.Effects.{Return, HeapObject, Numbers, References, Object, Memory, Effect, Go}
+use Rattle.cjc_card_semantics.specs.Bytecode.Effects.{Return, Memory, Effect, Go}
 use Rattle.cjc_card_semantics.specs.Bytecode.Effects.{Raise, Toss, Invoke, Leave, Stick, Operation, effect}
-use Rattle.cjc_card_semantics.specs.Bytecode.Effects.{effect_of_result, effect_of_access, store_number, with_thing}
-use Rattle.cjc_card_semantics.specs.Bytecode.Effects.{numbers_in, thing_of, with_some, item_at, is_element, Arm}
+use Rattle.cjc_card_semantics.specs.Bytecode.Effects.{effect_of_result, effect_of_access, store_number}
+use Rattle.cjc_card_semantics.specs.Bytecode.Effects.{Arm}
 use Rattle.cjc_card_semantics.specs.Bytecode.Effects.{load_number, load_reference_item, store_reference, NewNumbers}
 use Rattle.cjc_card_semantics.specs.Bytecode.Effects.{NewReferences, Cast, Ask, Branch, Pick}
 use Rattle.cjc_card_semantics.specs.Machine.Loaded.{Loaded}
@@ -43,9 +41,8 @@ use Rattle.cjc_card_acts.specs.CardTypes.{ValueType, needs_of, is_returned_by, a
 use Rattle.cjc_card_acts.specs.CardTypes.{is_type_of}
 use Rattle.cjc_verify_proof.specs.Words.{AreWords, AreLocals, Leaves}
 use Rattle.cjc_verify_proof.specs.Acts.{plain_act}
-use Rattle.cjc_verify_proof.specs.Heaps.{object_is, AreFit, Onward, Stored, Keeps, item_cells}
-use Rattle.cjc_verify_proof.specs.Growth.{Extends, AreZeros, AreNulls, Adds}
-use Rattle.cjc_verify_proof.specs.References.{AreHeld, Puts}
+use Rattle.cjc_verify_proof.specs.Heaps.{object_is, Onward, item_cells}
+use Rattle.cjc_verify_proof.specs.References.{Puts}
 use Rattle.cjc_verify_proof.specs.Control.{next_if, switched_words, Leads, Throws as IsThrown, Returns as IsLeft}
 use Rattle.cjc_verify_proof.specs.Frames.{Program}
 use Rattle.cjc_verify_proof.specs.Turns.{Does}
@@ -53,10 +50,19 @@ use Rattle.cjc_verify_proof.specs.Instructions.{Suits, HoldsOn, plain, jump, swi
 use Rattle.cjc_verify_proof.specs.Instructions.{return, newarray, anewarray, checkcast, instanceof, call}
 use Rattle.cjc_verify_proof.proofs.WordLaws.{true_of, number_is, Tops, behind, number, tops}
 use Rattle.cjc_verify_proof.proofs.PlainLaws.{Parts, plain_kept}
+use Rattle.cjc_verify_proof.proofs.MemoryLaws.{onward_go}
+use Rattle.cjc_verify_proof.proofs.ArrayLaws as stored
+use Rattle.cjc_verify_proof.proofs.FieldLaws.{get_field, get_field_this, put_field, put_field_this, get_cell, put_cell}
+use Rattle.cjc_verify_proof.proofs.FieldLaws.{new_object}
+use Rattle.cjc_verify_proof.specs.Acts.{Passes}
+use Rattle.cjc_verify_proof.specs.Memories.{IsMemory, Goes, SupersStand, AreDeclared}
+use Rattle.cjc_verify_proof.specs.Instructions.{getfield, getfield_this, putfield, putfield_this, getstatic, putstatic}
+use Rattle.cjc_verify_proof.specs.Instructions.{new}
+use Rattle.cjc_card_semantics.specs.Bytecode.Effects.{Get, Put, GetStatic, PutStatic, New}
+use Rattle.cjc_card_acts.specs.Rows.{reading}
+use Rattle.cjc_card_acts.specs.CardTypes.{words}
 use Rattle.cjc_verify_proof.proofs.HeapLaws.{loads_number, lengths_go}
-use Rattle.cjc_verify_proof.proofs.StoreLaws.{stores_byte, stores_short, stores_int}
-use Rattle.cjc_verify_proof.proofs.GrowthLaws.{extends_itself, keeps_extends, pushed_extends, object_still, words_stay}
-use Rattle.cjc_verify_proof.proofs.GrowthLaws.{locals_stay, zeros_pushed, nulls_pushed, reference_put, held_set}
+use Rattle.cjc_verify_proof.proofs.GrowthLaws.{extends_itself}
 use Rattle.cjc_verify_proof.proofs.ControlLaws.{picks, jump_leads, throws, leaves}
 use Rattle.cjc_verify_proof.proofs.ReferenceLaws.{makes_numbers, makes_references, casts, asks, loads_reference}
 use Rattle.cjc_verify_proof.proofs.ReferenceLaws.{stores_reference}
@@ -142,51 +148,6 @@ next_follows : (a : Act) (next : ℕ) → falls_of a ≡ true → Contains (next
 next_follows a next e = in_left (next_if (falls_of a) next) (let b = a in b.targets) next
     (subst (λ b. Contains (next_if b next) next) (sym e) (in_first next []))
 
--- ---- stores into arrays of numbers
-
--- where a store goes on, an array of numbers is another one of its elements
-abbrev Numbered : {X : Type 0} → Memory Class Field X → Effect Class Field Callee X → Type 0
-Numbered m (Go at stack locals memory) = (j : ℕ) × ((element : Element) × ((old : List ℤ) × ((new : List ℤ)
-    × ((slice_get m.heap j ≡ Some (Numbers element old)) × (memory ≡ with_thing m j (Numbers element new))))))
-Numbered m (Raise fault) = Unit {0}
-Numbered m (Toss object) = Unit {0}
-Numbered m (Invoke callee) = Unit {0}
-Numbered m (Leave words) = Unit {0}
-Numbered m Stick = Unit {0}
-
-module _ {X : Type 0} (m : Memory Class Field X) (next : ℕ) (lv : List (Option Value)) (letter : Letter) (z : ℤ) where
-  at_index : (j : ℕ) (element : Element) (items : List ℤ) (i : ℤ) (vs : List Value) → slice_get m.heap j
-      ≡ Some (Numbers element items)
-      → Numbered m (item_at (Raise IndexOutside) items i (λ n old. Go next vs lv (with_thing m j
-      (Numbers element (slice_set items n z)))))
-  at_index j element items (negsuc i) vs at = tt
-  at_index j element items (pos i) vs at = go (slice_get items i)
-    where
-      go : (o : Option ℤ) → Numbered m (with_some (Raise IndexOutside) o (λ old. Go next vs lv (with_thing m j
-          (Numbers element (slice_set items i z)))))
-      go None = tt
-      go (Some old) = (j, (element, (items, (slice_set items i z, (at, refl)))))
-
-  at_thing : (j : ℕ) (i : ℤ) (vs : List Value) (o : Option (HeapObject Class Field)) → slice_get m.heap j ≡ o
-      → Numbered m (with_some Stick o (numbers_in letter (λ element items. item_at (Raise IndexOutside) items i
-      (λ n old. Go next vs lv (with_thing m j (Numbers element (slice_set items n z)))))))
-  at_thing j i vs None at = tt
-  at_thing j i vs (Some (References class items)) at = tt
-  at_thing j i vs (Some (Object class slots)) at = tt
-  at_thing j i vs (Some (Numbers element items)) at = go (is_element letter element)
-    where
-      go : (b : Bool) → Numbered m (if b then item_at (Raise IndexOutside) items i (λ n old. Go next vs lv (with_thing m
-          j (Numbers element (slice_set items n z)))) else Stick)
-      go true = at_index j element items i vs at
-      go false = tt
-
-  at_reference : (i : ℤ) (v : Value) (vs : List Value)
-      → Numbered m (thing_of m.heap v (λ j. numbers_in letter (λ element items. item_at (Raise IndexOutside) items i
-      (λ n old. Go next vs lv (with_thing m j (Numbers element (slice_set items n z)))))))
-  at_reference i (Num x) vs = tt
-  at_reference i Null vs = tt
-  at_reference i (Obj j) vs = at_thing j i vs (slice_get m.heap j) refl
-
 -- ---- needs
 
 both_false : (a b : Bool) → a ≡ false → b ≡ false → (a || b) ≡ false
@@ -238,10 +199,10 @@ switching is_int other arms = record idle {
 
 module _ (l : Loaded) (program : Program) (result : ValueType) (room next : ℕ) (lc : List Cell)
     (lv : List (Option Value)) (m : Memory Class Field (List Image)) (k : AreLocals (object_is l m.heap) lc lv)
-    (fit : AreFit m.heap) (held : AreHeld l m.heap) where
+    (supers : SupersStand l) (declared : AreDeclared l program.fields) (fit : IsMemory l program.fields m) where
   -- what is to be shown of an act on a stack
   abbrev Done : Act → List Cell → Effect Class Field Callee (List Image) → Type 0
-  Done a cs e = Does l program result a next lc cs m e × HoldsOn l m e
+  Done a cs e = Does l program result a next lc cs m e × HoldsOn l program e
 
   -- it goes on in the same memory
   same_done : (a : Act) (cs : List Cell) (at : ℕ) (stack : List Value) (locals : List (Option Value))
@@ -250,22 +211,38 @@ module _ (l : Loaded) (program : Program) (result : ValueType) (room next : ℕ)
       → AreLocals (object_is l m.heap) (with_writes a lc (Cells cs) (let b = a in b.writes) lc) locals → memory ≡ m
       → Done a cs (Go at stack locals memory)
   same_done a cs at stack locals memory among w k e = subst (λ x. Done a cs (Go at stack locals x)) (sym e)
-      ((among, (extends_itself m.heap, (w, k))), (fit, (held, refl)))
+      ((among, (extends_itself m.heap, (w, k))), fit)
+
+  -- it goes on with memory that holds what it may
+  goes_done : (a : Act) (cs : List Cell) → falls_of a ≡ true → (let b = a in b.writes) ≡ []
+      → (e : Effect Class Field Callee (List Image)) → Goes l program.fields next (stack_behind a lc cs) lc m e
+      → Done a cs e
+  goes_done a cs falls none (Go at stack locals memory) h = (
+    (
+      subst (λ x. Contains (next_if (falls_of a) next ++ (let b = a in b.targets)) x) (sym h.0) (next_follows a next
+          falls),
+      (
+        h.1.1.1.1,
+        (
+          h.1.0,
+          subst (λ ws. AreLocals (object_is l memory.heap) (with_writes a lc (Cells cs) ws lc) locals) (sym none)
+              h.1.1.0,
+        ),
+      ),
+    ),
+    h.1.1.1.0,
+  )
+  goes_done a cs falls none (Raise fault) h = (tt, tt)
+  goes_done a cs falls none (Toss object) h = absurd h
+  goes_done a cs falls none (Invoke callee) h = absurd h
+  goes_done a cs falls none (Leave words) h = absurd h
+  goes_done a cs falls none Stick h = absurd h
 
   onward_done : (a : Act) (cs given_by : List Cell) → falls_of a ≡ true → stack_behind a lc cs ≡ given_by
       → (let b = a in b.writes) ≡ [] → (e : Effect Class Field Callee (List Image)) → Onward l next given_by lc m e
       → Done a cs e
-  onward_done a cs given_by falls is none (Go at stack locals memory) h = same_done a cs at stack locals memory
-      (subst (λ x. Contains (next_if (falls_of a) next ++ (let b = a in b.targets)) x) (sym h.0) (next_follows a next
-      falls))
-      (subst (λ x. AreWords (object_is l m.heap) x stack) (sym is) h.1.0)
-      (subst (λ ws. AreLocals (object_is l m.heap) (with_writes a lc (Cells cs) ws lc) locals) (sym none) h.1.1.0)
-      h.1.1.1
-  onward_done a cs given_by falls is none (Raise fault) h = (tt, tt)
-  onward_done a cs given_by falls is none (Toss object) h = absurd h
-  onward_done a cs given_by falls is none (Invoke callee) h = absurd h
-  onward_done a cs given_by falls is none (Leave words) h = absurd h
-  onward_done a cs given_by falls is none Stick h = absurd h
+  onward_done a cs given_by falls is none e h = goes_done a cs falls none e
+      (subst (λ x. Goes l program.fields next x lc m e) (sym is) (onward_go l program.fields next m fit given_by lc e h))
 
   -- ---- plain rows
 
@@ -344,7 +321,7 @@ module _ (l : Loaded) (program : Program) (result : ValueType) (room next : ℕ)
       let gives = load_behind letter other c d cs h.1 in
       onward_done (loading_item letter) (c ∷ d ∷ cs) (item_cells letter ++ cs) refl gives refl
       (load_number (classes l) letter room next lv m (u ∷ v ∷ vs))
-      (loads_number l room next lc lv m k (classes l) fit letter other c d cs u v vs h.0 h.1 w
+      (loads_number l room next lc lv m k (classes l) fit.numbers letter other c d cs u v vs h.0 h.1 w
       (subst (λ x. nat_lt room (length x) ≡ false) gives p.after))
 
   load_done : (letter : Letter) (cs : List Cell) (vs : List Value) → AreWords (object_is l m.heap) cs vs
@@ -358,47 +335,10 @@ module _ (l : Loaded) (program : Program) (result : ValueType) (room next : ℕ)
       let h = over_array (arrays_of Reference) c d cs p.operands in
       onward_done (loading_item Reference) (c ∷ d ∷ cs) (element_of d ∷ cs) refl refl refl
       (load_reference_item (classes l) room next lv m (u ∷ v ∷ vs))
-      (loads_reference l room next lc lv m k held (classes l) c d cs u v vs h.0 h.1 w p.after)
+      (loads_reference l room next lc lv m k fit.references (classes l) c d cs u v vs h.0 h.1 w p.after)
   load_done Byte (c ∷ d ∷ cs) (u ∷ v ∷ vs) w p = numbers_done Byte (λ e. cc) c d cs u v vs w p
   load_done Short (c ∷ d ∷ cs) (u ∷ v ∷ vs) w p = numbers_done Short (λ e. cc) c d cs u v vs w p
   load_done Int (c ∷ d ∷ cs) (u ∷ v ∷ vs) w p = numbers_done Int (λ e. cc) c d cs u v vs w p
-
-  -- another element in an array of numbers
-  numbered_done : (a : Act) (cs : List Cell) → falls_of a ≡ true → (let b = a in b.writes) ≡ []
-      → (e : Effect Class Field Callee (List Image)) → Stored l next (stack_behind a lc cs) lc m e → Numbered m e
-      → Done a cs e
-  numbered_done a cs falls none (Raise fault) h n = (tt, tt)
-  numbered_done a cs falls none (Toss object) h n = absurd h
-  numbered_done a cs falls none (Invoke callee) h n = absurd h
-  numbered_done a cs falls none (Leave words) h n = absurd h
-  numbered_done a cs falls none Stick h n = absurd h
-  numbered_done a cs falls none (Go at stack locals memory) h n =
-      let keeps : Keeps m.heap memory.heap = h.1.1.1.1.0 in
-      let grows : Extends m.heap memory.heap = keeps_extends m.heap memory.heap keeps in
-      let still = object_still l m.heap memory.heap grows in
-      let old : HeapObject Class Field = Numbers n.1.0 n.1.1.0 in
-      let new : HeapObject Class Field = Numbers n.1.0 n.1.1.1.0 in (
-        (
-          subst (λ x. Contains (next_if (falls_of a) next ++ (let b = a in b.targets)) x) (sym h.0)
-              (next_follows a next falls),
-          (
-            grows,
-            (
-              words_stay (object_is l m.heap) (object_is l memory.heap) still (stack_behind a lc cs) stack h.1.0,
-              subst (λ ws. AreLocals (object_is l memory.heap) (with_writes a lc (Cells cs) ws lc) locals) (sym none)
-                  (locals_stay (object_is l m.heap) (object_is l memory.heap) still lc locals h.1.1.0),
-            ),
-          ),
-        ),
-        (
-          h.1.1.1.0,
-          (
-            subst (λ (x : Memory Class Field (List Image)). AreHeld l x.heap) (sym n.1.1.1.1.1)
-                (held_set l m.heap new n.0 old n.1.1.1.1.0 refl held tt),
-            h.1.1.1.1.1,
-          ),
-        ),
-      )
 
   -- a number on top of an index on top of an array of them
   byte_stored : {cs : List Cell} {vs : List Value} → Tops (object_is l m.heap) 2 cs vs → 3 ≤ length cs
@@ -412,10 +352,10 @@ module _ (l : Loaded) (program : Program) (result : ValueType) (room next : ℕ)
           ∷ vs))
       go [] vs w o h = absurd (omega (arith, o))
       go (d ∷ cs) [] w o h = absurd w
-      go (d ∷ cs) (v ∷ vs) w o h = numbered_done (storing_item Byte) (Number ∷ Number ∷ d ∷ cs) refl refl
+      go (d ∷ cs) (v ∷ vs) w o h = goes_done (storing_item Byte) (Number ∷ Number ∷ d ∷ cs) refl refl
           (store_number (classes l) Byte next lv m (Num x ∷ Num i ∷ v ∷ vs))
-          (stores_byte l next lc lv m k (classes l) fit cs vs w.1 x i d v (only_array (arrays_of Byte) d cs h) w.0)
-          (at_reference m next lv Byte (low_byte x) i v vs)
+          (stored.byte_stored l program.fields next cs lc m fit vs w.1 lv k (classes l) x i d v
+          (only_array (arrays_of Byte) d cs h) w.0)
 
   short_stored : {cs : List Cell} {vs : List Value} → Tops (object_is l m.heap) 2 cs vs → 3 ≤ length cs
       → has_wrong (is_type_of l) (OfArrays (arrays_of Short) ∷ []) (drop 2 cs) ≡ false
@@ -428,10 +368,10 @@ module _ (l : Loaded) (program : Program) (result : ValueType) (room next : ℕ)
           ∷ vs))
       go [] vs w o h = absurd (omega (arith, o))
       go (d ∷ cs) [] w o h = absurd w
-      go (d ∷ cs) (v ∷ vs) w o h = numbered_done (storing_item Short) (Number ∷ Number ∷ d ∷ cs) refl refl
+      go (d ∷ cs) (v ∷ vs) w o h = goes_done (storing_item Short) (Number ∷ Number ∷ d ∷ cs) refl refl
           (store_number (classes l) Short next lv m (Num x ∷ Num i ∷ v ∷ vs))
-          (stores_short l next lc lv m k (classes l) fit cs vs w.1 x i d v (only_array (arrays_of Short) d cs h) w.0)
-          (at_reference m next lv Short (low_word x) i v vs)
+          (stored.short_stored l program.fields next cs lc m fit vs w.1 lv k (classes l) x i d v
+          (only_array (arrays_of Short) d cs h) w.0)
 
   int_stored : {cs : List Cell} {vs : List Value} → Tops (object_is l m.heap) 3 cs vs → 4 ≤ length cs
       → has_wrong (is_type_of l) (OfArrays (arrays_of Int) ∷ []) (drop 3 cs) ≡ false
@@ -444,41 +384,16 @@ module _ (l : Loaded) (program : Program) (result : ValueType) (room next : ℕ)
           ∷ Num high ∷ Num i ∷ vs))
       go [] vs w o h = absurd (omega (arith, o))
       go (d ∷ cs) [] w o h = absurd w
-      go (d ∷ cs) (v ∷ vs) w o h = numbered_done (storing_item Int) (Number ∷ Number ∷ Number ∷ d ∷ cs) refl refl
+      go (d ∷ cs) (v ∷ vs) w o h = goes_done (storing_item Int) (Number ∷ Number ∷ Number ∷ d ∷ cs) refl refl
           (store_number (classes l) Int next lv m (Num low ∷ Num high ∷ Num i ∷ v ∷ vs))
-          (stores_int l next lc lv m k (classes l) fit cs vs w.1 low high i d v (only_array (arrays_of Int) d cs h)
-          w.0)
-          (at_reference m next lv Int (spelt_by high low) i v vs)
+          (stored.int_stored l program.fields next cs lc m fit vs w.1 lv k (classes l) low high i d v
+          (only_array (arrays_of Int) d cs h) w.0)
 
   -- a reference on top of an index on top of an array of them
   puts_done : (a : Act) (cs : List Cell) → falls_of a ≡ true → (let b = a in b.writes) ≡ []
       → (e : Effect Class Field Callee (List Image)) → Puts l next (stack_behind a lc cs) lc m e → Done a cs e
-  puts_done a cs falls none (Raise fault) h = (tt, tt)
-  puts_done a cs falls none (Toss object) h = absurd h
-  puts_done a cs falls none (Invoke callee) h = absurd h
-  puts_done a cs falls none (Leave words) h = absurd h
-  puts_done a cs falls none Stick h = absurd h
-  puts_done a cs falls none (Go at stack locals memory) h =
-      let put = reference_put l m memory h.1.1.1 in
-      let grows : Extends m.heap memory.heap = put.0 in
-      let still = object_still l m.heap memory.heap grows in (
-        (
-          subst (λ x. Contains (next_if (falls_of a) next ++ (let b = a in b.targets)) x) (sym h.0)
-              (next_follows a next falls),
-          (
-            grows,
-            (
-              words_stay (object_is l m.heap) (object_is l memory.heap) still (stack_behind a lc cs) stack h.1.0,
-              subst (λ ws. AreLocals (object_is l memory.heap) (with_writes a lc (Cells cs) ws lc) locals) (sym none)
-                  (locals_stay (object_is l m.heap) (object_is l memory.heap) still lc locals h.1.1.0),
-            ),
-          ),
-        ),
-        (put.1.0 fit, (put.1.1 held, ap statics_of h.1.1.1.is)),
-      )
-    where
-      statics_of : Memory Class Field (List Image) → List Image
-      statics_of x = x.statics
+  puts_done a cs falls none e h = goes_done a cs falls none e (stored.puts_go l program.fields next (stack_behind a lc cs)
+      lc m fit e h)
 
   reference_stored : (cs : List Cell) (vs : List Value) → AreWords (object_is l m.heap) cs vs
       → Parts (is_type_of l) room (storing_item Reference) lc cs
@@ -528,60 +443,23 @@ module _ (l : Loaded) (program : Program) (result : ValueType) (room next : ℕ)
   top_of need (c ∷ cs) (v ∷ vs) w o h = top c cs v vs (true_of (meets (is_type_of l) need c)
       (or_parts (not (meets (is_type_of l) need c)) false h).0) w
 
-  -- one thing more
-  adds_done : (a : Act) (cs : List Cell) (P : HeapObject Class Field → Type 0) → ((thing : HeapObject Class Field)
-      → P thing → AreFit (m.heap ++ thing ∷ []) × AreHeld l (m.heap ++ thing ∷ [])) → falls_of a ≡ true
-      → (let b = a in b.writes) ≡ [] → (e : Effect Class Field Callee (List Image))
-      → Adds l next (stack_behind a lc cs) lc m P e → Done a cs e
-  adds_done a cs P kept falls none (Raise fault) h = (tt, tt)
-  adds_done a cs P kept falls none (Toss object) h = absurd h
-  adds_done a cs P kept falls none (Invoke callee) h = absurd h
-  adds_done a cs P kept falls none (Leave words) h = absurd h
-  adds_done a cs P kept falls none Stick h = absurd h
-  adds_done a cs P kept falls none (Go at stack locals memory) h =
-      let thing = h.1.1.1.0 in
-      let is = h.1.1.1.1.1 in
-      let both = kept thing h.1.1.1.1.0 in (
-        (
-          subst (λ x. Contains (next_if (falls_of a) next ++ (let b = a in b.targets)) x) (sym h.0)
-              (next_follows a next falls),
-          (
-            subst (λ (x : Memory Class Field (List Image)). Extends m.heap x.heap) (sym is) (pushed_extends m.heap
-                thing),
-            (
-              h.1.0,
-              subst (λ ws. AreLocals (object_is l memory.heap) (with_writes a lc (Cells cs) ws lc) locals) (sym none)
-                  h.1.1.0,
-            ),
-          ),
-        ),
-        (
-          subst (λ (x : Memory Class Field (List Image)). AreFit x.heap) (sym is) both.0,
-          (
-            subst (λ (x : Memory Class Field (List Image)). AreHeld l x.heap) (sym is) both.1,
-            ap statics_of is,
-          ),
-        ),
-      )
-    where
-      statics_of : Memory Class Field (List Image) → List Image
-      statics_of x = x.statics
-
   newarray_done : (element : Element) (type : List ℕ) → shape_by l type ≡ Some (OfNumbers element) → {cs : List Cell}
       {vs : List Value} → IsTop NumberWord cs vs → nat_lt room (length cs) ≡ false
       → Done (making type) cs (effect (classes l) (NewNumbers element) room next lv m vs)
-  newarray_done element type kind (top c cs v vs e w) high = adds_done (making type) (c ∷ cs) (AreZeros element)
-      (λ thing z. zeros_pushed l m.heap element thing z fit held) refl refl
+  newarray_done element type kind (top c cs v vs e w) high = goes_done (making type) (c ∷ cs) refl refl
       (effect (classes l) (NewNumbers element) room next lv m (v ∷ vs))
-      (makes_numbers l room next lc lv m k (classes l) type element kind c cs v vs (number_is c e) w high)
+      (stored.zeros_go l program.fields next (Refs (type ∷ []) ∷ cs) lc m fit element
+      (effect (classes l) (NewNumbers element) room next lv m (v ∷ vs))
+      (makes_numbers l room next lc lv m k (classes l) type element kind c cs v vs (number_is c e) w high))
 
   anewarray_done : (class : Class) (type : List ℕ) → shape_by l type ≡ Some (OfReferences class) → {cs : List Cell}
       {vs : List Value} → IsTop NumberWord cs vs → nat_lt room (length cs) ≡ false
       → Done (making type) cs (effect (classes l) (NewReferences class) room next lv m vs)
-  anewarray_done class type kind (top c cs v vs e w) high = adds_done (making type) (c ∷ cs) (AreNulls class)
-      (λ thing z. nulls_pushed l m.heap class thing z fit held) refl refl
+  anewarray_done class type kind (top c cs v vs e w) high = goes_done (making type) (c ∷ cs) refl refl
       (effect (classes l) (NewReferences class) room next lv m (v ∷ vs))
-      (makes_references l room next lc lv m k (classes l) type class kind c cs v vs (number_is c e) w high)
+      (stored.nulls_go l program.fields next (Refs (type ∷ []) ∷ cs) lc m fit class
+      (effect (classes l) (NewReferences class) room next lv m (v ∷ vs))
+      (makes_references l room next lc lv m k (classes l) type class kind c cs v vs (number_is c e) w high))
 
   checkcast_done : (target : Shape Class) (type : List ℕ) → shape_by l type ≡ Some target → {cs : List Cell}
       {vs : List Value} → IsTop ReferenceWord cs vs
@@ -634,33 +512,65 @@ module _ (l : Loaded) (program : Program) (result : ValueType) (room next : ℕ)
 
   pub instruction_done : (a : Act) (operation : Operation Class Field StaticCell Callee)
       → Suits l program result a operation → (cs : List Cell) (vs : List Value)
-      → AreWords (object_is l m.heap) cs vs → Parts (is_type_of l) room a lc cs
+      → AreWords (object_is l m.heap) cs vs → Passes (is_type_of l) room a lc cs → Parts (is_type_of l) room a lc cs
       → Done a cs (effect (classes l) operation room next lv m vs)
-  instruction_done _ _ (plain {r = r} {f = f} {kinds = kinds} operands beside read) cs vs w p = plain_done r f operands
+  instruction_done _ _ (plain {r = r} {f = f} {kinds = kinds} operands beside read) cs vs w passes p = plain_done r f operands
       cs (f operands room lv vs) (plain_kept (object_is l m.heap) (is_type_of l) room lc lv k r f kinds beside operands
       read cs vs w p)
-  instruction_done _ _ (jump {needs = needs} {falls = falls} {test = test} to beside) cs vs w p = leads_done
+  instruction_done _ _ (jump {needs = needs} {falls = falls} {test = test} to beside) cs vs w passes p = leads_done
       (record idle { takes = needs; falls = falls; targets = to ∷ [] }) (to ∷ next_if falls next) cs
       (jump_among to falls) refl (effect (classes l) (Branch test to) room next lv m vs)
       (jump_leads l room next lc lv m k (classes l) (is_type_of l) to needs falls test beside cs vs w p.operands
       p.enough)
-  instruction_done _ _ (switch is_int other arms) cs vs w p = leads_done (switching is_int other arms)
+  instruction_done _ _ (switch is_int other arms) cs vs w passes p = leads_done (switching is_int other arms)
       (other ∷ map (λ (a : Arm). a.to) arms) cs (λ at h. h) refl
       (effect (classes l) (Pick is_int other arms) room next lv m vs)
       (subst (λ x. Leads l (other ∷ map (λ (a : Arm). a.to) arms) x lc m (effect (classes l) (Pick is_int other arms)
       room next lv m vs)) (sym (switch_behind is_int cs))
       (picks l room next lc lv m k (classes l) (is_type_of l) is_int other arms cs vs w p.operands p.enough))
-  instruction_done _ _ (load letter) cs vs w p = load_done letter cs vs w p
-  instruction_done _ _ (store letter) cs vs w p = store_done letter cs vs w p
-  instruction_done _ _ arraylength cs vs w p = length_done (top_of (OfArrays all_arrays) cs vs w p.enough p.operands)
-  instruction_done _ _ athrow cs vs w p = throw_done (top_of (OfType program.exceptions) cs vs w p.enough p.operands)
-  instruction_done _ _ (return letter is) cs vs w p = return_done letter is cs vs w p.operands p.enough
-  instruction_done _ _ (newarray element type kind) cs vs w p = newarray_done element type kind
+  instruction_done _ _ (load letter) cs vs w passes p = load_done letter cs vs w p
+  instruction_done _ _ (store letter) cs vs w passes p = store_done letter cs vs w p
+  instruction_done _ _ arraylength cs vs w passes p = length_done (top_of (OfArrays all_arrays) cs vs w p.enough p.operands)
+  instruction_done _ _ athrow cs vs w passes p = throw_done (top_of (OfType program.exceptions) cs vs w p.enough p.operands)
+  instruction_done _ _ (return letter is) cs vs w passes p = return_done letter is cs vs w p.operands p.enough
+  instruction_done _ _ (newarray element type kind) cs vs w passes p = newarray_done element type kind
       (top_of NumberWord cs vs w p.enough p.operands) (ltb_high room (length cs) p.before)
-  instruction_done _ _ (anewarray class type kind) cs vs w p = anewarray_done class type kind
+  instruction_done _ _ (anewarray class type kind) cs vs w passes p = anewarray_done class type kind
       (top_of NumberWord cs vs w p.enough p.operands) (ltb_high room (length cs) p.before)
-  instruction_done _ _ (checkcast target type kind) cs vs w p = checkcast_done target type kind
+  instruction_done _ _ (checkcast target type kind) cs vs w passes p = checkcast_done target type kind
       (top_of ReferenceWord cs vs w p.enough p.operands)
-  instruction_done _ _ (instanceof target) cs vs w p = instanceof_done target
+  instruction_done _ _ (instanceof target) cs vs w passes p = instanceof_done target
       (top_of ReferenceWord cs vs w p.enough p.operands)
-  instruction_done _ _ (call is) cs vs w p = (is, tt)
+  instruction_done _ _ (call is) cs vs w passes p = (is, tt)
+  instruction_done _ _ (getfield f letter type name typed moved named) cs vs w passes p = goes_done
+      (record idle { takes = OfType name ∷ []; gives = words type }) cs refl refl
+      (effect (classes l) (Get false letter f) room next lv m vs)
+      (get_field l program.fields room next lc lv m k fit supers declared f type typed letter moved name named
+      (record idle { takes = OfType name ∷ []; gives = words type }) refl refl cs vs w passes)
+  instruction_done _ _ (getfield_this f letter type name typed moved named) cs vs w passes p = goes_done
+      (record idle { reads = reading 0 (OfType name) ∷ []; gives = words type }) cs refl refl
+      (effect (classes l) (Get true letter f) room next lv m vs)
+      (get_field_this l program.fields room next lc lv m k fit supers declared f type typed letter moved name named
+      (record idle { reads = reading 0 (OfType name) ∷ []; gives = words type }) refl refl refl cs vs w passes)
+  instruction_done _ _ (putfield f letter type name typed moved named) cs vs w passes p = goes_done
+      (record idle { takes = needs_of type ++ OfType name ∷ [] }) cs refl refl
+      (effect (classes l) (Put false letter f) room next lv m vs)
+      (put_field l program.fields room next lc lv m k fit supers declared f type typed letter moved name named
+      (record idle { takes = needs_of type ++ OfType name ∷ [] }) refl refl cs vs w passes)
+  instruction_done _ _ (putfield_this f letter type name typed moved named) cs vs w passes p = goes_done
+      (record idle { takes = needs_of type; reads = reading 0 (OfType name) ∷ [] }) cs refl refl
+      (effect (classes l) (Put true letter f) room next lv m vs)
+      (put_field_this l program.fields room next lc lv m k fit supers declared f type typed letter moved name named
+      (record idle { takes = needs_of type; reads = reading 0 (OfType name) ∷ [] }) refl refl refl cs vs w passes)
+  instruction_done _ _ (getstatic c letter type typed moved) cs vs w passes p = goes_done
+      (record idle { gives = words type }) cs refl refl (effect (classes l) (GetStatic letter c) room next lv m vs)
+      (get_cell l program.fields room next lc lv m k fit c type typed letter moved (record idle { gives = words type })
+      refl refl cs vs w passes)
+  instruction_done _ _ (putstatic c letter type typed moved) cs vs w passes p = goes_done
+      (record idle { takes = needs_of type }) cs refl refl (effect (classes l) (PutStatic letter c) room next lv m vs)
+      (put_cell l program.fields room next lc lv m k fit c type typed letter moved
+      (record idle { takes = needs_of type }) refl refl cs vs w passes)
+  instruction_done _ _ (new class name made_of named) cs vs w passes p = goes_done
+      (record idle { gives = AnObject name ∷ [] }) cs refl refl (effect (classes l) (New class) room next lv m vs)
+      (new_object l program.fields room next lc lv m k fit supers declared class made_of name named
+      (record idle { gives = AnObject name ∷ [] }) refl refl cs vs w passes)

@@ -19,3 +19,11 @@ pub mod ImportLaws
 pub mod TurnLaws
 pub mod InstructionLaws
 pub mod RunLaws
+pub mod OffLaws
+pub mod KeyLaws
+pub mod FreshLaws
+pub mod ImageLaws
+pub mod FirstLaws
+pub mod MemoryLaws
+pub mod FieldLaws
+pub mod ArrayLaws

@@ -33,8 +33,7 @@ use Rattle.cjc_card_acts.specs.Frames.declared.acts.Step.{Step}
 use Rattle.cjc_card_acts.specs.CardTypes.{ValueType, shape_by, both_of, is_type_of}
 use Rattle.cjc_card_acts.specs.CardTypes as types
 use Rattle.cjc_verify_proof.specs.Words.{AreWords}
-use Rattle.cjc_verify_proof.specs.Heaps.{thing_is, object_is, AreFit}
-use Rattle.cjc_verify_proof.specs.References.{AreHeld}
+use Rattle.cjc_verify_proof.specs.Heaps.{thing_is, object_is}
 use Rattle.cjc_verify_proof.specs.Control.{cells_of}
 use Rattle.cjc_verify_proof.specs.Frames.{Typing, Program, AreMethods, Stands, Runs, AreFrames, IsEnd}
 use Rattle.cjc_verify_proof.specs.Frames.{IsMethod}
@@ -44,13 +43,16 @@ use Rattle.cjc_verify_proof.specs.Turns.{IsHeld, Does, GoesOnBy}
 use Rattle.cjc_verify_proof.specs.Instructions.{Suits, HoldsOn}
 use Rattle.cjc_verify_proof.specs.Runs.{IsEntry, IsProgram}
 use Rattle.cjc_verify_proof.proofs.WordLaws.{words_append}
-use Rattle.cjc_verify_proof.proofs.PlainLaws.{Parts, parts}
+use Rattle.cjc_verify_proof.proofs.PlainLaws.{parts}
 use Rattle.cjc_verify_proof.proofs.FlowLaws.{sound}
 use Rattle.cjc_verify_proof.proofs.FrameLaws.{entered}
 use Rattle.cjc_verify_proof.proofs.CallLaws.{object_result}
 use Rattle.cjc_verify_proof.proofs.ScriptLaws.{prepared_itself, acts_go}
 use Rattle.cjc_verify_proof.proofs.TurnLaws.{step_goes}
 use Rattle.cjc_verify_proof.proofs.InstructionLaws.{instruction_done}
+use Rattle.cjc_verify_proof.proofs.ScriptLaws.{memory_prepared}
+use Rattle.cjc_verify_proof.specs.Memories.{IsMemory}
+use Rattle.cjc_verify_proof.specs.Acts.{Passes}
 use Rattle.cjc_card_semantics.proofs.BytesBools.{and_true}
 
 -- ---- words of values that fit
@@ -279,9 +281,9 @@ module _ (l : Loaded) (program : Program) (is : IsProgram l program) where
 
   -- ---- states
 
-  -- arrays hold what they may, and frames are typed
+  -- memory holds what it may, and frames are typed
   abbrev IsSound : State Code Class Field (List Image) → Type 0
-  IsSound s = AreFit s.memory.heap × (AreHeld l s.memory.heap × AreFrames l program s.memory.heap s.frames)
+  IsSound s = IsMemory l program.fields s.memory × AreFrames l program s.memory.heap s.frames
 
   -- a turn that is not stuck leads to such a state
   abbrev IsSoundTurn : Turn Code Class Field (List Image) → Type 0
@@ -289,45 +291,46 @@ module _ (l : Loaded) (program : Program) (is : IsProgram l program) where
   IsSoundTurn (Ended outcome s) = IsEnd outcome
   IsSoundTurn (StuckAt at s) = ⊥
 
-  prepared_sound : (s : State Code Class Field (List Image)) → AreFit s.memory.heap → AreHeld l s.memory.heap
+  prepared_sound : (s : State Code Class Field (List Image)) → IsMemory l program.fields s.memory
       → (turn : Turn Code Class Field (List Image)) → GoesOnPrepared l program s.memory turn → IsSoundTurn turn
-  prepared_sound s fit held (Next x) g = (let p = g.0 in (p.fit fit, (p.held held, g.1.1)))
-  prepared_sound s fit held (Ended outcome x) g = g
-  prepared_sound s fit held (StuckAt at x) g = absurd g
+  prepared_sound s fit (Next x) g = (
+    memory_prepared l program.fields is.supers is.declared s.memory x.memory fit g.0
+        g.1.0,
+    g.1.1,
+  )
+  prepared_sound s fit (Ended outcome x) g = g
+  prepared_sound s fit (StuckAt at x) g = absurd g
 
   begins_sound : (frames : List (Frame Code)) (entries : List Entry) (s : State Code Class Field (List Image))
       → s.frames ≡ frames → IsSound s → IsSoundTurn (begins (by_token l) frames entries s)
   begins_sound (f ∷ outer) entries s same h = h
   begins_sound [] [] s same h = tt
-  begins_sound [] (e ∷ entries) s same h = prepared_sound s h.0 h.1.0 (begins (by_token l) [] (e ∷ entries) s)
+  begins_sound [] (e ∷ entries) s same h = prepared_sound s h.0 (begins (by_token l) [] (e ∷ entries) s)
       (acts_go l program s.memory (λ t. entered_by (by_token l) (entry_start (by_token l) t.memory.heap e)
       (entry_words (by_token l) t.memory.heap e) e entries t) (λ t p kept. entry_goes s.memory t p kept e entries)
       (acts_of e) (number_of e) s (prepared_itself l s.memory.heap) refl)
 
   -- what follows from what an instruction does
-  made_sound : (s : State Code Class Field (List Image)) → AreFit s.memory.heap → AreHeld l s.memory.heap
+  made_sound : (s : State Code Class Field (List Image)) → IsMemory l program.fields s.memory
       → (e : Effect Class Field Callee (List Image)) (turn : Turn Code Class Field (List Image))
-      → GoesOnBy l program s.memory e turn → HoldsOn l s.memory e → IsSoundTurn turn
-  made_sound s fit held (Go at stack locals memory) (Next x) g h = (
-    subst (λ (y : Memory Class Field (List Image)). AreFit y.heap) (sym g.0) h.0,
-    (
-      subst (λ (y : Memory Class Field (List Image)). AreHeld l y.heap) (sym g.0) h.1.0,
-      subst (λ (y : Memory Class Field (List Image)). AreFrames l program y.heap x.frames) (sym g.0) g.1,
-    ),
+      → GoesOnBy l program s.memory e turn → HoldsOn l program e → IsSoundTurn turn
+  made_sound s fit (Go at stack locals memory) (Next x) g h = (
+    subst (λ (y : Memory Class Field (List Image)). IsMemory l program.fields y) (sym g.0) h,
+    subst (λ (y : Memory Class Field (List Image)). AreFrames l program y.heap x.frames) (sym g.0) g.1,
   )
-  made_sound s fit held (Go at stack locals memory) (Ended outcome x) g h = g
-  made_sound s fit held (Go at stack locals memory) (StuckAt place x) g h = absurd g
-  made_sound s fit held (Raise fault) turn g h = prepared_sound s fit held turn g
-  made_sound s fit held (Toss object) turn g h = prepared_sound s fit held turn g
-  made_sound s fit held (Invoke callee) turn g h = prepared_sound s fit held turn g
-  made_sound s fit held (Leave words) turn g h = prepared_sound s fit held turn g
-  made_sound s fit held Stick turn g h = prepared_sound s fit held turn g
+  made_sound s fit (Go at stack locals memory) (Ended outcome x) g h = g
+  made_sound s fit (Go at stack locals memory) (StuckAt place x) g h = absurd g
+  made_sound s fit (Raise fault) turn g h = prepared_sound s fit turn g
+  made_sound s fit (Toss object) turn g h = prepared_sound s fit turn g
+  made_sound s fit (Invoke callee) turn g h = prepared_sound s fit turn g
+  made_sound s fit (Leave words) turn g h = prepared_sound s fit turn g
+  made_sound s fit Stick turn g h = prepared_sound s fit turn g
 
   step_sound : (frames : List (Frame Code)) (s : State Code Class Field (List Image))
-      → AreFit s.memory.heap → AreHeld l s.memory.heap → AreFrames l program s.memory.heap frames
+      → IsMemory l program.fields s.memory → AreFrames l program s.memory.heap frames
       → IsSoundTurn (step (by_token l) frames s)
-  step_sound [] s fit held h = tt
-  step_sound (f ∷ outer) s fit held h = made_sound s fit held e (step (by_token l) (f ∷ outer) s)
+  step_sound [] s fit h = tt
+  step_sound (f ∷ outer) s fit h = made_sound s fit e (step (by_token l) (f ∷ outer) s)
       (step_goes l program methods is.has s t h.1.0 f runs outer h.1.1.1 i.0 fetched e refl does.0) does.1
     where
       t : Typing
@@ -356,20 +359,22 @@ module _ (l : Loaded) (program : Program) (is : IsProgram l program) where
       e : Effect Class Field Callee (List Image)
       e = let x = i.0 in effect (classes l) x.operation (let c = f.code in c.room) x.next f.locals s.memory f.stack
 
+      passes : Passes (is_type_of l) (let c = f.code in c.room) (act_of st.step) st.locals st.cells
+      passes = subst (λ n. Passes (is_type_of l) n (act_of st.step) st.locals st.cells) (sym room)
+          (sound l program.exceptions t method st.place st.step st.is_step st.cells st.locals st.reached).passes
+
       does : Does l program t.result (act_of st.step) (let x = i.0 in x.next) st.locals st.cells s.memory e × HoldsOn l
-          s.memory e
+          program e
       does = instruction_done l program t.result (let c = f.code in c.room) (let x = i.0 in x.next) st.locals f.locals
-          s.memory st.typed fit held (act_of st.step) (let x = i.0 in x.operation) i.1.1 st.cells f.stack runs.words
-          (subst (λ n. Parts (is_type_of l) n (act_of st.step) st.locals st.cells) (sym room) (parts (is_type_of l)
-          t.body.max_stack (act_of st.step) st.locals st.cells (sound l program.exceptions t method st.place st.step
-          st.is_step st.cells st.locals st.reached).passes))
+          s.memory st.typed is.supers is.declared fit (act_of st.step) (let x = i.0 in x.operation) i.1.1 st.cells f.stack runs.words
+          passes (parts (is_type_of l) (let c = f.code in c.room) (act_of st.step) st.locals st.cells passes)
 
   turn_sound : (s : State Code Class Field (List Image)) → IsSound s → IsSoundTurn (turn (by_token l) s)
   turn_sound s h = go (begins (by_token l) s.frames s.entries s) (begins_sound s.frames s.entries s refl h)
     where
       go : (x : Turn Code Class Field (List Image)) → IsSoundTurn x
           → IsSoundTurn (and_then (by_token l) x (λ t. step (by_token l) t.frames t))
-      go (Next t) g = step_sound t.frames t g.0 g.1.0 g.1.1
+      go (Next t) g = step_sound t.frames t g.0 g.1
       go (Ended outcome t) g = g
       go (StuckAt at t) g = absurd g
 
@@ -396,4 +401,4 @@ module _ (l : Loaded) (program : Program) (is : IsProgram l program) where
 
   -- no run of the program is stuck
   pub never_stuck : (script : Script) (n at : ℕ) → (let r = run l script n in r.outcome ≡ Stuck at) → ⊥
-  never_stuck script n at e = subst IsEnd e (run_sound n (start l script) (is.fit, (is.held, tt)))
+  never_stuck script n at e = subst IsEnd e (run_sound n (start l script) (is.memory, tt))

@@ -1,5 +1,5 @@
 -- Acts of a script leave a heap on which words and frames stay typed.
-use Rattle.std.proofs.Common.{◌≡◌, ◌⊎◌, ◌&&◌, inl, inr, ℕ, zero, suc, Bool, true, false, nat_lt, nat_le, List, []}
+use Rattle.std.proofs.Common.{◌≡◌, ap, ◌⊎◌, ◌&&◌, inl, inr, ℕ, zero, suc, Bool, true, false, nat_lt, nat_le, List, []}
 use Rattle.std.proofs.Common.{◌∷◌, ◌++◌, length, slice_get, slice_set, Option, Some, None, refl, sym, subst}
 use Rattle.std.proofs.Common.{◌∙◌, arith, ℤ, pos, negsuc, ◌≤ℤ◌, ◌+◌}
 use Rattle.std.specs.Prelude.{if◌then◌else◌, option_map, option_and_then, replicate}
@@ -21,7 +21,7 @@ use Rattle.cjc_card_semantics.specs.Bytecode.Machine.{object_fits, sized_array, 
 use Rattle.cjc_card_semantics.specs.Bytecode.Machine.{with_item, with_array, put_item, heap_with, heap_after, with_heap}
 use Rattle.cjc_card_semantics.specs.Bytecode.Machine.{prepared_by, turn_after_acts}
 use Rattle.cjc_card_semantics.specs.Machine.Loaded.{Loaded}
-use Rattle.cjc_card_semantics.specs.Machine.Classes.{Class, External, Field, external_from, external_named}
+use Rattle.cjc_card_semantics.specs.Machine.Classes.{Own, Class, External, Field, external_from, external_named}
 use Rattle.cjc_card_semantics.specs.Machine.Classes.{token_named, or_else, is_interface}
 use Rattle.cjc_card_semantics.specs.Machine.Statics.{Image}
 use Rattle.cjc_card_semantics.specs.Machine.Methods.{Code}
@@ -31,6 +31,12 @@ use Rattle.cjc_verify_proof.specs.Heaps.{thing_is, IsFit, AreFit, AreItems}
 use Rattle.cjc_verify_proof.specs.Growth.{Extends}
 use Rattle.cjc_verify_proof.specs.References.{IsItem, HoldsItems, AreHeld}
 use Rattle.cjc_verify_proof.specs.Frames.{Program}
+use Rattle.cjc_verify_proof.specs.Memories.{FieldTypes, AreSlots, HaveSlots, AreCells, IsMemory, SupersStand, AreDeclared}
+use Rattle.cjc_verify_proof.proofs.Upwards.{told_over}
+use Rattle.cjc_verify_proof.proofs.OffLaws.{Off, all_off}
+use Rattle.cjc_verify_proof.proofs.MemoryLaws.{slots_stay, cells_stay}
+use Rattle.cjc_verify_proof.specs.Heaps.{object_is}
+use Rattle.cjc_card_semantics.specs.Machine.Classes.{is_interface_info, info_of}
 use Rattle.cjc_verify_proof.specs.Scripts.{IsImported, IsPrepared, GoesOnPrepared}
 use Rattle.cjc_verify_proof.proofs.GrowthLaws.{extends_itself, extends_through, pushed_extends, set_extends}
 use Rattle.cjc_verify_proof.proofs.GrowthLaws.{fit_pushed, held_pushed, fit_set, held_set, item_stays, zeros_fit}
@@ -294,3 +300,47 @@ module _ (l : Loaded) where
           number t go))
       by None h more = tt
       by (Some heap) h more = more (with_heap (by_token l) heap s) (prepared_through l m.heap s.memory.heap heap p h) same
+
+-- ---- memory
+
+module _ (l : Loaded) (t : FieldTypes) (supers : SupersStand l) (declared : AreDeclared l t) where
+  -- an object of an imported class has no fields
+  bare_slots : (is : (type : List ℕ) → (object : ℕ) → Bool) (class : Class) → IsImported class → AreSlots l t is class
+      []
+  bare_slots is class imported f type typed kind =
+      let d = declared f type typed in
+      let off : Off l supers f.class = all_off l supers (told_over l class f.class kind) (off_of class imported) in
+      let own : is_interface_info (info_of l d.part d.offset) ≡ true = subst (Off l supers) d.class off in
+      let class_info : is_interface_info (info_of l d.part d.offset) ≡ false = ap is_interface_info d.info in
+      absurd (both (is_interface_info (info_of l d.part d.offset)) own class_info)
+    where
+      off_of : (c : Class) → IsImported c → Off l supers c
+      off_of (Own p offset) i = absurd i
+      off_of (External tree token) i = tt
+
+      both : (b : Bool) → b ≡ true → b ≡ false → ⊥
+      both b e f = cc
+
+  -- memory after acts holds what it may
+  pub memory_prepared : (m after : Memory Class Field (List Image)) → IsMemory l t m → IsPrepared l m.heap after.heap
+      → after.statics ≡ m.statics → IsMemory l t after
+  memory_prepared m after fit p same = record {
+    numbers = p.fit fit.numbers;
+    references = p.held fit.references;
+    slots = slots;
+    cells = subst (λ x. AreCells l t after.heap x) (sym same) (cells_stay l t m.heap after.heap p.extends m.statics
+        fit.cells);
+  }
+    where
+      object : (k : ℕ) (class : Class) (found : List (Slot Field))
+          → (slice_get m.heap k ≡ Some (Object class found)) ⊎ ((found ≡ []) × IsImported class)
+          → AreSlots l t (object_is l after.heap) class found
+      object k class found (inl was) = slots_stay l t m.heap after.heap p.extends class found (fit.slots k
+          (Object class found) was)
+      object k class found (inr bare) = subst (λ x. AreSlots l t (object_is l after.heap) class x) (sym bare.0)
+          (bare_slots (object_is l after.heap) class bare.1)
+
+      slots : HaveSlots l t after.heap
+      slots k (Numbers element items) e = tt
+      slots k (References class items) e = tt
+      slots k (Object class found) e = object k class found (p.objects k class found e)

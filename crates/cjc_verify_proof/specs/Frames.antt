@@ -25,6 +25,7 @@ use Rattle.cjc_card_acts.specs.Frames.Tables.{Breach}
 use Rattle.cjc_card_acts.specs.CardTypes.{ValueType, words as words_of, shape_by, is_type_of}
 use Rattle.cjc_verify_proof.specs.Words.{AreWords, AreLocals}
 use Rattle.cjc_verify_proof.specs.Heaps.{object_is}
+use Rattle.cjc_verify_proof.specs.Memories.{FieldTypes}
 
 -- ---- methods
 
@@ -71,10 +72,11 @@ pub record IsMethod (l : Loaded) (exceptions : List ℕ) (t : Typing) : Type 0 w
       → (i : Fetched Class Field StaticCell Callee) → fetch l t.code s.at ≡ Some i
       → (n : Step) × ((slice_get t.body.steps (place + 1) ≡ Some n) × (n.at ≡ i.next))
 
--- the methods of a program, and the type of all exceptions
+-- the methods of a program, the type of all exceptions, and the types of fields
 pub record Program : Type 0 where
   pub methods : List Typing
   pub exceptions : List ℕ
+  pub fields : FieldTypes
 
 -- each is so
 abbrev pub AreMethods : Loaded → Program → Type 0

@@ -1,25 +1,26 @@
 -- What instructions ask of the machine beside what they take and give, where the constant pool is read.
-use Rattle.std.specs.Prelude.{◌≡◌, ℕ, Bool, true, false, List, [], ◌∷◌, map, Option, Some, ℤ}
+use Rattle.std.specs.Prelude.{◌≡◌, ℕ, Bool, true, false, List, [], ◌∷◌, ◌++◌, map, Option, Some, ℤ}
 use Rattle.cjc_card_semantics.specs.CapRead.Opcodes.{Operand}
-use Rattle.cjc_card_semantics.specs.Script.Sorts.{Element, Shape, OfNumbers, OfReferences}
+use Rattle.cjc_card_semantics.specs.Script.Sorts.{Element, Shape, OfClass, OfNumbers, OfReferences}
 use Rattle.cjc_card_semantics.specs.Bytecode.Calculations.{Calculation, Test}
 use Rattle.cjc_card_semantics.specs.Bytecode.Effects.{Letter, Arm, Operation, Do, Branch, Pick, Touch, Load, Store}
-use Rattle.cjc_card_semantics.specs.Bytecode.Effects.{Length, Throw, Return, Call, NewNumbers, NewReferences, Cast, Ask}
-use Rattle.cjc_card_semantics.specs.Bytecode.Effects.{Memory, Effect, Go, Raise, Toss, Invoke, Leave, Stick}
+use Rattle.cjc_card_semantics.specs.Bytecode.Effects.{Length, Throw, Return, Get, Put, GetStatic, PutStatic, Call, New, NewNumbers}
+use Rattle.cjc_card_semantics.specs.Bytecode.Effects.{NewReferences, Cast, Ask}
+use Rattle.cjc_card_semantics.specs.Bytecode.Effects.{Effect, Go, Raise, Toss, Invoke, Leave, Stick}
 use Rattle.cjc_card_semantics.specs.Machine.Loaded.{Loaded}
-use Rattle.cjc_card_semantics.specs.Machine.Classes.{Class, Field}
+use Rattle.cjc_card_semantics.specs.Machine.Classes.{Class, Field, is_interface}
 use Rattle.cjc_card_semantics.specs.Machine.Statics.{Image, StaticCell}
 use Rattle.cjc_card_semantics.specs.Machine.Operations.{Callee}
 use Rattle.cjc_card_acts.specs.Frames.declared.acts.Need.{Need}
 use Rattle.cjc_card_acts.specs.Frames.declared.acts.Need.TheVariants.{NumberWord, ReferenceWord, OfType, OfArrays}
 use Rattle.cjc_card_acts.specs.Frames.declared.acts.Given.TheVariants.{ANumber, AnObject}
 use Rattle.cjc_card_acts.specs.Frames.declared.acts.Act.{Act}
-use Rattle.cjc_card_acts.specs.Rows.{Row, idle, number_words, loading_item, storing_item}
-use Rattle.cjc_card_acts.specs.CardTypes.{ValueType, needs_of, is_returned_by, all_arrays, shape_by}
+use Rattle.cjc_card_acts.specs.Rows.{Row, idle, reading, number_words, loading_item, storing_item}
+use Rattle.cjc_card_acts.specs.CardTypes.{ValueType, words, needs_of, is_moved_by, is_returned_by, all_arrays}
+use Rattle.cjc_card_acts.specs.CardTypes.{shape_by}
 use Rattle.cjc_verify_proof.specs.Beside.{BesidePlain, BesideTest, AreRead}
 use Rattle.cjc_verify_proof.specs.Acts.{plain_act}
-use Rattle.cjc_verify_proof.specs.Heaps.{AreFit}
-use Rattle.cjc_verify_proof.specs.References.{AreHeld}
+use Rattle.cjc_verify_proof.specs.Memories.{IsMemory}
 use Rattle.cjc_verify_proof.specs.Control.{switched_words}
 use Rattle.cjc_verify_proof.specs.Frames.{Program}
 use Rattle.cjc_verify_proof.specs.Turns.{Calls}
@@ -55,14 +56,39 @@ pub data Suits (l : Loaded) (program : Program) (result : ValueType) : Act → O
       → Suits l program result (record idle { takes = ReferenceWord ∷ []; gives = AnObject type ∷ [] }) (Cast target)
   instanceof : (target : Shape Class)
       → Suits l program result (record idle { takes = ReferenceWord ∷ []; gives = ANumber ∷ [] }) (Ask target)
+  getfield : (f : Field) (letter : Letter) (type : ValueType) (name : List ℕ)
+      → (let fields = program.fields in fields.field f ≡ Some type) → is_moved_by letter type ≡ true
+      → shape_by l name ≡ Some (OfClass f.class)
+      → Suits l program result (record idle { takes = OfType name ∷ []; gives = words type }) (Get false letter f)
+  getfield_this : (f : Field) (letter : Letter) (type : ValueType) (name : List ℕ)
+      → (let fields = program.fields in fields.field f ≡ Some type) → is_moved_by letter type ≡ true
+      → shape_by l name ≡ Some (OfClass f.class)
+      → Suits l program result (record idle { reads = reading 0 (OfType name) ∷ []; gives = words type })
+      (Get true letter f)
+  putfield : (f : Field) (letter : Letter) (type : ValueType) (name : List ℕ)
+      → (let fields = program.fields in fields.field f ≡ Some type) → is_moved_by letter type ≡ true
+      → shape_by l name ≡ Some (OfClass f.class)
+      → Suits l program result (record idle { takes = needs_of type ++ OfType name ∷ [] }) (Put false letter f)
+  putfield_this : (f : Field) (letter : Letter) (type : ValueType) (name : List ℕ)
+      → (let fields = program.fields in fields.field f ≡ Some type) → is_moved_by letter type ≡ true
+      → shape_by l name ≡ Some (OfClass f.class)
+      → Suits l program result (record idle { takes = needs_of type; reads = reading 0 (OfType name) ∷ [] })
+      (Put true letter f)
+  getstatic : (c : StaticCell) (letter : Letter) (type : ValueType)
+      → (let fields = program.fields in fields.cell c ≡ Some type) → is_moved_by letter type ≡ true
+      → Suits l program result (record idle { gives = words type }) (GetStatic letter c)
+  putstatic : (c : StaticCell) (letter : Letter) (type : ValueType)
+      → (let fields = program.fields in fields.cell c ≡ Some type) → is_moved_by letter type ≡ true
+      → Suits l program result (record idle { takes = needs_of type }) (PutStatic letter c)
+  new : (class : Class) (name : List ℕ) → is_interface l class ≡ false → shape_by l name ≡ Some (OfClass class)
+      → Suits l program result (record idle { gives = AnObject name ∷ [] }) (New class)
   call : {a : Act} {callee : Callee} → Calls l program a callee → Suits l program result a (Call callee)
 
--- Where an instruction goes on, arrays hold what they may, and static fields what they held.
-abbrev pub HoldsOn : Loaded → (m : Memory Class Field (List Image)) → Effect Class Field Callee (List Image) → Type 0
-HoldsOn l m (Go at stack locals memory) = AreFit memory.heap × (AreHeld l memory.heap
-    × (memory.statics ≡ m.statics))
-HoldsOn l m (Raise fault) = Unit {0}
-HoldsOn l m (Toss object) = Unit {0}
-HoldsOn l m (Invoke callee) = Unit {0}
-HoldsOn l m (Leave words) = Unit {0}
-HoldsOn l m Stick = Unit {0}
+-- Where an instruction goes on, arrays, objects and static fields hold what they may.
+abbrev pub HoldsOn : Loaded → Program → Effect Class Field Callee (List Image) → Type 0
+HoldsOn l program (Go at stack locals memory) = IsMemory l program.fields memory
+HoldsOn l program (Raise fault) = Unit {0}
+HoldsOn l program (Toss object) = Unit {0}
+HoldsOn l program (Invoke callee) = Unit {0}
+HoldsOn l program (Leave words) = Unit {0}
+HoldsOn l program Stick = Unit {0}

@@ -11,3 +11,5 @@ pub mod Scripts
 pub mod Turns
 pub mod Instructions
 pub mod Runs
+pub mod Values
+pub mod Memories

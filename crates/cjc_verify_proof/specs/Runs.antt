@@ -12,8 +12,7 @@ use Rattle.cjc_card_semantics.specs.Machine.Calls.{called, sent}
 use Rattle.cjc_card_acts.specs.Frames.declared.acts.Step.{Step}
 use Rattle.cjc_card_acts.specs.Frames.Acts.{given}
 use Rattle.cjc_card_acts.specs.CardTypes.{ValueType}
-use Rattle.cjc_verify_proof.specs.Heaps.{AreFit}
-use Rattle.cjc_verify_proof.specs.References.{AreHeld}
+use Rattle.cjc_verify_proof.specs.Memories.{IsMemory, SupersStand, AreDeclared}
 use Rattle.cjc_verify_proof.specs.Frames.{Typing, Program, AreMethods, Begins}
 use Rattle.cjc_verify_proof.specs.Calls.{argument_cells, AreSorts}
 use Rattle.cjc_verify_proof.specs.Scripts.{HasExceptions}
@@ -42,7 +41,7 @@ pub record IsEntry (l : Loaded) (program : Program) (receiver : Option (Shape Cl
   pub arguments : map (given [] []) (let b = method.body in b.arguments) ≡ argument_cells holder params
 
 -- The methods of a program are typed and their instructions are what their acts say, exceptions are there, entries begin
--- methods of the program, and the first heap's arrays hold what they may.
+-- methods of the program, its fields have slots, and the first memory holds what it may.
 pub record IsProgram (l : Loaded) (program : Program) : Type 0 where
   pub methods : AreMethods l program
   pub suited : (t : Typing) → Contains program.methods t → AreSuited l program t
@@ -50,5 +49,6 @@ pub record IsProgram (l : Loaded) (program : Program) : Type 0 where
   pub calls : (id : MemberId) (m : Start Code) → called l id ≡ Some m → IsEntry l program None id.desc m
   pub sends : (kind : Shape Class) (id : MemberId) (m : Start Code) → sent l kind id ≡ Some m
       → IsEntry l program (Some kind) id.desc m
-  pub fit : (let first = first_memory l in AreFit first.heap)
-  pub held : (let first = first_memory l in AreHeld l first.heap)
+  pub supers : SupersStand l
+  pub declared : AreDeclared l program.fields
+  pub memory : IsMemory l program.fields (first_memory l)

@@ -19,8 +19,8 @@ ghost use Rattle.cjc_card_acts.specs.Frames.declared.acts.Act.{Act};
 ghost use Rattle.cjc_card_acts.specs.CardTypes.{ValueType, is_type_of};
 ghost use Rattle.cjc_verify_proof.specs.Words.{AreWords, AreLocals};
 ghost use Rattle.cjc_verify_proof.specs.Acts.{Passes};
-ghost use Rattle.cjc_verify_proof.specs.Heaps.{object_is, AreFit};
-ghost use Rattle.cjc_verify_proof.specs.References.{AreHeld};
+ghost use Rattle.cjc_verify_proof.specs.Heaps.{object_is};
+ghost use Rattle.cjc_verify_proof.specs.Memories.{IsMemory, SupersStand, AreDeclared};
 ghost use Rattle.cjc_verify_proof.specs.Frames.{Typing, Program, AreMethods, Runs, AreOuter};
 ghost use Rattle.cjc_verify_proof.specs.Scripts.{GoesOnPrepared, HasExceptions};
 ghost use Rattle.cjc_verify_proof.specs.Turns.{Calls, Does, GoesOnBy};
@@ -52,17 +52,18 @@ pub fn steps_go_on()
         → GoesOnBy l program s.memory e (step (by_token l) (f ∷ outer) s) }
 {}
 
-/// An instruction does what its act says, and where it goes on, arrays hold what they may, where operands and locals are
+/// An instruction does what its act says, and where it goes on, memory holds what it may, where operands and locals are
 /// what the act needs.
 pub fn instructions_do()
     ensures { (l : Loaded) (program : Program) (result : ValueType) (room next : ℕ) (local_cells : List Cell)
         (locals : List (Option Value)) (m : Memory Class Field (List Image))
-        → AreLocals (object_is l m.heap) local_cells locals → AreFit m.heap → AreHeld l m.heap → (a : Act)
+        → AreLocals (object_is l m.heap) local_cells locals → SupersStand l → AreDeclared l program.fields
+        → IsMemory l program.fields m → (a : Act)
         (operation : Operation Class Field StaticCell Callee) → Suits l program result a operation
         → (cells : List Cell) (stack : List Value) → AreWords (object_is l m.heap) cells stack
         → Passes (is_type_of l) room a local_cells cells
         → (let e = effect (classes l) operation room next locals m stack in
-        Does l program result a next local_cells cells m e × HoldsOn l m e) }
+        Does l program result a next local_cells cells m e × HoldsOn l program e) }
 {}
 
 /// No run of a program is stuck, whatever the script and however many instructions are run: where its methods break no

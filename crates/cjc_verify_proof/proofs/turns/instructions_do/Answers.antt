@@ -4,6 +4,6 @@ use Rattle.cjc_verify_proof.proofs.InstructionLaws.{instruction_done}
 use Rattle.cjc_verify_proof.proofs.turns.instructions_do.Goals as goal
 
 pub returns : goal.returns
-returns c l program result room next local_cells locals m k fit held a operation suits cells stack w passes =
-    instruction_done l program result room next local_cells locals m k fit held a operation suits cells stack w
-    (parts (is_type_of l) room a local_cells cells passes)
+returns c l program result room next local_cells locals m k supers declared fit a operation suits cells stack w passes =
+    instruction_done l program result room next local_cells locals m k supers declared fit a operation suits cells stack
+    w passes (parts (is_type_of l) room a local_cells cells passes)
