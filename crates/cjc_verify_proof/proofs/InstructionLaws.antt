@@ -1,4 +1,5 @@
 -- Each instruction does what its act says.
+use Rattle.std.proofs.Common.{◌∙◌}
 use Rattle.std.proofs.Common.{◌≡◌, ◌≤◌, ◌||◌, ◌==◌, ◌/◌, ◌%◌, ◌&&◌, inl, inr, ℕ, suc, Bool, true, false, not}
 use Rattle.std.proofs.Common.{nat_lt, List, [], ◌∷◌, ◌++◌, length, map, drop, Option, Some}
 use Rattle.std.proofs.Common.{None, refl, sym, subst, arith, ℤ, pos, negsuc}
@@ -41,8 +42,11 @@ use Rattle.cjc_card_acts.specs.CardTypes.{ValueType, needs_of, is_returned_by, a
 use Rattle.cjc_card_acts.specs.CardTypes.{is_type_of}
 use Rattle.cjc_verify_proof.specs.Words.{AreWords, AreLocals, Leaves}
 use Rattle.cjc_verify_proof.specs.Acts.{plain_act}
-use Rattle.cjc_verify_proof.specs.Heaps.{object_is, Onward, item_cells}
-use Rattle.cjc_verify_proof.specs.References.{Puts}
+use Rattle.cjc_verify_proof.specs.Heaps.{object_is, Onward, Stored, item_cells}
+use Rattle.cjc_verify_proof.specs.Growth.{AreZeros, AreNulls, Adds}
+use Rattle.cjc_verify_proof.specs.References.{Puts, PutsReference}
+use Rattle.cjc_card_semantics.specs.Bytecode.Effects.{HeapObject, References, shape}
+use Rattle.std.proofs.Common.{slice_set}
 use Rattle.cjc_verify_proof.specs.Control.{next_if, switched_words, Leads, Throws as IsThrown, Returns as IsLeft}
 use Rattle.cjc_verify_proof.specs.Frames.{Program}
 use Rattle.cjc_verify_proof.specs.Turns.{Does}
@@ -51,6 +55,10 @@ use Rattle.cjc_verify_proof.specs.Instructions.{return, newarray, anewarray, che
 use Rattle.cjc_verify_proof.proofs.WordLaws.{true_of, number_is, Tops, behind, number, tops}
 use Rattle.cjc_verify_proof.proofs.PlainLaws.{Parts, plain_kept}
 use Rattle.cjc_verify_proof.proofs.MemoryLaws.{onward_go}
+use Rattle.cjc_verify_proof.proofs.StoreLaws.{stores_byte, stores_short, stores_int}
+use Rattle.cjc_verify_proof.proofs.MadeLaws.{Makes, pushed_made, set_made, get_makes, put_makes, get_static_makes}
+use Rattle.cjc_verify_proof.proofs.MadeLaws.{put_static_makes, new_makes}
+use Rattle.cjc_verify_proof.specs.Turns.{IsMade, AreMade}
 use Rattle.cjc_verify_proof.proofs.ArrayLaws as stored
 use Rattle.cjc_verify_proof.proofs.FieldLaws.{get_field, get_field_this, put_field, put_field_this, get_cell, put_cell}
 use Rattle.cjc_verify_proof.proofs.FieldLaws.{new_object}
@@ -202,7 +210,7 @@ module _ (l : Loaded) (program : Program) (result : ValueType) (room next : ℕ)
     (supers : SupersStand l) (declared : AreDeclared l program.fields) (fit : IsMemory l program.fields m) where
   -- what is to be shown of an act on a stack
   abbrev Done : Act → List Cell → Effect Class Field Callee (List Image) → Type 0
-  Done a cs e = Does l program result a next lc cs m e × HoldsOn l program e
+  Done a cs e = Does l program result a next lc cs m e × HoldsOn l program m e
 
   -- it goes on in the same memory
   same_done : (a : Act) (cs : List Cell) (at : ℕ) (stack : List Value) (locals : List (Option Value))
@@ -211,13 +219,62 @@ module _ (l : Loaded) (program : Program) (result : ValueType) (room next : ℕ)
       → AreLocals (object_is l m.heap) (with_writes a lc (Cells cs) (let b = a in b.writes) lc) locals → memory ≡ m
       → Done a cs (Go at stack locals memory)
   same_done a cs at stack locals memory among w k e = subst (λ x. Done a cs (Go at stack locals x)) (sym e)
-      ((among, (extends_itself m.heap, (w, k))), fit)
+      ((among, (extends_itself m.heap, (w, k))), (fit, λ all. all))
+
+  onward_makes : (e : Effect Class Field Callee (List Image)) (given_by : List Cell) → Onward l next given_by lc m e
+      → Makes program m e
+  onward_makes (Go at stack locals memory) given_by h = λ all. subst (λ (x : Memory Class Field (List Image)). AreMade
+      program x.heap) (sym h.1.1.1) all
+  onward_makes (Raise fault) given_by h = tt
+  onward_makes (Toss object) given_by h = tt
+  onward_makes (Invoke callee) given_by h = tt
+  onward_makes (Leave words) given_by h = tt
+  onward_makes Stick given_by h = tt
+
+  -- a store of a number keeps shapes
+  stored_makes : (e : Effect Class Field Callee (List Image)) (given_by : List Cell) → Stored l next given_by lc m e
+      → Makes program m e
+  stored_makes (Go at stack locals memory) given_by h = λ all k kind e. all k kind (h.1.1.1.1.0 k ∙ e)
+  stored_makes (Raise fault) given_by h = tt
+  stored_makes (Toss object) given_by h = tt
+  stored_makes (Invoke callee) given_by h = tt
+  stored_makes (Leave words) given_by h = tt
+  stored_makes Stick given_by h = tt
+
+  -- another reference in an array
+  puts_makes : (e : Effect Class Field Callee (List Image)) (given_by : List Cell) → Puts l next given_by lc m e
+      → Makes program m e
+  puts_makes (Go at stack locals memory) given_by h = λ all. subst (λ (x : Memory Class Field (List Image)). AreMade
+      program x.heap) (sym h.1.1.1.is) (put_made h.1.1.1 all)
+    where
+      put_made : (p : PutsReference l m memory) → AreMade program m.heap → AreMade program (slice_set m.heap p.array
+          (References p.class (slice_set p.items p.index p.value)))
+      put_made p all = set_made program m p.array (References p.class p.items) (References p.class (slice_set p.items
+          p.index p.value)) p.there refl all
+  puts_makes (Raise fault) given_by h = tt
+  puts_makes (Toss object) given_by h = tt
+  puts_makes (Invoke callee) given_by h = tt
+  puts_makes (Leave words) given_by h = tt
+  puts_makes Stick given_by h = tt
+
+  -- one array more
+  adds_makes : (P : HeapObject Class Field → Type 0) → ((thing : HeapObject Class Field) → P thing
+      → IsMade program (shape thing)) → (e : Effect Class Field Callee (List Image)) (given_by : List Cell)
+      → Adds l next given_by lc m P e → Makes program m e
+  adds_makes P f (Go at stack locals memory) given_by h = λ all. subst (λ (x : Memory Class Field
+      (List Image)). AreMade program x.heap) (sym h.1.1.1.1.1) (pushed_made program m h.1.1.1.0 (f h.1.1.1.0 h.1.1.1.1.0)
+      all)
+  adds_makes P f (Raise fault) given_by h = tt
+  adds_makes P f (Toss object) given_by h = tt
+  adds_makes P f (Invoke callee) given_by h = tt
+  adds_makes P f (Leave words) given_by h = tt
+  adds_makes P f Stick given_by h = tt
 
   -- it goes on with memory that holds what it may
   goes_done : (a : Act) (cs : List Cell) → falls_of a ≡ true → (let b = a in b.writes) ≡ []
       → (e : Effect Class Field Callee (List Image)) → Goes l program.fields next (stack_behind a lc cs) lc m e
-      → Done a cs e
-  goes_done a cs falls none (Go at stack locals memory) h = (
+      → Makes program m e → Done a cs e
+  goes_done a cs falls none (Go at stack locals memory) h makes = (
     (
       subst (λ x. Contains (next_if (falls_of a) next ++ (let b = a in b.targets)) x) (sym h.0) (next_follows a next
           falls),
@@ -230,19 +287,20 @@ module _ (l : Loaded) (program : Program) (result : ValueType) (room next : ℕ)
         ),
       ),
     ),
-    h.1.1.1.0,
+    (h.1.1.1.0, makes),
   )
-  goes_done a cs falls none (Raise fault) h = (tt, tt)
-  goes_done a cs falls none (Toss object) h = absurd h
-  goes_done a cs falls none (Invoke callee) h = absurd h
-  goes_done a cs falls none (Leave words) h = absurd h
-  goes_done a cs falls none Stick h = absurd h
+  goes_done a cs falls none (Raise fault) h makes = (tt, tt)
+  goes_done a cs falls none (Toss object) h makes = absurd h
+  goes_done a cs falls none (Invoke callee) h makes = absurd h
+  goes_done a cs falls none (Leave words) h makes = absurd h
+  goes_done a cs falls none Stick h makes = absurd h
 
   onward_done : (a : Act) (cs given_by : List Cell) → falls_of a ≡ true → stack_behind a lc cs ≡ given_by
       → (let b = a in b.writes) ≡ [] → (e : Effect Class Field Callee (List Image)) → Onward l next given_by lc m e
       → Done a cs e
   onward_done a cs given_by falls is none e h = goes_done a cs falls none e
       (subst (λ x. Goes l program.fields next x lc m e) (sym is) (onward_go l program.fields next m fit given_by lc e h))
+      (onward_makes e given_by h)
 
   -- ---- plain rows
 
@@ -356,6 +414,8 @@ module _ (l : Loaded) (program : Program) (result : ValueType) (room next : ℕ)
           (store_number (classes l) Byte next lv m (Num x ∷ Num i ∷ v ∷ vs))
           (stored.byte_stored l program.fields next cs lc m fit vs w.1 lv k (classes l) x i d v
           (only_array (arrays_of Byte) d cs h) w.0)
+          (stored_makes (store_number (classes l) Byte next lv m (Num x ∷ Num i ∷ v ∷ vs)) cs
+          (stores_byte l next lc lv m k (classes l) fit.numbers cs vs w.1 x i d v (only_array (arrays_of Byte) d cs h) w.0))
 
   short_stored : {cs : List Cell} {vs : List Value} → Tops (object_is l m.heap) 2 cs vs → 3 ≤ length cs
       → has_wrong (is_type_of l) (OfArrays (arrays_of Short) ∷ []) (drop 2 cs) ≡ false
@@ -372,6 +432,8 @@ module _ (l : Loaded) (program : Program) (result : ValueType) (room next : ℕ)
           (store_number (classes l) Short next lv m (Num x ∷ Num i ∷ v ∷ vs))
           (stored.short_stored l program.fields next cs lc m fit vs w.1 lv k (classes l) x i d v
           (only_array (arrays_of Short) d cs h) w.0)
+          (stored_makes (store_number (classes l) Short next lv m (Num x ∷ Num i ∷ v ∷ vs)) cs
+          (stores_short l next lc lv m k (classes l) fit.numbers cs vs w.1 x i d v (only_array (arrays_of Short) d cs h) w.0))
 
   int_stored : {cs : List Cell} {vs : List Value} → Tops (object_is l m.heap) 3 cs vs → 4 ≤ length cs
       → has_wrong (is_type_of l) (OfArrays (arrays_of Int) ∷ []) (drop 3 cs) ≡ false
@@ -388,12 +450,15 @@ module _ (l : Loaded) (program : Program) (result : ValueType) (room next : ℕ)
           (store_number (classes l) Int next lv m (Num low ∷ Num high ∷ Num i ∷ v ∷ vs))
           (stored.int_stored l program.fields next cs lc m fit vs w.1 lv k (classes l) low high i d v
           (only_array (arrays_of Int) d cs h) w.0)
+          (stored_makes (store_number (classes l) Int next lv m (Num low ∷ Num high ∷ Num i ∷ v ∷ vs)) cs
+          (stores_int l next lc lv m k (classes l) fit.numbers cs vs w.1 low high i d v (only_array (arrays_of Int) d cs h)
+          w.0))
 
   -- a reference on top of an index on top of an array of them
   puts_done : (a : Act) (cs : List Cell) → falls_of a ≡ true → (let b = a in b.writes) ≡ []
       → (e : Effect Class Field Callee (List Image)) → Puts l next (stack_behind a lc cs) lc m e → Done a cs e
   puts_done a cs falls none e h = goes_done a cs falls none e (stored.puts_go l program.fields next (stack_behind a lc cs)
-      lc m fit e h)
+      lc m fit e h) (puts_makes e (stack_behind a lc cs) h)
 
   reference_stored : (cs : List Cell) (vs : List Value) → AreWords (object_is l m.heap) cs vs
       → Parts (is_type_of l) room (storing_item Reference) lc cs
@@ -451,6 +516,9 @@ module _ (l : Loaded) (program : Program) (result : ValueType) (room next : ℕ)
       (stored.zeros_go l program.fields next (Refs (type ∷ []) ∷ cs) lc m fit element
       (effect (classes l) (NewNumbers element) room next lv m (v ∷ vs))
       (makes_numbers l room next lc lv m k (classes l) type element kind c cs v vs (number_is c e) w high))
+      (adds_makes (AreZeros element) (λ thing z. subst (λ x. IsMade program (shape x)) (sym z.1) tt)
+      (effect (classes l) (NewNumbers element) room next lv m (v ∷ vs)) (Refs (type ∷ []) ∷ cs)
+      (makes_numbers l room next lc lv m k (classes l) type element kind c cs v vs (number_is c e) w high))
 
   anewarray_done : (class : Class) (type : List ℕ) → shape_by l type ≡ Some (OfReferences class) → {cs : List Cell}
       {vs : List Value} → IsTop NumberWord cs vs → nat_lt room (length cs) ≡ false
@@ -459,6 +527,9 @@ module _ (l : Loaded) (program : Program) (result : ValueType) (room next : ℕ)
       (effect (classes l) (NewReferences class) room next lv m (v ∷ vs))
       (stored.nulls_go l program.fields next (Refs (type ∷ []) ∷ cs) lc m fit class
       (effect (classes l) (NewReferences class) room next lv m (v ∷ vs))
+      (makes_references l room next lc lv m k (classes l) type class kind c cs v vs (number_is c e) w high))
+      (adds_makes (AreNulls class) (λ thing z. subst (λ x. IsMade program (shape x)) (sym z.1) tt)
+      (effect (classes l) (NewReferences class) room next lv m (v ∷ vs)) (Refs (type ∷ []) ∷ cs)
       (makes_references l room next lc lv m k (classes l) type class kind c cs v vs (number_is c e) w high))
 
   checkcast_done : (target : Shape Class) (type : List ℕ) → shape_by l type ≡ Some target → {cs : List Cell}
@@ -547,30 +618,37 @@ module _ (l : Loaded) (program : Program) (result : ValueType) (room next : ℕ)
       (effect (classes l) (Get false letter f) room next lv m vs)
       (get_field l program.fields room next lc lv m k fit supers declared f type typed letter moved name named
       (record idle { takes = OfType name ∷ []; gives = words type }) refl refl cs vs w passes)
+      (get_makes program m (classes l) false letter f room next lv vs)
   instruction_done _ _ (getfield_this f letter type name typed moved named) cs vs w passes p = goes_done
       (record idle { reads = reading 0 (OfType name) ∷ []; gives = words type }) cs refl refl
       (effect (classes l) (Get true letter f) room next lv m vs)
       (get_field_this l program.fields room next lc lv m k fit supers declared f type typed letter moved name named
       (record idle { reads = reading 0 (OfType name) ∷ []; gives = words type }) refl refl refl cs vs w passes)
+      (get_makes program m (classes l) true letter f room next lv vs)
   instruction_done _ _ (putfield f letter type name typed moved named) cs vs w passes p = goes_done
       (record idle { takes = needs_of type ++ OfType name ∷ [] }) cs refl refl
       (effect (classes l) (Put false letter f) room next lv m vs)
       (put_field l program.fields room next lc lv m k fit supers declared f type typed letter moved name named
       (record idle { takes = needs_of type ++ OfType name ∷ [] }) refl refl cs vs w passes)
+      (put_makes program m (classes l) false letter f room next lv vs)
   instruction_done _ _ (putfield_this f letter type name typed moved named) cs vs w passes p = goes_done
       (record idle { takes = needs_of type; reads = reading 0 (OfType name) ∷ [] }) cs refl refl
       (effect (classes l) (Put true letter f) room next lv m vs)
       (put_field_this l program.fields room next lc lv m k fit supers declared f type typed letter moved name named
       (record idle { takes = needs_of type; reads = reading 0 (OfType name) ∷ [] }) refl refl refl cs vs w passes)
+      (put_makes program m (classes l) true letter f room next lv vs)
   instruction_done _ _ (getstatic c letter type typed moved) cs vs w passes p = goes_done
       (record idle { gives = words type }) cs refl refl (effect (classes l) (GetStatic letter c) room next lv m vs)
       (get_cell l program.fields room next lc lv m k fit c type typed letter moved (record idle { gives = words type })
       refl refl cs vs w passes)
+      (get_static_makes program m (classes l) letter c room next lv vs)
   instruction_done _ _ (putstatic c letter type typed moved) cs vs w passes p = goes_done
       (record idle { takes = needs_of type }) cs refl refl (effect (classes l) (PutStatic letter c) room next lv m vs)
       (put_cell l program.fields room next lc lv m k fit c type typed letter moved
       (record idle { takes = needs_of type }) refl refl cs vs w passes)
-  instruction_done _ _ (new class name made_of named) cs vs w passes p = goes_done
+      (put_static_makes program m (classes l) letter c room next lv vs)
+  instruction_done _ _ (new class name is_made made_of named) cs vs w passes p = goes_done
       (record idle { gives = AnObject name ∷ [] }) cs refl refl (effect (classes l) (New class) room next lv m vs)
       (new_object l program.fields room next lc lv m k fit supers declared class made_of name named
       (record idle { gives = AnObject name ∷ [] }) refl refl cs vs w passes)
+      (new_makes program m (classes l) class is_made room next lv vs)

@@ -27,3 +27,4 @@ pub mod FirstLaws
 pub mod MemoryLaws
 pub mod FieldLaws
 pub mod ArrayLaws
+pub mod MadeLaws

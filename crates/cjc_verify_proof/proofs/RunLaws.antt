@@ -1,4 +1,5 @@
 -- Runs of a program are never stuck.
+use Rattle.std.proofs.Common.{inr}
 use Rattle.std.proofs.Common.{◌≡◌, inl, ℕ, zero, suc, Bool, true, false, List, [], ◌∷◌, slice_get}
 use Rattle.std.proofs.Common.{Option, Some, None, refl, sym, ap, subst, ◌∙◌}
 use Rattle.std.specs.Prelude.{if◌then◌else◌, flat_map}
@@ -39,7 +40,7 @@ use Rattle.cjc_verify_proof.specs.Frames.{Typing, Program, AreMethods, Stands, R
 use Rattle.cjc_verify_proof.specs.Frames.{IsMethod}
 use Rattle.cjc_verify_proof.specs.Calls.{argument_cells, IsSort, AreSorts}
 use Rattle.cjc_verify_proof.specs.Scripts.{IsPrepared, GoesOnPrepared}
-use Rattle.cjc_verify_proof.specs.Turns.{IsHeld, Does, GoesOnBy}
+use Rattle.cjc_verify_proof.specs.Turns.{IsMade, AreMade, IsHeld, Does, GoesOnBy}
 use Rattle.cjc_verify_proof.specs.Instructions.{Suits, HoldsOn}
 use Rattle.cjc_verify_proof.specs.Runs.{IsEntry, IsProgram}
 use Rattle.cjc_verify_proof.proofs.WordLaws.{words_append}
@@ -53,6 +54,12 @@ use Rattle.cjc_verify_proof.proofs.InstructionLaws.{instruction_done}
 use Rattle.cjc_verify_proof.proofs.ScriptLaws.{memory_prepared}
 use Rattle.cjc_verify_proof.specs.Memories.{IsMemory}
 use Rattle.cjc_verify_proof.specs.Acts.{Passes}
+use Rattle.cjc_verify_proof.specs.Heaps.{shape_in}
+use Rattle.cjc_verify_proof.specs.Scripts.{IsImported}
+use Rattle.cjc_card_semantics.specs.Script.Sorts.{OfClass}
+use Rattle.cjc_card_semantics.specs.Bytecode.Effects.{Slot, Numbers, References, Object}
+use Rattle.cjc_card_semantics.specs.Machine.Classes.{Own, External}
+use Rattle.std.proofs.Common.{◌⊎◌}
 use Rattle.cjc_card_semantics.proofs.BytesBools.{and_true}
 
 -- ---- words of values that fit
@@ -168,6 +175,30 @@ module _ (l : Loaded) (program : Program) (is : IsProgram l program) where
     ),
   )
 
+  -- acts leave arrays and objects that are made
+  made_prepared : (heap after : List (HeapObject Class Field)) → IsPrepared l heap after → AreMade program heap
+      → AreMade program after
+  made_prepared heap after p all k kind e = go (slice_get after k) refl e
+    where
+      of_class : (c : Class) → IsImported c → program.made c ≡ true
+      of_class (Own part offset) i = absurd i
+      of_class (External tree token) i = is.imported tree token
+
+      object : (c : Class) (slots : List (Slot Field)) → (slice_get heap k ≡ Some (Object c slots)) ⊎ ((slots ≡ [])
+          × IsImported c) → program.made c ≡ true
+      object c slots (inl was) = all k (OfClass c) (ap shape_in was)
+      object c slots (inr bare) = of_class c bare.1
+
+      thing_made : (thing : HeapObject Class Field) → slice_get after k ≡ Some thing → IsMade program (shape thing)
+      thing_made (Numbers element items) at = tt
+      thing_made (References c items) at = tt
+      thing_made (Object c slots) at = object c slots (p.objects k c slots at)
+
+      go : (o : Option (HeapObject Class Field)) → slice_get after k ≡ o → shape_in o ≡ Some kind
+          → IsMade program kind
+      go None at f = cc
+      go (Some thing) at f = (let same : shape thing ≡ kind = cc in subst (IsMade program) same (thing_made thing at))
+
   held_none : (holder : Option (List ℕ)) → IsHeld l None holder → (heap : List (HeapObject Class Field))
       (params : List ValueType) (ws : List Value) → AreWords (object_is l heap) (flat_map cells_of params) ws
       → AreWords (object_is l heap) (argument_cells holder params) ws
@@ -193,8 +224,8 @@ module _ (l : Loaded) (program : Program) (is : IsProgram l program) where
       told None e = cc
 
   module _ (m : Memory Class Field (List Image)) (t : State Code Class Field (List Image))
-      (p : IsPrepared l m.heap t.memory.heap) (same : t.memory.statics ≡ m.statics) (e : Entry)
-      (entries : List Entry) where
+      (p : IsPrepared l m.heap t.memory.heap) (same : t.memory.statics ≡ m.statics) (all_made : AreMade program m.heap)
+      (e : Entry) (entries : List Entry) where
     enters : (start : Option (Start Code)) (words : Option (List Value)) → ((m : Start Code) → start ≡ Some m
         → (ws : List Value) → words ≡ Some ws
         → AreFrames l program t.memory.heap (frame_for_call m ws ∷ []))
@@ -251,7 +282,8 @@ module _ (l : Loaded) (program : Program) (is : IsProgram l program) where
             → AreFrames l program t.memory.heap (frame_for_call x ws ∷ [])
         go None there f = cc
         go (Some thing) there f =
-            let y = is.sends (shape thing) (method_of e) x f in
+            let y = is.sends (shape thing) (made_prepared m.heap t.memory.heap p all_made k (shape thing) (ap shape_in there))
+            (method_of e) x f in
             let b = behind_receiver k (params_of y.signature) args ws (h y.signature y.types) in
             entry_runs (Some (shape thing)) (desc_of (method_of e)) x y t.memory.heap ws
             (subst (λ us. AreWords (object_is l t.memory.heap) (argument_cells y.holder y.params) us) b.1.1
@@ -283,7 +315,8 @@ module _ (l : Loaded) (program : Program) (is : IsProgram l program) where
 
   -- memory holds what it may, and frames are typed
   abbrev IsSound : State Code Class Field (List Image) → Type 0
-  IsSound s = IsMemory l program.fields s.memory × AreFrames l program s.memory.heap s.frames
+  IsSound s = (IsMemory l program.fields s.memory × AreMade program s.memory.heap) × AreFrames l program s.memory.heap
+      s.frames
 
   -- a turn that is not stuck leads to such a state
   abbrev IsSoundTurn : Turn Code Class Field (List Image) → Type 0
@@ -291,11 +324,14 @@ module _ (l : Loaded) (program : Program) (is : IsProgram l program) where
   IsSoundTurn (Ended outcome s) = IsEnd outcome
   IsSoundTurn (StuckAt at s) = ⊥
 
-  prepared_sound : (s : State Code Class Field (List Image)) → IsMemory l program.fields s.memory
+  prepared_sound : (s : State Code Class Field (List Image)) → IsMemory l program.fields s.memory × AreMade program
+      s.memory.heap
       → (turn : Turn Code Class Field (List Image)) → GoesOnPrepared l program s.memory turn → IsSoundTurn turn
   prepared_sound s fit (Next x) g = (
-    memory_prepared l program.fields is.supers is.declared s.memory x.memory fit g.0
-        g.1.0,
+    (
+      memory_prepared l program.fields is.supers is.declared s.memory x.memory fit.0 g.0 g.1.0,
+      made_prepared s.memory.heap x.memory.heap g.0 fit.1,
+    ),
     g.1.1,
   )
   prepared_sound s fit (Ended outcome x) g = g
@@ -307,15 +343,16 @@ module _ (l : Loaded) (program : Program) (is : IsProgram l program) where
   begins_sound [] [] s same h = tt
   begins_sound [] (e ∷ entries) s same h = prepared_sound s h.0 (begins (by_token l) [] (e ∷ entries) s)
       (acts_go l program s.memory (λ t. entered_by (by_token l) (entry_start (by_token l) t.memory.heap e)
-      (entry_words (by_token l) t.memory.heap e) e entries t) (λ t p kept. entry_goes s.memory t p kept e entries)
+      (entry_words (by_token l) t.memory.heap e) e entries t) (λ t p kept. entry_goes s.memory t p kept h.0.1 e entries)
       (acts_of e) (number_of e) s (prepared_itself l s.memory.heap) refl)
 
   -- what follows from what an instruction does
-  made_sound : (s : State Code Class Field (List Image)) → IsMemory l program.fields s.memory
+  made_sound : (s : State Code Class Field (List Image)) → IsMemory l program.fields s.memory × AreMade program
+      s.memory.heap
       → (e : Effect Class Field Callee (List Image)) (turn : Turn Code Class Field (List Image))
-      → GoesOnBy l program s.memory e turn → HoldsOn l program e → IsSoundTurn turn
+      → GoesOnBy l program s.memory e turn → HoldsOn l program s.memory e → IsSoundTurn turn
   made_sound s fit (Go at stack locals memory) (Next x) g h = (
-    subst (λ (y : Memory Class Field (List Image)). IsMemory l program.fields y) (sym g.0) h,
+    subst (λ (y : Memory Class Field (List Image)). IsMemory l program.fields y × AreMade program y.heap) (sym g.0) (h.0, h.1 fit.1),
     subst (λ (y : Memory Class Field (List Image)). AreFrames l program y.heap x.frames) (sym g.0) g.1,
   )
   made_sound s fit (Go at stack locals memory) (Ended outcome x) g h = g
@@ -327,11 +364,11 @@ module _ (l : Loaded) (program : Program) (is : IsProgram l program) where
   made_sound s fit Stick turn g h = prepared_sound s fit turn g
 
   step_sound : (frames : List (Frame Code)) (s : State Code Class Field (List Image))
-      → IsMemory l program.fields s.memory → AreFrames l program s.memory.heap frames
+      → IsMemory l program.fields s.memory × AreMade program s.memory.heap → AreFrames l program s.memory.heap frames
       → IsSoundTurn (step (by_token l) frames s)
   step_sound [] s fit h = tt
   step_sound (f ∷ outer) s fit h = made_sound s fit e (step (by_token l) (f ∷ outer) s)
-      (step_goes l program methods is.has s t h.1.0 f runs outer h.1.1.1 i.0 fetched e refl does.0) does.1
+      (step_goes l program methods is.has s t h.1.0 f runs outer h.1.1.1 i.0 fetched fit.1 e refl does.0) does.1
     where
       t : Typing
       t = h.0
@@ -364,9 +401,9 @@ module _ (l : Loaded) (program : Program) (is : IsProgram l program) where
           (sound l program.exceptions t method st.place st.step st.is_step st.cells st.locals st.reached).passes
 
       does : Does l program t.result (act_of st.step) (let x = i.0 in x.next) st.locals st.cells s.memory e × HoldsOn l
-          program e
+          program s.memory e
       does = instruction_done l program t.result (let c = f.code in c.room) (let x = i.0 in x.next) st.locals f.locals
-          s.memory st.typed is.supers is.declared fit (act_of st.step) (let x = i.0 in x.operation) i.1.1 st.cells f.stack runs.words
+          s.memory st.typed is.supers is.declared fit.0 (act_of st.step) (let x = i.0 in x.operation) i.1.1 st.cells f.stack runs.words
           passes (parts (is_type_of l) (let c = f.code in c.room) (act_of st.step) st.locals st.cells passes)
 
   turn_sound : (s : State Code Class Field (List Image)) → IsSound s → IsSoundTurn (turn (by_token l) s)
@@ -401,4 +438,4 @@ module _ (l : Loaded) (program : Program) (is : IsProgram l program) where
 
   -- no run of the program is stuck
   pub never_stuck : (script : Script) (n at : ℕ) → (let r = run l script n in r.outcome ≡ Stuck at) → ⊥
-  never_stuck script n at e = subst IsEnd e (run_sound n (start l script) (is.memory, tt))
+  never_stuck script n at e = subst IsEnd e (run_sound n (start l script) ((is.memory, is.made), tt))

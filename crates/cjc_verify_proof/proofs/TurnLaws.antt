@@ -1,4 +1,5 @@
 -- Calls and turns are not stuck, and leave typed frames.
+use Rattle.std.proofs.Common.{ap}
 use Rattle.std.proofs.Common.{◌≡◌, ◌≤◌, ◌+◌, inl, ℕ, Bool, true, false, nat_le, List, [], ◌∷◌}
 use Rattle.std.proofs.Common.{length, take, drop, reverse, slice_get, Option, Some, None, refl, sym, subst}
 use Rattle.std.proofs.Common.{arith}
@@ -26,11 +27,11 @@ use Rattle.cjc_card_acts.specs.Frames.declared.acts.Need.{Need}
 use Rattle.cjc_card_acts.specs.Frames.Acts.{has_wrong}
 use Rattle.cjc_card_acts.specs.CardTypes.{ValueType, shape_by, both_of, is_type_of}
 use Rattle.cjc_verify_proof.specs.Words.{AreWords}
-use Rattle.cjc_verify_proof.specs.Heaps.{thing_is, object_is}
+use Rattle.cjc_verify_proof.specs.Heaps.{thing_is, object_is, shape_in}
 use Rattle.cjc_verify_proof.specs.Frames.{Typing, Program, AreMethods, Stands, Runs, Waits, AreOuter, GoesOn}
 use Rattle.cjc_verify_proof.specs.Calls.{has_receiver, argument_cells}
 use Rattle.cjc_verify_proof.specs.Scripts.{GoesOnPrepared, HasExceptions}
-use Rattle.cjc_verify_proof.specs.Turns.{IsHeld, IsReached, within, abroad, Reaches, Calls, Does, GoesOnBy}
+use Rattle.cjc_verify_proof.specs.Turns.{AreMade, IsHeld, IsReached, within, abroad, Reaches, Calls, Does, GoesOnBy}
 use Rattle.cjc_verify_proof.proofs.WordLaws.{words_length, words_drop}
 use Rattle.cjc_verify_proof.proofs.PlainLaws.{Parts, parts}
 use Rattle.cjc_verify_proof.proofs.TypeLaws.{of_only}
@@ -78,7 +79,7 @@ module _ (l : Loaded) (program : Program) (all : AreMethods l program) (has : Ha
 
   -- ---- receivers
 
-  module _ (callee : Callee) (st : Stands l s.memory.heap t f) where
+  module _ (callee : Callee) (st : Stands l s.memory.heap t f) (all_made : AreMade program s.memory.heap) where
     on_type : (type : List ℕ) → Reaches l program callee (Some type) params result → (args : List Value)
         → AreWords (object_is l s.memory.heap) (argument_cells (Some type) params) args
         → Prepared (on_receiver (by_token l) callee args f outer s)
@@ -98,7 +99,8 @@ module _ (l : Loaded) (program : Program) (all : AreMethods l program) (has : Ha
             never None e = cc
             never (Some kind) e = cc
         go (Some thing) at e = reached_goes (Some type) (Some (shape thing)) (Obj k ∷ args) ws of_kind
-            (reached l callee (Some (shape thing))) (r (shape thing) (both (shape_by l type) e))
+            (reached l callee (Some (shape thing))) (r (shape thing) (all_made k (shape thing) (ap shape_in at))
+            (both (shape_by l type) e))
           where
             both : (y : Option (Shape Class)) → thing_is l (Some thing) y ≡ true
                 → both_of l (Some (shape thing)) y ≡ true
@@ -143,7 +145,8 @@ module _ (l : Loaded) (program : Program) (all : AreMethods l program) (has : Ha
     (s : State Code Class Field (List Image)) (t : Typing) (among : Contains program.methods t) (f : Frame Code)
     (runs : Runs l s.memory.heap t f) (outer : List (Frame Code))
     (o : AreOuter l program s.memory.heap t.result outer)
-    (i : Fetched Class Field StaticCell Callee) (fetched : fetch l f.code f.at ≡ Some i) where
+    (i : Fetched Class Field StaticCell Callee) (fetched : fetch l f.code f.at ≡ Some i)
+    (all_made : AreMade program s.memory.heap) where
   abbrev st : Stands l s.memory.heap t f
   st = runs.stands
 
@@ -220,7 +223,7 @@ module _ (l : Loaded) (program : Program) (all : AreMethods l program) (has : Ha
       go false e = cc
       go true e = subst (λ on. GoesOnPrepared l program s.memory (with_args (by_token l) on callee
           (reverse (take (length (takes_of a)) f.stack)) waiting outer s)) (sym c.on)
-          (with_any l program all has s t among waiting outer o c.result waits c.params callee stands c.receiver c.reaches
+          (with_any l program all has s t among waiting outer o c.result waits c.params callee stands all_made c.receiver c.reaches
           (reverse (take (length (takes_of a)) f.stack)) args)
 
   -- a turn in the same memory
@@ -272,19 +275,19 @@ spent_goes l program m Stick n (StuckAt at s) g = absurd g
 pub step_goes : (l : Loaded) (program : Program) → AreMethods l program → HasExceptions l program.exceptions
     → (s : State Code Class Field (List Image)) (t : Typing) → Contains program.methods t → (f : Frame Code)
     (runs : Runs l s.memory.heap t f) (outer : List (Frame Code)) → AreOuter l program s.memory.heap t.result outer
-    → (i : Fetched Class Field StaticCell Callee) → fetch l f.code f.at ≡ Some i
+    → (i : Fetched Class Field StaticCell Callee) → fetch l f.code f.at ≡ Some i → AreMade program s.memory.heap
     → (e : Effect Class Field Callee (List Image))
     → e ≡ effect (classes l) i.operation (let c = f.code in c.room) i.next f.locals s.memory f.stack
     → (let x = runs.stands in let y = x.step in Does l program t.result y.act i.next x.locals x.cells s.memory e)
     → GoesOnBy l program s.memory e (step (by_token l) (f ∷ outer) s)
 unfolding by_token
-step_goes l program all has s t among f runs outer o i fetched e is d =
+step_goes l program all has s t among f runs outer o i fetched all_made e is d =
     subst (λ x. GoesOnBy l program s.memory e (spent_by (by_token l) s.spent (turn_after_fetch (by_token l) x f outer
     spent))) (sym fetched)
     (subst (λ x. GoesOnBy l program s.memory e (spent_by (by_token l) s.spent (made (by_token l) x i.next f outer
     spent))) is
     (spent_goes l program s.memory e s.spent (made (by_token l) e i.next f outer spent)
-    (made_goes l program all has spent t among f runs outer o i fetched e d)))
+    (made_goes l program all has spent t among f runs outer o i fetched all_made e d)))
   where
     spent : State Code Class Field (List Image)
     spent = record s { spent = s.spent + 1 }

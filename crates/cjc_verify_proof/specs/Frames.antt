@@ -1,4 +1,5 @@
 -- Frames of a run that stand where the least tables of their methods say, with stacks and locals of their cells.
+use Rattle.std.specs.Prelude.{Bool}
 use Rattle.std.specs.Prelude.{◌≡◌, ℕ, suc, zero, ◌+◌, true, false, List, [], ◌∷◌, length, drop, slice_get, Option}
 use Rattle.std.specs.Prelude.{Some, Contains}
 use Rattle.std.specs.List.{AllZip}
@@ -72,11 +73,12 @@ pub record IsMethod (l : Loaded) (exceptions : List ℕ) (t : Typing) : Type 0 w
       → (i : Fetched Class Field StaticCell Callee) → fetch l t.code s.at ≡ Some i
       → (n : Step) × ((slice_get t.body.steps (place + 1) ≡ Some n) × (n.at ≡ i.next))
 
--- the methods of a program, the type of all exceptions, and the types of fields
+-- the methods of a program, the type of all exceptions, the types of fields, and the classes of which objects are made
 pub record Program : Type 0 where
   pub methods : List Typing
   pub exceptions : List ℕ
   pub fields : FieldTypes
+  pub made : Class → Bool
 
 -- each is so
 abbrev pub AreMethods : Loaded → Program → Type 0

@@ -6,7 +6,7 @@ use Rattle.cjc_card_semantics.specs.Bytecode.Calculations.{Calculation, Test}
 use Rattle.cjc_card_semantics.specs.Bytecode.Effects.{Letter, Arm, Operation, Do, Branch, Pick, Touch, Load, Store}
 use Rattle.cjc_card_semantics.specs.Bytecode.Effects.{Length, Throw, Return, Get, Put, GetStatic, PutStatic, Call, New, NewNumbers}
 use Rattle.cjc_card_semantics.specs.Bytecode.Effects.{NewReferences, Cast, Ask}
-use Rattle.cjc_card_semantics.specs.Bytecode.Effects.{Effect, Go, Raise, Toss, Invoke, Leave, Stick}
+use Rattle.cjc_card_semantics.specs.Bytecode.Effects.{Memory, Effect, Go, Raise, Toss, Invoke, Leave, Stick}
 use Rattle.cjc_card_semantics.specs.Machine.Loaded.{Loaded}
 use Rattle.cjc_card_semantics.specs.Machine.Classes.{Class, Field, is_interface}
 use Rattle.cjc_card_semantics.specs.Machine.Statics.{Image, StaticCell}
@@ -23,7 +23,7 @@ use Rattle.cjc_verify_proof.specs.Acts.{plain_act}
 use Rattle.cjc_verify_proof.specs.Memories.{IsMemory}
 use Rattle.cjc_verify_proof.specs.Control.{switched_words}
 use Rattle.cjc_verify_proof.specs.Frames.{Program}
-use Rattle.cjc_verify_proof.specs.Turns.{Calls}
+use Rattle.cjc_verify_proof.specs.Turns.{AreMade, Calls}
 
 -- An instruction of a method with this result is so: what it takes and gives, and its operation.
 pub data Suits (l : Loaded) (program : Program) (result : ValueType) : Act → Operation Class Field StaticCell Callee
@@ -80,15 +80,16 @@ pub data Suits (l : Loaded) (program : Program) (result : ValueType) : Act → O
   putstatic : (c : StaticCell) (letter : Letter) (type : ValueType)
       → (let fields = program.fields in fields.cell c ≡ Some type) → is_moved_by letter type ≡ true
       → Suits l program result (record idle { takes = needs_of type }) (PutStatic letter c)
-  new : (class : Class) (name : List ℕ) → is_interface l class ≡ false → shape_by l name ≡ Some (OfClass class)
+  new : (class : Class) (name : List ℕ) → program.made class ≡ true → is_interface l class ≡ false → shape_by l name ≡ Some (OfClass class)
       → Suits l program result (record idle { gives = AnObject name ∷ [] }) (New class)
   call : {a : Act} {callee : Callee} → Calls l program a callee → Suits l program result a (Call callee)
 
--- Where an instruction goes on, arrays, objects and static fields hold what they may.
-abbrev pub HoldsOn : Loaded → Program → Effect Class Field Callee (List Image) → Type 0
-HoldsOn l program (Go at stack locals memory) = IsMemory l program.fields memory
-HoldsOn l program (Raise fault) = Unit {0}
-HoldsOn l program (Toss object) = Unit {0}
-HoldsOn l program (Invoke callee) = Unit {0}
-HoldsOn l program (Leave words) = Unit {0}
-HoldsOn l program Stick = Unit {0}
+-- Where an instruction goes on, arrays, objects and static fields hold what they may, and all of them are made as before.
+abbrev pub HoldsOn : Loaded → Program → (m : Memory Class Field (List Image)) → Effect Class Field Callee (List Image) → Type 0
+HoldsOn l program m (Go at stack locals memory) = IsMemory l program.fields memory × (AreMade program m.heap
+    → AreMade program memory.heap)
+HoldsOn l program m (Raise fault) = Unit {0}
+HoldsOn l program m (Toss object) = Unit {0}
+HoldsOn l program m (Invoke callee) = Unit {0}
+HoldsOn l program m (Leave words) = Unit {0}
+HoldsOn l program m Stick = Unit {0}

@@ -1,10 +1,10 @@
 -- Programs whose instructions are what their acts say, and what their runs come to.
-use Rattle.std.specs.Prelude.{◌≡◌, ℕ, List, [], map, slice_get, Option, Some, None, Contains}
+use Rattle.std.specs.Prelude.{◌≡◌, ℕ, true, List, [], map, slice_get, Option, Some, None, Contains}
 use Rattle.cjc_card_semantics.specs.Bytes.declared.fault.MemberId.{MemberId}
 use Rattle.cjc_card_semantics.specs.Script.Sorts.{Shape, Signature, signature_of}
 use Rattle.cjc_card_semantics.specs.Bytecode.Machine.{Start, Fetched}
 use Rattle.cjc_card_semantics.specs.Machine.Loaded.{Loaded}
-use Rattle.cjc_card_semantics.specs.Machine.Classes.{Class, Field}
+use Rattle.cjc_card_semantics.specs.Machine.Classes.{Class, External, Field}
 use Rattle.cjc_card_semantics.specs.Machine.Statics.{StaticCell, first_memory}
 use Rattle.cjc_card_semantics.specs.Machine.Operations.{Callee}
 use Rattle.cjc_card_semantics.specs.Machine.Methods.{Code, fetch}
@@ -16,7 +16,7 @@ use Rattle.cjc_verify_proof.specs.Memories.{IsMemory, SupersStand, AreDeclared}
 use Rattle.cjc_verify_proof.specs.Frames.{Typing, Program, AreMethods, Begins}
 use Rattle.cjc_verify_proof.specs.Calls.{argument_cells, AreSorts}
 use Rattle.cjc_verify_proof.specs.Scripts.{HasExceptions}
-use Rattle.cjc_verify_proof.specs.Turns.{IsHeld}
+use Rattle.cjc_verify_proof.specs.Turns.{IsMade, AreMade, IsHeld}
 use Rattle.cjc_verify_proof.specs.Instructions.{Suits}
 
 -- each instruction of a method is fetched, and its operation is what its act says
@@ -41,14 +41,16 @@ pub record IsEntry (l : Loaded) (program : Program) (receiver : Option (Shape Cl
   pub arguments : map (given [] []) (let b = method.body in b.arguments) ≡ argument_cells holder params
 
 -- The methods of a program are typed and their instructions are what their acts say, exceptions are there, entries begin
--- methods of the program, its fields have slots, and the first memory holds what it may.
+-- methods of the program on what is made, its fields have slots, and the first memory holds what it may.
 pub record IsProgram (l : Loaded) (program : Program) : Type 0 where
   pub methods : AreMethods l program
   pub suited : (t : Typing) → Contains program.methods t → AreSuited l program t
   pub has : HasExceptions l program.exceptions
   pub calls : (id : MemberId) (m : Start Code) → called l id ≡ Some m → IsEntry l program None id.desc m
-  pub sends : (kind : Shape Class) (id : MemberId) (m : Start Code) → sent l kind id ≡ Some m
+  pub sends : (kind : Shape Class) → IsMade program kind → (id : MemberId) (m : Start Code) → sent l kind id ≡ Some m
       → IsEntry l program (Some kind) id.desc m
   pub supers : SupersStand l
   pub declared : AreDeclared l program.fields
   pub memory : IsMemory l program.fields (first_memory l)
+  pub imported : (tree token : ℕ) → program.made (External tree token) ≡ true
+  pub made : (let first = first_memory l in AreMade program first.heap)

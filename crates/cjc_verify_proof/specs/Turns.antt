@@ -1,11 +1,12 @@
 -- Calls and turns of a run whose frames are typed.
+use Rattle.std.specs.Prelude.{slice_get}
 use Rattle.std.specs.Prelude.{◌≡◌, ℕ, true, List, [], ◌++◌, map, length, reverse, Option, Some, None}
 use Rattle.std.specs.Prelude.{Contains}
 use Rattle.cjc_card_semantics.specs.Bytes.declared.fault.MemberId.{MemberId}
-use Rattle.cjc_card_semantics.specs.Script.Sorts.{Shape, Signature, signature_of}
+use Rattle.cjc_card_semantics.specs.Script.Sorts.{Shape, OfClass, OfNumbers, OfReferences, Signature, signature_of}
 use Rattle.cjc_card_acts.specs.Types.declared.cell.Cell.{Cell}
 use Rattle.cjc_card_acts.specs.Types.declared.state.Stack.TheVariants.{Cells}
-use Rattle.cjc_card_semantics.specs.Bytecode.Effects.{Memory, Effect, Go, Raise, Toss, Invoke, Leave, Stick}
+use Rattle.cjc_card_semantics.specs.Bytecode.Effects.{HeapObject, Memory, Effect, Go, Raise, Toss, Invoke, Leave, Stick}
 use Rattle.cjc_card_semantics.specs.Bytecode.Machine.{Start, Reached, Within, Abroad, Turn}
 use Rattle.cjc_card_semantics.specs.Machine.Loaded.{Loaded}
 use Rattle.cjc_card_semantics.specs.Machine.Classes.{Class, Field}
@@ -18,12 +19,24 @@ use Rattle.cjc_card_acts.specs.Frames.Acts.{given, stack_behind, with_writes}
 use Rattle.cjc_card_acts.specs.CardTypes.{ValueType, needs_of_all, shape_by, both_of}
 use Rattle.cjc_card_acts.specs.CardTypes as types
 use Rattle.cjc_verify_proof.specs.Words.{AreWords, AreLocals}
-use Rattle.cjc_verify_proof.specs.Heaps.{object_is}
+use Rattle.cjc_verify_proof.specs.Heaps.{object_is, shape_in}
 use Rattle.cjc_verify_proof.specs.Growth.{Extends}
 use Rattle.cjc_verify_proof.specs.Control.{next_if, cells_of}
 use Rattle.cjc_verify_proof.specs.Frames.{Typing, Program, GoesOn, Begins}
 use Rattle.cjc_verify_proof.specs.Calls.{receiver_needs, has_receiver, argument_cells, AreSorts, IsResult}
 use Rattle.cjc_verify_proof.specs.Scripts.{GoesOnPrepared}
+
+-- ---- things that are made
+
+-- an array, or an object of a class of which objects are made
+abbrev pub IsMade : Program → Shape Class → Type 0
+IsMade program (OfClass c) = program.made c ≡ true
+IsMade program (OfNumbers element) = Unit {0}
+IsMade program (OfReferences c) = Unit {0}
+
+-- all arrays and objects of a heap are so
+abbrev pub AreMade : Program → List (HeapObject Class Field) → Type 0
+AreMade program heap = (k : ℕ) (kind : Shape Class) → shape_in (slice_get heap k) ≡ Some kind → IsMade program kind
 
 -- ---- calls
 
@@ -45,11 +58,11 @@ pub data IsReached (l : Loaded) (program : Program) (receiver : Option (Shape Cl
       → AreSorts l signature.params params → IsResult l signature.result result
       → IsReached l program receiver params result (Abroad id)
 
--- a call reaches such a method, on each receiver of its type
+-- a call reaches such a method, on each receiver of its type that is made
 abbrev pub Reaches : Loaded → (program : Program) → Callee → (receiver : Option (List ℕ)) → List ValueType → ValueType
     → Type 0
 Reaches l program callee None params result = IsReached l program None params result (reached l callee None)
-Reaches l program callee (Some type) params result = (kind : Shape Class)
+Reaches l program callee (Some type) params result = (kind : Shape Class) → IsMade program kind
     → both_of l (Some kind) (shape_by l type) ≡ true
     → IsReached l program (Some kind) params result (reached l callee (Some kind))
 

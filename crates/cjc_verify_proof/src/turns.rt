@@ -23,7 +23,7 @@ ghost use Rattle.cjc_verify_proof.specs.Heaps.{object_is};
 ghost use Rattle.cjc_verify_proof.specs.Memories.{IsMemory, SupersStand, AreDeclared};
 ghost use Rattle.cjc_verify_proof.specs.Frames.{Typing, Program, AreMethods, Runs, AreOuter};
 ghost use Rattle.cjc_verify_proof.specs.Scripts.{GoesOnPrepared, HasExceptions};
-ghost use Rattle.cjc_verify_proof.specs.Turns.{Calls, Does, GoesOnBy};
+ghost use Rattle.cjc_verify_proof.specs.Turns.{AreMade, Calls, Does, GoesOnBy};
 ghost use Rattle.cjc_verify_proof.specs.Instructions.{Suits, HoldsOn};
 ghost use Rattle.cjc_verify_proof.specs.Runs.{IsProgram};
 
@@ -34,7 +34,7 @@ pub fn calls_go_on()
         → (s : State Code Class Field (List Image)) (t : Typing) → Contains program.methods t → (f : Frame Code)
         (runs : Runs l s.memory.heap t f) (outer : List (Frame Code))
         → AreOuter l program s.memory.heap t.result outer → (i : Fetched Class Field StaticCell Callee)
-        → fetch l f.code f.at ≡ Some i → (callee : Callee)
+        → fetch l f.code f.at ≡ Some i → AreMade program s.memory.heap → (callee : Callee)
         → (let x = runs.stands in let y = x.step in Calls l program y.act callee)
         → GoesOnPrepared l program s.memory (counted (by_token l) (words l callee) callee
         (record f { next = i.next }) outer s) }
@@ -46,13 +46,13 @@ pub fn steps_go_on()
         → (s : State Code Class Field (List Image)) (t : Typing) → Contains program.methods t → (f : Frame Code)
         (runs : Runs l s.memory.heap t f) (outer : List (Frame Code))
         → AreOuter l program s.memory.heap t.result outer → (i : Fetched Class Field StaticCell Callee)
-        → fetch l f.code f.at ≡ Some i → (e : Effect Class Field Callee (List Image))
+        → fetch l f.code f.at ≡ Some i → AreMade program s.memory.heap → (e : Effect Class Field Callee (List Image))
         → e ≡ effect (classes l) i.operation (let c = f.code in c.room) i.next f.locals s.memory f.stack
         → (let x = runs.stands in let y = x.step in Does l program t.result y.act i.next x.locals x.cells s.memory e)
         → GoesOnBy l program s.memory e (step (by_token l) (f ∷ outer) s) }
 {}
 
-/// An instruction does what its act says, and where it goes on, memory holds what it may, where operands and locals are
+/// An instruction does what its act says, and where it goes on, memory holds what it may and objects are made as before, where operands and locals are
 /// what the act needs.
 pub fn instructions_do()
     ensures { (l : Loaded) (program : Program) (result : ValueType) (room next : ℕ) (local_cells : List Cell)
@@ -63,7 +63,7 @@ pub fn instructions_do()
         → (cells : List Cell) (stack : List Value) → AreWords (object_is l m.heap) cells stack
         → Passes (is_type_of l) room a local_cells cells
         → (let e = effect (classes l) operation room next locals m stack in
-        Does l program result a next local_cells cells m e × HoldsOn l program e) }
+        Does l program result a next local_cells cells m e × HoldsOn l program m e) }
 {}
 
 /// No run of a program is stuck, whatever the script and however many instructions are run: where its methods break no
