@@ -1,31 +1,27 @@
 -- Instructions on fields, static fields and new leave arrays and objects of classes of which objects are made.
-use Rattle.std.proofs.Common.{◌≡◌, ◌⊎◌, inl, inr, ℕ, zero, suc, Bool, true, false, nat_le, List, [], ◌∷◌, ◌++◌, length}
-use Rattle.std.proofs.Common.{slice_get, slice_set, Option, Some, None, refl, sym, ap, subst, ◌∙◌, ℤ, pos, negsuc}
-use Rattle.std.specs.Prelude.{if◌then◌else◌, replicate}
+use Rattle.std.proofs.Common.{◌≡◌, inl, inr, ℕ, zero, suc, Bool, true, false, nat_le, List, [], ◌∷◌, ◌++◌, length}
+use Rattle.std.proofs.Common.{slice_get, slice_set, Option, Some, None, refl, sym, ap, subst, ◌∙◌, ℤ}
+use Rattle.std.specs.Prelude.{if◌then◌else◌}
 use Rattle.cjc_card_semantics.specs.Script.declared.value.Value.{Value}
 use Rattle.cjc_card_semantics.specs.Script.declared.value.Value.TheVariants.{Num, Null, Obj}
-use Rattle.cjc_card_semantics.specs.Script.Sorts.{Element, Shape, OfClass, OfNumbers, OfReferences}
+use Rattle.cjc_card_semantics.specs.Script.Sorts.{Shape}
 use Rattle.cjc_card_semantics.specs.Range.Words.{low_word, low_byte}
 use Rattle.cjc_card_semantics.specs.Bytecode.Numbers.{is_word, spelt_by}
 use Rattle.cjc_card_semantics.specs.Bytecode.Calculations.{Result, Fine, Fails, Wrong, Choice, Takes, Neither, one_number}
 use Rattle.cjc_card_semantics.specs.Bytecode.Calculations.{one_value, one_int, two_numbers}
 use Rattle.cjc_card_semantics.specs.Bytecode.Calculations as machine
-use Rattle.cjc_card_semantics.specs.Bytecode.Effects.{Letter, Reference, Byte, Short, Int, Access, Load, Store, Length}
-use Rattle.cjc_card_semantics.specs.Bytecode.Effects.{Throw, Return, Arm, Slot, HeapObject, Numbers, References, Object}
-use Rattle.cjc_card_semantics.specs.Bytecode.Effects.{shape, Memory, Classes, Operation, Do, Branch, Pick, Touch, Get, Put}
-use Rattle.cjc_card_semantics.specs.Bytecode.Effects.{GetStatic, PutStatic, Call, New, NewNumbers, NewReferences, Cast}
-use Rattle.cjc_card_semantics.specs.Bytecode.Effects.{Ask, Undone, Effect, Go, Raise, Toss, Invoke, Leave, Stick}
-use Rattle.cjc_card_semantics.specs.Bytecode.Effects.{one_reference, operand, words_of, word_of, with_some, item_at}
-use Rattle.cjc_card_semantics.specs.Bytecode.Effects.{onward, thing_of, object_in, numbers_in, references_in, length_in}
-use Rattle.cjc_card_semantics.specs.Bytecode.Effects.{with_thing, kept, receiver, sized, made, put_slot, effect, chosen}
+use Rattle.cjc_card_semantics.specs.Bytecode.Effects.{Letter, Reference, Byte, Short, Int}
+use Rattle.cjc_card_semantics.specs.Bytecode.Effects.{Slot, HeapObject, Numbers, References, Object}
+use Rattle.cjc_card_semantics.specs.Bytecode.Effects.{shape, Memory, Classes, Get, Put}
+use Rattle.cjc_card_semantics.specs.Bytecode.Effects.{GetStatic, PutStatic, New}
+use Rattle.cjc_card_semantics.specs.Bytecode.Effects.{Effect, Go, Raise, Toss, Invoke, Leave, Stick}
+use Rattle.cjc_card_semantics.specs.Bytecode.Effects.{one_reference, operand, words_of, with_some}
+use Rattle.cjc_card_semantics.specs.Bytecode.Effects.{onward, thing_of, object_in}
+use Rattle.cjc_card_semantics.specs.Bytecode.Effects.{with_thing, receiver, made, put_slot, effect}
 use Rattle.cjc_card_semantics.specs.Bytecode.Effects.{slot_of, slots_with, same_kind}
-use Rattle.cjc_card_semantics.specs.Bytecode.Effects.{effect_of_result, effect_of_access, is_element, result_words}
-use Rattle.cjc_card_semantics.specs.Bytecode.Effects as effects
-use Rattle.cjc_card_semantics.specs.Machine.Loaded.{Loaded}
-use Rattle.cjc_card_semantics.specs.Machine.Classes.{Class, Field, fresh, is_of}
+use Rattle.cjc_card_semantics.specs.Machine.Classes.{Class, Field}
 use Rattle.cjc_card_semantics.specs.Machine.Statics.{Image, StaticCell}
 use Rattle.cjc_card_semantics.specs.Machine.Operations.{Callee}
-use Rattle.cjc_card_semantics.specs.Machine.ByToken.{classes}
 use Rattle.cjc_verify_proof.specs.Heaps.{shape_in}
 use Rattle.cjc_verify_proof.specs.Frames.{Program}
 use Rattle.cjc_verify_proof.specs.Turns.{IsMade, AreMade}

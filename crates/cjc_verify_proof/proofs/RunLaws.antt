@@ -1,4 +1,5 @@
 -- Runs of a program are never stuck.
+use Rattle.cjc_card_acts.specs.Types.declared.state.Stack.TheVariants.{Cells}
 use Rattle.std.proofs.Common.{inr}
 use Rattle.std.proofs.Common.{◌≡◌, inl, ℕ, zero, suc, Bool, true, false, List, [], ◌∷◌, slice_get}
 use Rattle.std.proofs.Common.{Option, Some, None, refl, sym, ap, subst, ◌∙◌}
@@ -384,7 +385,7 @@ module _ (l : Loaded) (program : Program) (is : IsProgram l program) where
 
       i : (x : Fetched Class Field StaticCell Callee) × ((fetch l t.code (at_of st.step) ≡ Some x) × Suits l program
           t.result (act_of st.step) x.operation)
-      i = is.suited t h.1.0 st.place st.step st.is_step
+      i = is.suited t h.1.0 st.place st.step st.is_step (record { stack = Cells st.cells; locals = st.locals }) st.reached
 
       fetched : fetch l f.code f.at ≡ Some i.0
       fetched = subst (λ n. fetch l f.code n ≡ Some i.0) st.is_at (subst (λ c. fetch l c (at_of st.step) ≡ Some i.0)

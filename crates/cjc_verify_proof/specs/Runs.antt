@@ -9,6 +9,8 @@ use Rattle.cjc_card_semantics.specs.Machine.Statics.{StaticCell, first_memory}
 use Rattle.cjc_card_semantics.specs.Machine.Operations.{Callee}
 use Rattle.cjc_card_semantics.specs.Machine.Methods.{Code, fetch}
 use Rattle.cjc_card_semantics.specs.Machine.Calls.{called, sent}
+use Rattle.cjc_card_acts.specs.Types.Fixpoint.Tables.{HasRow}
+use Rattle.cjc_card_acts.specs.Types.declared.state.State.{State}
 use Rattle.cjc_card_acts.specs.Frames.declared.acts.Step.{Step}
 use Rattle.cjc_card_acts.specs.Frames.Acts.{given}
 use Rattle.cjc_card_acts.specs.CardTypes.{ValueType}
@@ -19,9 +21,10 @@ use Rattle.cjc_verify_proof.specs.Scripts.{HasExceptions}
 use Rattle.cjc_verify_proof.specs.Turns.{IsMade, AreMade, IsHeld}
 use Rattle.cjc_verify_proof.specs.Instructions.{Suits}
 
--- each instruction of a method is fetched, and its operation is what its act says
+-- each instruction of a method that is reached is fetched, and its operation is what its act says
 abbrev pub AreSuited : Loaded → Program → Typing → Type 0
-AreSuited l program t = (place : ℕ) (s : Step) → (let b = t.body in slice_get b.steps place ≡ Some s)
+AreSuited l program t = (place : ℕ) (s : Step) → (let b = t.body in slice_get b.steps place ≡ Some s) → (x : State)
+    → HasRow t.rows place x
     → (i : Fetched Class Field StaticCell Callee) × ((fetch l t.code s.at ≡ Some i) × Suits l program t.result s.act
     i.operation)
 
@@ -40,8 +43,9 @@ pub record IsEntry (l : Loaded) (program : Program) (receiver : Option (Shape Cl
   pub sorts : AreSorts l signature.params params
   pub arguments : map (given [] []) (let b = method.body in b.arguments) ≡ argument_cells holder params
 
--- The methods of a program are typed and their instructions are what their acts say, exceptions are there, entries begin
--- methods of the program on what is made, its fields have slots, and the first memory holds what it may.
+-- The methods of a program are typed and their instructions that are reached are what their acts say, exceptions are
+-- there, entries begin methods of the program on what is made, its fields have slots, and the first memory holds what it
+-- may.
 pub record IsProgram (l : Loaded) (program : Program) : Type 0 where
   pub methods : AreMethods l program
   pub suited : (t : Typing) → Contains program.methods t → AreSuited l program t
