@@ -16,7 +16,7 @@ use Rattle.cjc_frames.specs.Flow.{Body as Frames}
 use Rattle.cjc_frames.specs.Tables.{Breach, FirstBreach, IsBrokenAt, IsLeastTable, IsUnbroken}
 use Rattle.cjc_frames.specs.declared.acts.Act.{Act}
 use Rattle.cjc_frames.specs.declared.acts.Step.{Step}
-use Rattle.cjc_types.specs.declared.state.State.{State}
+use Rattle.cjc_card_acts.specs.Types.declared.state.State.{State}
 use Rattle.cjc_verify.specs.Bodies.{Body, frames_of, step}
 use Rattle.cjc_verify.specs.Pairs.{Pair}
 use Rattle.cjc_verify.specs.Working.Bodies.{InCode, in_code, in_method}

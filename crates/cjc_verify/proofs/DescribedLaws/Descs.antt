@@ -37,7 +37,7 @@ all_mapped f test (x ∷ xs) = ap (λ (b : Bool). test (f x) && b) (all_mapped f
 
 card_with : Option Signature → Sort → Bool
 card_with None sort = is_card_sort sort
-card_with (Some types) sort = list_all is_card_sort types.params && is_card_result types.result
+card_with (Some types) _ = list_all is_card_sort types.params && is_card_result types.result
 
 by_with : (desc : List ℕ) (s : Option Signature) → is_card_type desc s ≡ card_with s (field_sort desc)
 unfolding card_with

@@ -5,6 +5,7 @@ use Rattle.std.proofs.Common.{ap, ◌∙◌, arith}
 use Rattle.std.specs.Prelude.{Option, Some, None, option_map, option_to_list, slice_get}
 use Rattle.std.specs.List.{flat_map, list_any, range_with_len}
 use Rattle.std.proofs.lemmas.List.Concat.{flat_map-cons}
+use Rattle.cjc_bytes.proofs.Quantified.{any_both}
 use Rattle.cjc_card_semantics.specs.Machine.Dispatch.{Hidden, Open, Token}
 use Rattle.cjc_order.specs.Classes.Numbers.{declared_at}
 use Rattle.cjc_world.specs.ClassFile.declared.tree.ClassTree.{ClassTree}
@@ -47,22 +48,13 @@ any_mapped : {A B : Type 0} (f : A → B) (test : B → Bool) (xs : List A) → 
 any_mapped f test [] = refl
 any_mapped f test (x ∷ xs) = ap (λ (b : Bool). test (f x) || b) (any_mapped f test xs)
 
-any_append : {A : Type 0} (test : A → Bool) (xs ys : List A) → list_any test (xs ++ ys)
-    ≡ (list_any test xs || list_any test ys)
-any_append test [] ys = refl
-any_append test (x ∷ xs) ys = ap (λ (b : Bool). test x || b) (any_append test xs ys) ∙ by (test x)
-  where
-    by : (b : Bool) → (b || (list_any test xs || list_any test ys)) ≡ ((b || list_any test xs) || list_any test ys)
-    by true = refl
-    by false = refl
-
 any_kinds : (test : Token → Bool) (n : ℕ)
     → list_any test (map Open (range_with_len 0 n) ++ map (Hidden 0) (range_with_len 0 n))
     ≡ (any_between 0 n (λ k. test (Open k)) || any_between 0 n (λ k. test (Hidden 0 k)))
 unfolding any_between
 any_kinds test n =
     let same : n ≡ n - 0 = omega arith in
-    any_append test (map Open (range_with_len 0 n)) (map (Hidden 0) (range_with_len 0 n))
+    any_both test (map Open (range_with_len 0 n)) (map (Hidden 0) (range_with_len 0 n))
     ∙ ap (λ (b : Bool). b || list_any test (map (Hidden 0) (range_with_len 0 n))) (any_mapped Open test
     (range_with_len 0 n))
     ∙ ap (λ (b : Bool). list_any (λ k. test (Open k)) (range_with_len 0 n) || b) (any_mapped (Hidden 0) test
