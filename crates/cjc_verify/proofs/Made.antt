@@ -53,6 +53,17 @@ loaded_so applets files image c names cells named celled =
       trees = files.exports;
     }
 
+-- tables of a part with names are those of the components with what was made
+pub loaded_kept : (c : Complete) (tables : Tables) (m : Made) (part : Loaded) (names : List ClassNames)
+    (cells : List CellName) (trees exports : List ExportTree) → loaded_in tables ≡ part
+    → part ≡ alone_with c names cells trees → names ≡ m.classes → cells ≡ m.cells → trees ≡ exports
+    → loaded_in tables ≡ alone_with c m.classes m.cells exports
+loaded_kept c tables m part names cells trees exports of alone same_names same_cells same_trees =
+    of ∙ alone
+    ∙ ap (λ (ns : List ClassNames). alone_with c ns cells trees) same_names
+    ∙ ap (λ (cs : List CellName). alone_with c m.classes cs trees) same_cells
+    ∙ ap (alone_with c m.classes m.cells) same_trees
+
 -- components beside a package as code is lent them are the pair of the contract
 pub same_pair : (applets : Bool) (files : Files) (tokens : Assigned) (image : StaticImage) (parts : Parts)
     (tables : Tables) (m : Made) → tokens ≡ assigned applets files → IsMade (complete_of parts) files tokens image m
