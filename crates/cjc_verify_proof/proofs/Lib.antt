@@ -9,6 +9,16 @@ pub mod StoreLaws
 pub mod Upwards
 pub mod TypeLaws
 pub mod GrowthLaws
+pub mod ControlLaws
+pub mod ReferenceLaws
+pub mod FlowLaws
+pub mod FrameLaws
+pub mod CallLaws
+pub mod ScriptLaws
+pub mod ImportLaws
+pub mod TurnLaws
+pub mod InstructionLaws
+pub mod RunLaws
 pub mod OffLaws
 pub mod KeyLaws
 pub mod FreshLaws
@@ -17,3 +27,4 @@ pub mod FirstLaws
 pub mod MemoryLaws
 pub mod FieldLaws
 pub mod ArrayLaws
+pub mod MadeLaws

@@ -1,5 +1,5 @@
 -- Heaps that grow: what is there keeps its shape, and more may come.
-use Rattle.std.specs.Prelude.{◌≡◌, ℕ, List, [], ◌∷◌, ◌++◌, slice_get, Option, Some, replicate, pos}
+use Rattle.std.specs.Prelude.{◌≡◌, ℕ, List, [], ◌∷◌, ◌++◌, slice_get, Some, replicate, pos}
 use Rattle.cjc_card_semantics.specs.Script.declared.value.Value.TheVariants.{Null}
 use Rattle.cjc_card_semantics.specs.Script.Sorts.{Element, Shape}
 use Rattle.cjc_card_acts.specs.Types.declared.cell.Cell.{Cell}

@@ -5,5 +5,11 @@ pub mod Heaps
 pub mod Growth
 pub mod References
 pub mod Control
+pub mod Frames
+pub mod Calls
+pub mod Scripts
+pub mod Turns
+pub mod Instructions
+pub mod Runs
 pub mod Values
 pub mod Memories

@@ -1,5 +1,5 @@
 -- Arrays of references, and what they hold.
-use Rattle.std.specs.Prelude.{◌≡◌, ℕ, true, List, slice_get, slice_set, Option, Some, All, ℤ}
+use Rattle.std.specs.Prelude.{◌≡◌, ℕ, true, List, slice_get, slice_set, Some, All}
 use Rattle.cjc_card_semantics.specs.Script.declared.value.Value.{Value}
 use Rattle.cjc_card_semantics.specs.Script.declared.value.Value.TheVariants.{Num, Null, Obj}
 use Rattle.cjc_card_semantics.specs.Script.Sorts.{OfClass}
