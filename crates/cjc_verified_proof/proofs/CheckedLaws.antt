@@ -1,14 +1,13 @@
 -- What the rules say of the fields of a package that is checked.
-use Rattle.std.proofs.Common.{◌≡◌, ◌≤◌, ℕ, Bool, true, false, List, [], ◌∷◌, ◌++◌, length, Option, Some, refl, sym, ap}
+use Rattle.std.proofs.Common.{◌≡◌, ◌≤◌, ℕ, Bool, false, List, [], ◌++◌, length, Option, Some, refl}
 use Rattle.std.proofs.Common.{leb-true}
 use Rattle.std.specs.Prelude.{◌+◌, ◌*◌, ◌==◌, nat_le, nat_lt, None}
 use Rattle.cjc_capread.specs.declared.tree.ClassRef.{ClassRef}
 use Rattle.cjc_capread.specs.declared.tree.PoolEntry.{PoolEntry}
 use Rattle.cjc_capread.specs.declared.tree.PoolEntry.TheVariants.{Classref}
-use Rattle.cjc_check_rules.specs.declared.spot.ComponentPlace.{ComponentPlace}
 use Rattle.cjc_check_rules.specs.Spots.{along, in_info, unless}
 use Rattle.cjc_check_rules.specs.ClassRefs.{pool_count_at}
-use Rattle.cjc_check_rules.specs.Complete.{Complete, array_size, described_size}
+use Rattle.cjc_check_rules.specs.Complete.{array_size, described_size}
 use Rattle.cjc_check_rules.specs.Described.{all_ascend, all_starts, classes_in_order, types_in_class, types_in_pool}
 use Rattle.cjc_check_rules.specs.Statics.{in_array}
 use Rattle.cjc_card_semantics.specs.Script.declared.value.Value.{Value}
@@ -23,7 +22,6 @@ use Rattle.cjc_card_semantics.specs.Machine.Statics.{Image, first_memory}
 use Rattle.cjc_card_semantics.specs.Machine.ByToken.{classes}
 use Rattle.cjc_card_acts.specs.CardTypes.{MemberType, is_type_of}
 use Rattle.cjc_card_acts.specs.Frames.Acts.{stack_behind}
-use Rattle.cjc_components.specs.Package.{Package}
 use Rattle.cjc_components.specs.Paired.Naming.{part_of}
 use Rattle.cjc_verify.specs.Instructions.{using}
 use Rattle.cjc_verify.specs.Named.{entry_of, entry_type, names_unmade}

@@ -29,21 +29,16 @@ use Rattle.cjc_verify_proof.specs.Beside as row
 use Rattle.cjc_verify_proof.specs.Control.{next_if, cells_of, switched_words, Leads, Throws, Returns}
 use Rattle.cjc_verify_proof.proofs.WordLaws.{Tops, behind, number, tops, true_of}
 use Rattle.cjc_verify_proof.proofs.TestLaws.{test_chooses}
+use Rattle.cjc_verify_proof.proofs.FlowLaws.{in_first}
 use Rattle.cjc_verify_proof.proofs.TypeLaws.{word_of_type, of_only}
 use Rattle.cjc_card_semantics.proofs.BytesGets.{contained, contains_at}
 
--- ---- lists
-
-in_head : {A : Type 0} (x : A) (xs : List A) → Contains (x ∷ xs) x
-in_head x xs = contained (x ∷ xs) 0 x refl
-
-in_tail : {A : Type 0} (x y : A) (xs : List A) → Contains xs y → Contains (x ∷ xs) y
-in_tail x y xs h = let at = contains_at xs y h in contained (x ∷ xs) (suc at.0) y at.1
+-- ---- switches' places
 
 -- the arm of a switch is one of its places
 arm_among : (other : ℕ) (arms : List Arm) (x : ℤ) → Contains (other ∷ map (λ (a : Arm). a.to) arms) (arm_of other arms
     x)
-arm_among other [] x = in_head other []
+arm_among other [] x = in_first other []
 arm_among other (a ∷ arms) x = go (int_le a.value x) (int_le x a.value) (arm_among other arms x)
   where
     rest : List ℕ
@@ -93,7 +88,7 @@ module _ {X : Type 0} (l : Loaded) (room next : ℕ) (lc : List Cell) (lv : List
 
   choice_leads : (to : ℕ) (cs : List Cell) (c : Choice) → Chooses (object_is l m.heap) cs c
       → Leads l (to ∷ next_if true next) cs lc m (chosen c to next lv m)
-  choice_leads to cs (Takes true rest) w = (in_head to (next ∷ []), (w, (k, refl)))
+  choice_leads to cs (Takes true rest) w = (in_first to (next ∷ []), (w, (k, refl)))
   choice_leads to cs (Takes false rest) w = (contained (to ∷ next ∷ []) 1 next refl, (w, (k, refl)))
   choice_leads to cs Neither w = absurd w
 
@@ -102,7 +97,7 @@ module _ {X : Type 0} (l : Loaded) (room next : ℕ) (lc : List Cell) (lv : List
       → AreWords (object_is l m.heap) cs vs → has_wrong is_of needs cs ≡ false → length needs ≤ length cs
       → Leads l (to ∷ next_if falls next) (drop (length needs) cs) lc m (effect classes (Branch test to) room next lv m
       vs)
-  jump_leads classes is_of to needs falls test goto cs vs w h o = (in_head to [], (w, (k, refl)))
+  jump_leads classes is_of to needs falls test goto cs vs w h o = (in_first to [], (w, (k, refl)))
   jump_leads classes is_of to needs falls test (row.number f) cs vs w h o = choice_leads to (drop (length needs)
       cs) (test vs) (test_chooses (object_is l m.heap) is_of needs falls test (row.number f) cs vs w h o)
   jump_leads classes is_of to needs falls test (row.numbers f) cs vs w h o = choice_leads to (drop (length needs)

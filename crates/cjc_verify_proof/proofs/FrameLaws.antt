@@ -138,16 +138,17 @@ module _ (l : Loaded) (p : ℕ) (pool : List PoolEntry) (exceptions : List ℕ) 
             is = taken.is;
           }
 
+-- one instruction stands at a place
+same_step : (o : Option Step) (x y : Step) → o ≡ Some x → o ≡ Some y → x ≡ y
+same_step o x y e f = cc
+
 -- a place is that of the first instruction with an offset
 at_place : (steps : List Step) (offset to : ℕ) → place_at steps offset ≡ Some to → (s : Step) → slice_get steps to
     ≡ Some s → s.at ≡ offset
 at_place steps offset to e s is =
     let p = position_there (λ (s : Step). s.at == offset) steps to e in
-    let same : p.0 ≡ s = same_of (slice_get steps to) p.0 s p.1 is in
+    let same : p.0 ≡ s = same_step (slice_get steps to) p.0 s p.1 is in
     eqb-true s.at offset (subst (λ (x : Step). (x.at == offset) ≡ true) same p.2)
-  where
-    same_of : (o : Option Step) (x y : Step) → o ≡ Some x → o ≡ Some y → x ≡ y
-    same_of o x y e f = cc
 
 -- ---- where frames stand
 
@@ -235,12 +236,9 @@ module _ (l : Loaded) (exceptions : List ℕ) (t : Typing) (method : IsMethod l 
     behind to among n is_n f code at w k =
         let r = follows_to l exceptions t method place s is cells locals row to among in
         arrived l exceptions t method heap to (after s.act (record { stack = Cells cells; locals = locals })) r f code
-        (ap (λ (x : Step). x.at) (same_of (slice_get t.body.steps to) r.step n r.is_step is_n) ∙ at)
+        (ap (λ (x : Step). x.at) (same_step (slice_get t.body.steps to) r.step n r.is_step is_n) ∙ at)
         (stack_behind s.act locals cells)
         (whole_stack l exceptions t method heap (stack_behind s.act locals cells) r.cells r.below) w k
-      where
-        same_of : (o : Option Step) (x y : Step) → o ≡ Some x → o ≡ Some y → x ≡ y
-        same_of o x y e f = cc
 
     -- at the next instruction
     pub behind_next : (let a = s.act in a.falls) ≡ true → (n : Step) → slice_get t.body.steps (place + 1) ≡ Some n
@@ -589,16 +587,13 @@ module _ (l : Loaded) (exceptions : List ℕ) (heap : List (HeapObject Class Fie
       let r = covered l exceptions t method 0 begins.first begins.is_first (flow.entry t.body) (method.closed.entry
       (get_below t.body.steps 0 begins.first begins.is_first)) in
       arrived l exceptions t method heap 0 (flow.entry t.body) r (frame_for_call m args) begins.is_code
-      (ap at_of (same_of (slice_get t.body.steps 0) r.step begins.first r.is_step begins.is_first) ∙ begins.at_first)
+      (ap at_of (same_step (slice_get t.body.steps 0) r.step begins.first r.is_step begins.is_first) ∙ begins.at_first)
       [] refl tt
       (first_locals (object_is l heap) (map (given [] []) t.body.arguments) args typed t.body.local_count m.nargs
       m.max_locals begins.count)
     where
       at_of : Step → ℕ
       at_of x = x.at
-
-      same_of : (o : Option Step) (x y : Step) → o ≡ Some x → o ≡ Some y → x ≡ y
-      same_of o x y e f = cc
 
 -- a call begins a method inside a frame that waits for its result
 pub inside_goes : (l : Loaded) (program : Program) → AreMethods l program → (s : Run Code Class Field (List Image)) (t : Typing)
