@@ -26,8 +26,11 @@ Rises from (x ∷ xs) = (from ≤ x) × Rises (x + 1) xs
 from_on : (from : ℕ) (xs : List ℕ) (k x : ℕ) → Rises from xs → slice_get xs k ≡ Some x → from ≤ x
 from_on from [] k x h is = absurd cc
 from_on from (y ∷ xs) zero x h is = let le = h.0 in let same : y ≡ x = cc in omega (arith, le, same)
-from_on from (y ∷ xs) (suc k) x h is = let le = h.0 in let more = from_on (y + 1) xs k x h.1 is in omega (arith, le,
-    more)
+from_on from (y ∷ xs) (suc k) x h is = let le = h.0 in let more = from_on (y + 1) xs k x h.1 is in omega (
+  arith,
+  le,
+  more,
+)
 
 in_turn : (from : ℕ) (xs : List ℕ) (i j x y : ℕ) → Rises from xs → slice_get xs i ≡ Some x → slice_get xs j ≡ Some y
     → i < j → x < y

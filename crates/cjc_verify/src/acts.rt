@@ -333,12 +333,7 @@ fn using(
 }
 
 /// What the entry of an index names, by the type that Descriptor gives it.
-fn using_index(
-    alloc: Global,
-    pair: &Package<'_>,
-    how: Use,
-    index: u32,
-) -> Result<Act, NoMemory>
+fn using_index(alloc: Global, pair: &Package<'_>, how: Use, index: u32) -> Result<Act, NoMemory>
     ensures { IfOk result (λ act. act ≡ using_some pair.now (use_of how) (entry_type pair.now index)
         (entry_of pair.now index)) }
 {
