@@ -26,8 +26,11 @@ Rises from (x ∷ xs) = (from ≤ x) × Rises (x + 1) xs
 from_on : (from : ℕ) (xs : List ℕ) (k x : ℕ) → Rises from xs → slice_get xs k ≡ Some x → from ≤ x
 from_on from [] k x h is = absurd cc
 from_on from (y ∷ xs) zero x h is = let le = h.0 in let same : y ≡ x = cc in omega (arith, le, same)
-from_on from (y ∷ xs) (suc k) x h is = let le = h.0 in let more = from_on (y + 1) xs k x h.1 is in omega (arith, le,
-    more)
+from_on from (y ∷ xs) (suc k) x h is = let le = h.0 in let more = from_on (y + 1) xs k x h.1 is in omega (
+  arith,
+  le,
+  more,
+)
 
 in_turn : (from : ℕ) (xs : List ℕ) (i j x y : ℕ) → Rises from xs → slice_get xs i ≡ Some x → slice_get xs j ≡ Some y
     → i < j → x < y
@@ -132,8 +135,9 @@ in_codes at [] (b ∷ bytes) cs e = absurd cc
 in_codes at (m ∷ ms) bytes cs e = by (m.offset == at) (λ next rest more g. in_codes next ms rest more g) e
   where
     by : (b : Bool) → ((next : ℕ) (rest : List ℕ) (more : List Code) → codes_from next ms rest ≡ Ok more
-        → AllAscend more) → (if b then with_header at m bytes (method_header bytes) (λ next rest. codes_from next ms rest)
-        else Err at) ≡ Ok cs → AllAscend cs
+        → AllAscend more)
+        → (if b then with_header at m bytes (method_header bytes) (λ next rest. codes_from next ms rest) else Err at)
+        ≡ Ok cs → AllAscend cs
     by true later f = after_header at m bytes (method_header bytes) (λ next rest. codes_from next ms rest) cs later f
     by false later f = absurd cc
 

@@ -80,7 +80,7 @@ not_after p b rows others place rule other_place other_rule rise least other fir
     (⊎_elim
     (λ lt. inl (rise place other_place one.step.at breach.step.at at at_other lt))
     (λ e. let same : Some one.step.at ≡ Some breach.step.at = sym at ∙ ap (slice_get (ats b.instructions)) e.0
-        ∙ at_other in inr (cc, e.1))
+    ∙ at_other in inr (cc, e.1))
     (first.first other_place other_rule moved))
 
 pub code_first : (p : Pair) (b : Body) (o : Option BrokenAt) → Ascend (ats b.instructions)

@@ -156,5 +156,5 @@ is_refused p o e f h =
     ⊎_elim
     (λ none. inl none)
     (λ one. let first = first_kept (Breaks p) o one.0 f one.1 in
-        inr (one.0, record { breaks = first.broken; first = first.first }, one.2))
+    inr (one.0, record { breaks = first.broken; first = first.first }, one.2))
     h

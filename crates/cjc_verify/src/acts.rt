@@ -1,7 +1,8 @@
-//! What an instruction of Method takes and gives, by its row and by what its entry of the constant pool names (Java Card
-//! Virtual Machine Specification 2.2.2, chapter 7). Called by `bodies`.
+//! What an instruction of Method takes and gives, by its row and by what its entry of the constant pool names (Java
+//! Card Virtual Machine Specification 2.2.2, chapter 7). Called by `bodies`.
 
-ghost use Rattle.std.specs.Prelude.{◌≡◌, ◌==◌, ◌+◌, ◌||◌, List, ℕ, Option, None, Some, false, not, replicate, true, IfOk};
+ghost use Rattle.std.specs.Prelude.{◌≡◌, ◌==◌, ◌+◌, ◌||◌, List, ℕ, Option, None, Some, false, not, replicate, true};
+ghost use Rattle.std.specs.Prelude.{IfOk};
 ghost use Rattle.cjc_capread.specs.Decoder.Decoded.{values};
 ghost use Rattle.cjc_capread.specs.declared.tree.PoolEntry.TheVariants.{Classref};
 ghost use Rattle.cjc_card_acts.specs.CardTypes.{numbers_type, type_by as typed_by, types_in};
@@ -333,12 +334,7 @@ fn using(
 }
 
 /// What the entry of an index names, by the type that Descriptor gives it.
-fn using_index(
-    alloc: Global,
-    pair: &Package<'_>,
-    how: Use,
-    index: u32,
-) -> Result<Act, NoMemory>
+fn using_index(alloc: Global, pair: &Package<'_>, how: Use, index: u32) -> Result<Act, NoMemory>
     ensures { IfOk result (λ act. act ≡ using_some pair.now (use_of how) (entry_type pair.now index)
         (entry_of pair.now index)) }
 {

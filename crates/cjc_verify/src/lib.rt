@@ -19,12 +19,12 @@ mod package;
 mod plain;
 mod targets;
 
-pub use checker::verify;
-
 ghost use Rattle.std.specs.Prelude.{◌≡◌};
 ghost use Rattle.cjc_capread.specs.Bytes.Breaks.{Break};
 ghost use Rattle.cjc_verify.specs.Pairs.{Pair};
 ghost use Rattle.cjc_verify.specs.Verified.{Breaks, IsVerified, IsRefused};
+
+pub use checker::verify;
 
 /// A package that is verified breaks no rule.
 pub fn verified_breaks_nothing()
