@@ -135,8 +135,9 @@ in_codes at [] (b ∷ bytes) cs e = absurd cc
 in_codes at (m ∷ ms) bytes cs e = by (m.offset == at) (λ next rest more g. in_codes next ms rest more g) e
   where
     by : (b : Bool) → ((next : ℕ) (rest : List ℕ) (more : List Code) → codes_from next ms rest ≡ Ok more
-        → AllAscend more) → (if b then with_header at m bytes (method_header bytes) (λ next rest. codes_from next ms rest)
-        else Err at) ≡ Ok cs → AllAscend cs
+        → AllAscend more)
+        → (if b then with_header at m bytes (method_header bytes) (λ next rest. codes_from next ms rest) else Err at)
+        ≡ Ok cs → AllAscend cs
     by true later f = after_header at m bytes (method_header bytes) (λ next rest. codes_from next ms rest) cs later f
     by false later f = absurd cc
 

@@ -1,7 +1,8 @@
-//! What an instruction of Method takes and gives, by its row and by what its entry of the constant pool names (Java Card
-//! Virtual Machine Specification 2.2.2, chapter 7). Called by `bodies`.
+//! What an instruction of Method takes and gives, by its row and by what its entry of the constant pool names (Java
+//! Card Virtual Machine Specification 2.2.2, chapter 7). Called by `bodies`.
 
-ghost use Rattle.std.specs.Prelude.{◌≡◌, ◌==◌, ◌+◌, ◌||◌, List, ℕ, Option, None, Some, false, not, replicate, true, IfOk};
+ghost use Rattle.std.specs.Prelude.{◌≡◌, ◌==◌, ◌+◌, ◌||◌, List, ℕ, Option, None, Some, false, not, replicate, true};
+ghost use Rattle.std.specs.Prelude.{IfOk};
 ghost use Rattle.cjc_capread.specs.Decoder.Decoded.{values};
 ghost use Rattle.cjc_capread.specs.declared.tree.PoolEntry.TheVariants.{Classref};
 ghost use Rattle.cjc_card_acts.specs.CardTypes.{numbers_type, type_by as typed_by, types_in};

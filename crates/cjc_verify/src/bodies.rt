@@ -1,4 +1,5 @@
-//! The methods of Method as frames are typed in them: the words of their arguments, and the handlers. Called by `verify`.
+//! The methods of Method as frames are typed in them: the words of their arguments, and the handlers. Called by
+//! `verify`.
 
 ghost use Rattle.std.specs.Prelude.{◌≡◌, ◌+◌, ◌==◌, ◌&&◌, ◌<◌, ◌^◌, Some, None, if◌then◌else◌, map, not, option_map};
 ghost use Rattle.std.specs.Prelude.{◌++◌, IfOk, MatchOption};

@@ -285,8 +285,8 @@ fn verify_parts(
     answer(alloc, broken)
 }
 
-/// Tests whether components are typed by token as their package is: `image` is what its static fields hold at first, and
-/// `tokens` are its own.
+/// Tests whether components are typed by token as their package is: `image` is what its static fields hold at first,
+/// and `tokens` are its own.
 ///
 /// # Errors
 ///

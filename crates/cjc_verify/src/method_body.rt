@@ -1,5 +1,5 @@
-//! `MethodBody`: a method of Method as rules on frames go over it (Java Card Virtual Machine Specification 2.2.2, section
-//! 6.9). Made by `listed`.
+//! `MethodBody`: a method of Method as rules on frames go over it (Java Card Virtual Machine Specification 2.2.2,
+//! section 6.9). Made by `listed`.
 
 ghost use Rattle.std.specs.Prelude.{map};
 ghost use Rattle.cjc_check.specs.Codes.Bodies.{IsBody, placed_of};

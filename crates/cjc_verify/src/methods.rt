@@ -1,5 +1,5 @@
-//! What Descriptor and the class files say of each method of the package, in the order of Descriptor: the k-th method of
-//! the i-th class is that of the i-th class of the package. Made once; look-ups by the offset of a header ask it.
+//! What Descriptor and the class files say of each method of the package, in the order of Descriptor: the k-th method
+//! of the i-th class is that of the i-th class of the package. Made once; look-ups by the offset of a header ask it.
 
 ghost use Rattle.std.specs.Prelude.{◌≡◌, ◌++◌, Some, map, option_map, slice_get, unwrap_or, IfOk, OnOk};
 ghost use Rattle.std.specs.List.{find};

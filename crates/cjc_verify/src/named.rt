@@ -1,5 +1,5 @@
-//! What entries of the constant pool name, as rules on code ask: whether a method is static or abstract, which class holds
-//! it, of which classes no objects are made, and the types of methods of interfaces (Java Card Virtual Machine
+//! What entries of the constant pool name, as rules on code ask: whether a method is static or abstract, which class
+//! holds it, of which classes no objects are made, and the types of methods of interfaces (Java Card Virtual Machine
 //! Specification 2.2.2, sections 6.7 and 6.13). Called by `acts` and by the rules on classes.
 
 ghost use Rattle.std.specs.Prelude.{◌≡◌, ◌==◌, ◌&&◌, option_and_then, option_map, IfOk, Some};

@@ -55,8 +55,8 @@ impl<'a> Model for Package<'a> {
 
     ghost view = { λ x. pair_by x.world.now x.tokens.now x.image.now x.parts.now x.tables.now };
 
-    ghost invariant = { λ x. AreReady (pair_by x.world.now x.tokens.now x.image.now x.parts.now x.tables.now) x.parts.now
-        x.tables.now x.lines.now x.files.now x.refs.now x.order.now x.starts.now x.methods.now };
+    ghost invariant = { λ x. AreReady (pair_by x.world.now x.tokens.now x.image.now x.parts.now x.tables.now)
+        x.parts.now x.tables.now x.lines.now x.files.now x.refs.now x.order.now x.starts.now x.methods.now };
 }
 
 // The class of an export file by its token.

@@ -1,5 +1,6 @@
 -- What the code keeps of each method of the package.
-use Rattle.std.specs.Prelude.{◌≡◌, ℕ, ◌-◌, ◌==◌, ◌&&◌, not, Bool, List, [], ◌∷◌, ◌++◌, length, map, slice_get, unwrap_or}
+use Rattle.std.specs.Prelude.{◌≡◌, ℕ, ◌-◌, ◌==◌, ◌&&◌, not, Bool, List, [], ◌∷◌, ◌++◌, length, map, slice_get}
+use Rattle.std.specs.Prelude.{unwrap_or}
 use Rattle.std.specs.Prelude.{Option, Some, None}
 use Rattle.cjc_bytes.specs.AccessFlags.{is_interface, has, acc_abstract}
 use Rattle.cjc_bytes.specs.declared.fault.MemberId.{MemberId}

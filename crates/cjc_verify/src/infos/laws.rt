@@ -13,7 +13,7 @@ ghost use Rattle.cjc_verify.specs.WantedInfos.{wanted_infos};
 /// Where Class is not what its package says, it differs from what is wanted.
 pub(crate) fn infos_beside_wanted()
     ensures tables { (p : Pair) → all_table_spots p ≡ all_tables_beside p.components.class (wanted_infos p) }
-    ensures abstracts { (p : Pair) → all_abstract_spots p ≡ all_abstract_beside p p.components.class (map (λ (c : Class).
-        is_unmade c.flags) (class_order (world p))) }
+    ensures abstracts { (p : Pair) → all_abstract_spots p ≡ all_abstract_beside p p.components.class
+        (map (λ (c : Class). is_unmade c.flags) (class_order (world p))) }
     ensures infos { (p : Pair) → all_info_spots p ≡ all_beside p.components.class (wanted_infos p) }
 {}

@@ -29,5 +29,5 @@ returns c =
     ∙ ap (λ (ls : List Listed). bodies_of k ls codes) (c.items.ensures ∙ c.in_ok-listed.ensures)
     ∙ ap (bodies_of k (listed k)) (c.codes_of.ensures.is ∙ ap all_codes c.in_ok-cutting.ensures.is)
     ∙ ap bodies c.requires.same in
-    subst (λ (bs : List Body). IfOk c.bodies_break.result (λ b. IsFirstWhere (InBodies p bs) (option_map break_of b))) are
-    c.bodies_break.ensures
+    subst (λ (bs : List Body). IfOk c.bodies_break.result (λ b. IsFirstWhere (InBodies p bs) (option_map break_of b)))
+    are c.bodies_break.ensures

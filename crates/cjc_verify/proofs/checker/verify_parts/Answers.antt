@@ -22,4 +22,5 @@ returns-clause-refused c = λ applets is.
     let p = pair_of applets c.args.world.now c.args.image.now (complete_of c.args.parts.now) in
     let o = option_map break_of c.in_ok-broken.broken in
     IfErr-weaker c.answer.result (IsFirstRefusal (option_to_list o)) (IsRefused p)
-    (λ e h. is_refused p o e (c.in_ok-broken.ensures applets is) h) (c.answer.ensures.refused (option_to_list o) (alone o))
+    (λ e h. is_refused p o e (c.in_ok-broken.ensures applets is) h) (c.answer.ensures.refused (option_to_list o)
+    (alone o))
