@@ -1,5 +1,5 @@
 -- Whole runs of a machine that follows another with one instruction or more for each.
-use Rattle.std.proofs.Common.{ℕ, suc, ◌+◌, ◌≤◌, sym, subst, arith}
+use Rattle.std.proofs.Common.{ℕ, suc, ◌+◌, ◌≤◌, sym, ap, subst, ◌∙◌, zero-add, arith}
 use Rattle.cjc_ncode.specs.CardSemantics.Bytecode.Machine.{Setting, State}
 use Rattle.cjc_ncode.specs.CardSemantics.Bytecode.Runs.{Move, Device, On, Leads, device, run, Steps, Simulates}
 use Rattle.cjc_ncode.specs.CardSemantics.Bytecode.Runs.{Agree}
@@ -24,7 +24,8 @@ module _ {S W P C F N M X : Type 0} (a : Device S) (set : Setting P C F N M X) (
   step_of w (silent v moves alike rests falls) = runs.silent v moves alike rests falls
   step_of w (stays v h n to walked few moves same) =
       runs.onward v (suc n) moves
-      (subst (λ (t : State P C F X). Leads (device set) (suc n) (right w) (On t)) (sym same)
+      (subst (λ (t : State P C F X). Leads (device set) (suc n) (right w) (On t))
+      (ap (λ (k : ℕ). at_spot set h.code h.frame h.outer h.state to k) (zero-add (suc n)) ∙ sym same)
       (from_spot w h (suc n) _ (walks_on set h.code h.frame h.outer h.state n 0 h.spot to walked)))
       few
   step_of w (leaves v h n next to asked walked few moves leads) =

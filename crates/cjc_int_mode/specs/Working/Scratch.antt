@@ -6,5 +6,5 @@ use Rattle.cjc_ncode.specs.IntCode.IntCode.{is_short}
 -- whether one stands in front of these, or before the last of these
 abbrev pub has_short_before : (front : Bool) → List Sort → Bool
 has_short_before front [] = false
-has_short_before true (sort ∷ sorts) = true
-has_short_before false (sort ∷ sorts) = has_short_before (is_short sort) sorts
+has_short_before true (s ∷ more) = true
+has_short_before false (s ∷ more) = has_short_before (is_short s) more
