@@ -76,7 +76,7 @@ pub(crate) fn class_tokens<'w, 'a>(
     before: u32,
     number: u32,
     class: &'w ClassTree<'a>,
-    rows: &Rows<'_>,
+    rows: &Rows<'w>,
     ids: &[MemberId],
 ) -> Result<Option<ClassTokens>, NoMemory>
     requires plain { is_interface class.now.flags ≡ false }
@@ -92,8 +92,9 @@ pub(crate) fn class_tokens<'w, 'a>(
     let told = told_at(alloc, world, Known::Declared(number, class))?;
     let public_methods = methods_of(alloc, &rows.shown)?;
     let hidden = IndexedRow::new(alloc, &rows.hidden)?;
+    let slots = IndexedRow::new(alloc, &rows.shown)?;
     let shown = Shown {
-        row: IndexedRow::new(alloc, &rows.shown)?,
+        row: slots,
         methods: public_methods.items(),
         told: &told,
     };
@@ -109,6 +110,7 @@ pub(crate) fn class_tokens<'w, 'a>(
         class.methods.items(),
     )?;
     put_added_tokens(&mut members, &shown, ids)?;
+    drop(shown);
     let instances = instance_tokens(alloc, class.fields.items())?;
     let package_methods = methods_of(alloc, &rows.hidden)?;
     Ok(Some(ClassTokens {

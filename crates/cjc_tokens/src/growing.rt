@@ -37,10 +37,7 @@ impl<'w> Model for GrowingRow<'w> {
 
 impl<'w> GrowingRow<'w> {
     /// A row, in which each slot is found.
-    pub(crate) fn new(
-        alloc: Global,
-        row: Vec<Option<Slot<'w>>>,
-    ) -> Result<GrowingRow<'w>, NoMemory>
+    pub(crate) fn new(alloc: Global, row: Vec<Option<Slot<'w>>>) -> Result<GrowingRow<'w>, NoMemory>
         ensures { IfOk result (λ growing. growing.items ≡ row.entry.items) }
     {
         let places = slot_places(alloc, &row)?;

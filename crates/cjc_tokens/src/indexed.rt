@@ -66,7 +66,10 @@ impl<'w> Places<'w> {
 }
 
 /// The places of the slots of a row.
-pub(crate) fn slot_places<'w>(alloc: Global, row: &[Option<Slot<'w>>]) -> Result<Places<'w>, NoMemory>
+pub(crate) fn slot_places<'w>(
+    alloc: Global,
+    row: &[Option<Slot<'w>>],
+) -> Result<Places<'w>, NoMemory>
     ensures { IfOk result (λ places. ArePlaces places row.now) }
 {
     let mut places = Places::new(alloc);

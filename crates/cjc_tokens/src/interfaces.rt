@@ -23,11 +23,7 @@ use cjc_world::{Known, World, lookup_laws};
 use std::alloc::Global;
 
 /// Puts a method at the end that is there not yet, unless it is an initialiser.
-fn put_method<'w>(
-    row: &mut GrowingRow<'w>,
-    name: &'w [u8],
-    desc: &'w [u8],
-) -> Result<(), NoMemory>
+fn put_method<'w>(row: &mut GrowingRow<'w>, name: &'w [u8], desc: &'w [u8]) -> Result<(), NoMemory>
     ensures { OnOk result (signs row.new.items ≡ with_new (signs row.old.items) (listed_method name.now desc.now)) }
 {
     if is_initialiser(name) {
@@ -37,10 +33,7 @@ fn put_method<'w>(
     }
 }
 
-fn put_declared<'w>(
-    row: &mut GrowingRow<'w>,
-    methods: &'w [MethodTree<'_>],
-) -> Result<(), NoMemory>
+fn put_declared<'w>(row: &mut GrowingRow<'w>, methods: &'w [MethodTree<'_>]) -> Result<(), NoMemory>
     ensures { OnOk result (signs row.new.items ≡ with_new (signs row.old.items)
         (map signature_of (without_initialiser (map method_of_class methods.now)))) }
 {
@@ -83,10 +76,7 @@ fn put_token<'w>(
 }
 
 /// Puts the methods of an export file by their tokens.
-fn put_exported<'w>(
-    row: &mut GrowingRow<'w>,
-    methods: &'w [ExportMethod],
-) -> Result<(), NoMemory>
+fn put_exported<'w>(row: &mut GrowingRow<'w>, methods: &'w [ExportMethod]) -> Result<(), NoMemory>
     ensures { OnOk result (signs row.new.items ≡ with_new (signs row.old.items)
         (map signature_of (without_initialiser (by_token (length methods.now) 0 (map method_of_export methods.now))))) }
 {

@@ -43,7 +43,15 @@ pub(crate) fn below<'w>(
     offer_methods(&mut shown_row, class, &own, number, false)?;
     offer_added(&mut shown_row, class, number, added)?;
     let own_hidden = own_places(alloc, class.methods.items(), true)?;
-    let hidden = renewed(alloc, class, &own_hidden, number, added, true, &above.hidden)?;
+    let hidden = renewed(
+        alloc,
+        class,
+        &own_hidden,
+        number,
+        added,
+        true,
+        &above.hidden,
+    )?;
     let mut hidden_row = GrowingRow::new(alloc, hidden)?;
     offer_methods(&mut hidden_row, class, &own_hidden, number, true)?;
     Ok(Rows {

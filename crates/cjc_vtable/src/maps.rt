@@ -157,8 +157,9 @@ pub(crate) fn interface_maps<'a>(
 {
     let row = slots_of(alloc, world, tokens, class, number)?;
     let told = told_at(alloc, world, class)?;
+    let indexed = IndexedRow::new(alloc, &row)?;
     let shown = Shown {
-        row: IndexedRow::new(alloc, &row)?,
+        row: indexed,
         methods: tokens.public_methods(number),
         told: &told,
     };

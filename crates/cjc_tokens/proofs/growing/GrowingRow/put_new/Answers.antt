@@ -14,7 +14,8 @@ invariant_of-self-in-None c = λ s.
     let slot : Slot = record { name = c.args.name; desc = c.args.desc; method = c.args.method } in
     let r : Signature = record { name = c.args.name.now; desc = c.args.desc.now } in
     let row = c.self.inside.row.items in
-    let n : c.len.result ≡ length row = c.len.ensures ∙ ap length c.in_ok-reserve-in-None.ensures.items in
+    let v : Vec (Option Slot) = c.reserve.new.self in
+    let n : c.len.result ≡ length row = c.len.ensures ∙ v.ok.0 ∙ ap length c.in_ok-reserve-in-None.ensures.items in
     c.in_ok-note-in-None.ensures.noted s
     ∙ ap (λ o. or_next o (if same r s then Some c.len.result else None)) (c.self.invariant s)
     ∙ ap (λ k. or_next (token (signs row) s) (if same r s then Some k else None)) n
