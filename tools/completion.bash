@@ -1,14 +1,14 @@
 # Completes the words of jcconv in bash:  . tools/completion.bash
 _jcconv() {
     local word=${COMP_WORDS[COMP_CWORD]} kind="" page
-    local words="convert check jvm card make compat explain pack unpack advise help --help --version --prove"
+    local words="convert check jvm card make verify compat explain pack unpack advise help --help --version --prove"
     COMPREPLY=()
     if [ "$COMP_CWORD" -eq 1 ]; then
         mapfile -t COMPREPLY < <(compgen -W "$words" -- "$word")
         return
     fi
     case ${COMP_WORDS[1]}:$COMP_CWORD in
-    convert:3 | check:3 | card:3 | unpack:3) kind=-d ;;
+    convert:3 | check:3 | card:3 | verify:3 | unpack:3) kind=-d ;;
     pack:2) kind=-d ;;
     make:* | help:*) ;;
     explain:2)

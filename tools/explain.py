@@ -11,8 +11,8 @@ import world
 from source import Source
 
 USE = """usage: jcconv explain RULE
-       jcconv explain 'refused RULE FILE CLASS MEMBER OFFSET' [LIST]
-       jcconv convert LIST DIR 2>&1 | jcconv explain - [LIST]"""
+       jcconv explain 'refused RULE FILE CLASS MEMBER OFFSET' [LIST or DIR]
+       jcconv convert LIST DIR 2>&1 | jcconv explain - [LIST or DIR]"""
 # the rules whose file is the list
 OF_LISTS = {107, 108, 207, 309, 401, 402, 407, 408, 409, 411, 414, 416, 801}
 OTHER = {
@@ -42,6 +42,8 @@ class Told:
 
     def __init__(self, refusal, listing):
         self.refusal, self.rule = refusal, refusal.rule
+        self.folder = listing if listing and os.path.isdir(listing) else None
+        listing = None if self.folder else listing
         if listing is None:
             listing = refusal.file if self.rule in OF_LISTS else "list" if lists("list", refusal.file) else None
         self.world = world.of_list(listing) if listing else None
@@ -50,7 +52,7 @@ class Told:
     def lines(self):
         """What is to be said of the place, line by line."""
         if self.refusal.file in components.FILES:
-            return files.of_component(self.refusal)
+            return files.of_component(self.refusal, self.folder)
         if self.path is None:
             return [f"{self.refusal.file} is not found from this folder, so its place in the source is not told."]
         with open(self.path, "rb") as file:

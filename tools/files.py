@@ -1,8 +1,12 @@
 """What is told of a refusal at a file that is no class with members: a list, a script, an export file, a component,
 or a class file of another version."""
+import os
+
+import card
 import classfile
 import components
 import exportfile
+import items
 import listfile
 import opcodes
 
@@ -99,12 +103,39 @@ def of_export_class(told, data):
     return [f"{told.refusal.file}, the export file of {package}" + (f": {words}" if words else "")]
 
 
-def of_component(refusal):
-    """Where in a component a refusal points; its folder is not told by the refusal."""
+def of_component(refusal, folder):
+    """Where in a component a refusal points. The refusal does not tell its folder: it is the one that is named, or else
+    the current one or its folder out."""
     name, tag = refusal.file, (refusal.offset - 1) // 2
     if refusal.rule == 701 and name == components.FILES[1] and 3 <= refusal.offset < 27:
         return [f"Directory's size of {components.FILES[tag - 1]}: it is not that of the file, or the file is missing"]
+    for place in [folder] if folder else [".", "out"]:
+        found = in_component(place, name, refusal.offset)
+        if found:
+            return found
     return [f"byte {refusal.offset} of the file {name}, whose tag and size are bytes 0 to 2"]
+
+
+def component(folder, name):
+    """The bytes of a component in a folder, or none."""
+    try:
+        with open(os.path.join(folder, name), "rb") as source:
+            return source.read()
+    except OSError:
+        return b""
+
+
+def in_component(folder, name, offset):
+    """The item of a component at an offset; of Method.cap the header or the instruction."""
+    data = component(folder, name)
+    if name == "Method.cap" and data:
+        found = card.place(component(folder, "Descriptor.cap"), data, offset)
+        if found:
+            return found
+    for at, size, label in items.items(name, data):
+        if at <= offset < at + size and label:
+            return [f"{name}, byte {offset}: {label}, {data[at:at + min(size, 8)].hex(' ').upper()}"]
+    return []
 
 
 def of_language(told):

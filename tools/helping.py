@@ -30,6 +30,10 @@ WORDS = {
         makes a package of SIZE classes (1 to 250) from a number, converts it, runs class files and components, and
         tells how that went; reads and writes no file""",
         "jcconv make 7 3"),
+    "verify": ("verify LIST DIR", """
+        tests the types of the components in the folder DIR against the class files that the list names: whether each
+        instruction finds what it needs; prints ok, and writes nothing""",
+        "cd examples/wallet && ../../jcconv verify list out"),
     "compat": ("compat OLD NEW", """
         tells whether a new version of a package may stand in the place of the old one, by their export files; prints
         ok, and writes nothing""",

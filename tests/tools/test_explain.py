@@ -2,6 +2,7 @@
 import os
 import unittest
 
+import card
 import classfile
 import explain
 import opcodes
@@ -206,6 +207,28 @@ class Places(unittest.TestCase):
         self.assertIn("Directory's size of Class.cap", self.before("refused 701 Directory.cap - - 13"))
         self.assertIn("byte 7 of the file Header.cap", self.before("refused 106 Header.cap - - 7"))
 
+    def test_items_of_components(self):
+        case = os.path.join(TOP, "tests", "cases", "wallet_example", "after", "out")
+        for line, told in (
+                ("refused 711 Method.cap - - 33", "Method.cap, byte 33: baload, of method 2 of class 0 in Descriptor,"
+                                                  " byte 7 of its code\nit takes a number, the index, and below it"
+                                                  " an array of boolean or byte\n"),
+                ("refused 710 Method.cap - - 34", "byte 34: slookupswitch, of method 2 of class 0 in Descriptor"),
+                ("refused 710 Method.cap - - 35", "in method 2 of class 0 in Descriptor, where no instruction starts"),
+                ("refused 709 Method.cap - - 24", "byte 24: the header of method 2 of class 0 in Descriptor"),
+                ("refused 706 Class.cap - - 15", "Class.cap, byte 15: info at 2 public method 0, 00 15"),
+                ("refused 718 Descriptor.cap - - 18", "byte 18: class 0 field 0 type, 80 04")):
+            self.assertIn(told, self.before(line, HERE, case) + "\n")
+            folder = folder_of(self)
+            for name in ("Method.cap", "Descriptor.cap", "Class.cap"):
+                os.makedirs(os.path.join(folder, "out"), exist_ok=True)
+                write(os.path.join(folder, "out", name), read(case, name))
+            self.assertIn(told, self.before(line, folder) + "\n")
+
+    def test_method_without_its_descriptor(self):
+        folder = folder_of(self, Method_cap=b"\x07\0\7\0\2\x10\x1c\4\x41\x78", Descriptor_cap=b"\x0b\0\1")
+        self.assertNotIn("Descriptor", self.before("refused 709 Method.cap - - 8", folder).split("\n")[2])
+
     def test_language(self):
         wallet = os.path.join(TOP, "examples", "wallet")
         folder = folder_of(self, mine=b"package p A000000001 1.0\nexport framework.exp\nclass T.class\n",
@@ -250,6 +273,16 @@ class Instructions(unittest.TestCase):
                  0xA7: "goto", 0xB1: "return", 0xB9: "invokeinterface", 0xBC: "newarray", 0xC4: "wide", 0xC9: "jsr_w"}
         self.assertEqual({opcode: opcodes.NAMES[opcode] for opcode in names}, names)
         self.assertEqual(len(opcodes.NAMES), 0xCA)
+
+    def test_opcodes_of_the_card(self):
+        self.assertEqual(len(card.names()), 0xB9)
+        at = {0x00: "nop", 0x14: "iipush", 0x24: "aaload", 0x41: "sadd", 0x5F: "icmp", 0x71: "jsr", 0x7B: "getstatic_a",
+              0x8A: "putfield_i", 0x8E: "invokeinterface", 0x98: "ifeq_w", 0xAD: "getfield_a_this",
+              0xB8: "putfield_i_this", 0xFF: "impdep2"}
+        self.assertEqual({opcode: card.NAMES[opcode] for opcode in at}, at)
+        self.assertEqual(card.size(bytes.fromhex("75003300020030000d00400019"), 0), 13)
+        self.assertEqual(card.taken("sadd"), "two numbers")
+        self.assertEqual(card.taken("goto"), "")
 
     def test_switches_have_their_length(self):
         padded = bytes([0xAA, 0, 0, 0]) + bytes(4) + (1).to_bytes(4, "big") + (3).to_bytes(4, "big") + bytes(12)

@@ -1,5 +1,5 @@
 -- What a conversion answers of a list and its files is one.
-use Rattle.std.proofs.Common.{◌≡◌, inl, inr, true, false, ℕ, sym, ap, subst, ◌∙◌, List, length}
+use Rattle.std.proofs.Common.{◌≡◌, ℕ, sym, ap, subst, ◌∙◌, List, length}
 use Rattle.cjc_shape_proof.specs.Bytes.Breaks.{Break}
 use Rattle.cjc_shape_proof.specs.Bytes.Order.{Rank}
 use Rattle.cjc_shape_proof.specs.Bytes.Refused.{refused_at}

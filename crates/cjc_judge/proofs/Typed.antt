@@ -16,7 +16,6 @@ use Rattle.cjc_flow.specs.Types.Tables.{IsMethodOf, IsAnswer}
 use Rattle.cjc_world.specs.Files.{Files}
 use Rattle.cjc_judge.specs.Rules.{method_break, BreaksMethod, IsFirstIn}
 use Rattle.cjc_bytes.proofs.Firsts.{first_of_one}
-use Rattle.cjc_bytes.proofs.Gets.{slice_get_at}
 use Rattle.cjc_bytes.proofs.BrokenRules.{no_among}
 use Rattle.cjc_bytes.proofs.Options.{some_same}
 

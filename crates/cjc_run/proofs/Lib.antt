@@ -7,4 +7,5 @@ pub mod Tested
 pub mod Ran
 pub mod CardRan
 pub mod Summed
+pub mod Typed
 pub mod Versions

@@ -16,7 +16,8 @@ use Rattle.cjc_cmd_jvm.proofs.ReportLaws.OneAnswer.{one_refusal_of_runs, never_b
 use Rattle.cjc_cmd_jvm.specs.Runs.{Runs}
 use Rattle.cjc_cmd_make.specs.Report.Runs as summed
 use Rattle.cjc_cmd_jvm.specs.declared.running.input.Input.{Input}
-use Rattle.cjc_run.specs.Request.{Request, card, check, compat, convert, jvm, make}
+use Rattle.cjc_cmd_verify.specs.Verify.{Verifies}
+use Rattle.cjc_run.specs.Request.{Request, card, check, compat, convert, jvm, make, verify}
 use Rattle.cjc_run.specs.Command.{command_of}
 use Rattle.cjc_run.specs.Convert.{Makes}
 
@@ -78,6 +79,20 @@ make_once one never given = record {
   not_both = λ todo r made f. never given todo r made f;
 }
 
+-- components beside a package give one refusal, or are typed, and not both
+abbrev pub VerifiesOnce : Type 0
+VerifiesOnce = (input : ComponentsInput) (r s : Refusal) → Verifies input (Err r) → Verifies input (Err s) → r ≡ s
+
+abbrev pub VerifiesOrRefuses : Type 0
+VerifiesOrRefuses = (input : ComponentsInput) (todo : Todo) (r : Refusal) → Verifies input (Ok todo)
+    → Verifies input (Err r) → ⊥
+
+verify_once : VerifiesOnce → VerifiesOrRefuses → (input : ComponentsInput) → IsOneAnswer (Verifies input)
+verify_once one never input = record {
+  one = λ r s f g. one input r s f g;
+  not_both = λ todo r made f. never input todo r made f;
+}
+
 compat_once : (old new : List ℕ) (files : List ℕ × List ℕ) → IsOneAnswer (Compares old new files)
 compat_once old new files = record {
   one = λ r s f g. one_version old new files r s f g;
@@ -85,11 +100,14 @@ compat_once old new files = record {
 }
 
 -- one line a command
-pub makes_once : IsRefusedOnce → IsNeverBoth → RunsOnce → RunsOrRefuses → SumsOnce → SumsOrRefuses
-    → (asked : Request) (inputs : (command_of asked).Inputs) → IsOneAnswer ((command_of asked).Makes inputs)
-makes_once one never runs either sums alone (convert list dir) inputs = convert_once one never dir inputs
-makes_once one never runs either sums alone (check list dir) inputs = check_once inputs
-makes_once one never runs either sums alone (jvm list script n) inputs = run_once n script inputs
-makes_once one never runs either sums alone (card list dir script n) inputs = card_once runs either n script inputs
-makes_once one never runs either sums alone (make number size) inputs = make_once sums alone inputs
-makes_once one never runs either sums alone (compat old new) inputs = compat_once old new inputs
+pub makes_once : IsRefusedOnce → IsNeverBoth → RunsOnce → RunsOrRefuses → SumsOnce → SumsOrRefuses → VerifiesOnce
+    → VerifiesOrRefuses → (asked : Request) (inputs : (command_of asked).Inputs)
+    → IsOneAnswer ((command_of asked).Makes inputs)
+makes_once one never runs either sums alone types or (convert list dir) inputs = convert_once one never dir inputs
+makes_once one never runs either sums alone types or (check list dir) inputs = check_once inputs
+makes_once one never runs either sums alone types or (jvm list script n) inputs = run_once n script inputs
+makes_once one never runs either sums alone types or (card list dir script n) inputs = card_once runs either n script
+    inputs
+makes_once one never runs either sums alone types or (make number size) inputs = make_once sums alone inputs
+makes_once one never runs either sums alone types or (verify list dir) inputs = verify_once types or inputs
+makes_once one never runs either sums alone types or (compat old new) inputs = compat_once old new inputs

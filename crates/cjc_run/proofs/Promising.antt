@@ -1,12 +1,12 @@
 -- A conversion that is done keeps its promise.
-use Rattle.std.proofs.Common.{◌≡◌, ℕ, Bool, true, false, cond, List, [], ◌∷◌, ◌++◌, length, map, nat_lt, Option, Some}
+use Rattle.std.proofs.Common.{◌≡◌, ℕ, Bool, true, false, List, [], ◌∷◌, ◌++◌, map, Option, Some}
 use Rattle.std.proofs.Common.{None, IfSome, IsSomeAnd, Result, Ok, Err, refl, sym, ap, subst, ◌∙◌}
 use Rattle.std.proofs.lemmas.List.{append-nil, append_assoc}
 use Rattle.std.specs.FinMap.{get}
 use Rattle.cjc_bytes.specs.Format.{FileSpells}
 use Rattle.cjc_bytes.specs.declared.fault.Refusal.{Refusal}
 use Rattle.cjc_bytes.specs.declared.settings.FileLine.{FileLine}
-use Rattle.cjc_shelf.specs.Shelf.{Files, Shelved, longest_file}
+use Rattle.cjc_shelf.specs.Shelf.{Files, Shelved}
 use Rattle.cjc_shelf.specs.Sink.{Sunk}
 use Rattle.cjc_list.specs.Listed.{ListTree, listed}
 use Rattle.cjc_classfile.specs.ClassFile.{class_file}
@@ -14,7 +14,7 @@ use Rattle.cjc_classfile.specs.declared.tree.ClassTree.{ClassTree}
 use Rattle.cjc_judge.specs.Spelt.{FileTree, SpellTrees, classes_of, exports_of, of_class, of_export}
 use Rattle.cjc_export.specs.ExportFile.{export_file}
 use Rattle.cjc_export.specs.declared.tree.ExportTree.{ExportTree}
-use Rattle.cjc_shelf.specs.Command.Plan.{◌>>=◌, has, Verdict, at_file, verdict, for_each, read_behind, read_each}
+use Rattle.cjc_shelf.specs.Command.Plan.{◌>>=◌, has, Verdict, verdict, for_each, read_behind, read_each}
 use Rattle.cjc_shelf.specs.Command.Plan.{unless_refused, absent, too_long, refused, complete}
 use Rattle.cjc_shelf.proofs.CommandLaws.Gathering.{verdict-then, on_complete}
 use Rattle.cjc_shelf.specs.Command.Publish.{written_files, IsWritten, Stand}
@@ -24,7 +24,7 @@ use Rattle.cjc_shelf.specs.declared.command.status.Status.{Status}
 use Rattle.cjc_shelf.specs.declared.command.status.Status.TheVariants as status
 use Rattle.cjc_shelf.specs.declared.command.status.Todo.{Todo}
 use Rattle.cjc_list.proofs.Decided.{listed_spelt}
-use Rattle.cjc_run.specs.Request.{Request, card, check, compat, convert, jvm, make}
+use Rattle.cjc_run.specs.Request.{Request, card, check, compat, convert, jvm, make, verify}
 use Rattle.cjc_run.specs.Command.{command_of}
 use Rattle.cjc_cmd_convert.specs.Publication.{files_made, below}
 use Rattle.cjc_run.specs.Convert.{names_of, plan_of_files, plan_of_list, plan_of_convert}
@@ -36,6 +36,7 @@ use Rattle.cjc_run.proofs.Versions.{keeps_compared}
 use Rattle.cjc_run.proofs.Ran.{keeps_run}
 use Rattle.cjc_run.proofs.Summed.{keeps_made}
 use Rattle.cjc_run.proofs.Tested.{keeps_tested}
+use Rattle.cjc_run.proofs.Typed.{keeps_typed}
 
 -- ---- what was read
 
@@ -191,6 +192,7 @@ promised_done (check name dir) old new from to t = keeps_tested name dir old new
 promised_done (jvm name script n) old new from to t = keeps_run name script n old new from to t.0 t.1 t.2 t.3
 promised_done (card name dir script n) old new from to t = keeps_card name dir script n old new from to t.0 t.1 t.2 t.3
 promised_done (make number size) old new from to t = keeps_made number size old new from to t.0 t.1 t.2 t.3
+promised_done (verify name dir) old new from to t = keeps_typed name dir old new from to t.0 t.1 t.2 t.3
 promised_done (compat old_name new_name) old new from to t =
     keeps_compared old_name new_name old new from to t.0 t.1 t.2 t.3
 

@@ -1,5 +1,5 @@
 -- A comparison of two versions that is done keeps its promise.
-use Rattle.std.proofs.Common.{◌≡◌, ℕ, List, ◌++◌, Option, Some, None, IfSome, ap, sym, subst, ◌∙◌}
+use Rattle.std.proofs.Common.{ℕ, List, Option, Some, None, IfSome, sym, subst}
 use Rattle.std.specs.Prelude.{Ok}
 use Rattle.std.specs.FinMap.{get}
 use Rattle.cjc_cmd_compat.specs.Compat.{AreCompatible, Compares, plan_of_compat, plan_of_new}

@@ -5,7 +5,8 @@ use Rattle.cjc_cmd_check.specs.Check.{Checks, plan_of_check}
 use Rattle.cjc_cmd_compat.specs.Compat.{Compares, plan_of_compat}
 use Rattle.cjc_cmd_jvm.specs.Runs.{Runs, plan_of_jvm}
 use Rattle.cjc_cmd_make.specs.Report.Runs as summed
-use Rattle.cjc_run.specs.Request.{Request, card, check, compat, convert, jvm, make}
+use Rattle.cjc_cmd_verify.specs.Verify.{Verifies, plan_of_verify}
+use Rattle.cjc_run.specs.Request.{Request, card, check, compat, convert, jvm, make, verify}
 use Rattle.cjc_run.specs.Convert.{plan_of_convert, Makes}
 
 -- of a request what is read, and what is made of that
@@ -19,4 +20,5 @@ command_of (card list dir script n) = record {
   Makes = by_token.Runs n script;
 }
 command_of (make number size) = record { Inputs = _; plan = summed.plan_of_make number size; Makes = summed.Makes }
+command_of (verify list dir) = record { Inputs = _; plan = plan_of_verify list dir; Makes = Verifies }
 command_of (compat old new) = record { Inputs = _; plan = plan_of_compat old new; Makes = Compares old new }

@@ -39,6 +39,7 @@ pub use Rattle.cjc_cmd_check.specs as Checking
 pub use Rattle.cjc_cmd_jvm.specs as RunningByName
 pub use Rattle.cjc_cmd_card.specs as RunningByToken
 pub use Rattle.cjc_cmd_make.specs as Making
+pub use Rattle.cjc_cmd_verify.specs as Verifying
 pub use Rattle.cjc_compat.specs as Versions
 pub use Rattle.cjc_cmd_compat.specs as Comparing
 pub use Rattle.cjc_script_text.specs as ScriptText

@@ -34,7 +34,8 @@ use Rattle.cjc_script.specs.declared.report.Report.{Report}
 use Rattle.cjc_script_text.specs.Printed.{report_text}
 use Rattle.cjc_cmd_jvm.specs.Runs.{IsReport, plan_of_jvm}
 use Rattle.cjc_cmd_make.specs.Report.Runs.{IsMade}
-use Rattle.cjc_run.specs.Request.{Request, card, check, compat, convert, jvm, make}
+use Rattle.cjc_cmd_verify.specs.Verify.{AreTyped, plan_of_verify}
+use Rattle.cjc_run.specs.Request.{Request, card, check, compat, convert, jvm, make, verify}
 
 -- by one line: a class file is there and spells the first of these classes, and the other lines the rest; an export
 -- file spells none of them
@@ -141,6 +142,19 @@ pub record MadeReported (number size : ℕ) (old new : Shelved) (from to : Sunk)
   pub kept : IfSome old.files (λ files. new.files ≡ Some files)
   pub printed : IsPrinted todo from to
 
+-- The list of this name, its files and the components in the folder were read, and break none of the rules that `card`
+-- tests and none of 721 to 729.
+pub record IsTyped (name dir : List ℕ) (files : Files) : Type 0 where
+  pub input : ComponentsInput
+  pub read : verdict files (plan_of_verify name dir) ≡ complete input
+  pub typed : AreTyped input
+
+-- `ok` is printed, nothing is written, and the components are typed by token as the package is.
+pub record Verified (name dir : List ℕ) (old new : Shelved) (from to : Sunk) : Type 0 where
+  pub kept : IfSome old.files (λ files. new.files ≡ Some files)
+  pub typed : IfSome old.files (IsTyped name dir)
+  pub printed : IfSome from.written (λ before. to.written ≡ Some (before ++ ok_line))
+
 -- The files of these names were read, spell two versions of an export file, and the new one keeps what the old one
 -- says.
 pub record IsCompared (old new : List ℕ) (files : Files) : Type 0 where
@@ -164,4 +178,5 @@ Promised (check name dir) old new from to = Checked name dir old new from to
 Promised (jvm name script n) old new from to = Reported name script n old new from to
 Promised (card name dir script n) old new from to = CardReported name dir script n old new from to
 Promised (make number size) old new from to = MadeReported number size old new from to
+Promised (verify name dir) old new from to = Verified name dir old new from to
 Promised (compat old_name new_name) old new from to = Compared old_name new_name old new from to

@@ -15,6 +15,8 @@ pub data Request : Type 0 where
   card : List ℕ → List ℕ → List ℕ → ℕ → Request
   -- make NUMBER SIZE
   make : ℕ → ℕ → Request
+  -- verify LIST DIR
+  verify : List ℕ → List ℕ → Request
   -- compat OLD NEW
   compat : List ℕ → List ℕ → Request
 
@@ -40,6 +42,7 @@ request (verb ∷ list ∷ dir ∷ []) =
     if bytes_eq verb (codes "convert") then Some (convert list dir)
     else if bytes_eq verb (codes "check") then Some (check list dir)
     else if bytes_eq verb (codes "make") then option_and_then (λ n. option_map (make n) (size dir)) (number list)
+    else if bytes_eq verb (codes "verify") then Some (verify list dir)
     else if bytes_eq verb (codes "compat") then Some (compat list dir)
     else None
 request (verb ∷ list ∷ script ∷ n ∷ []) = if bytes_eq verb (codes "jvm") then option_map (jvm list script) (count n)

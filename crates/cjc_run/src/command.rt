@@ -37,6 +37,11 @@ pub(crate) enum Asked<'a> {
         number: u32,
         size: u32,
     },
+    /// `verify LIST DIR`
+    Verify {
+        list: &'a [u8],
+        dir: &'a [u8],
+    },
     /// `compat OLD NEW`
     Compat {
         old: &'a [u8],
@@ -100,6 +105,10 @@ pub(crate) fn asked_by(words: &[Bytes]) -> Option<Asked<'_>>
             dir: dir.items(),
         }),
         [verb, number, size] if verb.items() == b"make".as_slice() => package_asked(number, size),
+        [verb, list, dir] if verb.items() == b"verify".as_slice() => Some(Asked::Verify {
+            list: list.items(),
+            dir: dir.items(),
+        }),
         [verb, old, new] if verb.items() == b"compat".as_slice() => Some(Asked::Compat {
             old: old.items(),
             new: new.items(),

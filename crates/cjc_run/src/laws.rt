@@ -11,6 +11,7 @@ ghost use Rattle.cjc_run.specs.Command.{command_of};
 use cjc_cmd_card::report::one_answer as one_report;
 use cjc_cmd_convert::conversion::one_answer;
 use cjc_cmd_make::report::one_answer as one_summary;
+use cjc_cmd_verify::one_answer as one_verdict;
 
 /// The words and the told files decide one answer: two runs in which no fault count rises and memory is there
 /// end the same way, and of all refusals that a run may answer for them there is one.
@@ -23,4 +24,5 @@ pub fn one_status()
     one_answer();
     one_report();
     one_summary();
+    one_verdict();
 }

@@ -18,6 +18,7 @@ use cjc_cmd_check::checking::gather_check;
 use cjc_cmd_compat::gather_compat;
 use cjc_cmd_jvm::report::gather_run;
 use cjc_cmd_make::report::gather_make;
+use cjc_cmd_verify::gather_verify;
 use cjc_shelf::command::{Status, Todo, publish};
 use cjc_shelf::{Shelf, Sink};
 use std::alloc::Global;
@@ -39,6 +40,7 @@ fn gather<S: Shelf>(alloc: Global, command: Asked<'_>, shelf: &mut S) -> Result<
             n,
         } => gather_card(alloc, list, dir, script, n, shelf),
         Asked::Make { number, size } => gather_make(alloc, number, size, shelf),
+        Asked::Verify { list, dir } => gather_verify(alloc, list, dir, shelf),
         Asked::Compat { old, new } => gather_compat(alloc, old, new, shelf),
     }
 }

@@ -63,7 +63,7 @@ fn says(
 }
 
 /// Commands one after the other in one folder, and what they print.
-const COMMANDS: [(&str, &str); 6] = [
+const COMMANDS: [(&str, &str); 7] = [
     (
         "convert list out",
         "Header.cap 20\nDirectory.cap 36\nImport.cap 14\nConstantPool.cap 5\nClass.cap 15\nMethod.cap 10\n\
@@ -72,6 +72,7 @@ const COMMANDS: [(&str, &str); 6] = [
     ("check list out", "ok\n"),
     ("jvm list script 100", "result -32768\ndone\n"),
     ("card list out script 100", "result -32768\ndone\n"),
+    ("verify list out", "ok\n"),
     ("compat lang.exp lang.exp", "ok\n"),
     (
         "make 7 3",

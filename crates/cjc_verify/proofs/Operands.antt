@@ -4,6 +4,10 @@ use Rattle.std.proofs.Common.{negsuc}
 use Rattle.std.proofs.lemmas.Grind.{common_steps}
 use Rattle.cjc_card_acts.specs.Rows.{copying_below, idle, swapping_by, unknown, with_local, with_number}
 use Rattle.cjc_card_acts.specs.Frames.declared.acts.Act.{Act}
+use Rattle.cjc_card_calls.specs.CardSemantics.Bytecode.Meanings.{Use}
+use Rattle.cjc_verify.specs.Instructions.{using_entry, using_some}
+use Rattle.cjc_verify.specs.Named.{entry_of, entry_type}
+use Rattle.cjc_verify.specs.Pairs.{Pair}
 use Rattle.cjc_verify.specs.Working.Operands.{local_by, natural_of}
 use Rattle.cjc_capread.proofs.BytesNumbers.{some_same}
 
@@ -35,6 +39,20 @@ pub no_number : (act : ℕ → Act) (values : List ℤ) → None ≡ natural_of 
 no_number act [] is = refl
 no_number act (pos k ∷ values) is = absurd cc
 no_number act (negsuc k ∷ values) is = refl
+
+-- the operand is the number of an entry
+pub by_entry : (p : Pair) (how : Use) (values : List ℤ) (k : ℕ) → Some k ≡ natural_of values
+    → using_some p how (entry_type p k) (entry_of p k) ≡ using_entry p how values
+by_entry p how [] k is = absurd cc
+by_entry p how (pos n ∷ values) k is = ap (λ (i : ℕ). using_some p how (entry_type p i) (entry_of p i)) (some_same k n
+    is)
+by_entry p how (negsuc n ∷ values) k is = absurd cc
+
+-- it is none
+pub no_entry : (p : Pair) (how : Use) (values : List ℤ) → None ≡ natural_of values → idle ≡ using_entry p how values
+no_entry p how [] is = refl
+no_entry p how (pos n ∷ values) is = absurd cc
+no_entry p how (negsuc n ∷ values) is = refl
 
 -- dup_x copies four words at most, so its operand has one byte
 pub no_copy : (n : ℕ) → 256 ≤ n → copying_below n ≡ unknown

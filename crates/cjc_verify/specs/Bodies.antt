@@ -20,6 +20,7 @@ use Rattle.cjc_check_rules.specs.Classes.{is_own_class}
 use Rattle.cjc_check_rules.specs.Codes.{methods_begin, codes}
 use Rattle.cjc_check_rules.specs.Codes as check
 use Rattle.cjc_card_acts.specs.CardTypes.{ValueType, MemberType, type_at, words}
+use Rattle.cjc_verify.specs.declared.listed.Listed.{Listed}
 use Rattle.cjc_verify.specs.ClassTypes.{class_type}
 use Rattle.cjc_verify.specs.Pairs.{Pair}
 use Rattle.cjc_verify.specs.Named.{entry_of}
@@ -33,11 +34,6 @@ pub record Body : Type 0 where
   pub method : MethodDescriptor
   pub header : MethodHeader
   pub instructions : List (Placed Instruction)
-
--- a method under its class
-pub record Listed : Type 0 where
-  pub holder : ClassRef
-  pub method : MethodDescriptor
 
 -- the methods of a class
 abbrev pub listed_in : ClassDescriptor → List Listed

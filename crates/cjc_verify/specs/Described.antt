@@ -60,7 +60,7 @@ is_field_type p desc types.Byte Byte = true
 is_field_type p desc types.Short Short = true
 is_field_type p desc types.Int Int = true
 is_field_type p desc (types.Described offset) (Reference shape) = says p offset desc
-is_field_type p desc type kind = false
+is_field_type p desc _ _ = false
 
 -- ---- members
 

@@ -20,14 +20,14 @@ use Rattle.cjc_check_rules.specs.ExportFile.declared.tree.ExportField.{ExportFie
 use Rattle.cjc_check_rules.specs.ExportFile.declared.tree.ExportMethod.{ExportMethod}
 use Rattle.cjc_check_rules.specs.ExportFile.declared.tree.ExportTree.{ExportTree}
 use Rattle.cjc_check_rules.specs.ExportFile.Supers.{classes_of, upwards, virtual_method, is_virtual}
-use Rattle.cjc_check_rules.specs.ExportFile.Supers as supers
 use Rattle.cjc_check_rules.specs.ExportFile.Members.{is_unbound}
 use Rattle.cjc_card_calls.specs.CardSemantics.Bytecode.Machine.{Start}
 use Rattle.cjc_card_calls.specs.CardSemantics.Machine.Loaded.{Loaded}
-use Rattle.cjc_card_calls.specs.CardSemantics.Machine.Classes.{Class as CardClass, class_of}
+use Rattle.cjc_card_calls.specs.CardSemantics.Machine.Classes.{Class as CardClass, External, class_of}
+use Rattle.cjc_card_calls.specs.CardSemantics.Machine.Classes.{external, external_named}
 use Rattle.cjc_card_calls.specs.CardSemantics.Machine.Classes as card
 use Rattle.cjc_card_calls.specs.CardSemantics.Machine.Dispatch.{Token, Selection, NotFound, At, Outward, tower, above}
-use Rattle.cjc_card_calls.specs.CardSemantics.Machine.Dispatch.{dispatched, interface_method}
+use Rattle.cjc_card_calls.specs.CardSemantics.Machine.Dispatch.{dispatched, exported_line, interface_method}
 use Rattle.cjc_card_calls.specs.CardSemantics.Machine.Operations.{token_of}
 use Rattle.cjc_card_calls.specs.CardSemantics.Machine.Methods.{start_of, Code}
 use Rattle.cjc_card_calls.specs.World.declared.found.Found.{Found}
@@ -107,12 +107,21 @@ abbrev pub listed_virtual_desc : Pair → (token : ℕ) → Option ExportClass �
 listed_virtual_desc p token c = let files = p.files in method_desc (first_of (virtual_method token)
     (line_of files.exports c))
 
+-- an imported class that the machine finds, and what stands above it
+abbrev pub line_found : Loaded → Option CardClass → List ExportClass
+line_found l (Some (External tree token)) = exported_line l (external l tree token)
+line_found l class = []
+
+-- an imported class by its name, and what stands above it
+abbrev pub line_named : Loaded → (name : List ℕ) → List ExportClass
+line_named l name = line_found l (external_named l name)
+
 -- the same in a class of either kind
 abbrev pub virtual_desc_in : Pair → (token : ℕ) → Option Class → Option (List ℕ)
 virtual_desc_in p token None = None
 virtual_desc_in p token (Some c) =
-    if c.is_imported then listed_virtual_desc p token (let files = p.files in supers.class_named
-    (classes_of files.exports) c.name) else own_virtual_desc p token c
+    if c.is_imported then method_desc (first_of (virtual_method token) (line_named p.loaded c.name))
+    else own_virtual_desc p token c
 
 -- the descriptor of the static field whose cell stands at an offset
 abbrev pub cell_desc : Pair → (offset : ℕ) → Option (List ℕ)
@@ -199,8 +208,7 @@ listed_as id c = find (λ (m : ExportMethod). is_virtual m && bytes_eq m.name id
 abbrev pub is_abstract_selection : Pair → Selection → Bool
 is_abstract_selection p NotFound = false
 is_abstract_selection p (At part offset) = is_abstract_at p offset
-is_abstract_selection p (Outward id) = let files = p.files in is_abstract_listed (first_of (listed_as id)
-    (line_of files.exports (supers.class_named (classes_of files.exports) id.class)))
+is_abstract_selection p (Outward id) = is_abstract_listed (first_of (listed_as id) (line_named p.loaded id.class))
 
 -- a token upwards from the superclass of a class
 abbrev pub selected_above : Loaded → CardClass → Option Token → Selection

@@ -1,8 +1,7 @@
 -- Descriptor and StaticField beside what is wanted of them: what differs, item by item (Java Card Virtual Machine
 -- Specification 2.2.2, sections 6.10 and 6.13).
-use Rattle.std.specs.Prelude.{ℕ, ◌+◌, ◌*◌, ◌==◌, ◌&&◌, Bool, true, false, List, [], ◌∷◌, ◌++◌, length, option_map}
-use Rattle.std.specs.Prelude.{Option, Some, None}
-use Rattle.std.specs.Str.{bytes_eq}
+use Rattle.std.specs.Prelude.{ℕ, ◌+◌, ◌==◌, ◌&&◌, Bool, true, false, List, [], ◌++◌, length}
+use Rattle.std.specs.Prelude.{Option}
 use Rattle.cjc_capread.specs.declared.tree.ArrayInit.{ArrayInit}
 use Rattle.cjc_capread.specs.declared.tree.ClassDescriptor.{ClassDescriptor}
 use Rattle.cjc_capread.specs.declared.tree.Descriptor.{Descriptor}
@@ -12,13 +11,12 @@ use Rattle.cjc_capread.specs.declared.tree.FieldPlace.TheVariants as places
 use Rattle.cjc_capread.specs.declared.tree.FieldType.{FieldType}
 use Rattle.cjc_capread.specs.declared.tree.FieldType.TheVariants as types
 use Rattle.cjc_capread.specs.declared.tree.MethodDescriptor.{MethodDescriptor}
-use Rattle.cjc_capread.specs.declared.tree.TypeDescriptor.{TypeDescriptor}
 use Rattle.cjc_capread.specs.ClassRefs.{same_class}
 use Rattle.cjc_check_rules.specs.declared.spot.ComponentPlace.{ComponentPlace}
-use Rattle.cjc_check_rules.specs.Spots.{in_info, unless, beside, item_at}
+use Rattle.cjc_check_rules.specs.Spots.{in_info, unless, beside}
 use Rattle.cjc_check_rules.specs.Complete.{array_size, described_size}
 use Rattle.cjc_check_rules.specs.ClassRefs.{fields_begin, pool_count_at}
-use Rattle.cjc_check_rules.specs.Described.{methods_begin, types_at}
+use Rattle.cjc_check_rules.specs.Described.{methods_begin}
 use Rattle.cjc_verify.specs.Described.{are_nibbles, is_number, nibbles_at}
 use Rattle.cjc_verify.specs.declared.described.wanted.WantedClass.{WantedClass}
 use Rattle.cjc_verify.specs.declared.described.wanted.WantedEntry.{WantedEntry}

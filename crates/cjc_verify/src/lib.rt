@@ -2,18 +2,29 @@
 //! components say of classes and members what the package says.
 #![tactic(auto)]
 
-pub mod class_types;
+mod acts;
+mod bodies;
+mod breaks;
+mod checker;
+mod class_types;
 mod described;
 mod infos;
-pub mod kinds;
-pub mod members;
-pub mod plain;
-pub mod targets;
+mod kinds;
+mod listed;
+mod members;
+mod method_body;
+mod methods;
+mod named;
+mod package;
+mod plain;
+mod targets;
 
 ghost use Rattle.std.specs.Prelude.{◌≡◌};
 ghost use Rattle.cjc_capread.specs.Bytes.Breaks.{Break};
 ghost use Rattle.cjc_verify.specs.Pairs.{Pair};
 ghost use Rattle.cjc_verify.specs.Verified.{Breaks, IsVerified, IsRefused};
+
+pub use checker::verify;
 
 /// A package that is verified breaks no rule.
 pub fn verified_breaks_nothing()

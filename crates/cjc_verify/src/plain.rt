@@ -1,4 +1,5 @@
-//! What rows take and give that see the stack and the locals alone, by the operands of an instruction. Called by `acts`.
+//! What rows take and give that see the stack and the locals alone, by the operands of an instruction. Called by
+//! `acts`.
 
 ghost use Rattle.std.specs.Prelude.{◌≡◌, ◌∷◌, ◌<◌, ◌^◌, [], replicate, None, IfOk, IfSome};
 ghost use Rattle.cjc_capread.specs.Decoder.Decoded.{values};

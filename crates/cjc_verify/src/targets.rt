@@ -1,5 +1,5 @@
-//! Where instructions may jump, as offsets from the start of the info of Method (Java Card Virtual Machine Specification
-//! 2.2.2, chapter 7). Called by `acts`.
+//! Where instructions may jump, as offsets from the start of the info of Method (Java Card Virtual Machine
+//! Specification 2.2.2, chapter 7). Called by `acts`.
 
 ghost use Rattle.std.specs.Prelude.{◌≡◌, ◌++◌, ◌∷◌, [], map, OnOk};
 ghost use Rattle.cjc_capread.specs.Decoder.Decoded.{instruction_of, numbers_of, values};

@@ -70,7 +70,7 @@ IsGiven Byte z = is_word z ≡ true
 IsGiven Short z = is_word z ≡ true
 IsGiven Int z = Unit {0}
 
-items_set : (letter : Letter) (element : Element) (items : List ℤ) (n : ℕ) (z : ℤ) → is_element letter element ≡ true
+pub items_set : (letter : Letter) (element : Element) (items : List ℤ) (n : ℕ) (z : ℤ) → is_element letter element ≡ true
     → IsGiven letter z → AreItems element items → AreItems element (slice_set items n z)
 items_set letter Ints items n z is g fit = tt
 items_set Byte Booleans items n z is g fit = All-set (λ z. is_word z ≡ true) items n z g fit
@@ -87,14 +87,14 @@ items_set Reference Bytes items n z is g fit = cc
 items_set Reference Shorts items n z is g fit = cc
 
 -- a word is cut to a word
-within : (z : ℤ) → negsuc 32767 ≤ℤ z → z ≤ℤ pos 32767 → is_word z ≡ true
+pub within : (z : ℤ) → negsuc 32767 ≤ℤ z → z ≤ℤ pos 32767 → is_word z ≡ true
 within z low high = and_from (int_le (negsuc 32767) z) (int_le z (pos 32767)) (le_true (negsuc 32767) z low)
     (le_true z (pos 32767) high)
 
-word_is_word : (z : ℤ) → is_word (low_word z) ≡ true
+pub word_is_word : (z : ℤ) → is_word (low_word z) ≡ true
 word_is_word z = let f = SFits-int_wrap w16 z in within (low_word z) (omega (arith, ints, f)) (omega (arith, ints, f))
 
-byte_is_word : (z : ℤ) → is_word (low_byte z) ≡ true
+pub byte_is_word : (z : ℤ) → is_word (low_byte z) ≡ true
 byte_is_word z = let f = SFits-int_wrap w8 z in within (low_byte z) (omega (arith, ints, f)) (omega (arith, ints, f))
 
 module _ {X : Type 0} (l : Loaded) (next : ℕ) (lc : List Cell) (lv : List (Option Value)) (m : Memory Class Field X)

@@ -3,4 +3,14 @@
 #![tactic(auto)]
 
 pub mod arrays;
+pub mod calls;
+pub mod control;
+pub mod fields;
+pub mod frames;
+pub mod growth;
+pub mod memories;
+pub mod references;
 pub mod rows;
+pub mod slots;
+pub mod statics;
+pub mod turns;

@@ -23,7 +23,7 @@ one_head (s ∷ spots) a b foremost foremost = refl
 one_head (s ∷ spots) a b foremost (after g) = none_among b g
 one_head (s ∷ spots) a b (after h) g = none_among a h
 
-one_of_pair : (input : Input) (a b : Break) → BreaksPair input a → BreaksPair input b → a.rank ≡ b.rank
+pub one_of_pair : (input : Input) (a b : Break) → BreaksPair input a → BreaksPair input b → a.rank ≡ b.rank
     → a.refusal ≡ b.refusal
 one_of_pair input a b p q e =
     let there : Among b (pair_breaks (files_spelt input.list p.trees) p.image p.whole) =

@@ -86,7 +86,7 @@ in_components (tag ∷ tags) (x ∷ files) b among =
 
 -- ---- sentences
 
-in_spots : (number : ℕ) (spots : List ComponentPlace) (b : Break) → Among b (map (break_at number) spots)
+pub in_spots : (number : ℕ) (spots : List ComponentPlace) (b : Break) → Among b (map (break_at number) spots)
     → OfComponent b
 in_spots number [] b among = none_among b among
 in_spots number (s ∷ spots) b foremost = record { tag = s.component; place = s.offset; rule = number; is = refl }

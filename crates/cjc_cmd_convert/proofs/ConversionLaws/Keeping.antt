@@ -10,7 +10,7 @@ use Rattle.cjc_convert.specs.declared.conversion.Converted.{Converted}
 use Rattle.cjc_theorem.specs.FairExports.Fair.{ExportsAreFair}
 use Rattle.cjc_theorem.specs.Judge.Rules.{files_spelt}
 use Rattle.cjc_theorem.specs.Judge.declared.judged.Judged.{Judged}
-use Rattle.cjc_theorem.specs.Judge.Spelt.{IsRead, exports_of}
+use Rattle.cjc_theorem.specs.Judge.Spelt.{IsRead}
 use Rattle.cjc_convert.specs.List.Listed.{ListTree}
 use Rattle.cjc_convert.specs.Shape.Prepared.{IsSound}
 use Rattle.cjc_convert.specs.CheckRules.Consistent.{Consistent}

@@ -100,7 +100,8 @@ pub data RefusesComponents (files : Files) (r : Refusal) : Type 0 where
 -- This is the first rule that the package and the script break where class files are run; or they are run, and the
 -- components that were put beside these files are refused.
 pub data RefusesRuns (files : Files) (input : Input) (made : Conversion) (r : Refusal) : Type 0 where
-  of_class_files : IsFirstRefused (Breaks input.list input.files script_name input.script) r → RefusesRuns files input made r
+  of_class_files : IsFirstRefused (Breaks input.list input.files script_name input.script) r
+      → RefusesRuns files input made r
   of_components : (report : Report) → IsReportByName input report → RefusesComponents (with_made files input made) r
       → RefusesRuns files input made r
 

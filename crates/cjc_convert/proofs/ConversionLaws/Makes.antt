@@ -5,7 +5,7 @@ use Rattle.cjc_shape_proof.specs.Bytes.Format.{FileSpells}
 use Rattle.cjc_shape_proof.specs.Bytes.Refused.{refusal}
 use Rattle.cjc_shape_proof.specs.Bytes.declared.fault.Fault.{Fault}
 use Rattle.cjc_shape_proof.specs.Bytes.declared.fault.Fault.TheVariants as faults
-use Rattle.cjc_captree.specs.CapWrite.Files.{files_of, limit_of}
+use Rattle.cjc_captree.specs.CapWrite.Files.{files_of}
 use Rattle.cjc_captree.specs.CapWrite.Writable.{IsSpelt}
 use Rattle.cjc_captree.specs.Components.Components.{components_of}
 use Rattle.cjc_captree.specs.Components.Limits.{size_breaks}

@@ -1,5 +1,5 @@
 -- Which rule is answered for a list and its files.
-use Rattle.std.proofs.Common.{◌≡◌, ◌∙◌, ℕ, List, [], ◌∷◌, refl, sym, ap, subst, inl, inr}
+use Rattle.std.proofs.Common.{◌≡◌, ◌∙◌, ℕ, List, [], refl, sym, ap, subst, inl, inr}
 use Rattle.cjc_shape_proof.specs.Bytes.Breaks.{Among, Break, IsFirst, IsFirstRefusal}
 use Rattle.cjc_shape_proof.specs.Bytes.Order.{NotAfter}
 use Rattle.cjc_shape_proof.specs.Bytes.declared.fault.Fault.{Fault}

@@ -14,7 +14,6 @@ use Rattle.cjc_flow.specs.Intervals.Flow.{range_flow}
 use Rattle.cjc_flow.specs.Intervals.Frames.{StackOf, Cells, Clash, IsStackBelow, RangeState, spans, states}
 use Rattle.cjc_flow.specs.Intervals.Tables.{IsLeastRanges}
 use Rattle.cjc_code.proofs.RangeOrder.{within_both}
-use Rattle.cjc_code.proofs.RangeRounding.{spans_same}
 
 -- ---- of any flow in whose order no two states are below one another
 

@@ -395,5 +395,5 @@ no_entry_rule by l tb e entries acts none s t same =
   where
     none_entered : (m : Method) → {on : Bool} → MayEnter by l e.method on m → ⊥
     none_entered m (entries_spec.is_called found) = let no : None ≡ Some m = sym none.not_called ∙ found in cc
-    none_entered m (entries_spec.is_sent kind made found) = let no : None ≡ Some m = sym (none.not_sent kind made) ∙ found
-        in cc
+    none_entered m (entries_spec.is_sent kind made found) =
+        let no : None ≡ Some m = sym (none.not_sent kind made) ∙ found in cc

@@ -1,12 +1,10 @@
 -- The methods of interfaces that a package's code calls are found, and have tokens.
-use Rattle.std.proofs.Common.{◌≡◌, ℕ, zero, suc, refl, sym, ap, subst, ◌∙◌, arith, Bool, true, false, not, ◌&&◌, ◌||◌}
-use Rattle.std.proofs.Common.{List, [], ◌∷◌, ◌++◌, length}
-use Rattle.std.specs.Prelude.{◌-◌, ◌+◌, ◌<◌, ◌==◌, Option, Some, None, IsSome, option_and_then, option_map, slice_get}
-use Rattle.std.specs.Prelude.{if◌then◌else◌}
-use Rattle.std.specs.List.{list_any}
+use Rattle.std.proofs.Common.{◌≡◌, ℕ, refl, sym, ap, subst, ◌∙◌, arith, Bool, true, false, not, ◌&&◌, ◌||◌}
+use Rattle.std.proofs.Common.{List, [], length}
+use Rattle.std.specs.Prelude.{◌-◌, ◌+◌, ◌<◌, Option, Some, None, option_and_then, option_map, slice_get}
 use Rattle.cjc_bytes.specs.AccessFlags.{is_interface}
-use Rattle.cjc_bytes.specs.Breaks.{Break, each_from}
-use Rattle.cjc_bytes.specs.Order.{FilePlace, file_of}
+use Rattle.cjc_bytes.specs.Breaks.{each_from}
+use Rattle.cjc_bytes.specs.Order.{file_of}
 use Rattle.cjc_bytes.specs.declared.fault.MemberId.{MemberId}
 use Rattle.cjc_world.specs.ClassFile.Code.{CodeTree}
 use Rattle.cjc_world.specs.ClassFile.declared.tree.ClassTree.{ClassTree}
@@ -19,19 +17,18 @@ use Rattle.cjc_world.specs.ExportFile.declared.tree.ExportTree.{ExportTree}
 use Rattle.cjc_narrow_proof.specs.JvmSemantics.OnePackage.{method_hit}
 use Rattle.cjc_narrow_proof.specs.Narrow.Rows.Resolved.{by_owner, resolved_method}
 use Rattle.cjc_methods.specs.Pool.Pool.{token_of}
-use Rattle.cjc_narrow_proof.specs.Subset.Members.{ResolvedMember, hit, hit_of, is_array, is_constructor, is_initialiser}
+use Rattle.cjc_narrow_proof.specs.Subset.Members.{ResolvedMember, hit, hit_of, is_array, is_initialiser}
 use Rattle.cjc_narrow_proof.proofs.SubsetCallees.{method_unfound}
-use Rattle.cjc_narrow_proof.specs.Subset.Names.{code_breaks, insn_breaks, is_hidden, is_member_missing, is_name_missing}
-use Rattle.cjc_narrow_proof.specs.Subset.Names.{is_not_found, is_unfit_call, is_unfit_class, is_unfit_interface}
+use Rattle.cjc_narrow_proof.specs.Subset.Names.{code_breaks, insn_breaks, is_hidden, is_name_missing}
+use Rattle.cjc_narrow_proof.specs.Subset.Names.{is_not_found, is_unfit_call, is_unfit_class}
 use Rattle.cjc_narrow_proof.specs.Subset.Names.{is_unfit_method}
 use Rattle.cjc_narrow_proof.specs.Subset.Names.{method_breaks, name_breaks, names_missing, names_unfit, names_unfound}
-use Rattle.cjc_narrow_proof.specs.Subset.Names.{is_other_kind}
 use Rattle.cjc_narrow_proof.specs.Subset.Places.{of_class, of_method}
 use Rattle.cjc_exported.specs.Tokens.Rules.{token_breaks}
 use Rattle.cjc_exported.specs.Tokens.Tokens.{assigned, token_of_member}
 use Rattle.cjc_methods.specs.Types.Tables.{IsMethodOf}
 use Rattle.cjc_narrow_proof.proofs.VTableFiled.{at-number}
-use Rattle.cjc_world.specs.Classes.{Class, all_classes, class_at, class_named}
+use Rattle.cjc_world.specs.Classes.{Class, all_classes, class_named}
 use Rattle.cjc_world.specs.Files.{Files}
 use Rattle.cjc_world.specs.Supertypes.{IsAcyclic}
 use Rattle.cjc_world.specs.Lookup.{find_method}

@@ -1,14 +1,10 @@
 -- The methods of a tested package that are selected by the indices of their pool, and laid out, can be emitted.
 use Rattle.std.proofs.Common.{◌≡◌, ℕ, zero, suc, ◌<◌, ◌≤◌, refl, sym, ap, subst, ◌∙◌, arith, Bool, true, false}
 use Rattle.std.proofs.Common.{List, [], ◌∷◌, length}
-use Rattle.std.specs.Prelude.{Option, Some, None, IsSome, map, position, slice_get, unwrap_or, if◌then◌else◌}
+use Rattle.std.specs.Prelude.{Option, Some, None, IsSome, slice_get, unwrap_or, if◌then◌else◌}
 use Rattle.std.specs.List.{list_any}
-use Rattle.std.proofs.lemmas.Option.{slice_get-map}
 use Rattle.cjc_bytes.specs.declared.fault.MemberId.{MemberId}
 use Rattle.cjc_methods.specs.CapRead.Opcodes.{form}
-use Rattle.cjc_world.specs.ClassFile.Code.{CodeTree}
-use Rattle.cjc_world.specs.ClassFile.declared.tree.ClassTree.{ClassTree}
-use Rattle.cjc_world.specs.ClassFile.declared.tree.MethodTree.{MethodTree}
 use Rattle.cjc_narrow_proof.specs.Bytecode.declared.insn.JInsn.{JInsn}
 use Rattle.cjc_narrow_proof.specs.Bytecode.declared.method_code.MethodCode.{MethodCode}
 use Rattle.cjc_narrow_proof.specs.Emit.Emitted.{CanBeWritten, HasIndex, HasNames, HasToken, IsEmittable, IsNamedBy}
@@ -35,9 +31,9 @@ use Rattle.cjc_methods.specs.NCode.declared.narrow.NInsn.TheVariants as insns
 use Rattle.cjc_methods.specs.NCode.declared.narrow.NMethod.{NMethod}
 use Rattle.cjc_methods.specs.NCode.declared.narrow.PoolKey.{PoolKey}
 use Rattle.cjc_methods.specs.NCode.declared.narrow.PoolKey.TheVariants as keys
-use Rattle.cjc_methods.specs.Pool.Pool.{IsPool, PoolView, calls, is_called, token_in, token_of}
+use Rattle.cjc_methods.specs.Pool.Pool.{PoolView, calls, is_called, token_in, token_of}
 use Rattle.cjc_methods.proofs.PoolKeys.{names_there}
-use Rattle.cjc_methods.specs.Pool.Named.{CallsHaveTokens, IsAmong}
+use Rattle.cjc_methods.specs.Pool.Named.{CallsHaveTokens}
 use Rattle.cjc_narrow_proof.proofs.SelectedLaws.Calls.{called_from}
 use Rattle.cjc_narrow_proof.proofs.SelectedLaws.Decoded.{one_of_all, operands_fit}
 use Rattle.cjc_narrow_proof.proofs.SelectedLaws.Formed.{all_have_forms}
@@ -48,12 +44,11 @@ use Rattle.cjc_narrow_proof.specs.Selected.Operands.{IndexFits, IsSmall, Numbers
 use Rattle.cjc_narrow_proof.specs.Subset.Ints.{code_works_on_int}
 use Rattle.cjc_narrow_proof.specs.Subset.Names.{names_missing, names_unfit, names_unfound}
 use Rattle.cjc_exported.specs.Tokens.Tokens.{assigned}
-use Rattle.cjc_methods.specs.Types.declared.table.TypeTable.{TypeTable}
 use Rattle.cjc_world.specs.Classes.{all_classes}
 use Rattle.cjc_narrow_proof.specs.Narrow.Written.Operands.{CanBeSaid as IsSaid}
-use Rattle.cjc_narrow_proof.specs.Narrow.Written.Rows.{has_rows, row_if, rows_by}
+use Rattle.cjc_narrow_proof.specs.Narrow.Written.Rows.{has_rows, rows_by}
 use Rattle.cjc_shape.specs.Judged.Pooled.{ArePooled, IsSelected}
-use Rattle.cjc_shape.specs.Judged.Tested.{IsOne, IsTested, states}
+use Rattle.cjc_shape.specs.Judged.Tested.{IsTested, states}
 use Rattle.cjc_shape.proofs.JudgedLaws.Called.{IsDeclared, is_fit, is_found, is_there, resolved_declared}
 use Rattle.cjc_shape.proofs.JudgedLaws.Called.{resolved_token}
 use Rattle.cjc_shape.proofs.JudgedLaws.Selected.{judged_acyclic, judged_names, judged_selectable, judged_whole}

@@ -1,17 +1,17 @@
 -- The class that declares a method which a look-up finds.
-use Rattle.std.proofs.Common.{◌≡◌, ℕ, ◌+◌, refl, sym, ap, ◌∙◌, arith, Bool, true, false, List, [], ◌∷◌, ◌++◌, length}
+use Rattle.std.proofs.Common.{◌≡◌, ℕ, ◌+◌, refl, ap, ◌∙◌, arith, Bool, true, false, List, [], ◌∷◌, ◌++◌, length}
 use Rattle.std.proofs.Common.{get_or}
 use Rattle.std.specs.Prelude.{◌-◌, ◌&&◌, Option, Some, None, option_and_then, option_map, position, slice_get}
 use Rattle.std.specs.Str.{bytes_eq}
 use Rattle.std.proofs.lemmas.List.Quantifiers.{position-Some}
 use Rattle.std.proofs.lemmas.Option.{slice_get-get_or}
 use Rattle.std.proofs.lemmas.Slice.Eq.{bytes_eq-Decides}
-use Rattle.cjc_narrow_proof.specs.JvmSemantics.OnePackage.{ResolvedMember, method_hit}
+use Rattle.cjc_narrow_proof.specs.JvmSemantics.OnePackage.{method_hit}
 use Rattle.cjc_narrow_proof.proofs.VTableAsked.{Among, at_head, further}
 use Rattle.cjc_narrow_proof.proofs.VTableFiled.{at-number}
 use Rattle.cjc_narrow_proof.proofs.VTableStood.{gathered-named, upwards-named}
 use Rattle.cjc_world.proofs.Settled.{supertypes-AreSupertypes, supertypes-known}
-use Rattle.cjc_world.specs.Classes.{Class, Member, all_classes, class_at, class_named}
+use Rattle.cjc_world.specs.Classes.{Class, Member, all_classes, class_named}
 use Rattle.cjc_world.specs.Files.{Files}
 use Rattle.cjc_world.specs.Interfaces.{gathered, known}
 use Rattle.cjc_world.specs.Supertypes.{IsAcyclic, supertypes, line, upwards}

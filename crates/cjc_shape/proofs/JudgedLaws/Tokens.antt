@@ -1,14 +1,14 @@
 -- Each method of an interface has a token of one byte.
 use Rattle.std.proofs.Common.{◌≡◌, ℕ, zero, suc, ◌+◌, ◌<◌, ◌≤◌, refl, sym, ap, subst, ◌∙◌, arith, Bool, true, false}
-use Rattle.std.proofs.Common.{List, [], ◌∷◌, ◌++◌, length, map, ⊎_elim}
-use Rattle.std.specs.Prelude.{◌||◌, ◌&&◌, ◌==◌, Option, Some, None, option_and_then, option_map, position, slice_get}
+use Rattle.std.proofs.Common.{List, [], ◌∷◌, ◌++◌, length, map}
+use Rattle.std.specs.Prelude.{◌||◌, ◌&&◌, Some, None, option_and_then, option_map, position, slice_get}
 use Rattle.std.specs.Prelude.{count_by, nat_lt, if◌then◌else◌}
 use Rattle.std.specs.List.{Contains}
 use Rattle.std.proofs.lemmas.Bool.{ltb-false}
 use Rattle.std.proofs.lemmas.List.{length-map, map-append}
 use Rattle.std.proofs.lemmas.List.Elements.{Contains-append_right}
 use Rattle.std.proofs.lemmas.List.Quantifiers.{position-Some}
-use Rattle.std.proofs.lemmas.Option.{slice_get-map, slice_get_within}
+use Rattle.std.proofs.lemmas.Option.{slice_get-map}
 use Rattle.cjc_bytes.specs.AccessFlags.{is_interface}
 use Rattle.cjc_bytes.specs.Breaks.{Break}
 use Rattle.cjc_bytes.specs.Order.{file_of}
@@ -17,7 +17,6 @@ use Rattle.cjc_world.specs.ClassFile.declared.tree.ClassTree.{ClassTree}
 use Rattle.cjc_world.specs.ClassFile.declared.tree.FieldTree.{FieldTree}
 use Rattle.cjc_world.specs.ExportFile.Writable.{ClassFits, IsWritable, MethodFits, MethodStands}
 use Rattle.cjc_world.specs.ExportFile.declared.tree.ExportClass.{ExportClass}
-use Rattle.cjc_world.specs.ExportFile.declared.tree.ExportField.{ExportField}
 use Rattle.cjc_world.specs.ExportFile.declared.tree.ExportMethod.{ExportMethod}
 use Rattle.cjc_world.specs.ExportFile.declared.tree.ExportTree.{ExportTree}
 use Rattle.cjc_narrow_proof.specs.Subset.Members.{imports}
@@ -26,16 +25,16 @@ use Rattle.cjc_exported.proofs.TokensFacts.{position-cons, same-refl}
 use Rattle.cjc_exported.proofs.TokensMeans.{kept-at}
 use Rattle.cjc_exported.specs.Tokens.Fields.{field_tokens, is_open_static}
 use Rattle.cjc_exported.specs.Tokens.Lines.{line_at}
-use Rattle.cjc_exported.specs.Tokens.Members.{Signature, is_initialiser, same, signature_of}
+use Rattle.cjc_exported.specs.Tokens.Members.{is_initialiser, same, signature_of}
 use Rattle.cjc_exported.specs.Tokens.Methods.{class_method_tokens, interface_methods, interface_token, is_open_bound}
 use Rattle.cjc_exported.specs.Tokens.Rules.{at_class, breaks_from, breaks_where, has_high_method, has_high_token}
 use Rattle.cjc_exported.specs.Tokens.Rules.{token_breaks}
 use Rattle.cjc_exported.specs.Tokens.Slots.{hidden_slots, shown_token}
 use Rattle.cjc_exported.specs.Tokens.Tokens.{assigned, imports_of, joined, listed_field_token, listed_method_token}
-use Rattle.cjc_exported.specs.Tokens.Tokens.{method_tokens, of_class, of_import, token_of_member}
+use Rattle.cjc_exported.specs.Tokens.Tokens.{method_tokens, of_import, token_of_member}
 use Rattle.cjc_narrow_proof.proofs.VTableFiled.{Has, IsFiled, filed, get-has, has-get, in_class_file}
 use Rattle.cjc_narrow_proof.proofs.VTableFiled.{in_export_file, of-imports}
-use Rattle.cjc_world.specs.Added.{added, asked_by, own_methods, without_initialiser, by_token, with_token}
+use Rattle.cjc_world.specs.Added.{added, asked_by, own_methods, without_initialiser}
 use Rattle.cjc_world.specs.Classes.{Class, Member, all_classes, class_named, declared, field_of_class, field_of_export}
 use Rattle.cjc_world.specs.Classes.{imported, method_of_export}
 use Rattle.cjc_world.specs.Exported.{is_exported}

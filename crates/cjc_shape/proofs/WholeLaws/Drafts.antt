@@ -1,17 +1,13 @@
 -- One package at most is that of a list and its files: its narrow code is settled by them.
-use Rattle.std.proofs.Common.{◌≡◌, ◌⊎◌, ℕ, zero, suc, ◌+◌, ◌<◌, ◌≤◌, refl, sym, ap, subst, ◌∙◌, arith, Bool, true}
-use Rattle.std.proofs.Common.{false, List, [], ◌∷◌, length, get_or}
+use Rattle.std.proofs.Common.{◌≡◌, ℕ, zero, suc, ◌<◌, refl, sym, ap, subst, ◌∙◌, arith}
+use Rattle.std.proofs.Common.{List, [], ◌∷◌, length}
 use Rattle.std.specs.Prelude.{All, Option, Some, None, map, slice_get}
 use Rattle.std.proofs.lemmas.List.{length-map}
 use Rattle.std.proofs.lemmas.Option.{slice_get-get_or, slice_get_within}
 use Rattle.cjc_bytes.specs.declared.fault.MemberId.{MemberId}
 use Rattle.cjc_narrow_proof.specs.JvmSemantics.Linked.{Method}
 use Rattle.cjc_narrow_proof.specs.JvmSemantics.OnePackage.{method_by}
-use Rattle.cjc_world.specs.ClassFile.Code.{CodeTree}
-use Rattle.cjc_world.specs.ClassFile.declared.tree.ClassTree.{ClassTree}
-use Rattle.cjc_world.specs.ClassFile.declared.tree.MethodTree.{MethodTree}
 use Rattle.cjc_narrow_proof.specs.Bytecode.PackageCodes.{all_codes}
-use Rattle.cjc_narrow_proof.specs.Bytecode.declared.method_code.MethodCode.{MethodCode}
 use Rattle.cjc_methods.specs.Components.Package.{LaidMethod, Package, codes, pool}
 use Rattle.cjc_methods.specs.Components.Written.{code_at, is_abstract_at}
 use Rattle.cjc_judge.specs.declared.judged.Judged.{Judged}
@@ -20,7 +16,7 @@ use Rattle.cjc_judge.specs.Spelt.{FileTree}
 use Rattle.cjc_judge.proofs.Firsts.{one_spelling}
 use Rattle.cjc_shape.proofs.JudgedLaws.Selected.{is_world, same_world}
 use Rattle.cjc_judge.specs.List.Listed.{ListTree}
-use Rattle.cjc_methods.specs.Ready.{AreReady, AreRows, IsOwn, states}
+use Rattle.cjc_methods.specs.Ready.{AreRows, IsOwn}
 use Rattle.cjc_methods.proofs.Again.{by_own_pool, same_pools}
 use Rattle.cjc_methods.proofs.Alike.{all_alike}
 use Rattle.cjc_narrow_proof.specs.Narrow.Rows.Selected.{near_fields}
@@ -33,7 +29,7 @@ use Rattle.cjc_shape.proofs.PreparedLaws.Sound.{are_ready, is_tested, listed, wo
 use Rattle.cjc_methods.specs.Types.declared.state.State.{State}
 use Rattle.cjc_methods.specs.Types.declared.table.TypeTable.{TypeTable}
 use Rattle.cjc_methods.specs.Types.Flow.{body_of}
-use Rattle.cjc_methods.specs.Types.Tables.{IsLeastTable, IsMethodOf, rows_of}
+use Rattle.cjc_methods.specs.Types.Tables.{IsLeastTable, rows_of}
 use Rattle.cjc_methods.proofs.TypesLeast.{one_least}
 use Rattle.cjc_world.specs.declared.found.Found.{Found}
 use Rattle.cjc_world.specs.declared.image.StaticImage.{StaticImage}

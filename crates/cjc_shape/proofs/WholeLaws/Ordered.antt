@@ -1,12 +1,12 @@
 -- The methods of a package that breaks no rule are members of its classes.
-use Rattle.std.proofs.Common.{◌≡◌, ℕ, zero, suc, ◌<◌, ◌≤◌, refl, sym, ap, subst, ◌∙◌, arith, false, List, [], ◌∷◌}
+use Rattle.std.proofs.Common.{◌≡◌, ◌≤◌, refl, sym, ap, ◌∙◌, arith, false, List, [], ◌∷◌}
 use Rattle.std.proofs.Common.{length}
 use Rattle.std.specs.Prelude.{All, Option, Some, None, map, option_map, slice_get}
 use Rattle.std.proofs.lemmas.Option.{slice_get_within}
 use Rattle.cjc_world.specs.ClassFile.declared.tree.ClassTree.{ClassTree}
 use Rattle.cjc_methods.specs.ClassOrder.Classes.Numbers.{class_count, declared_at}
 use Rattle.cjc_methods.proofs.ClassOrderDeclared.{order_declared}
-use Rattle.cjc_methods.specs.Ready.{AreOrdered, IsOwn}
+use Rattle.cjc_methods.specs.Ready.{IsOwn}
 use Rattle.cjc_methods.proofs.Ownership.{ordered_own}
 use Rattle.cjc_narrow_proof.proofs.VTableNumbers.{own_listed}
 use Rattle.cjc_world.specs.Classes.{Class, all_classes, class_at, declared}

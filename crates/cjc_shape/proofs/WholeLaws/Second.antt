@@ -1,6 +1,6 @@
 -- What the methods of a package break of rules on what is written is settled by its list, its files and its narrow
 -- code.
-use Rattle.std.proofs.Common.{◌≡◌, ◌⊎◌, ℕ, zero, suc, refl, sym, ap, subst, ◌∙◌, inl, inr, false, ◌||◌, List, [], ◌∷◌}
+use Rattle.std.proofs.Common.{◌≡◌, ℕ, refl, sym, ap, subst, ◌∙◌, inl, inr, false, ◌||◌, List, [], ◌∷◌}
 use Rattle.std.proofs.Common.{◌++◌, length, nat_lt}
 use Rattle.std.specs.Prelude.{Option, Some, None, map}
 use Rattle.std.specs.List.{flat_map}
@@ -9,15 +9,13 @@ use Rattle.cjc_bytes.specs.Breaks.{Among, Break, IsFirst, IsFirstRefusal, at}
 use Rattle.cjc_bytes.specs.Order.{NotAfter}
 use Rattle.cjc_bytes.specs.declared.fault.Fault.{Fault}
 use Rattle.cjc_bytes.specs.declared.fault.Fault.TheVariants as faults
-use Rattle.cjc_bytes.specs.declared.fault.Refusal.{Refusal}
 use Rattle.cjc_methods.specs.Components.ExportFile.{export_of}
 use Rattle.cjc_methods.specs.Components.Limits.{code_breaks, else_of, form_breaks, in_class, int_breaks, layout_breaks}
 use Rattle.cjc_methods.specs.Components.Limits.{limit_breaks, of_methods, size_breaks, spot_of_list, word_breaks}
 use Rattle.cjc_methods.specs.Components.Package.{LaidMethod, Package, codes, pool, world}
 use Rattle.cjc_world.specs.ExportFile.Written.{constants}
-use Rattle.cjc_world.specs.ExportFile.declared.tree.ExportTree.{ExportTree}
 use Rattle.cjc_judge.specs.declared.judged.Judged.{Judged}
-use Rattle.cjc_judge.specs.Rules.{Breach, IsFirstOf, IsFirstRefused, OnLevels, on_first, on_second}
+use Rattle.cjc_judge.specs.Rules.{Breach, IsFirstOf, OnLevels, on_first, on_second}
 use Rattle.cjc_judge.specs.List.Listed.{ListTree}
 use Rattle.cjc_methods.specs.NCode.PoolOrder.{pool_order}
 use Rattle.cjc_methods.specs.NCode.declared.narrow.NMethod.{NMethod}
@@ -27,7 +25,7 @@ use Rattle.cjc_world.specs.declared.image.StaticImage.{StaticImage}
 use Rattle.cjc_world.specs.Classes.{Class, all_classes, class_at}
 use Rattle.cjc_world.specs.Files.{Files}
 use Rattle.cjc_world.specs.Order.{method_order}
-use Rattle.cjc_shape.specs.Whole.Conversion.{BreaksWritten, IsDraft, IsPackageOf, IsRefused, of_form, of_size}
+use Rattle.cjc_shape.specs.Whole.Conversion.{BreaksWritten, IsDraft, IsPackageOf, of_form, of_size}
 use Rattle.cjc_shape.specs.Whole.Working.Shaped.{Stopped}
 use Rattle.cjc_shape.proofs.WholeLaws.Drafts.{draft, is_draft, narrow_codes, same_members, same_narrow, same_spelt}
 use Rattle.cjc_bytes.proofs.BrokenRules.{no_among}

@@ -1,21 +1,20 @@
 -- A package that breaks no rule of its files, with its methods laid out.
-use Rattle.std.proofs.Common.{◌≡◌, ◌⊎◌, ℕ, refl, sym, ap, subst, ◌∙◌, inl, inr, List, [], ◌∷◌, ◌++◌, length}
-use Rattle.std.specs.Prelude.{All, Option, Some, None, map}
-use Rattle.cjc_bytes.specs.Breaks.{Break, IsFirst, IsFirstRefusal}
+use Rattle.std.proofs.Common.{◌≡◌, ℕ, refl, sym, ap, subst, ◌∙◌, inl, inr, List, [], ◌∷◌, length}
+use Rattle.std.specs.Prelude.{map}
+use Rattle.cjc_bytes.specs.Breaks.{Break, IsFirstRefusal}
 use Rattle.cjc_bytes.specs.declared.fault.Fault.{Fault}
 use Rattle.cjc_judge.specs.Clinit.Image.{IsImage}
 use Rattle.cjc_narrow_proof.specs.Bytecode.PackageCodes.{all_codes}
 use Rattle.cjc_methods.specs.Components.ExportFile.{export_of}
 use Rattle.cjc_methods.specs.Components.Limits.{code_breaks, else_of, form_breaks, int_breaks, of_methods, word_breaks}
-use Rattle.cjc_methods.specs.Components.Package.{LaidMethod, Package, codes}
+use Rattle.cjc_methods.specs.Components.Package.{Package, codes}
 use Rattle.cjc_methods.specs.Components.Written.{code_at}
 use Rattle.cjc_world.specs.ExportFile.Written.{constants}
-use Rattle.cjc_world.specs.ExportFile.declared.tree.ExportTree.{ExportTree}
 use Rattle.cjc_judge.specs.Rules.{has_applets}
 use Rattle.cjc_judge.specs.declared.judged.Judged.{Judged}
-use Rattle.cjc_methods.specs.Layouts.Laid.{AreOf, laid_methods}
+use Rattle.cjc_methods.specs.Layouts.Laid.{AreOf}
 use Rattle.cjc_methods.specs.Layouts.Limits.{IsTold}
-use Rattle.cjc_methods.proofs.LayoutsLaws.Kept.{codes_of, is_package, members_of}
+use Rattle.cjc_methods.proofs.LayoutsLaws.Kept.{is_package}
 use Rattle.cjc_judge.specs.List.Listed.{ListTree}
 use Rattle.cjc_narrow_proof.specs.Narrow.Rows.Selected.{near_fields}
 use Rattle.cjc_methods.specs.NCode.PoolOrder.{pool_order}

@@ -1,5 +1,5 @@
 -- Packages that were tested for the rules that selection rests on, and their methods with their types.
-use Rattle.std.specs.Prelude.{◌≡◌, ℕ, ◌≤◌, ◌<◌, ◌^◌, List, length, slice_get, Some, true, false, Option}
+use Rattle.std.specs.Prelude.{◌≡◌, ℕ, ◌≤◌, ◌<◌, ◌^◌, List, length, slice_get, Some, true, Option}
 use Rattle.std.specs.List.{AllByRecursion, list_any}
 use Rattle.cjc_world.specs.ClassFile.Code.{CodeTree}
 use Rattle.cjc_world.specs.ClassFile.declared.tree.ClassTree.{ClassTree}

@@ -16,7 +16,7 @@ use Rattle.cjc_methods.specs.Components.Limits.{code_breaks, else_of, of_methods
 use Rattle.cjc_methods.specs.Components.Package.{LaidMethod, Package, pool}
 use Rattle.cjc_methods.specs.Components.Written.{IsPackage, code_at, is_abstract_at}
 use Rattle.cjc_judge.specs.Rules.{AreWorld, Breach, IsFirstRefused, OnLevels, files_spelt}
-use Rattle.cjc_judge.specs.Spelt.{FileTree, classes_of}
+use Rattle.cjc_judge.specs.Spelt.{FileTree}
 use Rattle.cjc_judge.specs.List.Listed.{ListTree}
 use Rattle.cjc_narrow_proof.specs.Narrow.Rows.Selected.{near_fields}
 use Rattle.cjc_shape.specs.Prepared.{tested}

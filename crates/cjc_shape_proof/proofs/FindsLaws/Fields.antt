@@ -50,7 +50,7 @@ use Rattle.cjc_narrow_proof.specs.Selection.Relation.{HasObjects, IsMadeOf, bare
 use Rattle.cjc_narrow_proof.specs.Selection.Rows.{HasField, is_word_sort, lists}
 use Rattle.cjc_token_proof.specs.WorldProof.Files.{AreReadFiles}
 use Rattle.cjc_vtable.specs.Subset.Checks.{is_imported_variable, names_variable}
-use Rattle.cjc_vtable.specs.Subset.Members.{imported_field, imports, is_imported_constant}
+use Rattle.cjc_vtable.specs.Subset.Members.{imported_field, is_imported_constant}
 use Rattle.cjc_vtable.specs.Subset.Members as subset
 use Rattle.cjc_vtable.proofs.SubsetFits.{field_fits}
 use Rattle.cjc_vtable.specs.Subset.Names.{is_constant_found, is_hidden, is_other_kind, is_unfit_field, names_unfit}
@@ -60,7 +60,7 @@ use Rattle.cjc_vtable.specs.Subset.Ints.{works_on_int}
 use Rattle.cjc_narrow_proof.specs.Types.declared.cell.Cell.{Cell}
 use Rattle.cjc_narrow_proof.specs.Types.declared.cell.Cell.TheVariants.{Refs}
 use Rattle.cjc_narrow_proof.specs.Types.Types.{no_parts, parts, parts_or_none}
-use Rattle.cjc_world.specs.Upwards.{Below, Has, OnLine}
+use Rattle.cjc_world.specs.Upwards.{Below, Has}
 use Rattle.cjc_world.specs.Upwards as upward
 use Rattle.cjc_world.proofs.UpwardLaws.Lines.{below_abroad, below_on, field_found_above, on_line}
 use Rattle.cjc_vtable.proofs.Filed.{IsFiled, filed, in_class_file, in_export_file}

@@ -1,15 +1,11 @@
 -- How the methods of a converted package come to their code, and that they are short.
-use Rattle.std.proofs.Common.{◌≡◌, ℕ, zero, suc, ◌+◌, ◌-◌, ◌*◌, ◌<◌, ◌≤◌, refl, sym, ap, subst, ◌∙◌, arith, Bool, true}
-use Rattle.std.proofs.Common.{false, List, [], ◌∷◌, ◌++◌, length, map}
-use Rattle.std.specs.Prelude.{All, IfSome, Option, Some, None, flat_map, option_and_then, option_map, slice_get, sum_by}
+use Rattle.std.proofs.Common.{◌≡◌, ℕ, suc, ◌+◌, ◌-◌, ◌*◌, ◌<◌, ◌≤◌, refl, sym, ap, subst, ◌∙◌, arith}
+use Rattle.std.proofs.Common.{List, [], ◌∷◌, length, map}
+use Rattle.std.specs.Prelude.{All, IfSome, Option, Some, None, option_and_then, option_map, slice_get, sum_by}
 use Rattle.std.specs.Prelude.{if◌then◌else◌}
 use Rattle.std.specs.List.{Contains}
-use Rattle.std.proofs.lemmas.Bool.{ltb-false}
-use Rattle.std.proofs.lemmas.List.Elements.{All-head, All-tail}
-use Rattle.std.proofs.lemmas.List.Concat.{flat_map-cons}
 use Rattle.std.proofs.lemmas.List.Sums.{sum_by-cons}
 use Rattle.std.proofs.lemmas.Option.{slice_get-map}
-use Rattle.cjc_bytes.specs.Breaks.{at}
 use Rattle.cjc_bytes.specs.declared.fault.MemberId.{MemberId}
 use Rattle.cjc_bytes.proofs.Gets.{all_at, contained, item_has}
 use Rattle.cjc_bytes.proofs.Lists.{none_left}
@@ -24,7 +20,7 @@ use Rattle.cjc_ncode.specs.Bytecode.Decoded.{of_code, of_method}
 use Rattle.cjc_ncode.specs.Bytecode.PackageCodes.{all_codes}
 use Rattle.cjc_ncode.specs.Bytecode.declared.method_code.MethodCode.{MethodCode}
 use Rattle.cjc_check_proof.specs.Made.{AllAreMade, IsMade}
-use Rattle.cjc_components.specs.Limits.{in_class, is_too_long, layout_breaks, of_methods, widest_method}
+use Rattle.cjc_components.specs.Limits.{layout_breaks, of_methods, widest_method}
 use Rattle.cjc_components.specs.Methods.{method_size}
 use Rattle.cjc_components.specs.Package.{LaidMethod, Package, codes, pool, world}
 use Rattle.cjc_components.specs.Written.{IsWritten, code_at}

@@ -18,7 +18,6 @@ use Rattle.cjc_world.specs.Supertypes.{foremost, supertypes, known_here, onwards
 use Rattle.cjc_world.proofs.Cycles.{class_named-name}
 use Rattle.cjc_world.proofs.Settled.{AreSupertypes-one, supertypes-AreSupertypes, lists-behind, lists-front}
 use Rattle.cjc_world.proofs.Unbroken.{unbroken_is_acyclic}
-use Rattle.cjc_bytes.proofs.Lists.{name_is}
 
 -- ---- among the files of a package
 

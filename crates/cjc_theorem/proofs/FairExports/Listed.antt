@@ -1,6 +1,6 @@
 -- What export files say of names and flags, where a package beside them breaks none of the rules of the card's
 -- language.
-use Rattle.std.proofs.Common.{◌≡◌, ℕ, ◌+◌, refl, sym, ap, subst, ◌∙◌, Bool, true, false, List, [], ◌∷◌, length}
+use Rattle.std.proofs.Common.{◌≡◌, ℕ, ◌+◌, refl, ap, subst, ◌∙◌, Bool, true, false, List, [], ◌∷◌, length}
 use Rattle.std.specs.Prelude.{◌==◌, not, ◌&&◌, ◌||◌, Some, slice_get}
 use Rattle.std.specs.List.{join_with_byte, list_all, slice_split}
 use Rattle.std.specs.Str.{bytes_eq}

@@ -15,9 +15,7 @@ use Rattle.cjc_components.specs.ExportFile.{added_from, export_class, inherited_
 use Rattle.cjc_components.specs.ExportFile.{method_meant, methods_from, supers_from}
 use Rattle.cjc_components.specs.Names.{member_token}
 use Rattle.cjc_components.specs.Package.{Package, has_applets, world}
-use Rattle.cjc_world.specs.ExportFile.declared.tree.ExportClass.{ExportClass}
 use Rattle.cjc_world.specs.ExportFile.declared.tree.ExportMethod.{ExportMethod}
-use Rattle.cjc_shape_proof.proofs.WrittenLaws.FittingLaws.Exported.{is_bare}
 use Rattle.cjc_shape_proof.proofs.WrittenLaws.FittingLaws.OwnTokens.{Offers, added_token, offers_given, offers_shown}
 use Rattle.cjc_shape_proof.proofs.WrittenLaws.FittingLaws.OwnTokens.{exposed_token, slot_there}
 use Rattle.cjc_shape_proof.proofs.WrittenLaws.FittingLaws.Rules as Rules
@@ -26,7 +24,6 @@ use Rattle.cjc_token_proof.proofs.TablesLaws.Clean.{own_name}
 use Rattle.cjc_token_proof.proofs.TablesLaws.Filed.{own_in, has-front}
 use Rattle.cjc_subset.specs.Checks.{check_breaks}
 use Rattle.cjc_subset.specs.Flags.{has_two_accesses, is_unfit_method}
-use Rattle.cjc_subset.specs.Members.{imports}
 use Rattle.cjc_token_proof.specs.Tables.Sound.{IsSound}
 use Rattle.cjc_tokens.proofs.Facts.{same-true}
 use Rattle.cjc_tokens.specs.Lines.{Declared, Imported, line_at, line_in, line_of}
@@ -34,10 +31,10 @@ use Rattle.cjc_tokens.specs.Members.{Signature, is_constructor, is_exposed, is_i
 use Rattle.cjc_tokens.specs.Members.{signature_of}
 use Rattle.cjc_tokens.specs.Methods.{interface_methods, interface_row}
 use Rattle.cjc_tokens.specs.Slots.{got, implementing, meant_by, own, row, shown_token, slots, token}
-use Rattle.cjc_world.proofs.UpwardLaws.Lines.{first_has, gathered_above, has-cons, line_named, listed_line}
+use Rattle.cjc_world.proofs.UpwardLaws.Lines.{first_has, has-cons, line_named, listed_line}
 use Rattle.cjc_world.specs.Upwards.{IsOrdered}
-use Rattle.cjc_vtable.proofs.Filed.{Has, IsFiled, at-number, at_front, behind, filed, get-has, has-get, in_class_file}
-use Rattle.cjc_vtable.proofs.Filed.{in_export_file, has-either}
+use Rattle.cjc_vtable.proofs.Filed.{Has, at-number, at_front, behind}
+use Rattle.cjc_vtable.proofs.Filed.{has-either}
 use Rattle.cjc_vtable.proofs.SlotNames.{position-at}
 use Rattle.cjc_vtable.proofs.Worlds.{told-class}
 use Rattle.cjc_vtable.specs.Calls.{IsTold}
@@ -48,16 +45,12 @@ use Rattle.cjc_world.specs.Added.{added, asked_by, declares_open, has_open, is_o
 use Rattle.cjc_world.specs.Added.{takes_added}
 use Rattle.cjc_world.specs.Classes.{Class, Member, class_named, declared, field_of_class, method_of_class}
 use Rattle.cjc_world.specs.Classes.{method_of_export}
-use Rattle.cjc_world.specs.Interfaces.{gathered, known}
 use Rattle.cjc_world.specs.Supertypes.{End, AreSupertypes, Supertypes, Known, Unknown, ends, supertypes, known_here}
 use Rattle.cjc_world.specs.Supertypes.{unknown_here, upwards}
-use Rattle.cjc_world.specs.Lookup.{first, is_called, is_wanted, member_at, method_of_interface, or_else, own_method}
-use Rattle.cjc_world.specs.Lookup.{own_of}
+use Rattle.cjc_world.specs.Lookup.{first, is_called, member_at, or_else}
 use Rattle.cjc_world.specs.declared.found.Found.{Found}
-use Rattle.cjc_shape_proof.proofs.WritingLaws.Entries.{supers_in}
-use Rattle.cjc_shape_proof.proofs.WritingLaws.Signatures.{asked_plain, new_has}
+use Rattle.cjc_shape_proof.proofs.WritingLaws.Signatures.{asked_plain}
 use Rattle.cjc_theorem.proofs.FairWriting.Once.{place_token}
-use Rattle.cjc_shape_proof.proofs.CheckProofLists.{has-mapped}
 
 -- ---- tests and lists
 

@@ -12,7 +12,7 @@ use Rattle.cjc_bytes.specs.declared.fault.MemberId.{MemberId}
 use Rattle.cjc_narrow.specs.Rows.Package.{above, class_of_callee, direct, fault_name, first_memory, name_there, named}
 use Rattle.cjc_narrow.specs.Rows.Package.{on_class, plain_import, reached, reached_by, selected_on, start_of}
 use Rattle.cjc_narrow.specs.Rows.Package.{throwable_import, words}
-use Rattle.cjc_ncode.specs.ByLabel.{Fixed, Named, OnInterface, OnObject, OnSuper}
+use Rattle.cjc_ncode.specs.ByLabel.{Fixed, OnInterface, OnObject, OnSuper}
 use Rattle.cjc_ncode.specs.ByLabel as labels
 use Rattle.cjc_ncode.specs.declared.narrow.NMethod.{NMethod}
 use Rattle.cjc_script.specs.Sorts.{Shape, shape_name}

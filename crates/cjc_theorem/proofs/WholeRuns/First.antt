@@ -1,69 +1,52 @@
 -- What a static image says is of sound types: its arrays are of so many numbers of their type, and each static cell
 -- holds what its descriptor says.
-use Rattle.std.proofs.Common.{◌≡◌, ℕ, zero, suc, ◌+◌, ◌<◌, ◌≤◌, refl, sym, ap, subst, ◌∙◌, arith, Bool, true, false}
-use Rattle.std.proofs.Common.{List, [], ◌∷◌, length, inl, inr, ⊎_elim}
-use Rattle.std.specs.Prelude.{not, ◌⊎◌, ◌==◌, Some, None, option_and_then, option_map, is_some, map}
-use Rattle.std.specs.Prelude.{replicate, slice_get, slice_set, if◌then◌else◌, ℤ, pos, negsuc, codes}
-use Rattle.std.specs.List.{All, AllByRecursion, flat_map}
-use Rattle.std.specs.Ordering.{int_eq}
+use Rattle.std.proofs.Common.{◌≡◌, ℕ, zero, suc, ◌≤◌, refl, sym, ap, subst, ◌∙◌, arith, Bool, true, false}
+use Rattle.std.proofs.Common.{List, [], ◌∷◌, length}
+use Rattle.std.specs.Prelude.{◌==◌, Some, None, option_and_then}
+use Rattle.std.specs.Prelude.{replicate, if◌then◌else◌, ℤ, pos, negsuc, codes}
+use Rattle.std.specs.List.{All, AllByRecursion}
 use Rattle.std.specs.Str.{bytes_eq}
-use Rattle.std.proofs.lemmas.Bool.{eqb-true}
 use Rattle.std.proofs.lemmas.List.{get_or-replicate}
-use Rattle.std.proofs.lemmas.Option.{slice_get-map}
 use Rattle.cjc_bytes.specs.Descriptor.{array, base, base_kind, field, plain}
-use Rattle.cjc_bytes.specs.Spots.{desc_of, part_of}
+use Rattle.cjc_bytes.specs.Spots.{part_of}
 use Rattle.cjc_bytes.specs.declared.fault.MemberId.{MemberId}
 use Rattle.cjc_bytes.specs.declared.descriptor.Kind.{Kind}
 use Rattle.cjc_bytes.specs.declared.descriptor.Kind.TheVariants as kinds
 use Rattle.cjc_bytes.proofs.DescriptorTypes.{desc_read}
 use Rattle.cjc_bytes.proofs.Lists.{bytes_true}
-use Rattle.cjc_bytes.proofs.Gets.{set_length, set_other}
+use Rattle.cjc_bytes.proofs.Gets.{set_length}
 use Rattle.cjc_bytes.proofs.Options.{option_taken}
 use Rattle.cjc_bytes.proofs.Quantified.{all_both}
-use Rattle.cjc_ncode.specs.CardSemantics.Bytecode.Effects.{HeapObject}
-use Rattle.cjc_jvm_semantics.specs.OnePackage.{array_place, cell_of, cells, cells_in, number_place, or_zero}
 use Rattle.cjc_jvm_semantics.specs.OnePackage as by_name
-use Rattle.cjc_jvm_semantics.specs.Effects.{is_same_field}
 use Rattle.cjc_classfile.specs.declared.tree.ClassTree.{ClassTree}
-use Rattle.cjc_classfile.specs.declared.tree.FieldTree.{FieldTree}
-use Rattle.cjc_classfile.specs.declared.tree.MethodTree.{MethodTree}
 use Rattle.cjc_clinit.specs.declared.stage.Held.{Held}
 use Rattle.cjc_clinit.specs.declared.stage.Held.TheVariants as held
 use Rattle.cjc_clinit.specs.declared.stage.Start.{Start}
 use Rattle.cjc_clinit.specs.declared.stage.Start.TheVariants as starts
-use Rattle.cjc_clinit.specs.Fields.{ANull, ANumber, AnArray, Contents, array_desc, fits, fits_kind, has_unfit_value}
-use Rattle.cjc_clinit.specs.Fields.{held_by, is_cell, is_reference, number_kind, takes, value_fits}
-use Rattle.cjc_clinit.specs.Image.{AreInitialised, IsImage, array_in, arrays_of, class_where, fields_in, field_id}
-use Rattle.cjc_clinit.specs.Image.{held_in, if_initialiser, image_of, initialised, of_classes, of_fields, of_start}
-use Rattle.cjc_clinit.specs.Image.{own_field, start_by, start_of, unput_start, value_or_zero}
+use Rattle.cjc_clinit.specs.Fields.{ANull, ANumber, AnArray, Contents, array_desc, fits, fits_kind}
+use Rattle.cjc_clinit.specs.Fields.{number_kind, takes}
+use Rattle.cjc_clinit.specs.Image.{AreInitialised, array_in, arrays_of}
+use Rattle.cjc_clinit.specs.Image.{own_field}
 use Rattle.cjc_clinit.specs.Image as images
-use Rattle.cjc_clinit.specs.Initialiser.{Initialises, Makes, Put, Stores, element_kind, is_initialiser, nothing_in}
-use Rattle.cjc_clinit.specs.Initialiser.{of_array, of_null, of_number, open_place, place_for}
+use Rattle.cjc_clinit.specs.Initialiser.{Initialises, Makes, Put, Stores, element_kind}
+use Rattle.cjc_clinit.specs.Initialiser.{of_array, of_null, of_number, open_place}
 use Rattle.cjc_clinit.specs.Initialiser as init
-use Rattle.cjc_token_proof.proofs.WorldProofPlaces.{place-field}
 use Rattle.cjc_code.specs.declared.insn.JOp.{JOp}
 use Rattle.cjc_code.specs.declared.method_code.MethodCode.{MethodCode}
-use Rattle.cjc_narrow.specs.Rows.Package.{element_of_kind, first_array, first_cell, named}
-use Rattle.cjc_narrow_proof.specs.Runs.Converted.{IsFirst, IsFirstArray}
-use Rattle.cjc_narrow_proof.specs.Runs.Tables.{Tables, look_ups}
+use Rattle.cjc_narrow.specs.Rows.Package.{element_of_kind, named}
 use Rattle.cjc_ncode.specs.ByLabel.{Named}
 use Rattle.cjc_code.specs.Range.Span.{Holds}
-use Rattle.cjc_script.specs.declared.value.Value.{Value}
-use Rattle.cjc_script.specs.declared.value.Value.TheVariants.{Num, Obj}
+use Rattle.cjc_script.specs.declared.value.Value.TheVariants.{Num}
 use Rattle.cjc_script.specs.Sorts.{Boolean, Booleans, Byte, Bytes, Element, Int, Ints, NoValue, OfNumbers, Reference}
 use Rattle.cjc_script.specs.Sorts.{Short, Shorts, Sort, array_by, array_name, array_of, field_sort, reference_to}
-use Rattle.cjc_script.specs.Sorts.{shape_name, sort_by, sort_or_none, zero_of}
-use Rattle.cjc_narrow_proof.specs.Selection.Relation.{CellFits, Heap, SlotsFit, a_boolean, a_byte, a_null, a_short}
-use Rattle.cjc_narrow_proof.specs.Selection.Relation.{an_int, an_object, element_range, no_slots, slot}
+use Rattle.cjc_script.specs.Sorts.{sort_by, sort_or_none, zero_of}
+use Rattle.cjc_narrow_proof.specs.Selection.Relation.{CellFits, Heap, a_boolean, a_byte, a_null, a_short}
+use Rattle.cjc_narrow_proof.specs.Selection.Relation.{an_int, element_range}
 use Rattle.cjc_narrow_proof.specs.Selection.Objects.{has_values}
 use Rattle.cjc_narrow_proof.proofs.SelectionLaws.Items.{all_with}
 use Rattle.cjc_narrow_proof.proofs.SelectionLaws.Replies.{held_if}
 use Rattle.cjc_world.specs.declared.image.ArrayCell.{ArrayCell}
-use Rattle.cjc_world.specs.declared.image.StaticImage.{StaticImage}
-use Rattle.cjc_world.specs.declared.image.ValueCell.{ValueCell}
-use Rattle.cjc_world.specs.Classes.{all_classes}
 use Rattle.cjc_world.specs.Files.{Files}
-use Rattle.cjc_world.proofs.Subtypes.{reflexive}
 
 -- ---- kinds of numbers and their types
 

@@ -1,15 +1,14 @@
 -- The memory of a static image is of sound types.
-use Rattle.std.proofs.Common.{◌≡◌, ℕ, zero, suc, ◌+◌, refl, sym, ap, subst, ◌∙◌, arith, Bool, true, false, List, []}
+use Rattle.std.proofs.Common.{◌≡◌, ℕ, suc, ◌+◌, refl, sym, ap, subst, ◌∙◌, arith, Bool, true, false, List, []}
 use Rattle.std.proofs.Common.{◌∷◌, ◌++◌}
-use Rattle.std.specs.Prelude.{◌&&◌, Option, Some, None, option_map, map, slice_get, if◌then◌else◌, ℤ}
-use Rattle.std.specs.List.{AllByRecursion, flat_map}
+use Rattle.std.specs.Prelude.{◌&&◌, Option, Some, None, option_map, map, slice_get, if◌then◌else◌}
+use Rattle.std.specs.List.{AllByRecursion}
 use Rattle.std.specs.Str.{bytes_eq}
 use Rattle.std.proofs.lemmas.Option.{slice_get-map}
 use Rattle.cjc_bytes.specs.declared.fault.MemberId.{MemberId}
 use Rattle.cjc_bytes.proofs.Lists.{bytes_true, map_append}
 use Rattle.cjc_bytes.proofs.Bools.{both_back}
-use Rattle.cjc_bytes.proofs.Quantified.{all_both}
-use Rattle.cjc_ncode.specs.CardSemantics.Bytecode.Effects.{HeapObject, Slot}
+use Rattle.cjc_ncode.specs.CardSemantics.Bytecode.Effects.{Slot}
 use Rattle.cjc_jvm_semantics.specs.OnePackage.{array_place, cell_of, cells, cells_in, is_cell, number_place, or_zero}
 use Rattle.cjc_jvm_semantics.specs.Effects.{is_same_field}
 use Rattle.cjc_classfile.specs.declared.tree.ClassTree.{ClassTree}
@@ -23,11 +22,10 @@ use Rattle.cjc_narrow_proof.specs.Runs.Tables.{Tables, look_ups}
 use Rattle.cjc_ncode.specs.ByLabel.{Named}
 use Rattle.cjc_script.specs.declared.value.Value.{Value}
 use Rattle.cjc_script.specs.declared.value.Value.TheVariants.{Num, Obj}
-use Rattle.cjc_script.specs.declared.report.FieldValue.{FieldValue}
 use Rattle.cjc_script.specs.Sorts.{OfNumbers, Reference, field_sort, shape_name}
 use Rattle.cjc_narrow_proof.specs.Selection.Relation.{CellFits, Heap, SlotsFit, an_object, no_slots, slot}
 use Rattle.cjc_narrow_proof.specs.Selection.Objects.{has_values}
-use Rattle.cjc_theorem.proofs.WholeRuns.First.{AreItems, IsArray, IsNumbers, initialised_arrays}
+use Rattle.cjc_theorem.proofs.WholeRuns.First.{IsArray, initialised_arrays}
 use Rattle.cjc_theorem.proofs.WholeRuns.First.{number_fits, zero_cell}
 use Rattle.cjc_theorem.proofs.WholeRuns.Puts.{NumberFits, classes_fit, puts_fit}
 use Rattle.cjc_world.specs.declared.image.ArrayCell.{ArrayCell}

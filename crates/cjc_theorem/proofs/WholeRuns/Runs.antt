@@ -12,7 +12,7 @@ use Rattle.cjc_classfile.specs.declared.tree.FieldTree.{FieldTree}
 use Rattle.cjc_clinit.specs.Fields.{has_unfit_value}
 use Rattle.cjc_clinit.specs.Image.{IsImage}
 use Rattle.cjc_clinit.specs.Initialiser.{is_initialiser}
-use Rattle.cjc_clinit.specs.Rules.{BreaksImage, is_wrong_class, of_class}
+use Rattle.cjc_clinit.specs.Rules.{BreaksImage, of_class}
 use Rattle.cjc_code.specs.declared.method_code.MethodCode.{MethodCode}
 use Rattle.cjc_shape_proof.specs.Whole.{IsWhole}
 use Rattle.cjc_narrow_proof.specs.Runs.Converted.{IsConverted, IsFirst}

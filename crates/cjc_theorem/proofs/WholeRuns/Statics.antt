@@ -1,6 +1,6 @@
 -- The static fields that code names: a cell of the package, or a constant.
-use Rattle.std.proofs.Common.{◌≡◌, ℕ, zero, suc, ◌<◌, ◌^◌, refl, sym, ap, subst, ◌∙◌, arith, Bool, true, false, List}
-use Rattle.std.proofs.Common.{[], ◌∷◌, length}
+use Rattle.std.proofs.Common.{◌≡◌, ℕ, zero, suc, ◌^◌, refl, sym, ap, subst, ◌∙◌, arith, Bool, true, false, List}
+use Rattle.std.proofs.Common.{[], ◌∷◌}
 use Rattle.std.specs.Prelude.{not, ◌&&◌, ◌||◌, Option, Some, None, option_and_then, option_map, is_some, map, slice_get}
 use Rattle.std.specs.Prelude.{if◌then◌else◌, ℤ, codes}
 use Rattle.std.specs.Str.{bytes_eq}
@@ -36,8 +36,6 @@ use Rattle.cjc_narrow_proof.specs.Runs.Names.{IsNamed, IsWordField, a_constant, 
 use Rattle.cjc_narrow_proof.specs.Runs.Tables.{Tables}
 use Rattle.cjc_code.specs.Range.Span.{Holds, full}
 use Rattle.cjc_code.proofs.ReadLaws.Entries.{fit32}
-use Rattle.cjc_script.specs.declared.report.FieldValue.{FieldValue}
-use Rattle.cjc_narrow_proof.specs.Selection.Rows.{lists}
 use Rattle.cjc_token_proof.specs.WorldProof.Files.{AreReadFiles}
 use Rattle.cjc_subset.specs.Checks.{is_imported_variable, names_variable}
 use Rattle.cjc_subset.specs.Members.{imported_field, imports, is_declared_constant, is_imported_constant}

@@ -7,7 +7,6 @@ use Rattle.cjc_script.specs.declared.value.Value.{Value}
 use Rattle.cjc_card_semantics.specs.Bytecode.Effects.{Letter, IsOperand, Slot, Object, slot_of}
 use Rattle.cjc_card_semantics.specs.Bytecode.Renaming.{option_as, keys, KnownHeapObject, object_known, AreAlike}
 use Rattle.cjc_card_semantics.specs.Machine.ByToken
-use Rattle.cjc_card_semantics.specs.Machine.Classes.{same_field}
 use Rattle.cjc_card_semantics.specs.Machine.Classes as card
 use Rattle.cjc_card_semantics.specs.Machine.Statics.{get_static, put_static}
 use Rattle.cjc_ncode.specs.ByLabel.{Named, slot_for, fresh}

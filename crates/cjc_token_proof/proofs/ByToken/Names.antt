@@ -14,9 +14,9 @@ use Rattle.cjc_card_semantics.specs.Bytecode.Renaming.{option_as}
 use Rattle.cjc_card_semantics.specs.Machine.Calls.{imported, imported_class_of, if_below, throwable}
 use Rattle.cjc_card_semantics.specs.Machine.Classes.{Own, External, Info, IsInterface, IsClass, info_size, infos}
 use Rattle.cjc_card_semantics.specs.Machine.Classes.{number_from, offset_from, number_of, offset_of}
-use Rattle.cjc_card_semantics.specs.Machine.Classes.{class_named as class_on_card, fault_class, fault_name, external}
-use Rattle.cjc_card_semantics.specs.Machine.Classes.{external_named, name_of, names_of, number_named, own_from, or_else}
-use Rattle.cjc_card_semantics.specs.Machine.Classes.{is_interface, is_interface_file, is_kind_of}
+use Rattle.cjc_card_semantics.specs.Machine.Classes.{class_named as class_on_card, fault_class, fault_name}
+use Rattle.cjc_card_semantics.specs.Machine.Classes.{external_named, name_of, number_named, own_from, or_else}
+use Rattle.cjc_card_semantics.specs.Machine.Classes.{is_interface, is_interface_file}
 use Rattle.cjc_card_semantics.specs.Machine.Loaded.{ClassNames, Part}
 use Rattle.cjc_world.specs.Classes.{Class, class_named}
 use Rattle.cjc_world.proofs.Cycles.{class_named-name}

@@ -12,8 +12,8 @@ use Rattle.cjc_script.specs.Sorts.{Sort, Boolean, Byte, Short, Int, Reference, N
 use Rattle.cjc_card_semantics.specs.Bytecode.Effects.{Slot, slot_of, slots_with}
 use Rattle.cjc_card_semantics.specs.Bytecode.Renaming.{keys}
 use Rattle.cjc_card_semantics.specs.Machine.ByToken.{value_or, shown_field, shown_own, shown_upwards}
-use Rattle.cjc_card_semantics.specs.Machine.Classes.{Class, Own, External, same_class, Field, same_field, Info, IsClass}
-use Rattle.cjc_card_semantics.specs.Machine.Classes.{info_of, names_of, superclass, is_interface, is_reference_token}
+use Rattle.cjc_card_semantics.specs.Machine.Classes.{Class, Own, External, same_class, Field, same_field, IsClass}
+use Rattle.cjc_card_semantics.specs.Machine.Classes.{info_of, names_of, superclass, is_reference_token}
 use Rattle.cjc_card_semantics.specs.Machine.Classes.{slots_from, slots_upwards, depth}
 use Rattle.cjc_card_semantics.specs.Machine.Classes as card
 use Rattle.cjc_card_semantics.specs.Machine.Loaded.{ClassNames}

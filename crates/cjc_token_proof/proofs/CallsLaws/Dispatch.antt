@@ -5,14 +5,12 @@ use Rattle.std.specs.Prelude.{Option, Some, None, option_map, option_to_list, sl
 use Rattle.std.specs.Prelude.{◌==◌}
 use Rattle.std.proofs.lemmas.Bool.Decides.{nat_tests}
 use Rattle.std.specs.Str.{bytes_eq}
-use Rattle.cjc_check_rules.specs.CapRead.declared.tree.ClassEntry.{ClassEntry}
 use Rattle.cjc_check_rules.specs.CapRead.declared.tree.ImplementedInterface.{ImplementedInterface}
-use Rattle.cjc_card_semantics.specs.Machine.Classes.{Own, External, Info, IsClass, same_class, info_of, class_of}
-use Rattle.cjc_card_semantics.specs.Machine.Classes.{external}
+use Rattle.cjc_card_semantics.specs.Machine.Classes.{Info, same_class}
 use Rattle.cjc_card_semantics.specs.Machine.Classes as card
-use Rattle.cjc_card_semantics.specs.Machine.Dispatch.{Tower, Exported, Table, Selection, At, Outward, above}
-use Rattle.cjc_card_semantics.specs.Machine.Dispatch.{exported_line, is_same, map_in, map_of, at_index, at_map, tower}
-use Rattle.cjc_card_semantics.specs.Machine.Dispatch.{tower_from, table_or_missing, at_table, held, dispatched_open}
+use Rattle.cjc_card_semantics.specs.Machine.Dispatch.{Tower, Exported, Selection, At, Outward, above}
+use Rattle.cjc_card_semantics.specs.Machine.Dispatch.{is_same, map_in, map_of, at_index, at_map, tower}
+use Rattle.cjc_card_semantics.specs.Machine.Dispatch.{tower_from, at_table, held, dispatched_open}
 use Rattle.cjc_card_semantics.specs.Machine.Dispatch.{dispatched_hidden, dispatched_interface}
 use Rattle.cjc_world.specs.declared.found.Found.{Found}
 use Rattle.cjc_world.specs.Classes.{Class, class_named}
@@ -31,7 +29,7 @@ use Rattle.cjc_ncode.specs.Lowering.Naming.{Naming}
 use Rattle.cjc_token_proof.specs.ByToken.Supers.{has_class, SaysKinds}
 use Rattle.cjc_token_proof.proofs.ByToken.Slots.{class_tells, class_same}
 use Rattle.cjc_token_proof.proofs.ByToken.Members.{bytes_tell, bytes_same}
-use Rattle.cjc_token_proof.specs.Calls.Dispatching.{table_entry, event, selection_of, SaysTables, SaysFile, SaysTower}
+use Rattle.cjc_token_proof.specs.Calls.Dispatching.{table_entry, event, selection_of, SaysTower}
 use Rattle.cjc_token_proof.specs.Calls.Dispatching.{of_file, DispatchAgrees}
 use Rattle.cjc_token_proof.specs.Calls.Dispatching as says
 use Rattle.cjc_token_proof.proofs.CallsLaws.Towers.{tower_on_card, card_package, card_file}

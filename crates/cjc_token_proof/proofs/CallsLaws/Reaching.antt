@@ -3,7 +3,7 @@ use Rattle.std.proofs.Common.{◌≡◌, ℕ, refl, sym, ap, subst, ◌∙◌, B
 use Rattle.std.specs.Prelude.{Option, Some, None, option_map, option_and_then, if◌then◌else◌}
 use Rattle.cjc_bytes.specs.declared.fault.MemberId.{MemberId}
 use Rattle.cjc_bytes.specs.AccessFlags.{is_abstract}
-use Rattle.cjc_script.specs.Sorts.{Shape, OfClass, shape_name}
+use Rattle.cjc_script.specs.Sorts.{Shape, shape_name}
 use Rattle.cjc_card_semantics.specs.Bytecode.Machine.{Reached, Nowhere}
 use Rattle.cjc_card_semantics.specs.Bytecode.Alike.{IsFound, reached_as, start_as}
 use Rattle.cjc_card_semantics.specs.Bytecode.Renaming.{option_as, shape_as}
@@ -23,9 +23,9 @@ use Rattle.cjc_world.specs.Lookup.{find_method, first, own_method, receiver, sel
 use Rattle.cjc_world.specs.Subtype.{is_subtype}
 use Rattle.cjc_jvm_semantics.specs.Linked.{Method, Inside}
 use Rattle.cjc_jvm_semantics.specs.Linked
-use Rattle.cjc_jvm_semantics.specs.OnePackage.{callee_at, entry_named, first_imported, first_super, interface_callee}
+use Rattle.cjc_jvm_semantics.specs.OnePackage.{callee_at, entry_named, first_imported, interface_callee}
 use Rattle.cjc_jvm_semantics.specs.OnePackage.{method_at, of_class, select_in, selected_from, sent_named}
-use Rattle.cjc_ncode.specs.ByLabel.{Callee, Fixed, OnObject, OnSuper, OnInterface}
+use Rattle.cjc_ncode.specs.ByLabel.{Callee, Fixed, OnObject, OnSuper}
 use Rattle.cjc_components.specs.Narrow.Rows.Package.{class_of_callee, direct, on_class, selected_on}
 use Rattle.cjc_components.specs.Narrow.Rows.Package.{named as named_package}
 use Rattle.cjc_components.specs.Narrow.Rows.Package

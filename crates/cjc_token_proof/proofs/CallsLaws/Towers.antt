@@ -1,13 +1,12 @@
 -- What class infos say of a class and its superclasses, told from the class up to any height that is enough.
-use Rattle.std.proofs.Common.{◌≡◌, ℕ, zero, suc, ◌+◌, ◌≤◌, sym, ap, ◌∙◌, arith, one-add, List, length}
+use Rattle.std.proofs.Common.{◌≡◌, ℕ, zero, suc, ◌≤◌, sym, ap, ◌∙◌, arith, List}
 use Rattle.std.specs.Prelude.{Some}
 use Rattle.cjc_check_rules.specs.CapRead.declared.tree.ClassEntry.{ClassEntry}
-use Rattle.cjc_card_semantics.specs.Machine.Classes.{class_of, external, depth, info_count}
-use Rattle.cjc_card_semantics.specs.Machine.Loaded.{Loaded}
+use Rattle.cjc_card_semantics.specs.Machine.Classes.{class_of, depth}
 use Rattle.cjc_card_semantics.specs.Machine.Dispatch.{Tower, Exported, Table, above, exported_line, tower, tower_from}
 use Rattle.cjc_card_semantics.specs.Machine.Dispatch.{table_or_missing}
 use Rattle.cjc_world.specs.declared.found.Found.{Found}
-use Rattle.cjc_world.specs.Classes.{Class, class_named}
+use Rattle.cjc_world.specs.Classes.{Class}
 use Rattle.cjc_ncode.specs.Lowering.Naming.{Naming}
 use Rattle.cjc_token_proof.specs.Calls.Dispatching.{SaysTables, SaysFile, SaysTower, of_file, of_package}
 

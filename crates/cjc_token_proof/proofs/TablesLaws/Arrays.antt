@@ -16,7 +16,7 @@ use Rattle.cjc_card_semantics.specs.Bytecode.Effects.{HeapObject, Numbers}
 use Rattle.cjc_card_semantics.specs.Bytecode.Effects as letters
 use Rattle.cjc_card_semantics.specs.Bytecode.Renaming.{heap_object_as}
 use Rattle.cjc_card_semantics.specs.Machine.Classes.{Class, Field}
-use Rattle.cjc_card_semantics.specs.Machine.Statics.{element_of, elements, first_arrays, number_bytes, number_in}
+use Rattle.cjc_card_semantics.specs.Machine.Statics.{element_of, elements, first_arrays}
 use Rattle.cjc_card_semantics.specs.Machine.Statics as card
 use Rattle.cjc_world.specs.ClassFile.declared.tree.ClassTree.{ClassTree}
 use Rattle.cjc_ncode.specs.Bytecode.declared.insn.JOp.{JOp}

@@ -26,7 +26,7 @@ use Rattle.cjc_ncode.specs.ByLabel.{shown_slot}
 use Rattle.cjc_ncode.specs.PoolOrder.{same_member}
 use Rattle.cjc_ncode.specs.Lowering.Agreement.{Cells}
 use Rattle.cjc_world_proof.specs.Initialisers.Values.{StandOnce}
-use Rattle.cjc_token_proof.specs.ByToken.Cells.{HasCells, IsOrder, Order, are_apart, are_cells, cell_names, cell_of}
+use Rattle.cjc_token_proof.specs.ByToken.Cells.{HasCells, Order, are_cells, cell_names}
 use Rattle.cjc_token_proof.specs.ByToken.Cells.{fields, is_number, is_one_of, letter, letter_by, width}
 use Rattle.cjc_token_proof.specs.ByToken.Cells as tokens
 use Rattle.cjc_token_proof.specs.ByToken.Objects.{is_reference as is_reference_sort}

@@ -34,7 +34,7 @@ use Rattle.cjc_vtable.proofs.Given.{In-split}
 use Rattle.cjc_world.specs.declared.found.Found.{Found}
 use Rattle.cjc_world.specs.Added.{added}
 use Rattle.cjc_world.specs.Classes.{Class, Member, class_at, class_named, imported, method_of_export}
-use Rattle.cjc_world.specs.Supertypes.{AreSupertypes, Supertypes, Known, Lists, after, ends, foremost, supertypes}
+use Rattle.cjc_world.specs.Supertypes.{AreSupertypes, Supertypes, Lists, after, ends, foremost, supertypes}
 use Rattle.cjc_world.specs.Supertypes.{known_here, unknown_here}
 use Rattle.cjc_world.specs.Supertypes as supertype_trees
 use Rattle.cjc_world.specs.Lookup.{first, member_at, or_else}

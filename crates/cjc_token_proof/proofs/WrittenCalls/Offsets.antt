@@ -9,7 +9,7 @@ use Rattle.cjc_jvm_semantics.specs.OnePackage.{method_at, method_in}
 use Rattle.cjc_token_proof.proofs.ByToken.Members.{member_same}
 use Rattle.cjc_token_proof.specs.Calls.Reaching.{BeginsAtOffsets, is_in_method, is_same}
 use Rattle.cjc_card_semantics.specs.Machine.Methods.{start_of}
-use Rattle.cjc_components.specs.Methods.{bytecode_count, extent_of, first_method, handler_count, is_member}
+use Rattle.cjc_components.specs.Methods.{bytecode_count, extent_of, first_method, is_member}
 use Rattle.cjc_components.specs.Methods.{method_offset, placed_at, placed_methods}
 use Rattle.cjc_components.specs.Package.{LaidMethod, Package, pool, world}
 use Rattle.cjc_components.specs.Written.{is_abstract_at, is_abstract_by}

@@ -8,7 +8,7 @@ use Rattle.cjc_bytes.specs.declared.fault.MemberId.{MemberId}
 use Rattle.cjc_script.specs.declared.value.Value.{Value}
 use Rattle.cjc_script.specs.declared.value.Value.TheVariants.{Num, Null, Obj}
 use Rattle.cjc_script.specs.Sorts.{Sort, Boolean, Byte, Short, Int, Reference, NoValue, field_sort}
-use Rattle.cjc_card_semantics.specs.Bytecode.Effects.{Letter, Slot, slot_of, IsOperand}
+use Rattle.cjc_card_semantics.specs.Bytecode.Effects.{Letter, slot_of, IsOperand}
 use Rattle.cjc_card_semantics.specs.Bytecode.Renaming.{option_as}
 use Rattle.cjc_card_semantics.specs.Bytecode.Effects as letters
 use Rattle.cjc_card_semantics.specs.Machine.ByToken.{letter_of, shown_cell}

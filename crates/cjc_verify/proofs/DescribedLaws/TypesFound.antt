@@ -8,7 +8,7 @@ use Rattle.cjc_check_rules.specs.Spots.{Placed, item_at, placed, starts}
 
 -- ---- an item by its place
 
-one_later : {A : Type 0} (x : A) (xs : List A) (o : Option ℕ) → option_and_then (slice_get xs) o
+pub one_later : {A : Type 0} (x : A) (xs : List A) (o : Option ℕ) → option_and_then (slice_get xs) o
     ≡ option_and_then (slice_get (x ∷ xs)) (option_map suc o)
 one_later x xs None = refl
 one_later x xs (Some k) = refl

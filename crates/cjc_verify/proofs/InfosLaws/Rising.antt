@@ -1,6 +1,6 @@
 -- Places of a component that stand in order: the first of them is the least.
 use Rattle.std.proofs.Common.{◌≡◌, ℕ, ◌+◌, ◌*◌, ◌<◌, ◌≤◌, Bool, true, false, List, [], ◌∷◌, ◌++◌, length, refl, sym}
-use Rattle.std.proofs.Common.{ap, ◌∙◌, arith, Option, Some, None}
+use Rattle.std.proofs.Common.{ap, ◌∙◌, arith, Option, Some}
 use Rattle.std.proofs.lemmas.Bool.Decides.{nat_tests}
 use Rattle.std.proofs.lemmas.List.Sums.{sum_by-cons}
 use Rattle.std.specs.Prelude.{if◌then◌else◌, sum_by, ◌==◌}
@@ -13,7 +13,7 @@ use Rattle.cjc_check_rules.specs.Complete.{class_size, map_size}
 use Rattle.cjc_check_rules.specs.ClassRefs.{maps_begin}
 use Rattle.cjc_check_rules.proofs.Arrays.{one_each, two_each}
 use Rattle.cjc_verify.specs.Infos.{head_of}
-use Rattle.cjc_verify.specs.Wanted.{counts_differ, entries_differ, map_differs, map_interface_differs}
+use Rattle.cjc_verify.specs.Wanted.{counts_differ, entries_differ, map_differs}
 use Rattle.cjc_verify.specs.Wanted.{tables_differ}
 
 -- places of a component from one offset up to another, none before the one that it stands behind

@@ -27,3 +27,13 @@ is_of_field (uses.PutStatic letter) = true
 is_of_field (uses.Call mode) = false
 is_of_field uses.New = false
 is_of_field uses.NewReferences = false
+
+-- an entry that is used so is to name a method
+abbrev pub is_of_call : Use → Bool
+is_of_call (uses.Get this letter) = false
+is_of_call (uses.Put this letter) = false
+is_of_call (uses.GetStatic letter) = false
+is_of_call (uses.PutStatic letter) = false
+is_of_call (uses.Call mode) = true
+is_of_call uses.New = false
+is_of_call uses.NewReferences = false

@@ -36,7 +36,8 @@ fn are_nibbles(nibbles: &[u8], wanted: &Option<Bytes>) -> bool
 
 /// Whether the type at a place is the one that is wanted.
 fn says_at(types: &[TypeDescriptor], place: Option<usize>, wanted: &Option<Bytes>) -> bool
-    ensures { result ≡ are_nibbles (option_map (λ (t : Described). t.nibbles) (option_and_then (slice_get types.now) place))
+    ensures { result ≡ are_nibbles (option_map (λ (t : Described). t.nibbles) (option_and_then (slice_get types.now)
+        place))
         wanted.now }
 {
     match place {

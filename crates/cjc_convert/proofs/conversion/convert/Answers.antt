@@ -13,7 +13,6 @@ use Rattle.cjc_convert.specs.Conversion.{IsConverted}
 use Rattle.cjc_convert.specs.declared.conversion.Converted.{Converted}
 use Rattle.cjc_shape_proof.specs.ExportFile.Writable as exports
 use Rattle.cjc_shape_proof.specs.Judge.Spelt.{IsRead}
-use Rattle.cjc_captree.specs.List.Listed.{ListTree}
 use Rattle.cjc_shape_proof.specs.Shape.Whole.Working.Shaped.{Stopped, package_of}
 use Rattle.cjc_convert.proofs.conversion.convert.Goals as goal
 

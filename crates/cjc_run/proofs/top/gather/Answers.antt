@@ -18,6 +18,9 @@ gather_make-requires-clause-least g c = let h = rw c.in-Make.is at c.requires in
 pub gather_make-requires-clause-greatest : goal.gather_make-requires-clause-greatest
 gather_make-requires-clause-greatest g c = let h = rw c.in-Make.is at c.requires in h.1
 
+pub returns-in-Verify : goal.returns-in-Verify
+returns-in-Verify g c = rw c.in-Verify.is c.gather_verify.ensures
+
 pub returns-in-Compat : goal.returns-in-Compat
 returns-in-Compat g c = rw c.in-Compat.is c.gather_compat.ensures
 

@@ -16,7 +16,7 @@ use Rattle.cjc_clinit.specs.declared.stage.Start.{Start}
 use Rattle.cjc_clinit.specs.declared.stage.Start.TheVariants as begun
 use Rattle.cjc_clinit.specs.Fields.{Contents, ANumber, ANull, AnArray, fits}
 use Rattle.cjc_clinit.specs.Image as Image
-use Rattle.cjc_clinit.specs.Image.{AreInitialised, IsImage, array_in, arrays_of, fields_in, image_of, of_classes}
+use Rattle.cjc_clinit.specs.Image.{AreInitialised, IsImage, array_in, arrays_of, of_classes}
 use Rattle.cjc_clinit.specs.Image.{of_fields, of_start, own_field}
 use Rattle.cjc_clinit.specs.Initialiser as Initialiser
 use Rattle.cjc_clinit.specs.Initialiser.{Initialises, Makes, Put, Stores, element_kind}

@@ -24,7 +24,7 @@ use Rattle.cjc_tokens.specs.Members.{Signature, has, is_constructor, is_exposed,
 use Rattle.cjc_tokens.specs.Members.{same, signature_of, signatures}
 use Rattle.cjc_tokens.specs.Methods.{class_method_token, class_method_tokens, interface_methods, interface_token}
 use Rattle.cjc_tokens.specs.Methods.{is_open_bound}
-use Rattle.cjc_tokens.specs.Slots.{Slots, got, hidden_slots, implementing, own, row, shown_token, slots, token}
+use Rattle.cjc_tokens.specs.Slots.{Slots, got, hidden_slots, implementing, own, row, shown_token, slots}
 use Rattle.cjc_tokens.specs.Tokens.{OfClass, assigned, joined, method_tokens, token_of_member}
 use Rattle.cjc_vtable.proofs.Shown.{declared-token}
 use Rattle.cjc_vtable.proofs.Towers.{declared-own, row_at}

@@ -25,7 +25,7 @@ use Rattle.cjc_clinit.proofs.Cells.{cell_fits}
 use Rattle.cjc_clinit.specs.Fields.{Contents, ANull, ANumber, AnArray, fits, fits_kind, has_unfit_value, held_by}
 use Rattle.cjc_clinit.specs.Fields.{is_cell, is_reference, number_kind, takes, value_fits}
 use Rattle.cjc_clinit.specs.Image as Image
-use Rattle.cjc_clinit.specs.Image.{AreInitialised, IsImage, empty, field_id, fields_in, held_in, image_of, initialised}
+use Rattle.cjc_clinit.specs.Image.{AreInitialised, IsImage, empty, field_id, fields_in, held_in, initialised}
 use Rattle.cjc_clinit.specs.Image.{of_classes, of_fields, of_start, start_by, start_of, unput_start, value_or_zero}
 use Rattle.cjc_clinit.specs.Initialiser as Initialiser
 use Rattle.cjc_clinit.specs.Initialiser.{Initialises, Put, is_initialiser, nothing_in, open_place}

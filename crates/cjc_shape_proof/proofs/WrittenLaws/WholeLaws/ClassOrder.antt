@@ -1,5 +1,5 @@
 -- The classes of a converted package in the order in which Class has them, and its methods in the order of Method.
-use Rattle.std.proofs.Common.{◌≡◌, ℕ, sym, ap, subst, ◌∙◌, false, List, map}
+use Rattle.std.proofs.Common.{◌≡◌, ℕ, sym, subst, ◌∙◌, false, List, map}
 use Rattle.std.specs.Prelude.{All, Some}
 use Rattle.cjc_vtable.specs.ClassOrder.Classes.Numbers.{IsOfKind, declared_at}
 use Rattle.cjc_components.specs.Package.{Package, world}

@@ -1,7 +1,7 @@
 -- The token of a method that an interface declares is its place among the interface's methods.
-use Rattle.std.proofs.Common.{◌≡◌, ℕ, zero, suc, ◌+◌, ◌<◌, ◌≤◌, refl, sym, ap, subst, ◌∙◌, arith, Bool, true, false}
+use Rattle.std.proofs.Common.{◌≡◌, ℕ, zero, suc, ◌+◌, ◌<◌, refl, sym, ap, subst, ◌∙◌, arith, Bool, true, false}
 use Rattle.std.proofs.Common.{List, [], ◌∷◌, ◌++◌, length, map}
-use Rattle.std.specs.Prelude.{◌==◌, ◌&&◌, ◌||◌, not, nat_lt, Option, Some, None, option_and_then, option_map, position}
+use Rattle.std.specs.Prelude.{◌==◌, ◌&&◌, ◌||◌, not, nat_lt, Some, None, option_and_then, option_map, position}
 use Rattle.std.specs.Prelude.{slice_get, if◌then◌else◌, codes}
 use Rattle.std.specs.List.{AllByRecursion, IsDistinct, list_any}
 use Rattle.std.specs.Str.{bytes_eq}
@@ -31,7 +31,7 @@ use Rattle.cjc_tokens.specs.Fields.{field_tokens}
 use Rattle.cjc_tokens.specs.Lines.{line_at}
 use Rattle.cjc_tokens.specs.Members.{Signature, is_initialiser, same, signature_of}
 use Rattle.cjc_tokens.specs.Methods.{class_method_tokens, interface_methods, interface_token}
-use Rattle.cjc_tokens.specs.Slots.{hidden_slots, new_in, shown_token}
+use Rattle.cjc_tokens.specs.Slots.{hidden_slots, shown_token}
 use Rattle.cjc_tokens.specs.Tokens.{assigned, imports_of, joined, listed_field_token, listed_method_token}
 use Rattle.cjc_tokens.specs.Tokens.{method_tokens, of_import, token_of_member}
 use Rattle.cjc_vtable.proofs.Filed.{IsFiled, filed, get-has, has-get, in_class_file}

@@ -1,17 +1,16 @@
 -- The methods of a converted package can be emitted by the pool that they need.
-use Rattle.std.proofs.Common.{◌≡◌, ℕ, ◌≤◌, refl, sym, ap, subst, ◌∙◌, arith, Bool, true, false, List, []}
+use Rattle.std.proofs.Common.{◌≡◌, ℕ, ◌≤◌, refl, sym, ap, subst, ◌∙◌, Bool, true, false, List, []}
 use Rattle.std.proofs.Common.{length, map}
-use Rattle.std.specs.Prelude.{Option, Some, None, option_map, position, unwrap_or, slice_get, nat_lt}
+use Rattle.std.specs.Prelude.{Some, None, option_map, position, unwrap_or, slice_get, nat_lt}
 use Rattle.std.specs.Prelude.{if◌then◌else◌}
 use Rattle.std.proofs.lemmas.Bool.{ltb-false}
 use Rattle.std.proofs.lemmas.Option.{slice_get-map}
-use Rattle.cjc_bytes.specs.Breaks.{Break, at}
+use Rattle.cjc_bytes.specs.Breaks.{at}
 use Rattle.cjc_bytes.specs.declared.fault.MemberId.{MemberId}
 use Rattle.cjc_bytes.proofs.Lists.{none_right}
 use Rattle.cjc_bytes.proofs.Bools.{or_left}
 use Rattle.cjc_bytes.proofs.Gets.{item_has, mapped_at}
 use Rattle.cjc_bytes.proofs.Numbers.{none_at}
-use Rattle.cjc_token_proof.specs.JvmSemantics.Linked.{Method}
 use Rattle.cjc_components.specs.Limits.{code_breaks, has_many_entries, layout_breaks, of_methods, spot_of_list}
 use Rattle.cjc_components.specs.Names.{names, token_in_interface}
 use Rattle.cjc_components.specs.Package.{LaidMethod, Package, codes, has_applets, tokens}
@@ -39,20 +38,17 @@ use Rattle.cjc_check_proof.specs.Pool.Pool.{IsPool, PoolView, is_called, token_i
 use Rattle.cjc_shape.proofs.PreparedLaws.Sound.{are_ready, has_tokens, is_tested, listed}
 use Rattle.cjc_shape.proofs.PreparedLaws.Sound.{world_unbroken}
 use Rattle.cjc_shape.specs.Prepared.{IsSound}
-use Rattle.cjc_tokens.specs.Methods.{interface_methods}
 use Rattle.cjc_tokens.specs.Rules.{token_breaks}
 use Rattle.cjc_tokens.specs.Tokens.{assigned}
-use Rattle.cjc_narrow_proof.specs.Types.declared.state.State.{State}
 use Rattle.cjc_vtable.specs.Tables.{or_zero}
 use Rattle.cjc_shape.proofs.WholeLaws.Drafts.{narrow_codes, narrow_is, rows, rows_are, same_narrow, same_spelt}
 use Rattle.cjc_shape.proofs.WholeLaws.Ints.{package_free}
 use Rattle.cjc_shape.proofs.WholeLaws.Ordered.{all_own}
 use Rattle.cjc_shape.proofs.WholeLaws.Second.{forms_of, package_is_draft}
 use Rattle.cjc_shape.specs.Whole.Conversion.{IsPackageOf}
-use Rattle.cjc_world.specs.Classes.{Class, all_classes, class_named}
+use Rattle.cjc_world.specs.Classes.{all_classes, class_named}
 use Rattle.cjc_world.specs.Files.{Files}
 use Rattle.cjc_world.specs.Order.{method_order}
-use Rattle.cjc_world.specs.declared.found.Found.{Found}
 use Rattle.cjc_shape_proof.proofs.WrittenLaws.Shaping.{layout_for, layout_is, layout_wide, short_at}
 use Rattle.cjc_shape_proof.proofs.WrittenLaws.WholeLaws.Declared.{declared_place}
 

@@ -1,5 +1,5 @@
 -- No class of a package that breaks no rule of classes, imported or not, has two methods of one name and descriptor.
-use Rattle.std.proofs.Common.{◌≡◌, ℕ, zero, suc, ◌+◌, refl, sym, ap, subst, ◌∙◌, arith, Bool, true, false, List, []}
+use Rattle.std.proofs.Common.{◌≡◌, ℕ, zero, suc, ◌+◌, sym, ap, subst, ◌∙◌, arith, Bool, true, false, List, []}
 use Rattle.std.proofs.Common.{◌∷◌, ◌++◌}
 use Rattle.std.specs.Prelude.{map, not, ◌&&◌, Option, Some, None, slice_get, if◌then◌else◌}
 use Rattle.cjc_bytes.specs.Breaks.{broken_at, list_spot}

@@ -1,7 +1,7 @@
 -- The sizes of a converted package.
-use Rattle.std.proofs.Common.{◌≡◌, ℕ, ap, ◌∙◌, subst, arith, List, [], length}
+use Rattle.std.proofs.Common.{◌≡◌, ℕ, ap, ◌∙◌, subst, arith, List, length}
 use Rattle.std.specs.Prelude.{◌≤◌}
-use Rattle.cjc_components.specs.Limits.{has_far_types, has_large_component, size_breaks, spot_of_list}
+use Rattle.cjc_components.specs.Limits.{has_far_types, has_large_component, spot_of_list}
 use Rattle.cjc_components.specs.Package.{Package}
 use Rattle.cjc_bytes.specs.Breaks.{at}
 use Rattle.cjc_judge.specs.declared.judged.Judged.{Judged}

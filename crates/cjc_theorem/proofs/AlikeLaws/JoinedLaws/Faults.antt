@@ -1,6 +1,6 @@
 -- The exceptions of the machine's own are classes of export files, and no interfaces.
 use Rattle.std.proofs.Common.{◌≡◌, ℕ, List, ap, sym, ◌∙◌, Some, true, false}
-use Rattle.cjc_ncode.specs.CardSemantics.Bytecode.Calculations.{Fault, Arithmetic, NullPointer, IndexOutside}
+use Rattle.cjc_ncode.specs.CardSemantics.Bytecode.Calculations.{Arithmetic, NullPointer, IndexOutside}
 use Rattle.cjc_ncode.specs.CardSemantics.Bytecode.Calculations.{NegativeSize}
 use Rattle.cjc_ncode.specs.CardSemantics.Bytecode.Calculations.{ClassCast, ArrayStore}
 use Rattle.cjc_jvm_semantics.specs.Effects as by_name

@@ -32,7 +32,7 @@ use Rattle.cjc_narrow.specs.Rows.Resolved.{constant_named}
 use Rattle.cjc_narrow_proof.proofs.LawsLaws.Own.{first_here}
 use Rattle.cjc_narrow_proof.specs.Laws.Unbroken.{IsUnbroken}
 use Rattle.cjc_subset.specs.Checks.{is_imported_variable}
-use Rattle.cjc_subset.specs.Members.{imported_field, imports, is_imported_constant}
+use Rattle.cjc_subset.specs.Members.{imported_field, is_imported_constant}
 use Rattle.cjc_subset.specs.Members as subset
 use Rattle.cjc_token_proof.proofs.TablesLaws.Above.{info_of_name, rules_of}
 use Rattle.cjc_token_proof.specs.Tables.Known.{order_of, statics_of}

@@ -39,7 +39,7 @@ use Rattle.cjc_world.specs.Files.{Files}
 use Rattle.cjc_world.specs.Lookup.{is_called}
 use Rattle.cjc_world.specs.Supertypes.{AreSupertypes, IsAcyclic, Lists, Supertypes, ends, foremost, is_below}
 use Rattle.cjc_world.specs.Supertypes.{known_here}
-use Rattle.cjc_world.specs.Supertypes.{supertypes, unknown_here, upwards}
+use Rattle.cjc_world.specs.Supertypes.{unknown_here, upwards}
 use Rattle.cjc_world.specs.Upwards.{OnLine, here, up}
 use Rattle.cjc_world.proofs.Cycles.{class_named-name}
 use Rattle.cjc_world.proofs.UpwardLaws.Lines.{line_is_below}

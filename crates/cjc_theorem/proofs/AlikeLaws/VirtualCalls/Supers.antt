@@ -6,7 +6,7 @@ use Rattle.cjc_bytes.specs.AccessFlags.{is_interface, is_private, is_static}
 use Rattle.cjc_bytes.specs.declared.fault.MemberId.{MemberId}
 use Rattle.cjc_bytes.proofs.Bools.{or_left, or_right}
 use Rattle.cjc_jvm_semantics.specs.OnePackage.{ResolvedMember, is_constructor, method_hit, of_class}
-use Rattle.cjc_token_proof.proofs.WorldProofOwn.{hit_is, mapped_at}
+use Rattle.cjc_token_proof.proofs.WorldProofOwn.{mapped_at}
 use Rattle.cjc_token_proof.specs.WorldProof.Calls.Solid.{IsSolid}
 use Rattle.cjc_token_proof.proofs.WorldProofTypes.{receiver_class}
 use Rattle.cjc_token_proof.specs.Calls.Selecting.{signature}

@@ -1,22 +1,18 @@
-use Rattle.std.proofs.Common.{◌≡◌, sym, ap, subst, ◌∙◌, List, length}
+use Rattle.std.proofs.Common.{sym, ap, subst, ◌∙◌, List, length}
 use Rattle.std.specs.Prelude.{All, map}
 use Rattle.std.proofs.lemmas.List.{length-map}
 use Rattle.std.proofs.lemmas.Result.{err_from_is_err_and}
-use Rattle.cjc_methods.specs.Components.Package.{Package}
 use Rattle.cjc_methods.specs.Components.Written.{code_at}
 use Rattle.cjc_world.specs.ExportFile.Written.{constants}
-use Rattle.cjc_judge.specs.declared.judged.Judged.{Judged}
 use Rattle.cjc_methods.specs.Layout.Layouts.{IsWhole}
-use Rattle.cjc_methods.specs.Layouts.Laid.{AreOf}
-use Rattle.cjc_methods.specs.Layouts.Limits.{IsTold}
 use Rattle.cjc_narrow_proof.specs.Narrow.Rows.Selected.{near_fields}
 use Rattle.cjc_methods.specs.NCode.PoolOrder.{pool_order}
 use Rattle.cjc_methods.specs.NCode.declared.narrow.NMethod.{NMethod}
 use Rattle.cjc_shape.proofs.PreparedLaws.Sound.{are_ready, few_cells, few_exported, has_tokens, no_image_break}
-use Rattle.cjc_shape.proofs.WholeLaws.Drafts.{draft, is_draft, narrow_codes, narrow_is, rows, rows_are}
+use Rattle.cjc_shape.proofs.WholeLaws.Drafts.{draft, is_draft, rows, rows_are}
 use Rattle.cjc_shape.proofs.WholeLaws.Ints.{draft_ints, draft_refused, free_here}
-use Rattle.cjc_shape.proofs.WholeLaws.Second.{fs, is_base}
-use Rattle.cjc_shape.proofs.WholeLaws.Shapes.{forms_refused, ints_refused, is_narrow, selected, shaped, told}
+use Rattle.cjc_shape.proofs.WholeLaws.Second.{is_base}
+use Rattle.cjc_shape.proofs.WholeLaws.Shapes.{forms_refused, ints_refused, is_narrow, shaped, told}
 use Rattle.cjc_shape.proofs.WholeLaws.Shapes.{words_refused}
 use Rattle.cjc_shape.proofs.whole.shaping.shape.Goals as goal
 

@@ -1,8 +1,7 @@
-use Rattle.std.proofs.Common.{◌≡◌, ℕ, ◌+◌, ◌*◌, ◌==◌, Bool, List, length, sym, ap, ◌∙◌}
+use Rattle.std.proofs.Common.{ℕ, ◌+◌, ◌*◌, ◌==◌, Bool, List, length, sym, ap, ◌∙◌}
 use Rattle.std.specs.Prelude.{Option, option_and_then, option_map, position, slice_get}
 use Rattle.cjc_capread.specs.declared.tree.TypeDescriptor.{TypeDescriptor}
 use Rattle.cjc_check_rules.specs.Complete.{type_size}
-use Rattle.cjc_check_rules.specs.Spots.{starts}
 use Rattle.cjc_verify.specs.Described.{are_nibbles}
 use Rattle.cjc_verify.proofs.DescribedLaws.TypesFound.{by_place}
 use Rattle.cjc_verify.proofs.described.types.Types.says.Goals as goal

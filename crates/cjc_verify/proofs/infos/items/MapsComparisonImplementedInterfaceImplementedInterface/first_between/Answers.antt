@@ -12,7 +12,8 @@ returns c =
     c.same_class.ensures in
     let count = c.unless-count.ensures
     ∙ ap (λ (xs : List ℕ). first (unless (length xs == length wanted) (in_info 6 (at + 2)))) c.items-index.ensures
-    ∙ ap (λ (xs : List ℕ). first (unless (length own.index == length xs) (in_info 6 (at + 2)))) c.items-wanted.ensures in
+    ∙ ap (λ (xs : List ℕ). first (unless (length own.index == length xs) (in_info 6 (at + 2)))) c.items-wanted.ensures
+    in
     let bytes = c.first_beside.ensures
     ∙ ap (λ (xs : List ℕ). first (bytes_differ 6 (at + 3) xs wanted)) c.items-index.ensures
     ∙ ap (λ (xs : List ℕ). first (bytes_differ 6 (at + 3) own.index xs)) c.items-wanted.ensures in

@@ -1,0 +1,9 @@
+//! The command verify.
+#![tactic(auto)]
+
+mod laws;
+mod reads;
+mod verifying;
+
+pub use laws::one_answer;
+pub use verifying::gather_verify;

@@ -1,0 +1,8 @@
+pub mod Lowest
+pub mod First
+pub mod Words
+pub mod Pairs
+pub mod Named
+pub mod Chosen
+pub mod Places
+pub mod Written

@@ -1,0 +1,30 @@
+-- What a method names, by its code in the package.
+use Rattle.std.proofs.Common.{◌≡◌, Bool, true, false, List, [], ◌∷◌, Option, refl, ap, ◌∙◌}
+use Rattle.std.specs.Prelude.{◌||◌}
+use Rattle.cjc_flow.specs.Types.ClassFile.Code.{CodeTree}
+use Rattle.cjc_flow.specs.Types.ClassFile.declared.tree.ClassTree.{ClassTree}
+use Rattle.cjc_flow.specs.Types.ClassFile.declared.tree.MethodTree.{MethodTree}
+use Rattle.cjc_flow.specs.Types.Bytecode.declared.method_code.MethodCode.{MethodCode}
+use Rattle.cjc_flow.specs.Types.World.Files.{Files}
+use Rattle.cjc_flow.specs.Types.Flow.{body_of}
+use Rattle.cjc_flow.specs.Types.Tables.{IsMethodOf}
+use Rattle.cjc_subset.specs.Ints.{any_works_on_int, code_works_on_int, method_there, method_works_on_int}
+use Rattle.cjc_int_mode.specs.Modes.{names_int}
+
+or_false : (b : Bool) → (b || false) ≡ b
+or_false true = refl
+or_false false = refl
+
+-- A method names int exactly where its code works on int.
+pub names_same : (files : Files) (code : MethodCode) (c : ClassTree) (m : MethodTree) (t : CodeTree)
+    → IsMethodOf files code c m t → code_works_on_int files code ≡ names_int (body_of c m t code.insns)
+unfolding code_works_on_int
+names_same files code c m t of =
+    ap (λ (o : Option ClassTree). method_works_on_int code.insns (method_there code.method o)) of.is_class
+    ∙ ap (method_works_on_int code.insns) of.is_method
+
+pub names_of_one : (files : Files) (code : MethodCode) (codes : List MethodCode) (c : ClassTree) (m : MethodTree)
+    (t : CodeTree) → IsMethodOf files code c m t → codes ≡ code ∷ [] → any_works_on_int files codes
+    ≡ names_int (body_of c m t code.insns)
+names_of_one files code codes c m t of one =
+    ap (any_works_on_int files) one ∙ or_false (code_works_on_int files code) ∙ names_same files code c m t of

@@ -1,0 +1,32 @@
+-- The operands of a method that may lie outside of what some of rules 601 to 609 allow; a test of their numbers says
+-- which.
+use Rattle.std.specs.Prelude.{◌≡◌, ◌⊎◌, ◌<◌, ◌≤◌, ℕ, Bool, true, List, Option, Some, None}
+use Rattle.cjc_flow.specs.Fixpoint.Bytes.declared.breaks.BrokenAt.{BrokenAt}
+use Rattle.cjc_flow.specs.Types.declared.state.State.{State}
+use Rattle.cjc_flow.specs.Types.Flow.{Body}
+use Rattle.cjc_flow.specs.Intervals.Frames.{RangeState}
+use Rattle.cjc_flow.specs.Intervals.Tables.{Breach}
+
+module _ (wanted : ℕ → Bool) (b : Body) (types : List (Option State)) (ranges : List (Option RangeState)) where
+  -- Each operand lies where the wanted rules say.
+  abbrev pub NoBreach : Type 0
+  NoBreach = (place rule : ℕ) → wanted rule ≡ true → Breach b types ranges place rule → ⊥
+
+  -- A wanted rule is broken at this place, and none at an earlier one, or a lower one at the same.
+  pub record FirstBreach (place rule : ℕ) : Type 0 where
+    pub is_wanted : wanted rule ≡ true
+    pub breach : Breach b types ranges place rule
+    pub first : (other_place other_rule : ℕ) → wanted other_rule ≡ true
+        → Breach b types ranges other_place other_rule → (place < other_place)
+        ⊎ ((place ≡ other_place) × (rule ≤ other_rule))
+
+  -- The rule is that of the first breach, and the offset that of its instruction.
+  pub record IsFirstBroken (broken : BrokenAt) : Type 0 where
+    pub place : ℕ
+    pub first : FirstBreach place broken.rule
+    pub is : broken.offset ≡ first.breach.insn.at
+
+  -- Nothing is answered where each operand lies where the wanted rules say, else the first breach.
+  abbrev pub IsFound : Option BrokenAt → Type 0
+  IsFound None = NoBreach
+  IsFound (Some broken) = IsFirstBroken broken

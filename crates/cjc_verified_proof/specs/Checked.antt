@@ -1,0 +1,47 @@
+-- Packages whose components the type checker passes.
+use Rattle.std.specs.Prelude.{◌≡◌, ℕ, nat_lt, length, List, []}
+use Rattle.cjc_list.specs.Listed.{ListTree}
+use Rattle.cjc_check_rules.specs.ClassRefs.{super_spots}
+use Rattle.cjc_check_rules.specs.Complete.{Complete}
+use Rattle.cjc_check_rules.specs.Described.{descriptor_spots}
+use Rattle.cjc_check_rules.specs.Statics.{image_spots}
+use Rattle.cjc_ncode.specs.Bytecode.declared.method_code.MethodCode.{MethodCode}
+use Rattle.cjc_world.specs.declared.image.StaticImage.{StaticImage}
+use Rattle.cjc_world.specs.Files.{Files}
+use Rattle.cjc_clinit.specs.Image.{IsImage}
+use Rattle.cjc_world_proof.specs.Initialisers.Values.{StandOnce}
+use Rattle.cjc_components.specs.Paired.Pairs.{ArePaired}
+use Rattle.cjc_token_proof.specs.Tables.Sound.{IsSound, AreTyped, AreFieldDescs}
+use Rattle.cjc_verify.specs.Pairs.{Pair, pair_of}
+use Rattle.cjc_verify.specs.Verified.{IsVerified}
+use Rattle.cjc_verified_proof.specs.PackageTypes.{HasNoObject, StaticInInterfaces}
+
+-- A package by its list, its read files, the code of its methods and what its static fields hold at first, with
+-- components.
+pub record Checked : Type 0 where
+  pub name : List ℕ
+  pub list : ListTree
+  pub files : Files
+  pub codes : List MethodCode
+  pub image : StaticImage
+  pub components : Complete
+
+-- the components beside the package
+abbrev pub pair : Checked → Pair
+pair c = let l = c.list in pair_of (nat_lt 0 (length l.applets)) c.files c.image c.components
+
+-- The files keep the rules of classes and fields, and the image is that of the initialisers; 705, 716, 718 and 719 are
+-- not broken, and no rule of the type checker is.
+pub record IsChecked (c : Checked) : Type 0 where
+  pub sound : IsSound c.name c.files
+  pub typed : AreTyped c.files
+  pub descs : AreFieldDescs c.files
+  pub static_ones : StaticInInterfaces c.files
+  pub no_object : (let p = pair c in HasNoObject p.loaded)
+  pub initialised : IsImage c.files c.codes c.image
+  pub once : StandOnce c.files c.codes
+  pub supers : (let f = c.files in super_spots c.components f.exports) ≡ []
+  pub cells : (let p = c.components in image_spots p.statics) ≡ []
+  pub described : descriptor_spots c.components ≡ []
+  pub paired : ArePaired c.files c.image c.components
+  pub verified : IsVerified (pair c)

@@ -1,0 +1,3 @@
+pub mod PackageTypes
+pub mod Entries
+pub mod Checked

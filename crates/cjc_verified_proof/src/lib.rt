@@ -1,0 +1,9 @@
+//! What the rules of the type checker say of the components of a package, as the laws of what a row keeps ask for it.
+#![tactic(auto)]
+
+pub mod checked;
+pub mod declared;
+pub mod entries;
+pub mod images;
+pub mod plain;
+pub mod supers;

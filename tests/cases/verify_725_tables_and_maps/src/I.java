@@ -1,0 +1,7 @@
+package p;
+
+public interface I {
+    short value(short a);
+
+    short count();
+}

@@ -1,0 +1,5 @@
+package q;
+
+public class Q {
+    public short f;
+}

@@ -1,0 +1,9 @@
+package p;
+
+public class T extends q.Q {
+    short own;
+
+    short get() {
+        return own;
+    }
+}

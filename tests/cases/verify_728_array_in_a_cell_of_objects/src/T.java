@@ -1,0 +1,9 @@
+package p;
+
+public class T {
+    static Object kept;
+
+    static void keep(Object o) {
+        kept = o;
+    }
+}
