@@ -121,8 +121,8 @@ module _ (r : Resolution) (role_at : ℕ → PairRole) where
   written_same place (jop.CheckCast class) = refl
   written_same place (jop.InstanceOf class) = refl
 
-  pub written_as_same : (role : PairRole) (place : ℕ → ℕ) (op : JOp) → written_as role q place op
-      ≡ written_as role r place op
+  pub written_as_same : (role : PairRole) (place : ℕ → ℕ) (op : JOp)
+      → written_as role (record r { role = role_at }) place op ≡ written_as role r place op
   unfolding q
   written_as_same Alone place op = written_same place op
   written_as_same Opens place op = ap (λ xs. if is_load op then [] else xs) (written_same place op)
