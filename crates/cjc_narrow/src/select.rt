@@ -18,6 +18,7 @@ mod names;
 mod pairs;
 
 pub use method::{argument_words, select};
+pub use pairs::{PairKind, PairStep, Wait};
 
 /// Each aload_0 that opens a pair stands before the field instruction that closes it, and execution comes from the one
 /// to the other alone, under the same handlers.

@@ -18,6 +18,7 @@ use Rattle.cjc_narrow.specs.Pairs.Roles.{steps_from}
 use Rattle.cjc_narrow.specs.Written.Operands.{IsAscending}
 use Rattle.cjc_narrow.specs.Written.Rows.{has_rows}
 use Rattle.cjc_narrow.proofs.PairsLaws.Roles.{apart, equal}
+use Rattle.cjc_narrow.proofs.WrittenLaws.Order.{ascending_rest}
 
 closes_accesses : (o : Bool) (kind : PairKind) (taken : Bool) → role_of o kind taken ≡ Closes → accesses kind ≡ true
 closes_accesses o Gets taken e = refl
@@ -51,9 +52,6 @@ module _ {A : Type 0} where
   is_one (x ∷ insns) (Some row ∷ rows) zero i e = (0, e)
   is_one (x ∷ insns) (Some row ∷ rows) (suc k) i e = let h = is_one insns rows k i e in (suc h.0, h.1)
 
-  ascending_rest : (x : JInsn) (insns : List JInsn) → IsAscending (x ∷ insns) → IsAscending insns
-  ascending_rest x insns up j k y z is_y is_z lt = up (suc j) (suc k) y z is_y is_z (omega arith)
-
   -- an instruction behind the first stands at another offset
   behind : (x : JInsn) (insns : List JInsn) (rows : List (Option A)) → IsAscending (x ∷ insns) → (k : ℕ) (i : JInsn)
       → slice_get (reached insns rows) k ≡ Some i → (x.at == i.at) ≡ false
@@ -61,12 +59,13 @@ module _ {A : Type 0} where
       let there = is_one insns rows k i e in
       apart x.at i.at (up 0 (suc there.0) x i refl there.1 (omega arith))
 
-  module _ (keeps : Bool) (r : Resolution) (marks : List ℕ) (catches : List Catch) where
+module _ (keeps : Bool) (r : Resolution) (marks : List ℕ) (catches : List Catch) where
+  abbrev step : Bool → (at before : ℕ) → JInsn → PairStep
+  step is at before x = record { joined = is_joined marks catches at before x.at; kind = kind_if is keeps r x.op }
+
+  module _ {A : Type 0} where
     abbrev steps : (at before : ℕ) → List JInsn → List (Option A) → List PairStep
     steps at before insns rows = steps_from keeps r marks catches at before insns (has_rows rows)
-
-    abbrev step : Bool → (at before : ℕ) → JInsn → PairStep
-    step is at before x = record { joined = is_joined marks catches at before x.at; kind = kind_if is keeps r x.op }
 
     pub closes_near : (o : Bool) (at before : ℕ) (insns : List JInsn) (rows : List (Option A)) → IsAscending insns
         → (k : ℕ) (i : JInsn) → slice_get (reached insns rows) k ≡ Some i

@@ -81,7 +81,7 @@ roles_each r b flags same = roles_long false (steps_of r b flags)
 -- ---- what is written doesn't depend on the roles of others
 
 module _ (r : Resolution) (role_at : ℕ → PairRole) where
-  pub q : Resolution
+  q : Resolution
   q = record r { role = role_at }
 
   static_same : (put : Bool) (f : MemberId) (constant : Option ℤ) → static_by q put f constant

@@ -222,7 +222,7 @@ all_behind offset i insns ascending e zero x is = let same : i ≡ x = cc in sub
 all_behind offset i insns ascending e (suc k) x is = later i.at x.at offset e (ascending 0 (suc k) i x refl is
     (omega arith))
 
-ascending_rest : (i : JInsn) (insns : List JInsn) → IsAscending (i ∷ insns) → IsAscending insns
+pub ascending_rest : (i : JInsn) (insns : List JInsn) → IsAscending (i ∷ insns) → IsAscending insns
 ascending_rest i insns ascending j k x y is_x is_y lt = ascending (suc j) (suc k) x y is_x is_y (omega arith)
 
 place_found : (r : Resolution) (offset before : ℕ) (insns : List JInsn) (flags : List Bool) (roles : List PairRole)

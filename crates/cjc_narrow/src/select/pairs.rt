@@ -27,7 +27,7 @@ use std::alloc::Global;
 
 /// What an instruction is to the reference that an aload_0 pushed before it.
 #[derive(Clone, Copy)]
-pub(crate) enum PairKind {
+pub enum PairKind {
     /// Nothing is written for it.
     Silent,
     /// An aload_0 whose reference is the object of the method.
@@ -43,14 +43,14 @@ pub(crate) enum PairKind {
 
 /// An instruction, and whether execution comes to it from the one before alone, under the same handlers.
 #[derive(Clone, Copy)]
-pub(crate) struct PairStep {
+pub struct PairStep {
     pub joined: bool,
     pub kind: PairKind,
 }
 
 /// What has become of a reference that an aload_0 pushed.
 #[derive(Clone, Copy)]
-pub(crate) enum Wait {
+pub enum Wait {
     /// It is the last that was pushed.
     Begins,
     /// One was pushed behind it.

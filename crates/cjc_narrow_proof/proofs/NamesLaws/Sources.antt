@@ -1,5 +1,6 @@
 -- Each instruction of narrow code is written for one of the class file.
-use Rattle.std.proofs.Common.{◌≡◌, ℕ, zero, suc, ◌+◌, refl, subst, Bool, true, false, List, [], ◌∷◌, ◌++◌}
+use Rattle.std.proofs.Common.{◌≡◌, ℕ, zero, suc, ◌+◌, refl, sym, ap, subst, ◌∙◌, Bool, true, false, List, []}
+use Rattle.std.proofs.Common.{◌∷◌, ◌++◌}
 use Rattle.std.specs.Prelude.{Option, Some, None, flat_map, nat_le, slice_get, ◌==◌, if◌then◌else◌, ℤ, pos, negsuc}
 use Rattle.std.proofs.lemmas.Bool.{eqb-true}
 use Rattle.cjc_bytes.specs.declared.fault.MemberId.{MemberId}
@@ -18,7 +19,7 @@ use Rattle.cjc_ncode.specs.declared.narrow.PairRole.{PairRole}
 use Rattle.cjc_narrow.proofs.PairsLaws.Roles.{written_as_same}
 use Rattle.cjc_ncode.proofs.WrittenCases.{written_cases}
 use Rattle.cjc_narrow_proof.specs.Sources.{IsWrittenFor, NamesClass, array, interface_call, itself, names_nothing}
-use Rattle.cjc_narrow_proof.specs.Sources.{of_array, of_cast, of_class, of_field, of_static, of_test, plain}
+use Rattle.cjc_narrow_proof.specs.Sources.{of_array, of_cast, of_class, of_field, of_own_field, of_static, of_test, plain}
 use Rattle.cjc_narrow_proof.specs.Sources.{special_call, static_call, virtual_call}
 
 module _ (r : Resolution) (op : JOp) where

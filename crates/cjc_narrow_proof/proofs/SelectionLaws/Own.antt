@@ -20,7 +20,7 @@ use Rattle.cjc_ncode.specs.declared.narrow.NInsn.TheVariants as insns
 use Rattle.cjc_ncode.specs.declared.narrow.PoolKey.TheVariants as pool
 use Rattle.cjc_ncode.specs.PoolOrder.{same_member}
 use Rattle.cjc_ncode.specs.Written.{Resolution, field_access, pushed_word, static_by, this_access, written}
-use Rattle.cjc_ncode.specs.ByLabel.{Named, classes, naming, operation}
+use Rattle.cjc_ncode.specs.ByLabel.{Callee, Named, classes, naming, operation}
 use Rattle.cjc_jvm_semantics.specs.Linked.{Method, Linked}
 use Rattle.cjc_jvm_semantics.specs.Effects.{Store, effect}
 use Rattle.cjc_jvm_semantics.specs.Effects as by_name
@@ -125,19 +125,19 @@ with_itself : {heap : Heap} {within : Shape (List ℕ) → Bool} {v w : Value} �
 with_itself null = null
 with_itself (object thing is e) = object thing is e
 
-module _ {words : List (Option Value)} {j : Kind} {ks : List Kind} {v : Value} {vs : List Value} where
-  pub own_top : Owns words (Away j ∷ ks) (v ∷ vs) → slice_get words 0 ≡ Some (Some v)
-  own_top (all_there b) = elim b [ ]
-  own_top (on_top is e b) = e
-  own_top (below_top is e b) = elim b [ ]
+own_top : {words : List (Option Value)} {j : Kind} {ks : List Kind} {v : Value} {vs : List Value}
+    → Owns words (Away j ∷ ks) (v ∷ vs) → slice_get words 0 ≡ Some (Some v)
+own_top (all_there b) = elim b [ ]
+own_top (on_top is e b) = e
+own_top (below_top is e b) = elim b [ ]
 
-  pub own_below : {k : Kind} {x : Value} → Owns words (k ∷ Away j ∷ ks) (x ∷ v ∷ vs)
-      → slice_get words 0 ≡ Some (Some v)
-  own_below (all_there (a_range b)) = elim b [ ]
-  own_below (all_there (a_reference b)) = elim b [ ]
-  own_below (all_there (an_unused b)) = elim b [ ]
-  own_below (on_top is e b) = elim b [ ]
-  own_below (below_top is e b) = e
+own_below : {words : List (Option Value)} {k j : Kind} {ks : List Kind} {x v : Value} {vs : List Value}
+    → Owns words (k ∷ Away j ∷ ks) (x ∷ v ∷ vs) → slice_get words 0 ≡ Some (Some v)
+own_below (all_there (a_range b)) = elim b [ ]
+own_below (all_there (a_reference b)) = elim b [ ]
+own_below (all_there (an_unused b)) = elim b [ ]
+own_below (on_top is e b) = elim b [ ]
+own_below (below_top is e b) = e
 
 never_owned : {words : List (Option Value)} {k j : Kind} {ks : List Kind} {vs : List Value}
     → Owns words (Away k ∷ Away j ∷ ks) vs → ⊥
@@ -158,6 +158,8 @@ module _ (by : Linked) (l : Named) (r : Resolution) (m : Method) (named : Member
 
   pub get_closes : (after : List Kind) → RowAgrees by l r m (jop.Field false named) (Refers within ∷ []) after
       → Closes false (Away (Refers within) ∷ []) after
+  get_closes after row room at next ks ls _ _ locals words store memory roomy stores held (cell a rest) owns =
+      elim a [ ]
   get_closes after row room at next ks ls _ _ locals words store memory roomy stores held
       (left_out {v = v} {vs = vs} {ws = ws} a rest) owns =
       subst (Same l (after ++ ks) ls (at + 1) next (by_name.effect by m at locals store (jop.Field false named) (v
@@ -172,6 +174,8 @@ module _ (by : Linked) (l : Named) (r : Resolution) (m : Method) (named : Member
       → Closes true (k ∷ Away (Refers within) ∷ []) []
   put_closes _ one row room at next ks ls _ _ locals words store memory roomy stores held (left_out a rest) owns =
       absurd (never_owned owns)
+  put_closes k one row room at next ks ls _ _ locals words store memory roomy stores held (cell a (cell c rest)) owns =
+      elim c [ ]
   put_closes k one row room at next ks ls _ _ locals words store memory roomy stores held
       (cell {v = x} {w = y} a (left_out {v = v} {vs = vs} {ws = ws} c rest)) owns =
       subst (Same l ks ls (at + 1) next (by_name.effect by m at locals store (jop.Field true named) (x ∷ v ∷ vs)))
@@ -226,7 +230,8 @@ module _ (by : Linked) (m : Method) (at : ℕ) (locals after : List (Option Valu
 module _ (l : Named) (room next : ℕ) (words wafter : List (Option Value)) (memory grown : NMemory)
     (ws wstack : List Value) where
   abbrev Leaves : Result → Type 0
-  Leaves result = narrow.effect_of_result result next memory ≡ narrow.Go next wstack wafter grown → wafter ≡ words
+  Leaves result = narrow.effect_of_result {M = Callee} result next memory ≡ narrow.Go next wstack wafter grown
+      → wafter ≡ words
 
   pushes_words : (new : List Value) → Leaves (pushed new room words ws)
   pushes_words new = by_room (nat_le (length (new ++ ws)) room)

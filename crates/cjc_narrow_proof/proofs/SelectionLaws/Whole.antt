@@ -42,7 +42,7 @@ use Rattle.cjc_jvm_semantics.specs.Machine.{spend, spend_unless_stuck, begins, s
 use Rattle.cjc_jvm_semantics.specs.Machine as named
 use Rattle.cjc_narrow_proof.specs.Selection.Relation.{Kind, Refers, Heap, null, object as object_here, Stacks, bottom}
 use Rattle.cjc_narrow_proof.specs.Selection.Relation.{cell, Locals, AllWider, none_wider, one_wider, no_slots, of_class}
-use Rattle.cjc_narrow_proof.specs.Selection.Relation.{shown, Stores, bare, all_there}
+use Rattle.cjc_narrow_proof.specs.Selection.Relation.{NMemory, shown, Stores, bare, all_there}
 use Rattle.cjc_narrow_proof.specs.Selection.Rows.{narrow_fault, NEffect, Same, goes, raises, tosses}
 use Rattle.cjc_narrow_proof.specs.Selection.Jumps.{Jumps, jumps, falls, Results, no_result, result, Returns, leaves}
 use Rattle.cjc_narrow_proof.specs.Selection.Switches.{JumpsInTwo}

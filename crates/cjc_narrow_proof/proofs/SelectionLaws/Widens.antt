@@ -37,6 +37,7 @@ on_both_wider (one_wider number_free more) (a_range b) = an_unused (on_both_wide
 on_both_wider (one_wider (more_types f) more) (a_reference b) = a_reference (on_both_wider more b)
 on_both_wider (one_wider reference_free more) (a_reference b) = an_unused (on_both_wider more b)
 on_both_wider (one_wider free_free more) (an_unused b) = an_unused (on_both_wider more b)
+on_both_wider (one_wider (away k) more) b = elim b [ ]
 
 pub owns_wider : {words : List (Option Value)} {ks js : List Kind} {vs : List Value} → AllWider ks js
     → Owns words ks vs → Owns words js vs

@@ -143,11 +143,11 @@ owned_number (all_there b) a = elim b [ ]
 owned_number (below_top is held b) a = elim b [ ]
 
 -- the number on top is another
-owned_below : {words : List (Option Value)} {s t : Span} {ks : List Kind} {x y : Value} {vs : List Value}
+owned_below : {words : List (Option Value)} (s t : Span) (ks : List Kind) {x y : Value} {vs : List Value}
     → Owns words (left_away pushed (Range s ∷ ks)) (x ∷ vs) → Owns words (left_away pushed (Range t ∷ ks)) (y ∷ vs)
-owned_below {ks = []} owns = all_there (a_range no_cell)
-owned_below {ks = c ∷ ks} (below_top is held (a_range b)) = below_top is held (a_range b)
-owned_below {ks = c ∷ ks} (all_there (a_range b)) = elim b [ ]
+owned_below s t [] owns = all_there (a_range no_cell)
+owned_below s t (c ∷ ks) (below_top is held (a_range b)) = below_top is held (a_range b)
+owned_below s t (c ∷ ks) (all_there (a_range b)) = elim b [ ]
 
 -- ---- an instruction of a pair
 
@@ -450,12 +450,12 @@ module _ (by : Linked) (l : Named) (w : List Class) (a : Analysis) (m : Method) 
   number_on_top : There (jop.Narrow 0x93) → (cs : List Cell) × (cells ≡ Number ∷ cs)
   number_on_top there =
       let h = typed_here by l w a m read decoded sound told at offset (jop.Narrow 0x93) cells local_cells x there row
-      ranged in by cells h.there (h.operands 0 (omega arith))
+      ranged in go cells h.there (h.operands 0 (omega arith))
     where
-      by : (cs : List Cell) → 1 ≤ length cs → is_number (typed.operand cs 0) ≡ true → (ds : List Cell)
+      go : (cs : List Cell) → 1 ≤ length cs → is_number (typed.operand cs 0) ≡ true → (ds : List Cell)
           × (cs ≡ Number ∷ ds)
-      by [] le e = absurd (omega (arith, le))
-      by (c ∷ cs) le e = (cs, ap (λ d. d ∷ cs) (number_is c e))
+      go [] le e = absurd (omega (arith, le))
+      go (c ∷ cs) le e = (cs, ap (λ d. d ∷ cs) (number_is c e))
 
   -- of the number on top
   narrows : (o : Open) (memory : NMemory) (ls words : List (Option Value)) (store : Store) (s u : Span) (ks : List Kind)
@@ -469,13 +469,13 @@ module _ (by : Linked) (l : Named) (w : List Class) (a : Analysis) (m : Method) 
   narrows closed memory ls words store s u ks vs ws e row stack owns = absurd cc
   narrows begun memory ls words store s u ks _ _ e row (left_out a rest) owns = absurd (owned_number owns a)
   narrows pushed memory ls words store s u ks vs ws e row stack owns =
-      by vs ws (subst (λ ks. Stacks memory.heap ks vs ws) (sym (over_away (Range s) ks)) stack) owns
+      go vs ws (subst (λ ks. Stacks memory.heap ks vs ws) (sym (over_away (Range s) ks)) stack) owns
     where
-      by : (vs ws : List Value) → Stacks memory.heap (Range s ∷ left_away begun ks) vs ws
+      go : (vs ws : List Value) → Stacks memory.heap (Range s ∷ left_away begun ks) vs ws
           → Owns words (left_away pushed (Range s ∷ ks)) vs
           → (on : GoesOn by m (jop.Narrow 0x93) at ls store memory (left_away pushed (Range u ∷ ks)) vs ws)
           × Owns words (left_away pushed (Range u ∷ ks)) on.stack
-      by _ _ (cell {vs = vs} {ws = ws} (number {x = z} f h) rest) owns =
+      go _ _ (cell {vs = vs} {ws = ws} (number {x = z} f h) rest) owns =
           let on = row (left_away begun ks) (Num z ∷ vs) _ (cell (number f h) rest) in
           let same : on.stack ≡ Num (low_word z) ∷ vs = (let g = on.goes_on in cc) in (
             record {
@@ -483,7 +483,7 @@ module _ (by : Linked) (l : Named) (w : List Class) (a : Analysis) (m : Method) 
               goes_on = on.goes_on;
               agree = subst (λ ks. Stacks memory.heap ks on.stack _) (over_away (Range u) ks) on.agree;
             },
-            subst (Owns words (left_away pushed (Range u ∷ ks))) (sym same) (owned_below owns),
+            subst (Owns words (left_away pushed (Range u ∷ ks))) (sym same) (owned_below s u ks owns),
           )
 
   narrow_rule : (o : Open) → is_opened o ≡ true → There (jop.Narrow 0x93) → Role Alone → a.opened m (at + 1) ≡ o
@@ -524,12 +524,11 @@ module _ (by : Linked) (l : Named) (w : List Class) (a : Analysis) (m : Method) 
       calm on_it insn (is (written_place (table_of l a) m)) c s goes agrees
 
   -- whatever the locals are
-  anywhere : {op : JOp} {before after : List Kind} → RowAgrees by l (a.resolution m) m op before after
+  anywhere : (op : JOp) (before after : List Kind) → RowAgrees by l (a.resolution m) m op before after
       → RowOnLocals by l (a.resolution m) m op before after (kinds l local_cells x.locals)
       (kinds l local_cells x.locals)
-  anywhere row place insn is room at next ks vs ws locals words store memory roomy stores held stack =
-      row place insn is room at next ks (kinds l local_cells x.locals) vs ws locals words store memory roomy stores held
-      stack
+  anywhere op before after row to insn is room at next ks vs ws ls words store memory high stores held stack =
+      row to insn is room at next ks (kinds l local_cells x.locals) vs ws ls words store memory high stores held stack
 
   abbrev Pushed : JOp → Type 0
   Pushed op = There op → Role Alone → a.opened m (at + 1) ≡ pushed → KeepsIn begun op
@@ -537,13 +536,13 @@ module _ (by : Linked) (l : Named) (w : List Class) (a : Analysis) (m : Method) 
   null_rule : Pushed jop.Null
   null_rule there role open_behind = pushes jop.Null there role open_behind pushes_null (λ e. cc) refl (insns.Op 0x01)
       (λ place. refl) (Refs []) full (on by l w a m read decoded sound told at offset jop.Null cells local_cells x there
-      row ranged refl refl refl) (anywhere (aconst_null by l (a.resolution m) m (is_one_of l [])))
+      row ranged refl refl refl) (anywhere jop.Null [] (Refers (is_one_of l []) ∷ []) (aconst_null by l (a.resolution m) m (is_one_of l [])))
 
   number_rule : (z : ℤ) → Holds full z → Pushed (jop.Number z)
   number_rule z inside there role open_behind = pushes (jop.Number z) there role open_behind pushes_number
       (λ e. cc) refl
       (pushed_word (low_word z)) (λ place. refl) Number (exactly z) (on by l w a m read decoded sound told at offset
-      (jop.Number z) cells local_cells x there row ranged refl refl refl) (anywhere (constant by l (a.resolution m) m z
+      (jop.Number z) cells local_cells x there row ranged refl refl refl) (anywhere (jop.Number z) [] (Range (exactly z) ∷ []) (constant by l (a.resolution m) m z
       (exactly z) (subst (λ s. Holds s z) (sym (exactly_is z inside)) (holds_itself z))))
 
   iload_rule : (k : ℕ) → Pushed (jop.Load false k)
@@ -585,7 +584,7 @@ module _ (by : Linked) (l : Named) (w : List Class) (a : Analysis) (m : Method) 
       ++ kinds l cells numbers) (kinds l local_cells x.locals)) one
       (subst (λ o. GoesTo by l w a m read decoded sound (at + 1) (kinds l (result_of p) (field_range o p ++ numbers)
       ++ kinds l cells numbers) (kinds l local_cells x.locals)) constant goes))
-      (anywhere (constant_field by l (a.resolution m) m z (exactly z) (subst (λ s. Holds s z) (sym
+      (anywhere op [] (Range (exactly z) ∷ []) (constant_field by l (a.resolution m) m z (exactly z) (subst (λ s. Holds s z) (sym
       (exactly_is z inside))
       (holds_itself z)) named is))
 
