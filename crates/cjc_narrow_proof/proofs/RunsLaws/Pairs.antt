@@ -4,6 +4,7 @@ use Rattle.std.proofs.Common.{◌&&◌}
 use Rattle.std.proofs.Common.{List, [], ◌∷◌, length, get_or, drop, slice_get, Option, Some, None}
 use Rattle.std.specs.Prelude.{◌==◌, if◌then◌else◌, is_some}
 use Rattle.std.specs.List.{list_any}
+use Rattle.std.proofs.lemmas.Bool.{eqb-true}
 use Rattle.std.proofs.lemmas.Option.{get_or_from_slice_get}
 use Rattle.cjc_bytes.specs.declared.fault.MemberId.{MemberId}
 use Rattle.cjc_bytes.proofs.Bools.{not_true, or_left}
@@ -22,7 +23,7 @@ use Rattle.cjc_types.specs.Working.MarkLaws.{handles_marked, jump_marked, mark_n
 use Rattle.cjc_types.specs.declared.state.State.{State}
 use Rattle.cjc_types.proofs.Typed.{contains_kept}
 use Rattle.cjc_ncode.specs.declared.narrow.PairRole.{PairRole}
-use Rattle.cjc_ncode.specs.declared.narrow.PairRole.TheVariants.{Alone}
+use Rattle.cjc_ncode.specs.declared.narrow.PairRole.TheVariants.{Alone, Opens, Closes}
 use Rattle.cjc_ncode.specs.Written.{Resolution}
 use Rattle.cjc_narrow.specs.declared.select.pairs.PairKind.{PairKind}
 use Rattle.cjc_narrow.specs.declared.select.pairs.PairKind.TheVariants.{Silent, This, Pushes, Gets, Puts, Other}
@@ -60,18 +61,14 @@ told keeps r (jop.Narrow op) = by (op == jvm.i2b) refl
     by : (b : Bool) → (op == jvm.i2b) ≡ b → Told r (jop.Narrow op) (if b then Other else Silent)
     by true e = tt
     by false e = a_narrow e
-told keeps r (jop.Load refs zero) = by keeps refs
+told keeps r (jop.Load refs l) = by keeps refs (l == 0) refl
   where
-    by : (keeps refs : Bool) → Told r (jop.Load refs 0) (if keeps && (refs && true) then This else Pushes)
-    by true true = refl
-    by true false = a_local
-    by false refs = a_local
-told keeps r (jop.Load refs (suc l)) = by keeps refs
-  where
-    by : (keeps refs : Bool) → Told r (jop.Load refs (suc l)) (if keeps && (refs && (suc l == 0)) then This else Pushes)
-    by true true = a_local
-    by true false = a_local
-    by false refs = a_local
+    by : (keeps refs first : Bool) → (l == 0) ≡ first
+        → Told r (jop.Load refs l) (if keeps && (refs && first) then This else Pushes)
+    by true true true e = ap (jop.Load true) (eqb-true l 0 e)
+    by true true false e = a_local
+    by true false first e = a_local
+    by false refs first e = a_local
 told keeps r (jop.Static true f) = tt
 told keeps r (jop.Static false f) = by (r.constant f) refl
   where
@@ -89,13 +86,13 @@ told keeps r op = tt
 in_pair : (r : Resolution) (op : JOp) {o p : Open} {joined : Bool} {kind : PairKind} {role : PairRole} → Told r op kind
     → IsPaired o joined kind role p → IsInPair r o op role p
 in_pair r op t is_alone = stands_alone
-in_pair r op t opens = subst (λ op. IsInPair r closed op _ begun) (sym t) spec.opens
+in_pair r op t opens = subst (λ op. IsInPair r closed op Opens begun) (sym t) spec.opens
 in_pair r op t silent_begun = goes_on refl t
 in_pair r op t silent_pushed = goes_on refl t
 in_pair r op t pushes_this = spec.pushes (subst (IsPushed r) (sym t) a_local)
 in_pair r op t pushes = spec.pushes t
-in_pair r op t gets = subst (λ op. IsInPair r begun op _ closed) (sym t.1) spec.gets
-in_pair r op t puts = subst (λ op. IsInPair r pushed op _ closed) (sym t.1) spec.puts
+in_pair r op t gets = subst (λ op. IsInPair r begun op Closes closed) (sym t.1) spec.gets
+in_pair r op t puts = subst (λ op. IsInPair r pushed op Closes closed) (sym t.1) spec.puts
 
 -- ---- the step of an instruction
 

@@ -268,9 +268,10 @@ module _ (l : Named) (room next : ℕ) (words wafter : List (Option Value)) (mem
       (as_operation (pushed_word (low_word z)) (pushed (Num (low_word z) ∷ [])) (word_is (low_word z))
       (pushes_words (Num (low_word z) ∷ [])))
   words_stay by r m place _ insn (pushes_local {refs = false} {k = k}) is = subst Keeps (one_insn is)
-      (as_operation _ (load_word k) (number_load_is k) (local_words Calculations.is_number (slice_get words k)))
+      (as_operation (if nat_le k 3 then insns.Op (0x1C + k) else insns.Local 0x16 k) (load_word k) (number_load_is k) (local_words Calculations.is_number (slice_get words k)))
   words_stay by r m place _ insn (pushes_local {refs = true} {k = k}) is = subst Keeps (one_insn is)
-      (as_operation _ (load_reference k) (reference_load_is k) (local_words is_reference (slice_get words k)))
+      (as_operation (if nat_le k 3 then insns.Op (0x18 + k) else insns.Local 0x15 k) (load_reference k)
+      (reference_load_is k) (local_words is_reference (slice_get words k)))
   words_stay by r m place _ insn (pushes_constant {named = named} {z = z} constant) is = subst Keeps
       (one_insn (sym (ap (static_by r false named) constant.narrow) ∙ is))
       (as_operation (pushed_word (low_word z)) (pushed (Num (low_word z) ∷ [])) (word_is (low_word z))

@@ -467,7 +467,8 @@ module _ (by : Linked) (l : Named) (w : List Class) (a : Analysis) (m : Method) 
       × Owns words (left_away o (Range u ∷ ks)) on.stack
   unfolding effect
   narrows closed memory ls words store s u ks vs ws e row stack owns = absurd cc
-  narrows begun memory ls words store s u ks _ _ e row (left_out a rest) owns = absurd (owned_number owns a)
+  narrows begun memory ls words store s u ks _ _ e row (cell a more) owns = elim a [ ]
+  narrows begun memory ls words store s u ks _ _ e row (left_out a more) owns = absurd (owned_number owns a)
   narrows pushed memory ls words store s u ks vs ws e row stack owns =
       go vs ws (subst (λ ks. Stacks memory.heap ks vs ws) (sym (over_away (Range s) ks)) stack) owns
     where
@@ -524,11 +525,11 @@ module _ (by : Linked) (l : Named) (w : List Class) (a : Analysis) (m : Method) 
       calm on_it insn (is (written_place (table_of l a) m)) c s goes agrees
 
   -- whatever the locals are
-  anywhere : (op : JOp) (before after : List Kind) → RowAgrees by l (a.resolution m) m op before after
-      → RowOnLocals by l (a.resolution m) m op before after (kinds l local_cells x.locals)
+  anywhere : (op : JOp) (from to : List Kind) → RowAgrees by l (a.resolution m) m op from to
+      → RowOnLocals by l (a.resolution m) m op from to (kinds l local_cells x.locals)
       (kinds l local_cells x.locals)
-  anywhere op before after row to insn is room at next ks vs ws ls words store memory high stores held stack =
-      row to insn is room at next ks (kinds l local_cells x.locals) vs ws ls words store memory high stores held stack
+  anywhere op from to row spots insn is room at next ks vs ws ls words store memory high stores held stack =
+      row spots insn is room at next ks (kinds l local_cells x.locals) vs ws ls words store memory high stores held stack
 
   abbrev Pushed : JOp → Type 0
   Pushed op = There op → Role Alone → a.opened m (at + 1) ≡ pushed → KeepsIn begun op
