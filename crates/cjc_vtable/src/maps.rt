@@ -141,11 +141,11 @@ fn slots_of<'w>(
 }
 
 /// The interface maps of a class of the package that is no interface, in the order of its interfaces.
-pub(crate) fn interface_maps<'a>(
+pub(crate) fn interface_maps<'w, 'a>(
     alloc: Global,
-    world: &World<'a>,
+    world: &'w World<'a>,
     tokens: &Tokens,
-    class: Known<'_, 'a>,
+    class: Known<'w, 'a>,
     number: u32,
 ) -> Result<Row<InterfaceMap>, NoMemory>
     requires class { IsOwn world.now number (class_of class) }
