@@ -24,7 +24,6 @@ use Rattle.cjc_narrow_proof.specs.Narrow.Rows.Resolved.{resolution}
 use Rattle.cjc_narrow_proof.specs.Narrow.Pairs.Roles.{with_pairs}
 use Rattle.cjc_narrow_proof.specs.Narrow.Written.Operands.{IsAscending}
 use Rattle.cjc_narrow_proof.specs.Narrow.Rows.Selected.{near_fields, paired, selected_code}
-use Rattle.cjc_methods.specs.NCode.PoolOrder.{same_key, same_member}
 use Rattle.cjc_methods.specs.NCode.Written.{Resolution, place_in, reached, widest_sum}
 use Rattle.cjc_methods.specs.NCode.declared.narrow.NInsn.{NInsn}
 use Rattle.cjc_methods.specs.NCode.declared.narrow.NInsn.TheVariants as insns

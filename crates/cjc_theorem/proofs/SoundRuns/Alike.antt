@@ -25,7 +25,7 @@ use Rattle.cjc_judge.specs.Spelt.{IsRead}
 use Rattle.cjc_judge.specs.declared.judged.Judged.{Judged}
 use Rattle.cjc_components.specs.List.Listed.{ListTree}
 use Rattle.cjc_shape_proof.specs.Methods.Ready.{AreReady}
-use Rattle.cjc_narrow.specs.Rows.Package.{code_of, flags_of, read_of, run as narrow_run, tree_of}
+use Rattle.cjc_narrow.specs.Rows.Package.{code_of, flags_of, read_of as body_read, run as narrow_run, tree_of}
 use Rattle.cjc_narrow.specs.Pairs.Roles.{with_pairs}
 use Rattle.cjc_narrow.specs.Written.Rows.{has_rows}
 use Rattle.cjc_narrow.specs.Rows.Resolved.{argument_words, method_found, resolution}
@@ -133,7 +133,7 @@ module _ (list : ListTree) (files : List (List ℕ)) (judged : Judged) (is : IsS
       by_rows x rows e =
           let id = x.id in
           let flags = flags_of (method_found (all_classes judged.world) id) in
-          ap (λ rs. narrow_method (with_pairs (resolution judged.world near id.class) (read_of x flags) (has_rows rs))
+          ap (λ rs. narrow_method (with_pairs (resolution judged.world near id.class) (body_read x flags) (has_rows rs))
           (tree_of x) (argument_words flags id.desc) x.insns rs) e
 
       abbrev laid_in : Files → Method → NMethod
