@@ -1,5 +1,5 @@
 -- What is written for instructions one after the other, and where it comes from.
-use Rattle.std.proofs.Common.{◌≡◌, ℕ, ◌+◌, ◌<◌, ◌≤◌, ◌-◌, arith, sym, ap, ◌∙◌, Bool, List, ◌∷◌}
+use Rattle.std.proofs.Common.{◌≡◌, ℕ, ◌+◌, ◌<◌, ◌≤◌, ◌-◌, arith, sym, ap, ◌∙◌, Bool, List, [], ◌∷◌}
 use Rattle.std.proofs.Common.{◌++◌, length, get_or, drop, append_assoc, append-nil}
 use Rattle.std.proofs.lemmas.List.{drop_all, length-append}
 use Rattle.cjc_ncode.specs.Bytecode.declared.insn.JInsn.{JInsn}
