@@ -21,7 +21,7 @@ use crate::naming::named_row;
 use crate::table::InterfaceMap;
 use cjc_bytes::{Bytes, NoMemory, Row};
 use cjc_order::classes::class_count;
-use cjc_tokens::{Shown, Slot, Tokens, interface_methods, told_at};
+use cjc_tokens::{IndexedRow, Shown, Slot, Tokens, interface_methods, told_at};
 use cjc_world::{Known, World, lookup_laws};
 use std::alloc::Global;
 
@@ -157,8 +157,9 @@ pub(crate) fn interface_maps<'a>(
 {
     let row = slots_of(alloc, world, tokens, class, number)?;
     let told = told_at(alloc, world, class)?;
+    let indexed = IndexedRow::new(alloc, &row)?;
     let shown = Shown {
-        row: &row,
+        row: indexed,
         methods: tokens.public_methods(number),
         told: &told,
     };
