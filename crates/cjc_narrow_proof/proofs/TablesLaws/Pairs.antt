@@ -476,13 +476,13 @@ module _ (by : Linked) (l : Named) (w : List Class) (a : Analysis) (m : Method) 
           → Owns words (left_away pushed (Range s ∷ ks)) vs
           → (on : GoesOn by m (jop.Narrow 0x93) at ls store memory (left_away pushed (Range u ∷ ks)) vs ws)
           × Owns words (left_away pushed (Range u ∷ ks)) on.stack
-      go _ _ (cell {vs = vs} {ws = ws} (number {x = z} f h) rest) owns =
-          let on = row (left_away begun ks) (Num z ∷ vs) _ (cell (number f h) rest) in
+      go _ _ (cell {vs = vs} {ws = ws} (number {x = z} {y = y} f h) below) owns =
+          let on = row (left_away begun ks) (Num z ∷ vs) (Num y ∷ ws) (cell (number f h) below) in
           let same : on.stack ≡ Num (low_word z) ∷ vs = (let g = on.goes_on in cc) in (
             record {
               stack = on.stack;
               goes_on = on.goes_on;
-              agree = subst (λ ks. Stacks memory.heap ks on.stack _) (over_away (Range u) ks) on.agree;
+              agree = subst (λ ks. Stacks memory.heap ks on.stack (Num y ∷ ws)) (over_away (Range u) ks) on.agree;
             },
             subst (Owns words (left_away pushed (Range u ∷ ks))) (sym same) (owned_below s u ks owns),
           )
@@ -601,8 +601,8 @@ module _ (by : Linked) (l : Named) (w : List Class) (a : Analysis) (m : Method) 
   pushed_rule _ (a_constant {named = named} some) (supported_by.is_resolved
       (named_here.a_constant {z = z} one inside is)) =
       constant_rule named z one inside is
-  pushed_rule _ (a_constant some) (supported_by.is_resolved (named_here.a_static desc cell)) =
-      let none = cell.is_no_constant in let clash : None ≡ Some _ = sym none ∙ some in absurd cc
+  pushed_rule _ (a_constant some) (supported_by.is_resolved (named_here.a_static desc found)) =
+      let none = found.is_no_constant in let clash : None ≡ Some _ = sym none ∙ some in absurd cc
   pushed_rule _ (a_constant some) (supported_by.is_on_array is) = elim is [ ]
   pushed_rule _ (a_constant some) (supported_by.calls is) = elim is [ ]
 
