@@ -39,7 +39,8 @@ use Rattle.cjc_ncode.specs.ByLabel as label
 use Rattle.cjc_ncode.specs.PoolOrder.{same_member}
 use Rattle.cjc_ncode.specs.Written.{Resolution, call_by, field_access, local, low_of, nargs_of, on_stack, pair_cases}
 use Rattle.cjc_ncode.specs.Written.{place_in, pushed, pushed_word, reached, static_access, static_by, switched}
-use Rattle.cjc_ncode.specs.Written.{Access, accessed, on_this, table_cases, this_access, type_test, written, written_as}
+use Rattle.cjc_ncode.specs.Written.{Access, accessed as access_of, on_this, table_cases, this_access, type_test}
+use Rattle.cjc_ncode.specs.Written.{written, written_as}
 use Rattle.cjc_ncode.specs.declared.narrow.PairRole.{PairRole}
 use Rattle.cjc_ncode.proofs.WrittenCases.{written_cases}
 use Rattle.cjc_components.proofs.NarrowRoles.{written_as_same}
@@ -512,7 +513,7 @@ module _ (p : Package) where
       role_known to i h = written_cases AllKnown (role_at i.at) r to i.op (λ e. none_known) (written_known to i.op h)
           (λ a e. access i.op a e h)
         where
-          access : (op : JOp) (a : Access) → accessed op ≡ Some a → NamesWhatIsThere p.files (order_of p.image) op
+          access : (op : JOp) (a : Access) → access_of op ≡ Some a → NamesWhatIsThere p.files (order_of p.image) op
               → AllKnown (on_this r to op (Some a))
           access (jop.Field put f) a e h =
               subst (λ a. AllKnown (on_this r to (jop.Field put f) (Some a)))
