@@ -11,6 +11,9 @@ use Rattle.cjc_narrow_proof.specs.Range.Words.{low_word}
 use Rattle.cjc_ncode.specs.Bytecode.declared.insn.JInsn.{JInsn}
 use Rattle.cjc_ncode.specs.Bytecode.declared.insn.JOp.{JOp}
 use Rattle.cjc_ncode.specs.Bytecode.declared.insn.JOp.TheVariants as jop
+use Rattle.cjc_world.specs.ClassFile.Code.{CodeTree}
+use Rattle.cjc_world.specs.ClassFile.declared.tree.ClassTree.{ClassTree}
+use Rattle.cjc_world.specs.ClassFile.declared.tree.MethodTree.{MethodTree}
 use Rattle.cjc_world.specs.Files.{Files}
 use Rattle.cjc_token_proof.specs.JvmSemantics.OnePackage.{ResolvedMember, is_constructor, of_class}
 use Rattle.cjc_ncode.specs.declared.narrow.NCase.{NCase}
@@ -20,11 +23,15 @@ use Rattle.cjc_ncode.specs.declared.narrow.PoolKey.{PoolKey}
 use Rattle.cjc_ncode.specs.declared.narrow.PoolKey.TheVariants as keys
 use Rattle.cjc_ncode.specs.Written.{call_by, field_access, local, low_of, nargs_of, on_stack, pair_cases, pushed}
 use Rattle.cjc_ncode.specs.Written.{pushed_word, Resolution, static_access, static_by, switched, table_cases, type_test}
-use Rattle.cjc_ncode.specs.Written.{this_access, written, written_as, written_for}
+use Rattle.cjc_ncode.specs.Written.{place_in, reached, this_access, written, written_as, written_for}
 use Rattle.cjc_ncode.specs.declared.narrow.PairRole.{PairRole}
 use Rattle.cjc_ncode.proofs.WrittenCases.{written_cases}
 use Rattle.cjc_components.proofs.NarrowRoles.{written_as_same}
+use Rattle.cjc_components.specs.Narrow.Pairs.Roles.{role_in, roles_of, with_pairs}
 use Rattle.cjc_components.specs.Narrow.Rows.Resolved.{by_owner, resolution, special_by}
+use Rattle.cjc_components.specs.Narrow.Rows.Selected.{paired, selected_code}
+use Rattle.cjc_components.specs.Narrow.Written.Rows.{has_rows}
+use Rattle.cjc_narrow_proof.specs.Types.Flow.{body_of}
 use Rattle.cjc_check_proof.specs.Code.Kinds.{HasKind, is_for}
 
 AllKind : List NInsn → Type 0
@@ -297,3 +304,15 @@ module _ (files : Files) (near : List MemberId) (holder : List ℕ) where
     code_has_kinds place kept k i e = at (flat_map (λ j. written_as (role_at j.at) r place j.op) kept) k i
         (code_kind place kept) (ap (λ (f : JInsn → List NInsn). slice_get (flat_map f kept) k)
         (λ t j. sym (written_as_same r role_at (role_at j.at) place j.op) t) ∙ e)
+
+-- those of a method that is selected
+pub selected_has_kinds : {A : Type 0} (files : Files) (near : List MemberId) (class : ClassTree) (method : MethodTree)
+    (tree : CodeTree) (insns : List JInsn) (rows : List (Option A)) (k : ℕ) (i : NInsn)
+    → slice_get (let m = selected_code files near class method tree insns rows in m.insns) k ≡ Some i → HasKind i
+unfolding with_pairs
+selected_has_kinds files near class method tree insns rows k i e =
+    let kept = reached insns rows in
+    let flags = has_rows rows in
+    code_has_kinds files near class.name (role_in insns (roles_of (resolution files near class.name)
+    (body_of class method tree insns) flags)) (place_in (paired files near class method tree insns flags) kept) kept k i
+    e
