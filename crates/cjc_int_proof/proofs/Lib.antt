@@ -1,2 +1,4 @@
 pub mod Walking
 pub mod LongRuns
+pub mod Counts
+pub mod Sizes
