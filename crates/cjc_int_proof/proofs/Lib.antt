@@ -1,2 +1,5 @@
 pub mod Walking
 pub mod LongRuns
+pub mod Counts
+pub mod Sizes
+pub mod Leads

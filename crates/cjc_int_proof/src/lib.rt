@@ -6,4 +6,5 @@
 //! It has no code that runs, and knows no class file, no table and no interval.
 #![tactic(auto)]
 
+pub mod lengths;
 pub mod walks;
