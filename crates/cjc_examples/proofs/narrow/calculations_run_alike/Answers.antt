@@ -23,6 +23,7 @@ use Rattle.cjc_components.specs.JvmSemantics.ByName.{linked}
 use Rattle.cjc_card_semantics.specs.Bytecode.Meanings.{meaning}
 use Rattle.cjc_card_semantics.specs.Machine.ByToken.{by_token}
 use Rattle.cjc_components.specs.NCode.ByLabel.{by_label}
+use Rattle.cjc_components.specs.Narrow.Pairs.Roles.{with_pairs}
 use Rattle.cjc_components.specs.Narrow.Rows.Resolved.{resolution}
 use Rattle.cjc_components.specs.Narrow.Rows.Package
 use Rattle.cjc_examples.proofs.narrow.calculations_run_alike.Goals as goal
@@ -32,7 +33,7 @@ unfolding int_wrap repeated raw front digits each desc_of parts_of bad_at after 
     opcode_at wide_opcode_at behind_opcode behind_first instruction cut_rest cut marks starts unfit_code named all_named
     least decoding decoded classes_from all_classes class_named class_at supertypes_within supertypes line gathered
     known first own_field find_field own_method find_method selected is_subclass is_element is_subtype effect linked
-    form forms meaning by_token upwards_from by_label resolution Package.named
+    form forms meaning by_token upwards_from by_label resolution with_pairs Package.named
 returns-clause-sum c = refl
 
 pub returns-clause-caught : goal.returns-clause-caught
@@ -40,7 +41,7 @@ unfolding int_wrap repeated raw front digits each desc_of parts_of bad_at after 
     opcode_at wide_opcode_at behind_opcode behind_first instruction cut_rest cut marks starts unfit_code named all_named
     least decoding decoded classes_from all_classes class_named class_at supertypes_within supertypes line gathered
     known first own_field find_field own_method find_method selected is_subclass is_element is_subtype effect linked
-    form forms meaning by_token upwards_from by_label resolution Package.named
+    form forms meaning by_token upwards_from by_label resolution with_pairs Package.named
 returns-clause-caught c = refl
 
 pub returns-clause-not_caught : goal.returns-clause-not_caught
@@ -48,7 +49,7 @@ unfolding int_wrap repeated raw front digits each desc_of parts_of bad_at after 
     opcode_at wide_opcode_at behind_opcode behind_first instruction cut_rest cut marks starts unfit_code named all_named
     least decoding decoded classes_from all_classes class_named class_at supertypes_within supertypes line gathered
     known first own_field find_field own_method find_method selected is_subclass is_element is_subtype effect linked
-    form forms meaning by_token upwards_from by_label resolution Package.named
+    form forms meaning by_token upwards_from by_label resolution with_pairs Package.named
 returns-clause-not_caught c = refl
 
 pub returns-clause-element : goal.returns-clause-element
@@ -56,7 +57,7 @@ unfolding int_wrap repeated raw front digits each desc_of parts_of bad_at after 
     opcode_at wide_opcode_at behind_opcode behind_first instruction cut_rest cut marks starts unfit_code named all_named
     least decoding decoded classes_from all_classes class_named class_at supertypes_within supertypes line gathered
     known first own_field find_field own_method find_method selected is_subclass is_element is_subtype effect linked
-    form forms meaning by_token upwards_from by_label resolution Package.named
+    form forms meaning by_token upwards_from by_label resolution with_pairs Package.named
 returns-clause-element c = refl
 
 pub returns-clause-index : goal.returns-clause-index
@@ -64,7 +65,7 @@ unfolding int_wrap repeated raw front digits each desc_of parts_of bad_at after 
     opcode_at wide_opcode_at behind_opcode behind_first instruction cut_rest cut marks starts unfit_code named all_named
     least decoding decoded classes_from all_classes class_named class_at supertypes_within supertypes line gathered
     known first own_field find_field own_method find_method selected is_subclass is_element is_subtype effect linked
-    form forms meaning by_token upwards_from by_label resolution Package.named
+    form forms meaning by_token upwards_from by_label resolution with_pairs Package.named
 returns-clause-index c = refl
 
 pub returns-clause-index_before : goal.returns-clause-index_before
@@ -72,7 +73,7 @@ unfolding int_wrap repeated raw front digits each desc_of parts_of bad_at after 
     opcode_at wide_opcode_at behind_opcode behind_first instruction cut_rest cut marks starts unfit_code named all_named
     least decoding decoded classes_from all_classes class_named class_at supertypes_within supertypes line gathered
     known first own_field find_field own_method find_method selected is_subclass is_element is_subtype effect linked
-    form forms meaning by_token upwards_from by_label resolution Package.named
+    form forms meaning by_token upwards_from by_label resolution with_pairs Package.named
 returns-clause-index_before c = refl
 
 pub returns-clause-empty_array : goal.returns-clause-empty_array
@@ -80,7 +81,7 @@ unfolding int_wrap repeated raw front digits each desc_of parts_of bad_at after 
     opcode_at wide_opcode_at behind_opcode behind_first instruction cut_rest cut marks starts unfit_code named all_named
     least decoding decoded classes_from all_classes class_named class_at supertypes_within supertypes line gathered
     known first own_field find_field own_method find_method selected is_subclass is_element is_subtype effect linked
-    form forms meaning by_token upwards_from by_label resolution Package.named
+    form forms meaning by_token upwards_from by_label resolution with_pairs Package.named
 returns-clause-empty_array c = refl
 
 pub returns-clause-least : goal.returns-clause-least
@@ -88,7 +89,7 @@ unfolding int_wrap repeated raw front digits each desc_of parts_of bad_at after 
     opcode_at wide_opcode_at behind_opcode behind_first instruction cut_rest cut marks starts unfit_code named all_named
     least decoding decoded classes_from all_classes class_named class_at supertypes_within supertypes line gathered
     known first own_field find_field own_method find_method selected is_subclass is_element is_subtype effect linked
-    form forms meaning by_token upwards_from by_label resolution Package.named
+    form forms meaning by_token upwards_from by_label resolution with_pairs Package.named
 returns-clause-least c = refl
 
 pub returns-clause-zero_divisor : goal.returns-clause-zero_divisor
@@ -96,7 +97,7 @@ unfolding int_wrap repeated raw front digits each desc_of parts_of bad_at after 
     opcode_at wide_opcode_at behind_opcode behind_first instruction cut_rest cut marks starts unfit_code named all_named
     least decoding decoded classes_from all_classes class_named class_at supertypes_within supertypes line gathered
     known first own_field find_field own_method find_method selected is_subclass is_element is_subtype effect linked
-    form forms meaning by_token upwards_from by_label resolution Package.named
+    form forms meaning by_token upwards_from by_label resolution with_pairs Package.named
 returns-clause-zero_divisor c = refl
 
 pub returns-clause-unsigned_shift : goal.returns-clause-unsigned_shift
@@ -104,7 +105,7 @@ unfolding int_wrap repeated raw front digits each desc_of parts_of bad_at after 
     opcode_at wide_opcode_at behind_opcode behind_first instruction cut_rest cut marks starts unfit_code named all_named
     least decoding decoded classes_from all_classes class_named class_at supertypes_within supertypes line gathered
     known first own_field find_field own_method find_method selected is_subclass is_element is_subtype effect linked
-    form forms meaning by_token upwards_from by_label resolution Package.named
+    form forms meaning by_token upwards_from by_label resolution with_pairs Package.named
 returns-clause-unsigned_shift c = refl
 
 pub returns-clause-shift_out : goal.returns-clause-shift_out
@@ -112,7 +113,7 @@ unfolding int_wrap repeated raw front digits each desc_of parts_of bad_at after 
     opcode_at wide_opcode_at behind_opcode behind_first instruction cut_rest cut marks starts unfit_code named all_named
     least decoding decoded classes_from all_classes class_named class_at supertypes_within supertypes line gathered
     known first own_field find_field own_method find_method selected is_subclass is_element is_subtype effect linked
-    form forms meaning by_token upwards_from by_label resolution Package.named
+    form forms meaning by_token upwards_from by_label resolution with_pairs Package.named
 returns-clause-shift_out c = refl
 
 pub returns-clause-mask : goal.returns-clause-mask
@@ -120,7 +121,7 @@ unfolding int_wrap repeated raw front digits each desc_of parts_of bad_at after 
     opcode_at wide_opcode_at behind_opcode behind_first instruction cut_rest cut marks starts unfit_code named all_named
     least decoding decoded classes_from all_classes class_named class_at supertypes_within supertypes line gathered
     known first own_field find_field own_method find_method selected is_subclass is_element is_subtype effect linked
-    form forms meaning by_token upwards_from by_label resolution Package.named
+    form forms meaning by_token upwards_from by_label resolution with_pairs Package.named
 returns-clause-mask c = refl
 
 pub returns-clause-pair : goal.returns-clause-pair
@@ -128,7 +129,7 @@ unfolding int_wrap repeated raw front digits each desc_of parts_of bad_at after 
     opcode_at wide_opcode_at behind_opcode behind_first instruction cut_rest cut marks starts unfit_code named all_named
     least decoding decoded classes_from all_classes class_named class_at supertypes_within supertypes line gathered
     known first own_field find_field own_method find_method selected is_subclass is_element is_subtype effect linked
-    form forms meaning by_token upwards_from by_label resolution Package.named
+    form forms meaning by_token upwards_from by_label resolution with_pairs Package.named
 returns-clause-pair c = refl
 
 pub returns-clause-pair_outside : goal.returns-clause-pair_outside
@@ -136,7 +137,7 @@ unfolding int_wrap repeated raw front digits each desc_of parts_of bad_at after 
     opcode_at wide_opcode_at behind_opcode behind_first instruction cut_rest cut marks starts unfit_code named all_named
     least decoding decoded classes_from all_classes class_named class_at supertypes_within supertypes line gathered
     known first own_field find_field own_method find_method selected is_subclass is_element is_subtype effect linked
-    form forms meaning by_token upwards_from by_label resolution Package.named
+    form forms meaning by_token upwards_from by_label resolution with_pairs Package.named
 returns-clause-pair_outside c = refl
 
 pub returns-clause-table_outside : goal.returns-clause-table_outside
@@ -144,5 +145,5 @@ unfolding int_wrap repeated raw front digits each desc_of parts_of bad_at after 
     opcode_at wide_opcode_at behind_opcode behind_first instruction cut_rest cut marks starts unfit_code named all_named
     least decoding decoded classes_from all_classes class_named class_at supertypes_within supertypes line gathered
     known first own_field find_field own_method find_method selected is_subclass is_element is_subtype effect linked
-    form forms meaning by_token upwards_from by_label resolution Package.named
+    form forms meaning by_token upwards_from by_label resolution with_pairs Package.named
 returns-clause-table_outside c = refl

@@ -23,6 +23,7 @@ use Rattle.cjc_components.specs.JvmSemantics.ByName.{linked}
 use Rattle.cjc_card_semantics.specs.Bytecode.Meanings.{meaning}
 use Rattle.cjc_card_semantics.specs.Machine.ByToken.{by_token}
 use Rattle.cjc_components.specs.NCode.ByLabel.{by_label}
+use Rattle.cjc_components.specs.Narrow.Pairs.Roles.{with_pairs}
 use Rattle.cjc_components.specs.Narrow.Rows.Resolved.{resolution}
 use Rattle.cjc_components.specs.Narrow.Rows.Package
 use Rattle.cjc_examples.proofs.narrow.stop_bits_end_the_search.Goals as goal
@@ -32,5 +33,5 @@ unfolding int_wrap repeated raw front digits each desc_of parts_of bad_at after 
     opcode_at wide_opcode_at behind_opcode behind_first instruction cut_rest cut marks starts unfit_code named all_named
     least decoding decoded classes_from all_classes class_named class_at supertypes_within supertypes line gathered
     known first own_field find_field own_method find_method selected is_subclass is_element is_subtype effect linked
-    form forms meaning by_token upwards_from by_label resolution Package.named
+    form forms meaning by_token upwards_from by_label resolution with_pairs Package.named
 returns c = refl
