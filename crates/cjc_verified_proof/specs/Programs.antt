@@ -1,6 +1,6 @@
 -- The program of components that the type checker passes.
 use Rattle.std.specs.Prelude.{◌≡◌, ℕ, ◌+◌, ◌==◌, ◌&&◌, not, Bool, true, false, List, slice_get, Some, Contains}
-use Rattle.cjc_card_semantics.specs.Machine.Classes.{Class, Own, External}
+use Rattle.cjc_card_semantics.specs.Machine.Classes.{Class, Own, External, is_interface}
 use Rattle.cjc_card_semantics.specs.Machine.Methods.{Code}
 use Rattle.cjc_card_acts.specs.Frames.Tables.{IsLeastTable}
 use Rattle.cjc_verify.specs.Bodies.{Body, bodies, frames_of, type_of_body}
@@ -26,10 +26,11 @@ pub record IsTypingOf (p : Pair) (b : Body) (t : Typing) : Type 0 where
   pub least : IsLeastTable (frames_of p b) t.rows
   pub result : t.result ≡ (let x = type_of_body p.components b in x.result)
 
--- objects are made of imported classes, and of classes of the package that are neither abstract nor interfaces
+-- objects are made of imported classes that are no interfaces, and of classes of the package that are neither abstract
+-- nor interfaces
 abbrev pub is_made : Pair → Class → Bool
 is_made p (Own part offset) = (part == 0) && not (is_unmade_class (class_at p offset))
-is_made p (External tree token) = true
+is_made p (External tree token) = not (is_interface p.loaded (External tree token))
 
 -- a method that is not abstract
 abbrev pub is_concrete : Body → Bool
