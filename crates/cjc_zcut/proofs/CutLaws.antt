@@ -1,15 +1,16 @@
 -- Methods that are cut into headers and whole instructions: where each instruction stands, and what follows it.
-use Rattle.std.proofs.Common.{◌≡◌, ℕ, zero, suc, ◌+◌, ◌-◌, ◌≤◌, ◌==◌, refl, sym, ap, subst, ◌∙◌, arith, Bool, true, false}
+use Rattle.std.proofs.Common.{◌≡◌, ℕ, zero, suc, ◌+◌, ◌-◌, ◌<◌, ◌≤◌, ◌==◌, refl, sym, ap, subst, ◌∙◌, arith, Bool, true, false}
 use Rattle.std.proofs.Common.{List, [], ◌∷◌, ◌++◌, length, take, drop, slice_get, Option, Some, None, Result, Ok, Err}
 use Rattle.std.specs.Prelude.{if◌then◌else◌}
 use Rattle.std.proofs.lemmas.List.{take-append-drop, drop-drop, length-take}
 use Rattle.cjc_capread.specs.declared.tree.MethodDescriptor.{MethodDescriptor}
 use Rattle.cjc_capread.specs.Opcodes.{Form, form}
 use Rattle.cjc_capread.specs.Decode.{Instruction, decode, size, size_by}
-use Rattle.cjc_capread.specs.MethodHeader.{MethodHeader, method_header}
+use Rattle.cjc_capread.specs.MethodHeader.{MethodHeader, extended_header, is_extended, method_header, short_header}
 use Rattle.cjc_check_rules.specs.Spots.{Placed}
 use Rattle.cjc_check_rules.specs.Codes.{Code, codes_from, instructions, onto, with_code, with_header, with_instruction}
-use Rattle.cjc_bytes.proofs.Numbers.{number_same}
+use Rattle.cjc_card_semantics.specs.Machine.Methods.{method_among}
+use Rattle.cjc_bytes.proofs.Numbers.{number_same, number_same_number, other_number}
 use Rattle.cjc_bytes.proofs.Plain.{same_some}
 use Rattle.cjc_zcut.proofs.DecodeLaws.{decode_more}
 
@@ -132,38 +133,43 @@ pub record IsCut (m : MethodDescriptor) (bytes : List ℕ) (code : Code) : Type 
   pub cut : instructions m.bytecode_count m.bytecode_count (m.offset + header.size) (drop header.size bytes)
       ≡ Ok code.instructions
 
--- a method of several, so far behind where they begin
-pub record CutAt (at : ℕ) (bytes : List ℕ) (m : MethodDescriptor) (code : Code) : Type 0 where
-  pub skipped : ℕ
-  pub offset : m.offset ≡ at + skipped
-  pub is_cut : IsCut m (drop skipped bytes) code
+-- Codes beside methods that stand one behind the other from an offset on.
+abbrev pub AreCut : (at : ℕ) → (bytes : List ℕ) → List MethodDescriptor → List Code → Type 0
+AreCut at bytes [] [] = Unit {0}
+AreCut at bytes [] (code ∷ codes) = ⊥
+AreCut at bytes (m ∷ ms) [] = ⊥
+AreCut at bytes (m ∷ ms) (code ∷ codes) = (n : ℕ) × (0 < n) × (m.offset ≡ at) × IsCut m bytes code
+    × AreCut (at + n) (drop n bytes) ms codes
 
--- one beside each method
-pub data AreCut (at : ℕ) (bytes : List ℕ) : List MethodDescriptor → List Code → Type 0 where
-  none : AreCut at bytes [] []
-  more : {m : MethodDescriptor} {code : Code} {ms : List MethodDescriptor} {codes : List Code}
-      → CutAt at bytes m code → AreCut at bytes ms codes → AreCut at bytes (m ∷ ms) (code ∷ codes)
-
--- methods further behind
-further : (at n : ℕ) (bytes : List ℕ) (ms : List MethodDescriptor) (codes : List Code)
-    → AreCut (at + n) (drop n bytes) ms codes → AreCut at bytes ms codes
-further at n bytes _ _ none = none
-further at n bytes _ _ (more {m = m} {code = code} {ms = ms} {codes = codes} c h) =
-    let is = c.offset in
-    more (record {
-      skipped = n + c.skipped;
-      offset = omega (arith, is);
-      is_cut = subst (λ bs. IsCut m bs code) (drop-drop c.skipped n bytes) c.is_cut;
-    }) (further at n bytes ms codes h)
+-- a header has bytes
+header_has_bytes : (bytes : List ℕ) (h : MethodHeader) → method_header bytes ≡ Some h → 0 < h.size
+header_has_bytes [] h e = cc
+header_has_bytes (a ∷ []) h e = cc
+header_has_bytes (a ∷ b ∷ []) h e = by (is_extended a) e
+  where
+    by : (t : Bool) → (if t then extended_header a b [] else Some (short_header a b)) ≡ Some h → 0 < h.size
+    by true f = cc
+    by false f = subst (λ x. 0 < x.size) (same_some f) (omega arith)
+header_has_bytes (a ∷ b ∷ c ∷ []) h e = by (is_extended a) e
+  where
+    by : (t : Bool) → (if t then extended_header a b (c ∷ []) else Some (short_header a b)) ≡ Some h → 0 < h.size
+    by true f = cc
+    by false f = subst (λ x. 0 < x.size) (same_some f) (omega arith)
+header_has_bytes (a ∷ b ∷ c ∷ d ∷ bytes) h e = by (is_extended a) e
+  where
+    by : (t : Bool) → (if t then extended_header a b (c ∷ d ∷ bytes) else Some (short_header a b)) ≡ Some h
+        → 0 < h.size
+    by true f = subst (λ x. 0 < x.size) (same_some f) (omega arith)
+    by false f = subst (λ x. 0 < x.size) (same_some f) (omega arith)
 
 -- the codes of methods that stand one behind the other
 pub cut_from : (at : ℕ) (ms : List MethodDescriptor) (bytes : List ℕ) (codes : List Code) → codes_from at ms bytes
     ≡ Ok codes → AreCut at bytes ms codes
 unfolding codes_from
-cut_from at [] [] codes e = let none_there : [] ≡ codes = same_ok e in subst (AreCut at [] []) none_there none
+cut_from at [] [] codes e = let none_there : [] ≡ codes = same_ok e in subst (AreCut at [] []) none_there tt
 cut_from at [] (b ∷ bytes) codes e = absurd cc
 cut_from at (m ∷ ms) bytes codes e = by (m.offset == at) refl e
-    (λ n rest f. further at n bytes ms rest (cut_from (at + n) ms (drop n bytes) rest f))
+    (λ n rest f. cut_from (at + n) ms (drop n bytes) rest f)
   where
     go : ℕ → List ℕ → Result (List Code) ℕ
     go next rest = codes_from next ms rest
@@ -178,56 +184,112 @@ cut_from at (m ∷ ms) bytes codes e = by (m.offset == at) refl e
           end = at + h.size + m.bytecode_count;
           instructions = is;
         }) r ≡ Ok codes → ((n : ℕ) (rest : List Code) → codes_from (at + n) ms (drop n bytes) ≡ Ok rest
-        → AreCut at bytes ms rest) → AreCut at bytes (m ∷ ms) codes
+        → AreCut (at + n) (drop n bytes) ms rest) → AreCut at bytes (m ∷ ms) codes
     behind h is_h same is cut (Err k) g f next = absurd cc
     behind h is_h same is cut (Ok rest) g f next =
         let n : at + h.size + m.bytecode_count ≡ at + (h.size + m.bytecode_count) = omega arith in
-        subst (AreCut at bytes (m ∷ ms)) (same_ok f) (more (record {
-          skipped = 0;
-          offset = omega (arith, same);
-          is_cut = record {
+        let some = header_has_bytes bytes h is_h in
+        subst (AreCut at bytes (m ∷ ms)) (same_ok f) (
+          h.size + m.bytecode_count,
+          omega (arith, some),
+          same,
+          record {
             header = h;
             is_header = is_h;
             is_abstract = refl;
             first = ap (λ k. k + h.size) (sym same);
             end = ap (λ k. k + h.size + m.bytecode_count) (sym same);
             cut = ap (λ k. instructions m.bytecode_count m.bytecode_count (k + h.size) (drop h.size bytes)) same ∙ cut;
-          };
-        }) (next (h.size + m.bytecode_count) rest (sym (ap (λ k. go k (drop (h.size + m.bytecode_count) bytes)) n)
-        ∙ g)))
+          },
+          next (h.size + m.bytecode_count) rest (sym (ap (λ k. go k (drop (h.size + m.bytecode_count) bytes)) n) ∙ g),
+        )
 
     of_code : (h : MethodHeader) → method_header bytes ≡ Some h → m.offset ≡ at
         → (r : Result (List (Placed Instruction)) ℕ) → instructions m.bytecode_count m.bytecode_count (at + h.size)
         (drop h.size bytes) ≡ r → with_code h (at + h.size) m.bytecode_count r
         (go (at + h.size + m.bytecode_count) (drop (h.size + m.bytecode_count) bytes)) ≡ Ok codes
-        → ((n : ℕ) (rest : List Code) → codes_from (at + n) ms (drop n bytes) ≡ Ok rest → AreCut at bytes ms rest)
-        → AreCut at bytes (m ∷ ms) codes
+        → ((n : ℕ) (rest : List Code) → codes_from (at + n) ms (drop n bytes) ≡ Ok rest
+        → AreCut (at + n) (drop n bytes) ms rest) → AreCut at bytes (m ∷ ms) codes
     of_code h is_h same (Err k) cut f next = absurd cc
     of_code h is_h same (Ok is) cut f next = behind h is_h same is cut
         (go (at + h.size + m.bytecode_count) (drop (h.size + m.bytecode_count) bytes)) refl f next
 
     of_header : (o : Option MethodHeader) → method_header bytes ≡ o → m.offset ≡ at
         → with_header at m bytes o go ≡ Ok codes → ((n : ℕ) (rest : List Code) → codes_from (at + n) ms (drop n bytes)
-        ≡ Ok rest → AreCut at bytes ms rest) → AreCut at bytes (m ∷ ms) codes
+        ≡ Ok rest → AreCut (at + n) (drop n bytes) ms rest) → AreCut at bytes (m ∷ ms) codes
     of_header None is_h same f next = absurd cc
     of_header (Some h) is_h same f next = of_code h is_h same (instructions m.bytecode_count m.bytecode_count
         (at + h.size) (drop h.size bytes)) refl f next
 
     by : (t : Bool) → (m.offset == at) ≡ t → (if t then with_header at m bytes (method_header bytes) go else Err at)
         ≡ Ok codes → ((n : ℕ) (rest : List Code) → codes_from (at + n) ms (drop n bytes) ≡ Ok rest
-        → AreCut at bytes ms rest) → AreCut at bytes (m ∷ ms) codes
+        → AreCut (at + n) (drop n bytes) ms rest) → AreCut at bytes (m ∷ ms) codes
     by false t f next = absurd cc
     by true t f next = of_header (method_header bytes) refl (number_same m.offset at t) f next
 
--- the code beside a method, and the method beside a code
+-- a method of several, so far behind where they begin, with its code
+pub record CutAt (at : ℕ) (bytes : List ℕ) (m : MethodDescriptor) (code : Code) : Type 0 where
+  pub skipped : ℕ
+  pub offset : m.offset ≡ at + skipped
+  pub is_cut : IsCut m (drop skipped bytes) code
+
+further : (at n : ℕ) (bytes : List ℕ) (m : MethodDescriptor) (code : Code) → CutAt (at + n) (drop n bytes) m code
+    → CutAt at bytes m code
+further at n bytes m code c =
+    let is = c.offset in
+    record {
+      skipped = n + c.skipped;
+      offset = omega (arith, is);
+      is_cut = subst (λ bs. IsCut m bs code) (drop-drop c.skipped n bytes) c.is_cut;
+    }
+
+-- the code beside a method
 pub code_beside : (at : ℕ) (bytes : List ℕ) (ms : List MethodDescriptor) (codes : List Code) → AreCut at bytes ms codes
     → (k : ℕ) (m : MethodDescriptor) → slice_get ms k ≡ Some m → (code : Code) × (slice_get codes k ≡ Some code)
     × CutAt at bytes m code
-code_beside at bytes _ _ none k m e = absurd cc
-code_beside at bytes _ _ (more {m = n} {code = code} {ms = ms} {codes = codes} c h) zero m e = (
+code_beside at bytes [] codes h k m e = absurd cc
+code_beside at bytes (n ∷ ms) [] h k m e = absurd h
+code_beside at bytes (n ∷ ms) (code ∷ codes) h zero m e = (
   code,
   refl,
-  subst (λ x. CutAt at bytes x code) (same_some e) c,
+  subst (λ x. CutAt at bytes x code) (same_some e) (record {
+    skipped = 0;
+    offset = (let same = h.2 in omega (arith, same));
+    is_cut = h.3;
+  }),
 )
-code_beside at bytes _ _ (more {m = n} {code = code} {ms = ms} {codes = codes} c h) (suc k) m e = code_beside at bytes
-    ms codes h k m e
+code_beside at bytes (n ∷ ms) (code ∷ codes) h (suc k) m e =
+    let r = code_beside (at + h.0) (drop h.0 bytes) ms codes h.4 k m e in
+    (r.0, r.1, further at h.0 bytes m r.0 r.2)
+
+-- methods stand apart: the first of an offset is the one that stands there
+pub first_of_offset : (at : ℕ) (bytes : List ℕ) (ms : List MethodDescriptor) (codes : List Code)
+    → AreCut at bytes ms codes → (k : ℕ) (m : MethodDescriptor) → slice_get ms k ≡ Some m
+    → method_among ms m.offset ≡ Some m
+first_of_offset at bytes [] codes h k m e = absurd cc
+first_of_offset at bytes (n ∷ ms) [] h k m e = absurd h
+first_of_offset at bytes (n ∷ ms) (code ∷ codes) h zero m e =
+    let same = same_some e in
+    ap (λ b. if b then Some n else method_among ms m.offset) (number_same_number n.offset m.offset (ap (λ x. x.offset)
+    same)) ∙ e
+first_of_offset at bytes (n ∷ ms) (code ∷ codes) h (suc k) m e =
+    let r = code_beside (at + h.0) (drop h.0 bytes) ms codes h.4 k m e in
+    let c = r.2 in
+    let far = c.offset in
+    let some = h.1 in
+    let here = h.2 in
+    ap (λ b. if b then Some n else method_among ms m.offset) (other_number n.offset m.offset (λ same. omega (arith, far,
+    some, here, same)))
+    ∙ first_of_offset (at + h.0) (drop h.0 bytes) ms codes h.4 k m e
+
+-- what is found by an offset stands there
+pub found_by_offset : (ms : List MethodDescriptor) (offset : ℕ) (m : MethodDescriptor) → method_among ms offset ≡ Some m
+    → (k : ℕ) × (slice_get ms k ≡ Some m) × (m.offset ≡ offset)
+found_by_offset [] offset m e = cc
+found_by_offset (n ∷ ms) offset m e = by (n.offset == offset) refl e (found_by_offset ms offset m)
+  where
+    by : (t : Bool) → (n.offset == offset) ≡ t → (if t then Some n else method_among ms offset) ≡ Some m
+        → (method_among ms offset ≡ Some m → (k : ℕ) × (slice_get ms k ≡ Some m) × (m.offset ≡ offset))
+        → (k : ℕ) × (slice_get (n ∷ ms) k ≡ Some m) × (m.offset ≡ offset)
+    by true t f next = (0, f, ap (λ x. x.offset) (sym (same_some f)) ∙ number_same n.offset offset t)
+    by false t f next = let r = next f in (suc r.0, r.1, r.2)

@@ -2,3 +2,4 @@ pub mod Facts
 pub mod DecodeLaws
 pub mod CutLaws
 pub mod LandLaws
+pub mod CardLaws
