@@ -73,7 +73,7 @@ outside_ref import class lt less =
     ∙ ap (λ x. Outside x ((256 * (0x80 + import) + class) % 256)) first ∙ ap (Outside import) second
 
 -- nibbles of a class_ref name its class
-all_read : (l : Loaded) (r : ClassRef) → IsRef r → class_by l (ref_nibbles r) ≡ class_of l 0 r
+pub all_read : (l : Loaded) (r : ClassRef) → IsRef r → class_by l (ref_nibbles r) ≡ class_of l 0 r
 all_read l (Inside offset) lt = ref_read l offset lt
 all_read l (Outside import class) lt = ap (λ n. class_of l 0 (parts.class_of n)) (outside_back import class lt.0 lt.1)
     ∙ ap (class_of l 0) (outside_ref import class lt.0 lt.1)

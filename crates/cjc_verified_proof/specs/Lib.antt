@@ -1,3 +1,4 @@
 pub mod PackageTypes
 pub mod Entries
 pub mod Checked
+pub mod Programs

@@ -3,3 +3,4 @@ pub mod DecodeLaws
 pub mod CutLaws
 pub mod LandLaws
 pub mod CardLaws
+pub mod BodyLaws
