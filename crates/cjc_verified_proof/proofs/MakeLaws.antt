@@ -50,7 +50,7 @@ use Rattle.cjc_verified_proof.proofs.DeclaredLaws.{all_declared, has_info}
 use Rattle.cjc_verified_proof.proofs.SupersLaws.{found_token}
 use Rattle.cjc_verified_proof.proofs.UseLaws.{ref_read, spelt}
 
-import_there : (k : ℕ) (trees : List ExportTree) (i : ℕ) (t : ExportTree) → slice_get trees i ≡ Some t
+pub import_there : (k : ℕ) (trees : List ExportTree) (i : ℕ) (t : ExportTree) → slice_get trees i ≡ Some t
     → slice_get (files_from k trees) i ≡ Some (OfFile (k + i))
 import_there k [] i t e = cc
 import_there k (x ∷ trees) zero t e = let z : k ≡ k + 0 = omega arith in ap (λ n. Some (OfFile n)) z
