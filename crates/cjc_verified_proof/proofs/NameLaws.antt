@@ -18,7 +18,7 @@ use Rattle.cjc_world.specs.declared.image.StaticImage.{StaticImage}
 use Rattle.cjc_world.specs.Classes as world
 use Rattle.cjc_world.specs.Files.{Files}
 use Rattle.cjc_world.specs.Order.{class_order}
-use Rattle.cjc_card_semantics.specs.Machine.Classes.{Class, External, Info, Own, class_named, class_of, external}
+use Rattle.cjc_card_semantics.specs.Machine.Classes.{Class, External, Info, IsClass, IsInterface, Own, class_named, class_of, external}
 use Rattle.cjc_card_semantics.specs.Machine.Classes.{external_from, external_named, imported_class, info_at, info_of}
 use Rattle.cjc_card_semantics.specs.Machine.Classes.{info_size, is_there, number_from, number_named, offset_from, or_else}
 use Rattle.cjc_card_semantics.specs.Machine.Classes.{own_from, token_named, where_there, with_token}
@@ -43,7 +43,7 @@ use Rattle.cjc_verified_proof.proofs.MakeLaws.{all_read, import_there}
 
 -- ---- infos by number
 
-starts_read : (at : ℕ) (is : List Info) (n : ℕ) → slice_get (starts info_size at is) n ≡ offset_from at is n
+pub starts_read : (at : ℕ) (is : List Info) (n : ℕ) → slice_get (starts info_size at is) n ≡ offset_from at is n
 unfolding placed
 starts_read at [] n = refl
 starts_read at (i ∷ is) zero = refl
@@ -75,8 +75,25 @@ info_begins at (i ∷ is) (suc n) offset e = by (at == offset) (info_begins (at 
     by true r = (i, refl)
     by false r = (r.0, later (number_from (at + info_size i) is offset) ∙ r.1)
 
+infos_have_bytes : (i : Info) → 0 < info_size i
+infos_have_bytes (IsInterface i) = omega arith
+infos_have_bytes (IsClass c) = omega arith
+
+-- the number of an info's offset
+pub number_back : (at : ℕ) (is : List Info) (k offset : ℕ) → offset_from at is k ≡ Some offset → number_from at is offset
+    ≡ Some k
+number_back at [] k offset e = absurd cc
+number_back at (i ∷ is) zero offset e = ap (λ b. if b then Some 0 else option_map suc (number_from (at + info_size i) is
+    offset)) (number_same_number at offset (same_some e))
+number_back at (i ∷ is) (suc k) offset e =
+    let low = not_before (at + info_size i) is k offset e in
+    let some = infos_have_bytes i in
+    ap (λ b. if b then Some 0 else option_map suc (number_from (at + info_size i) is offset))
+    (other_number at offset (λ same. omega (arith, low, some, same)))
+    ∙ ap (option_map suc) (number_back (at + info_size i) is k offset e)
+
 -- none stands before the first
-none_before : (at : ℕ) (is : List Info) (offset : ℕ) → offset < at → number_from at is offset ≡ None
+pub none_before : (at : ℕ) (is : List Info) (offset : ℕ) → offset < at → number_from at is offset ≡ None
 none_before at [] offset lt = refl
 none_before at (i ∷ is) offset lt =
     ap (λ b. if b then Some 0 else option_map suc (number_from (at + info_size i) is offset))
@@ -276,11 +293,11 @@ module _ (applets : Bool) (files : Files) (image : StaticImage) (c : Complete)
       ap (λ b. if b then Some (Own 0 offset) else None) (ap is_some i.1)
 
   -- an imported class is meant by its tokens
-  record IsMeant (class : Class) : Type 0 where
-    ref : IsRef (ref_to class)
-    meant : class_of l 0 (ref_to class) ≡ Some class
+  pub record IsMeant (class : Class) : Type 0 where
+    pub ref : IsRef (ref_to class)
+    pub meant : class_of l 0 (ref_to class) ≡ Some class
 
-  imported_meant : (name : List ℕ) (class : Class) → external_from 0 files.exports name ≡ Some class → IsMeant class
+  pub imported_meant : (name : List ℕ) (class : Class) → external_from 0 files.exports name ≡ Some class → IsMeant class
   imported_meant name class e =
       let r = listed_there 0 files.exports name class e in
       let t = token_there (let x = r.tree in x.classes) name r.token r.named in

@@ -4,3 +4,6 @@ pub mod CutLaws
 pub mod LandLaws
 pub mod CardLaws
 pub mod BodyLaws
+pub mod TypeLaws
+pub mod Small
+pub mod NameLaws

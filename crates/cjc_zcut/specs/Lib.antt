@@ -1,1 +1,4 @@
 pub mod Bodies
+pub mod Copies
+pub mod PairCopy
+pub mod Ents
