@@ -158,7 +158,7 @@ pub record IsMethodAt (c : Complete) (m : MethodDescriptor) (code : Cut) : Type 
   pub is_cut : IsCut m (let x = c.method in drop (m.offset - check.methods_begin c) x.methods) code
 
 module _ (c : Complete) (whole : whole_spots c ≡ []) where
-  all_cut : AreCut (check.methods_begin c) (let m = c.method in m.methods) (class_methods c) (codes c)
+  pub all_cut : AreCut (check.methods_begin c) (let m = c.method in m.methods) (class_methods c) (codes c)
   all_cut = by (cut c) refl whole
     where
       by : (r : Result (List Cut) ℕ) → cut c ≡ r → check.where_cut_ends r ≡ []

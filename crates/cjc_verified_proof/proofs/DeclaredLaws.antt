@@ -240,18 +240,19 @@ otherwise : (b : Bool) (xs ys : List ComponentPlace) → b ≡ false → (if b t
 otherwise true xs ys e h = cc
 otherwise false xs ys e h = h
 
+-- no rule of infos is broken
+pub infos_none : (p : Pair) → IsVerified p → all_info_spots p ≡ []
+infos_none p verified = no_spots 729 (all_info_spots p) (λ b among. verified b (listed b (among_left b (class_breaks p
+    ++ header_breaks p ++ map (break_at 728) (all_array_spots p)) (map (break_at 721) (described_spots p))
+    (among_left b (class_breaks p ++ header_breaks p) (map (break_at 728) (all_array_spots p)) (among_left b
+    (class_breaks p) (header_breaks p) (among_right b (map (break_at 725) (all_table_spots p)
+    ++ map (break_at 727) (all_abstract_spots p)) (map (break_at 729) (all_info_spots p)) among))))))
+
 module _ (applets : Bool) (list : List ℕ) (files : Files) (image : StaticImage) (c : Complete)
     (sound : IsSound list files) (typed : AreTyped files) (descs : AreFieldDescs files)
     (static_ones : StaticInInterfaces files) (verified : IsVerified (pair_of applets files image c)) where
   abbrev p : Pair
   p = pair_of applets files image c
-
-  infos_none : all_info_spots p ≡ []
-  infos_none = no_spots 729 (all_info_spots p) (λ b among. verified b (listed b (among_left b (class_breaks p
-      ++ header_breaks p ++ map (break_at 728) (all_array_spots p)) (map (break_at 721) (described_spots p))
-      (among_left b (class_breaks p ++ header_breaks p) (map (break_at 728) (all_array_spots p)) (among_left b
-      (class_breaks p) (header_breaks p) (among_right b (map (break_at 725) (all_table_spots p)
-      ++ map (break_at 727) (all_abstract_spots p)) (map (break_at 729) (all_info_spots p)) among))))))
 
   -- a class of the package has a number among the infos
   record IsNumbered (offset : ℕ) (cl : Class) : Type 0 where
@@ -284,7 +285,7 @@ module _ (applets : Bool) (list : List ℕ) (files : Files) (image : StaticImage
       let k = numbered offset cl e in
       let got = get_inside (infos c.class) k.number (number_within 2 (infos c.class) offset k.number k.from) in
       let none = beside_none info_size (info_spots p) first_interface (infos c.class) (class_order (all_classes files))
-      k.number got.0 cl infos_none got.1 k.ordered in
+      k.number got.0 cl (infos_none p verified) got.1 k.ordered in
       by got.0 (ap (option_and_then (slice_get (infos c.class))) k.from ∙ got.1) none.0 none.1
     where
       by : (i : Info) → info_of p.loaded 0 offset ≡ Some i → (at : ℕ) → info_spots p at i cl ≡ [] → HasInfo offset cl
