@@ -50,7 +50,7 @@ use Rattle.cjc_verified_proof.proofs.DeclaredLaws.{all_declared, has_info}
 use Rattle.cjc_verified_proof.proofs.SupersLaws.{found_token}
 use Rattle.cjc_verified_proof.proofs.UseLaws.{ref_read, spelt}
 
-import_there : (k : ℕ) (trees : List ExportTree) (i : ℕ) (t : ExportTree) → slice_get trees i ≡ Some t
+pub import_there : (k : ℕ) (trees : List ExportTree) (i : ℕ) (t : ExportTree) → slice_get trees i ≡ Some t
     → slice_get (files_from k trees) i ≡ Some (OfFile (k + i))
 import_there k [] i t e = cc
 import_there k (x ∷ trees) zero t e = let z : k ≡ k + 0 = omega arith in ap (λ n. Some (OfFile n)) z
@@ -73,7 +73,7 @@ outside_ref import class lt less =
     ∙ ap (λ x. Outside x ((256 * (0x80 + import) + class) % 256)) first ∙ ap (Outside import) second
 
 -- nibbles of a class_ref name its class
-all_read : (l : Loaded) (r : ClassRef) → IsRef r → class_by l (ref_nibbles r) ≡ class_of l 0 r
+pub all_read : (l : Loaded) (r : ClassRef) → IsRef r → class_by l (ref_nibbles r) ≡ class_of l 0 r
 all_read l (Inside offset) lt = ref_read l offset lt
 all_read l (Outside import class) lt = ap (λ n. class_of l 0 (parts.class_of n)) (outside_back import class lt.0 lt.1)
     ∙ ap (class_of l 0) (outside_ref import class lt.0 lt.1)

@@ -1,3 +1,5 @@
 pub mod PackageTypes
 pub mod Entries
 pub mod Checked
+pub mod Programs
+pub mod Suited

@@ -28,3 +28,4 @@ pub mod MemoryLaws
 pub mod FieldLaws
 pub mod ArrayLaws
 pub mod MadeLaws
+pub mod RowSuits
