@@ -7,3 +7,6 @@ pub mod SupersLaws
 pub mod MakeLaws
 pub mod SortLaws
 pub mod CheckedLaws
+pub mod ThereLaws
+pub mod SuitLaws
+pub mod FixedLaws

@@ -136,8 +136,12 @@ module _ (c : Complete) (clean : index_spots c ≡ []) (j : ℕ) (code : Code) (
       → x.opcode ≡ used → is_entry_for o x.opcode ≡ true → (entry : PoolEntry) × (slice_get (let q = c.pool in q.entries)
       x.index ≡ Some entry) × (is_used_by how entry ≡ true)
   found_entry x None is same e = cc
-  found_entry x (Some entry) is same e = (entry, is, use_of.1 entry (ap (is_needed_by entry) (sym same)
-      ∙ e))
+  found_entry x (Some entry) is same e = (
+    entry,
+    is,
+    use_of.1 entry (ap (is_needed_by entry) (sym same)
+        ∙ e),
+  )
 
   entry_at : (x : IndexOperand) → x.opcode ≡ used → index_by i (form used) ≡ x ∷ [] → (entry : PoolEntry)
       × (slice_get (let q = c.pool in q.entries) x.index ≡ Some entry) × (is_used_by how entry ≡ true)
@@ -234,8 +238,7 @@ module _ (applets : Bool) (files : Files) (image : StaticImage) (c : Complete) (
   tested_by n k type true b item is e = cc
   tested_by n k type false true (Some (Classref r)) is e =
       let s = class_named k r is in
-      let same : array_type r ≡ type = cc in
-      (
+      let same : array_type r ≡ type = cc in (
         OfReferences s.class,
         (ap (option_map OfReferences) s.meant, subst (λ t. shape_by l t ≡ Some (OfReferences s.class)) same s.array),
       )
@@ -366,7 +369,7 @@ module _ (applets : Bool) (files : Files) (image : StaticImage) (c : Complete) (
             falls = falls;
             targets = map (moved i.at) xs;
           }) (operation l 0 pool i.at (meanings.Branches test) operands rest)) (sym (jumps_are needs falls is)) (jump_suits
-              l program result 0 i.at pool needs falls test k b operands rest (read (Fields (k ∷ [])) form_is))
+          l program result 0 i.at pool needs falls test k b operands rest (read (Fields (k ∷ [])) form_is))
       by_row _ _ _ table is form_is right = switched 1 (Table Signed2) (meanings.Ranged false) is form_is (range_suits
           l program result 0 i.at pool false Signed2 operands rest (read (Table Signed2) form_is))
       by_row _ _ _ int_table is form_is right = switched 2 (Table Signed4) (meanings.Ranged true) is form_is

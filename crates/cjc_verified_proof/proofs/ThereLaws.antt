@@ -22,7 +22,8 @@ use Rattle.cjc_world.specs.declared.image.StaticImage.{StaticImage}
 use Rattle.cjc_world.specs.Files.{Files}
 use Rattle.cjc_card_semantics.specs.Machine.Loaded.{Loaded, OfFile}
 use Rattle.cjc_card_semantics.specs.Machine.Classes.{Class, Own, External, Info, IsInterface, IsClass, class_of}
-use Rattle.cjc_card_semantics.specs.Machine.Classes.{external, imported_class, info_size, number_from, with_token}
+use Rattle.cjc_card_semantics.specs.Machine.Classes.{external, import_of, imported_class, info_size, number_from}
+use Rattle.cjc_card_semantics.specs.Machine.Classes.{with_token}
 use Rattle.cjc_components.specs.Paired.Naming.{files_from}
 use Rattle.cjc_verify.specs.Pairs.{Pair, pair_of}
 use Rattle.cjc_bytes.proofs.Lists.{none_left}
@@ -89,6 +90,7 @@ module _ (applets : Bool) (files : Files) (image : StaticImage) (c : Complete) w
 
   -- an imported class that is there
   pub record IsThere (import token : ℕ) (x : ExportClass) : Type 0 where
+    pub through : import_of l 0 import ≡ Some (OfFile import)
     pub external_is : external l import token ≡ Some x
     pub meant : class_of l 0 (Outside import token) ≡ Some (External import token)
 
@@ -106,6 +108,7 @@ module _ (applets : Bool) (files : Files) (image : StaticImage) (c : Complete) w
           let named : slice_get (files_from 0 files.exports) import ≡ Some (OfFile import) = import_there 0 files.exports
           import tree f ∙ ap (λ n. Some (OfFile n)) z in
           record {
+            through = named;
             external_is = there;
             meant = ap (option_and_then (imported_class l token)) named ∙ ap (λ b. if b then Some (External import token)
                 else None) (ap is_some there);

@@ -29,3 +29,4 @@ pub mod FieldLaws
 pub mod ArrayLaws
 pub mod MadeLaws
 pub mod RowSuits
+pub mod CalleeLaws

@@ -1,24 +1,32 @@
 //! Instructions that name nothing in the constant pool: what their rows take and give is what the machine asks of them. It
 //! has laws alone, for whoever proves that components which break no rule are never stuck.
 ghost use Rattle.std.specs.Prelude.{◌≡◌, ℕ, Bool, true, false, not, List, [], ◌∷◌, ◌++◌, map, Option, Some, ℤ};
-ghost use Rattle.std.specs.Prelude.{if◌then◌else◌};
+ghost use Rattle.std.specs.Prelude.{Contains, if◌then◌else◌, length};
 ghost use Rattle.cjc_card_semantics.specs.CapRead.Card as card;
 ghost use Rattle.cjc_card_semantics.specs.CapRead.Opcodes.{Operand, Signed2, Index2, form};
 ghost use Rattle.cjc_card_semantics.specs.CapRead.declared.tree.PoolEntry.{PoolEntry};
-ghost use Rattle.cjc_card_semantics.specs.Script.Sorts.{Element, OfNumbers};
+ghost use Rattle.cjc_card_semantics.specs.Bytes.declared.fault.MemberId.{MemberId};
+ghost use Rattle.cjc_card_semantics.specs.Script.Sorts.{Element, OfNumbers, Signature, signature_of};
 ghost use Rattle.cjc_card_semantics.specs.Bytecode.Calculations.{Test};
 ghost use Rattle.cjc_card_semantics.specs.Bytecode.Effects.{Letter, Touch, Return};
 ghost use Rattle.cjc_card_semantics.specs.Bytecode.Meanings.{Use, Branches, Ranged, Paired};
+ghost use Rattle.cjc_card_semantics.specs.Bytecode.Machine.{Start};
 ghost use Rattle.cjc_card_semantics.specs.Machine.Loaded.{Loaded};
-ghost use Rattle.cjc_card_semantics.specs.Machine.Operations.{element_type, moved, operation};
+ghost use Rattle.cjc_card_semantics.specs.Machine.Methods.{Code, start_of};
+ghost use Rattle.cjc_card_semantics.specs.Machine.Operations.{Fixed, Outer, element_type, moved, operation};
+ghost use Rattle.cjc_card_acts.specs.Frames.declared.acts.Act.{Act};
 ghost use Rattle.cjc_card_acts.specs.Frames.declared.acts.Need.{Need};
+ghost use Rattle.cjc_card_acts.specs.Frames.Acts.{given};
 ghost use Rattle.cjc_card_acts.specs.Rows.{Jumps, Switches, Uses, idle, number_words, row};
-ghost use Rattle.cjc_card_acts.specs.CardTypes.{ValueType, is_returned_by, needs_of, numbers_type, shape_by};
+ghost use Rattle.cjc_card_acts.specs.CardTypes.{ValueType, is_returned_by, needs_of, needs_of_all, numbers_type, shape_by};
+ghost use Rattle.cjc_card_acts.specs.CardTypes.{words};
 ghost use Rattle.cjc_check_rules.specs.Spots.{lies_between};
 ghost use Rattle.cjc_check_rules.specs.Instructions.{default_of, is_jump, is_needed_by, pair_offsets};
 ghost use Rattle.cjc_verify_proof.specs.Beside.{BesideTest, AreRead};
 ghost use Rattle.cjc_verify_proof.specs.Control.{switched_words};
-ghost use Rattle.cjc_verify_proof.specs.Frames.{Program};
+ghost use Rattle.cjc_verify_proof.specs.Calls.{receiver_needs, has_receiver, argument_cells, AreSorts, IsResult};
+ghost use Rattle.cjc_verify_proof.specs.Frames.{Typing, Program, Begins};
+ghost use Rattle.cjc_verify_proof.specs.Turns.{Calls};
 ghost use Rattle.cjc_verify_proof.specs.Instructions.{Suits};
 ghost use Rattle.cjc_verify_proof.specs.Uses.{is_index_form, is_used_by};
 
@@ -80,4 +88,24 @@ pub fn returns_suit()
 pub fn numbers_are_meant()
     ensures { (l : Loaded) (n : ℕ) (type : List ℕ) → numbers_type n ≡ Some type → (element : Element)
         × ((element_type n ≡ Some element) × (shape_by l type ≡ Some (OfNumbers element))) }
+{}
+
+/// A call of a fixed method of the group is what its act says, where the method takes the arguments that the act takes and
+/// gives its result.
+pub fn fixed_calls_suit()
+    ensures { (l : Loaded) (program : Program) (a : Act) (receiver : Option (List ℕ)) (params : List ValueType)
+        (result : ValueType) → a.takes ≡ needs_of_all params ++ receiver_needs receiver → a.gives ≡ words result
+        → a.writes ≡ [] → a.falls ≡ true → (part offset : ℕ) (m : Start Code) → start_of l part offset ≡ Some m
+        → m.nargs ≡ length a.takes → (t : Typing) → Contains program.methods t → Begins t m
+        → map (given [] []) (let b = t.body in b.arguments) ≡ argument_cells receiver params → t.result ≡ result
+        → Calls l program a (Fixed (has_receiver receiver) part offset) }
+{}
+
+/// A call of a fixed imported method is what its act says, where its descriptor has the types that the act takes and gives.
+pub fn outer_calls_suit()
+    ensures { (l : Loaded) (program : Program) (a : Act) (receiver : Option (List ℕ)) (params : List ValueType)
+        (result : ValueType) → a.takes ≡ needs_of_all params ++ receiver_needs receiver → a.gives ≡ words result
+        → a.writes ≡ [] → a.falls ≡ true → (id : MemberId) (sig : Signature) → signature_of id.desc ≡ Some sig
+        → AreSorts l sig.params params → IsResult l sig.result result
+        → Calls l program a (Outer (has_receiver receiver) id) }
 {}
