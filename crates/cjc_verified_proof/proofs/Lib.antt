@@ -10,3 +10,6 @@ pub mod CheckedLaws
 pub mod ThereLaws
 pub mod SuitLaws
 pub mod FixedLaws
+pub mod InfoLaws
+pub mod NamingLaws
+pub mod TowerLaws

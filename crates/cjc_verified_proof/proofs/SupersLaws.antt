@@ -155,7 +155,7 @@ interface_number (j ∷ is) cs (suc k) i e = interface_number is cs k i e
 
 -- ---- imports
 
-import_is : (k : ℕ) (trees : List ExportTree) (i : ℕ) (x : Import) → slice_get (files_from k trees) i ≡ Some x
+pub import_is : (k : ℕ) (trees : List ExportTree) (i : ℕ) (x : Import) → slice_get (files_from k trees) i ≡ Some x
     → x ≡ OfFile (k + i)
 import_is k [] i x e = cc
 import_is k (t ∷ trees) zero x e = let z : k ≡ k + 0 = omega arith in let same : OfFile k ≡ x = cc
