@@ -88,14 +88,20 @@ said p offset desc e = by (item_at (types_at (let c = p.components in c.descript
         let same = bytes_true t.nibbles w h in
         record { nibbles = w; wanted = g; type_is = ap type_of f ∙ ap (λ ns. type_by (types_in ns)) same }
 
--- the type of an entry is what the descriptor of its member says
-pub entry_says : (p : Pair) → IsVerified p
+-- the types of an entry are what the descriptor of its member says
+pub record IsTyped (p : Pair) (k : ℕ) (item : PoolEntry) : Type 0 where
+  pub desc : List ℕ
+  pub named : named_desc p item ≡ Some desc
+  pub nibbles : List ℕ
+  pub wanted : nibbles_of p desc ≡ Some nibbles
+  pub type_is : entry_type p k ≡ type_by (types_in nibbles)
+
+pub entry_typed : (p : Pair) → IsVerified p
     → (let c = p.components in let d = c.descriptor in let q = c.pool in length d.pool_types ≡ length q.entries)
     → (k : ℕ) (item : PoolEntry) → entry_of p k ≡ Some item
     → ((at offset : ℕ) → entry_spots p at offset item ≡ [] → is_entry_type p offset (named_desc p item) ≡ true)
-    → (desc : List ℕ) × (named_desc p item ≡ Some desc)
-    × (type_of_desc p desc ≡ Some (let t = entry_type p k in t.result))
-entry_says p verified counts k item is spots =
+    → IsTyped p k item
+entry_typed p verified counts k item is spots =
     let c = p.components in
     let d = c.descriptor in
     let q = c.pool in
@@ -109,19 +115,29 @@ entry_says p verified counts k item is spots =
     by got.0 got.1 (named_desc p item) refl (spots r.0 got.0 r.1)
   where
     by : (offset : ℕ) → slice_get (let c = p.components in let d = c.descriptor in d.pool_types) k ≡ Some offset
-        → (o : Option (List ℕ)) → named_desc p item ≡ o → is_entry_type p offset o ≡ true
-        → (desc : List ℕ) × (named_desc p item ≡ Some desc)
-        × (type_of_desc p desc ≡ Some (let t = entry_type p k in t.result))
+        → (o : Option (List ℕ)) → named_desc p item ≡ o → is_entry_type p offset o ≡ true → IsTyped p k item
     by offset got None e h = cc
     by offset got (Some desc) e h =
         let s = said p offset desc h in
         let at = item_or (let c = p.components in let d = c.descriptor in d.pool_types) k offset 0xFFFF got in
-        let type_here : entry_type p k ≡ type_by (types_in s.nibbles) = ap (type_at (let c = p.components
-        in c.descriptor)) at ∙ s.type_is in (
-          desc,
-          e,
-          ap (option_map type_said) s.wanted ∙ ap (λ (t : MemberType). Some t.result) (sym type_here),
-        )
+        record {
+          desc = desc;
+          named = e;
+          nibbles = s.nibbles;
+          wanted = s.wanted;
+          type_is = ap (type_at (let c = p.components in c.descriptor)) at ∙ s.type_is;
+        }
+
+-- the type of the field of an entry is what its descriptor says
+pub entry_says : (p : Pair) → IsVerified p
+    → (let c = p.components in let d = c.descriptor in let q = c.pool in length d.pool_types ≡ length q.entries)
+    → (k : ℕ) (item : PoolEntry) → entry_of p k ≡ Some item
+    → ((at offset : ℕ) → entry_spots p at offset item ≡ [] → is_entry_type p offset (named_desc p item) ≡ true)
+    → (desc : List ℕ) × (named_desc p item ≡ Some desc)
+    × (type_of_desc p desc ≡ Some (let t = entry_type p k in t.result))
+entry_says p verified counts k item is spots =
+    let t = entry_typed p verified counts k item is spots in
+    (t.desc, t.named, ap (option_map type_said) t.wanted ∙ ap (λ (x : MemberType). Some x.result) (sym t.type_is))
 
 -- the type of an entry of an instance field of the package
 pub instance_typed : (p : Pair) → IsVerified p

@@ -42,7 +42,7 @@ use Rattle.cjc_verified_proof.proofs.EntryLaws.{unless_holds}
 
 -- ---- items one behind the other
 
-along_none : {A : Type 0} (size : A → ℕ) (broken : ℕ → A → List ComponentPlace) (at : ℕ) (xs : List A) (k : ℕ) (x : A)
+pub along_none : {A : Type 0} (size : A → ℕ) (broken : ℕ → A → List ComponentPlace) (at : ℕ) (xs : List A) (k : ℕ) (x : A)
     → along size broken at xs ≡ [] → slice_get xs k ≡ Some x → (place : ℕ) × (broken place x ≡ [])
 unfolding along
 along_none size broken at [] k x e f = cc
@@ -56,7 +56,7 @@ map_bytes : (maps : List ImplementedInterface) → sum_by map_size maps ≡ map_
 map_bytes [] = refl
 map_bytes (m ∷ maps) = sum_by-cons map_size m maps ∙ ap (λ n. 3 + length m.index + n) (map_bytes maps)
 
-class_bytes : (c : ClassEntry) → class_size c ≡ info_size (IsClass c)
+pub class_bytes : (c : ClassEntry) → class_size c ≡ info_size (IsClass c)
 class_bytes c = ap (λ n. 10 + 2 * length c.public_methods + 2 * length c.package_methods + n) (map_bytes c.interfaces)
 
 abbrev Places : Type 0
@@ -155,7 +155,7 @@ interface_number (j ∷ is) cs (suc k) i e = interface_number is cs k i e
 
 -- ---- imports
 
-import_is : (k : ℕ) (trees : List ExportTree) (i : ℕ) (x : Import) → slice_get (files_from k trees) i ≡ Some x
+pub import_is : (k : ℕ) (trees : List ExportTree) (i : ℕ) (x : Import) → slice_get (files_from k trees) i ≡ Some x
     → x ≡ OfFile (k + i)
 import_is k [] i x e = cc
 import_is k (t ∷ trees) zero x e = let z : k ≡ k + 0 = omega arith in let same : OfFile k ≡ x = cc

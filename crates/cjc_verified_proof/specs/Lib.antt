@@ -2,3 +2,4 @@ pub mod PackageTypes
 pub mod Entries
 pub mod Checked
 pub mod Programs
+pub mod Suited
