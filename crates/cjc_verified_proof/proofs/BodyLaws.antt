@@ -17,7 +17,8 @@ use Rattle.cjc_verify.specs.declared.listed.Listed.{Listed}
 use Rattle.cjc_bytes.proofs.Gets.{get_mapped, mapped_at}
 use Rattle.cjc_bytes.proofs.Lists.{map_append}
 use Rattle.cjc_bytes.proofs.Plain.{same_some}
-use Rattle.cjc_verified_proof.proofs.CardLaws.{IsMethodAt, method_has_code}
+use Rattle.cjc_cut_proof.specs.Cuts.{IsMethodAt}
+use Rattle.cjc_cut_proof.proofs.CardLaws.{method_has_code}
 
 -- ---- what is listed
 

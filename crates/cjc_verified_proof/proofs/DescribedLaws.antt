@@ -46,8 +46,8 @@ use Rattle.cjc_bytes.proofs.Numbers.{number_same, number_same_number}
 use Rattle.cjc_bytes.proofs.Plain.{same_some}
 use Rattle.cjc_card_link.proofs.InfoPlaces.{all_starts as starts_of_infos}
 use Rattle.cjc_verified_proof.proofs.BodyLaws.{body_stands, listed_methods}
-use Rattle.cjc_verified_proof.proofs.CardLaws.{all_cut, class_refs_agree}
-use Rattle.cjc_verified_proof.proofs.CutLaws.{AreCut, code_beside}
+use Rattle.cjc_cut_proof.proofs.CardLaws.{all_cut, class_refs_agree}
+use Rattle.cjc_cut_proof.proofs.CutLaws.{AreCut, code_beside}
 use Rattle.cjc_verified_proof.proofs.DeclaredLaws.{infos_none}
 use Rattle.cjc_verified_proof.proofs.EntryLaws.{Says, beside_none, described_none, said, unless_holds}
 use Rattle.cjc_verified_proof.proofs.NameLaws.{holder_is, number_back, starts_read}

@@ -13,10 +13,6 @@ pub mod FixedLaws
 pub mod InfoLaws
 pub mod NamingLaws
 pub mod TowerLaws
-pub mod DecodeLaws
-pub mod CutLaws
-pub mod LandLaws
-pub mod CardLaws
 pub mod BodyLaws
 pub mod ActLaws
 pub mod EndLaws
@@ -26,3 +22,4 @@ pub mod MethodLaws
 pub mod DescribedLaws
 pub mod ThrownLaws
 pub mod FlagLaws
+pub mod StandingLaws

@@ -42,7 +42,8 @@ use Rattle.cjc_verify.specs.Named.{entry_of}
 use Rattle.cjc_verify.specs.Pairs.{Pair, pair_of}
 use Rattle.cjc_verify.specs.Verified.{IsVerified, in_code}
 use Rattle.cjc_verify_proof.specs.Frames.{Begins, IsCatch, IsCaught, IsMethod, Typing}
-use Rattle.cjc_verified_proof.specs.Entries.{AreRefs, IsRef}
+use Rattle.cjc_verified_proof.specs.Entries.{IsRef}
+use Rattle.cjc_verified_proof.specs.Spelt.{AreRefs}
 use Rattle.cjc_verified_proof.specs.Programs.{IsTypingOf, code_of}
 use Rattle.cjc_bytes.proofs.Gets.{contains_at, get_mapped, mapped_at}
 use Rattle.cjc_bytes.proofs.Numbers.{number_same_number, other_number}
@@ -50,12 +51,30 @@ use Rattle.cjc_bytes.proofs.Plain.{same_some}
 use Rattle.cjc_check.proofs.JumpsLaws.Apart.{codes_apart}
 use Rattle.cjc_verified_proof.proofs.ActLaws.{act_leads, may_fall}
 use Rattle.cjc_verified_proof.proofs.BodyLaws.{StandsIn, body_stands, method_has_body}
-use Rattle.cjc_verified_proof.proofs.CardLaws.{AreOf, instruction_fetched, method_starts, starts_there}
-use Rattle.cjc_verified_proof.proofs.CutLaws.{first_begins, next_begins}
+use Rattle.cjc_cut_proof.specs.Cuts.{AreOf, EndBehind, IsMethodAt, StandApart}
+use Rattle.cjc_cut_proof.proofs.CardLaws.{follows_next, instruction_fetched, method_starts, starts_there}
+use Rattle.cjc_cut_proof.proofs.CutLaws.{first_begins}
+use Rattle.cjc_tokens.proofs.Facts.{position-cons}
 use Rattle.cjc_verified_proof.proofs.EndLaws.{last_falls_not}
-use Rattle.cjc_verified_proof.proofs.LandLaws.{EndBehind, StandApart, code_begins, code_jumps, covered_lands}
-use Rattle.cjc_verified_proof.proofs.LandLaws.{handler_leads, jump_lands, jumps_at, place_there}
+use Rattle.cjc_cut_proof.proofs.LandLaws.{all_jumps, code_begins, covered_lands, handler_leads, jump_lands}
 use Rattle.cjc_verified_proof.proofs.MakeLaws.{all_read}
+
+-- ---- instructions by their offsets
+
+-- where an instruction begins there is its place, whatever is made of instructions
+pub place_there : {S : Type 0} (f : Placed Instruction → S) (at : S → ℕ) → ((i : Placed Instruction) → at (f i) ≡ i.at)
+    → (is : List (Placed Instruction)) (offset : ℕ) → begins is offset ≡ true
+    → (k : ℕ) × (position (λ s. at s == offset) (map f is) ≡ Some k)
+place_there {S} f at same [] offset e = absurd cc
+place_there {S} f at same (i ∷ is) offset e =
+    let r = by (at (f i) == offset) (ap (λ n. n == offset) (same i)) e (place_there f at same is offset) in
+    (r.0, position-cons (λ s. at s == offset) (f i) (map f is) ∙ r.1)
+  where
+    by : (b : Bool) → b ≡ (i.at == offset) → ((i.at == offset) || begins is offset) ≡ true → (begins is offset ≡ true
+        → (k : ℕ) × (position (λ s. at s == offset) (map f is) ≡ Some k))
+        → (k : ℕ) × ((if b then Some 0 else option_map suc (position (λ s. at s == offset) (map f is))) ≡ Some k)
+    by true is_there e more = (0, refl)
+    by false is_there e more = let r = more (ap (λ t. t || begins is offset) is_there ∙ e) in (suc r.0, ap (option_map suc) r.1)
 
 -- ---- codes stand apart
 
@@ -279,8 +298,7 @@ module _ (applets : Bool) (files : Files) (image : StaticImage) (c : Complete) (
           let leads = act_leads p result q (row (let x = q.item in x.opcode)) in
           let here : Contains (let a = act p result q in a.targets) at = subst (λ (y : Step). Contains (let a = y.act
           in a.targets) at) (sym i.is) among in
-          let j = jumps_at stands.code (let y = stands.code in y.instructions) (code_jumps c jump k stands.code
-          stands.among) place q (ap (λ is. slice_get is place) (sym stands.instructions) ∙ i.is_item) in
+          let j = all_jumps c jump k stands.code stands.among place q (ap (λ is. slice_get is place) (sym stands.instructions) ∙ i.is_item) in
           place_of k b stands at (⊎_elim
           (λ none. absurd (no_target (subst (λ ts. Contains ts at) none here)))
           (λ some. jump_lands stands.code q.at (jumps q.item) j.land at (subst (λ ts. Contains ts at) some here))
@@ -300,8 +318,7 @@ module _ (applets : Bool) (files : Files) (image : StaticImage) (c : Complete) (
           let leads = act_leads p result q (row op) in
           let may : may_fall (row op) ≡ true = sym leads.falls ∙ ap (λ (y : Step). let a = y.act in a.falls) i.is ∙ falls in
           let got = ap (λ is. slice_get is place) (sym stands.instructions) ∙ i.is_item in
-          let j = jumps_at stands.code (let y = stands.code in y.instructions) (code_jumps c jump k stands.code
-          stands.among) place q got in
+          let j = all_jumps c jump k stands.code stands.among place q got in
           let next : f_next g ≡ q.at + size q.item = ap f_next (same_some (sym fetches ∙ ap (λ (y : Step).
           fetch l (code_of b) y.at) (sym i.is) ∙ i.fetched)) in
           by q got (slice_get b.instructions (suc place)) refl may
@@ -328,8 +345,7 @@ module _ (applets : Bool) (files : Files) (image : StaticImage) (c : Complete) (
                 (
                   ap (slice_get (let f = frames_of p b in f.steps)) one ∙ get_mapped (step p result) b.instructions
                       (suc place) ∙ ap (option_map (step p result)) some,
-                  next_begins m.bytecode_count m.bytecode_count _ _ (let y = stands.code in y.instructions) is.cut place q
-                      z got (ap (λ is. slice_get is (suc place)) (sym stands.instructions) ∙ some) ∙ sym next,
+                  follows_next c m stands.code at place q z got (ap (λ is. slice_get is (suc place)) (sym stands.instructions) ∙ some) ∙ sym next,
                 ),
               )
 

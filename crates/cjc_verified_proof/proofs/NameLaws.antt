@@ -31,7 +31,8 @@ use Rattle.cjc_tokens.specs.Tokens.{Assigned, assigned}
 use Rattle.cjc_verify.specs.Infos.{infos}
 use Rattle.cjc_verify.specs.Pairs.{Pair, class_ref, pair_of}
 use Rattle.cjc_verify.specs.Pairs as pairs
-use Rattle.cjc_verified_proof.specs.Entries.{AreCounted, AreRefs, IsRef}
+use Rattle.cjc_verified_proof.specs.Entries.{IsRef}
+use Rattle.cjc_verified_proof.specs.Spelt.{AreCounted, AreRefs}
 use Rattle.cjc_bytes.proofs.Gets.{get_below, get_inside}
 use Rattle.cjc_bytes.proofs.Lists.{none_left, none_right}
 use Rattle.cjc_bytes.proofs.Numbers.{number_same, number_same_number, other_number}

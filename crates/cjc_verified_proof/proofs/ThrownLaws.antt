@@ -38,7 +38,7 @@ use Rattle.cjc_verify.specs.Instructions.{throwable}
 use Rattle.cjc_verify.specs.Pairs.{Pair, pair_of}
 use Rattle.cjc_verify_proof.specs.Memories.{SupersStand}
 use Rattle.cjc_verify_proof.specs.Scripts.{HasExceptions}
-use Rattle.cjc_verified_proof.specs.Entries.{AreCounted, AreRefs}
+use Rattle.cjc_verified_proof.specs.Spelt.{AreCounted, AreRefs}
 use Rattle.cjc_verified_proof.specs.PackageTypes.{HasNoObject}
 use Rattle.cjc_bytes.proofs.Bools.{both_back, both_front}
 use Rattle.cjc_bytes.proofs.Plain.{same_some}

@@ -12,16 +12,10 @@ use Rattle.cjc_check_rules.specs.Codes.{Code, codes_from, instructions, onto, wi
 use Rattle.cjc_card_semantics.specs.Machine.Methods.{method_among}
 use Rattle.cjc_bytes.proofs.Numbers.{number_same, number_same_number, other_number}
 use Rattle.cjc_bytes.proofs.Plain.{same_some}
-use Rattle.cjc_verified_proof.proofs.DecodeLaws.{decode_more}
+use Rattle.cjc_cut_proof.specs.Cuts.{IsCut, Stands}
+use Rattle.cjc_cut_proof.proofs.DecodeLaws.{decode_more}
 
 -- ---- instructions
-
--- an instruction of a code that begins at an offset and has these bytes at its front, and so many of them
-pub record Stands (from count : ℕ) (bytes : List ℕ) (p : Placed Instruction) : Type 0 where
-  pub skipped : ℕ
-  pub at : p.at ≡ from + skipped
-  pub decoded : decode (drop skipped bytes) ≡ Some p.item
-  pub within : skipped + size p.item ≤ count
 
 same_ok : {A : Type 0} {xs ys : A} → ◌≡◌ {A = Result A ℕ} (Ok xs) (Ok ys) → xs ≡ ys
 same_ok e = cc
@@ -121,17 +115,6 @@ next_begins (suc n) (suc count) at bytes is e k p q f g = cut_cases (λ qs. slic
     by i ps c (suc j) h s more = more j h s
 
 -- ---- methods
-
--- A method whose header stands at its offset, from which on the bytes are these, and whose instructions are those of
--- its code.
-pub record IsCut (m : MethodDescriptor) (bytes : List ℕ) (code : Code) : Type 0 where
-  pub header : MethodHeader
-  pub is_header : method_header bytes ≡ Some header
-  pub is_abstract : code.is_abstract ≡ header.is_abstract
-  pub first : code.first ≡ m.offset + header.size
-  pub end : code.end ≡ m.offset + header.size + m.bytecode_count
-  pub cut : instructions m.bytecode_count m.bytecode_count (m.offset + header.size) (drop header.size bytes)
-      ≡ Ok code.instructions
 
 -- Codes beside methods that stand one behind the other from an offset on.
 abbrev pub AreCut : (at : ℕ) → (bytes : List ℕ) → List MethodDescriptor → List Code → Type 0

@@ -28,8 +28,9 @@ use Rattle.cjc_card_semantics.specs.Machine.Methods.{Code, bytes_from, described
 use Rattle.cjc_card_semantics.specs.Machine.Methods.{fetched_within, is_class_at, is_class_info, method_among}
 use Rattle.cjc_card_semantics.specs.Machine.Methods.{methods_begin, start_at, start_in, start_of}
 use Rattle.cjc_bytes.proofs.Numbers.{at_most, number_same, other_number}
-use Rattle.cjc_verified_proof.proofs.CutLaws.{AreCut, CutAt, IsCut, Stands, code_beside, cut_from, first_of_offset}
-use Rattle.cjc_verified_proof.proofs.CutLaws.{found_by_offset, stands}
+use Rattle.cjc_cut_proof.specs.Cuts.{AreOf, IsCut, IsMethodAt, Stands}
+use Rattle.cjc_cut_proof.proofs.CutLaws.{AreCut, CutAt, code_beside, cut_from, first_of_offset}
+use Rattle.cjc_cut_proof.proofs.CutLaws.{found_by_offset, next_begins, stands}
 
 -- ---- infos of classes
 
@@ -146,17 +147,6 @@ described_flat part own agree (d ∷ ds) offset = by (is_class_at part d.this_cl
     by true false e more = cc
     by false true e more = cc
 
--- what is loaded of components is theirs
-pub record AreOf (part : Part) (c : Complete) : Type 0 where
-  pub method : part.method ≡ c.method
-  pub class : part.class ≡ c.class
-  pub descriptor : part.descriptor ≡ (let d = c.descriptor in d.classes)
-
--- where a method stands, its header and its code
-pub record IsMethodAt (c : Complete) (m : MethodDescriptor) (code : Cut) : Type 0 where
-  pub begins : check.methods_begin c ≤ m.offset
-  pub is_cut : IsCut m (let x = c.method in drop (m.offset - check.methods_begin c) x.methods) code
-
 module _ (c : Complete) (whole : whole_spots c ≡ []) where
   pub all_cut : AreCut (check.methods_begin c) (let m = c.method in m.methods) (class_methods c) (codes c)
   all_cut = by (cut c) refl whole
@@ -269,3 +259,14 @@ module _ (c : Complete) (whole : whole_spots c ≡ []) where
         ∙ ap (option_and_then (fetched_within l body i.at part)) decoded
         ∙ ap (λ t. if t then Some (fetched_as l p part.pool i.at i.item) else None)
         (at_most (i.at + size i.item) (m.offset + h.size + m.bytecode_count) (omega (arith, is_at, within)))
+
+-- the next instruction begins where one ends
+pub follows_next : (c : Complete) (m : MethodDescriptor) (code : Cut) → IsMethodAt c m code → (k : ℕ)
+    (i j : Placed Instruction) → slice_get code.instructions k ≡ Some i → slice_get code.instructions (suc k) ≡ Some j
+    → j.at ≡ i.at + size i.item
+follows_next c m code at k i j e f =
+    let is = at.is_cut in
+    let h = is.header in
+    let x = c.method in
+    next_begins m.bytecode_count m.bytecode_count (m.offset + h.size) (drop h.size (drop (m.offset - check.methods_begin c)
+    x.methods)) code.instructions is.cut k i j e f

@@ -1,18 +1,20 @@
--- Scratch.
-use Rattle.std.specs.Prelude.{◌≡◌, ◌<◌, ◌≤◌, ◌^◌, ℕ, Bool, length, slice_get, Some}
-use Rattle.cjc_capread.specs.declared.tree.ClassRef.{ClassRef}
-use Rattle.cjc_capread.specs.declared.tree.ClassRef.TheVariants.{Inside, Outside}
+-- What components that bytes spell keep of class_refs, and lists and export files of tokens.
+use Rattle.std.specs.Prelude.{◌≡◌, ◌<◌, ◌≤◌, ◌^◌, ℕ, length, slice_get, Some}
 use Rattle.cjc_capread.specs.declared.tree.ClassDescriptor.{ClassDescriptor}
 use Rattle.cjc_check_rules.specs.ExportFile.declared.tree.ExportClass.{ExportClass}
 use Rattle.cjc_check_rules.specs.ExportFile.declared.tree.ExportTree.{ExportTree}
 use Rattle.cjc_check_rules.specs.Complete.{Complete}
 use Rattle.cjc_world.specs.Files.{Files}
-abbrev pub IsRef : ClassRef → Type 0
-IsRef (Inside offset) = offset < 2 ^ 15
-IsRef (Outside import class) = (import < 2 ^ 7) × (class < 2 ^ 8)
+use Rattle.cjc_verified_proof.specs.Entries.{IsRef}
+use Rattle.cjc_verified_proof.specs.Suited.{HaveRefs}
+
+-- Entries of the constant pool and the classes of Descriptor name what bytes spell.
 pub record AreRefs (c : Complete) : Type 0 where
+  pub entries : HaveRefs c
   pub holders : (k : ℕ) (d : ClassDescriptor) → (let x = c.descriptor in slice_get x.classes k ≡ Some d)
       → IsRef d.this_class
+
+-- Package tokens count the export files, and each class token of one has one byte.
 pub record AreCounted (files : Files) : Type 0 where
   pub few : length files.exports ≤ 2 ^ 7
   pub tokens : (k : ℕ) (t : ExportTree) → slice_get files.exports k ≡ Some t → (j : ℕ) (x : ExportClass)

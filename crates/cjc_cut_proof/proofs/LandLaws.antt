@@ -22,7 +22,7 @@ use Rattle.cjc_bytes.proofs.Lists.{none_left, none_right}
 use Rattle.cjc_bytes.proofs.Gets.{contains_at, find_got, none_each}
 use Rattle.cjc_bytes.proofs.Numbers.{number_same, number_same_number}
 use Rattle.cjc_bytes.proofs.Plain.{same_some}
-use Rattle.cjc_zcut.proofs.Facts.{position-cons}
+use Rattle.cjc_cut_proof.specs.Cuts.{EndBehind, Jumps, Leads, StandApart}
 
 -- ---- tests
 
@@ -33,23 +33,6 @@ holds false s e = cc
 both : (a b : Bool) → (a && b) ≡ true → (a ≡ true) × (b ≡ true)
 both true b e = (refl, e)
 both false b e = absurd cc
-
--- ---- instructions by their offsets
-
--- where an instruction begins there is its place, whatever is made of instructions
-pub place_there : {S : Type 0} (f : Placed Instruction → S) (at : S → ℕ) → ((i : Placed Instruction) → at (f i) ≡ i.at)
-    → (is : List (Placed Instruction)) (offset : ℕ) → begins is offset ≡ true
-    → (k : ℕ) × (position (λ s. at s == offset) (map f is) ≡ Some k)
-place_there {S} f at same [] offset e = absurd cc
-place_there {S} f at same (i ∷ is) offset e =
-    let r = by (at (f i) == offset) (ap (λ n. n == offset) (same i)) e (place_there f at same is offset) in
-    (r.0, position-cons (λ s. at s == offset) (f i) (map f is) ∙ r.1)
-  where
-    by : (b : Bool) → b ≡ (i.at == offset) → ((i.at == offset) || begins is offset) ≡ true → (begins is offset ≡ true
-        → (k : ℕ) × (position (λ s. at s == offset) (map f is) ≡ Some k))
-        → (k : ℕ) × ((if b then Some 0 else option_map suc (position (λ s. at s == offset) (map f is))) ≡ Some k)
-    by true is_there e more = (0, refl)
-    by false is_there e more = let r = more (ap (λ t. t || begins is offset) is_there ∙ e) in (suc r.0, ap (option_map suc) r.1)
 
 -- ---- jumps
 
@@ -94,11 +77,6 @@ jump_lands code at (by ∷ bys) e to h =
     go one all zero f = ap (has_start code) (sym (same_some f)) ∙ land_among code.instructions at by one
     go one all (suc k) f = later bys all k f
 
--- an instruction of a code: its jumps land, and where it is the last nothing follows it
-pub record Jumps (code : Code) (is : List (Placed Instruction)) (k : ℕ) (i : Placed Instruction) : Type 0 where
-  pub land : jumps_land code i ≡ true
-  pub last : slice_get is (suc k) ≡ None → (let x = i.item in ends_code x.opcode) ≡ true
-
 pub jumps_at : (code : Code) (is : List (Placed Instruction)) → in_code code is ≡ [] → (k : ℕ) (i : Placed Instruction)
     → slice_get is k ≡ Some i → Jumps code is k i
 unfolding in_code
@@ -141,15 +119,6 @@ code_begins c e k code f g =
     by (i ∷ is) h = (i, refl)
 
 -- ---- handlers
-
--- what a handler says that is consistent with codes
-pub record Leads (all : List Code) (h : Handler) : Type 0 where
-  pub code : Code
-  pub place : ℕ
-  pub among : slice_get all place ≡ Some code
-  pub starts : has_start code h.start ≡ true
-  pub ends : (has_start code (h.start + h.length) ≡ true) ⊎ (h.start + h.length ≡ code.end)
-  pub target : has_start code h.handler ≡ true
 
 either : (a b : Bool) → (a || b) ≡ true → (a ≡ true) ⊎ (b ≡ true)
 either true b e = inl refl
@@ -197,16 +166,6 @@ handler_leads c e k h f =
     (none_left (handlers.in_code s.0 h (find (λ code. has_start code h.start) (codes c)))
     (unless (h.catch_index == 0 || is_classref (slice_get p.entries h.catch_index)) (in_info 7 (s.0 + 6))) s.1)
 
--- Codes stand apart: where an instruction of one begins, and behind it one of another before the first one's end, both
--- are one code.
-abbrev pub StandApart : List Code → Type 0
-StandApart all = (k j : ℕ) (a b : Code) → slice_get all k ≡ Some a → slice_get all j ≡ Some b → (x y : ℕ)
-    → has_start a x ≡ true → has_start b y ≡ true → x ≤ y → y < a.end → a ≡ b
-
--- all instructions begin before their code's end
-abbrev pub EndBehind : List Code → Type 0
-EndBehind all = (k : ℕ) (a : Code) → slice_get all k ≡ Some a → (x : ℕ) → has_start a x ≡ true → x < a.end
-
 -- a handler that covers an instruction leads to one of the same code
 pub covered_lands : (all : List Code) → StandApart all → EndBehind all → (h : Handler) → Leads all h → (k : ℕ) (code : Code)
     → slice_get all k ≡ Some code → (at : ℕ) → has_start code at ≡ true → h.start ≤ at → at < h.start + h.length
@@ -216,3 +175,8 @@ covered_lands all apart ends h l k code f at starts low high =
     (h.start + h.length) t in omega (arith, lt)) (λ t. omega (arith, t)) l.ends in
     let same = apart l.place k l.code code l.among f h.start at l.starts starts low (omega (arith, high, range)) in
     subst (λ c. has_start c h.handler ≡ true) same l.target
+
+-- the jumps of each instruction of each code
+pub all_jumps : (c : Complete) → jump_spots c ≡ [] → (k : ℕ) (code : Code) → slice_get (codes c) k ≡ Some code → (j : ℕ)
+    (i : Placed Instruction) → slice_get code.instructions j ≡ Some i → Jumps code code.instructions j i
+all_jumps c clean k code e j i f = jumps_at code code.instructions (code_jumps c clean k code e) j i f

@@ -1,9 +1,0 @@
-pub mod Facts
-pub mod DecodeLaws
-pub mod CutLaws
-pub mod LandLaws
-pub mod CardLaws
-pub mod BodyLaws
-pub mod TypeLaws
-pub mod Small
-pub mod NameLaws

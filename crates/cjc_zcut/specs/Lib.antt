@@ -1,4 +1,0 @@
-pub mod Bodies
-pub mod Copies
-pub mod PairCopy
-pub mod Ents
