@@ -13,3 +13,4 @@ pub mod FixedLaws
 pub mod InfoLaws
 pub mod NamingLaws
 pub mod TowerLaws
+pub mod PlaceLaws
