@@ -56,7 +56,7 @@ use Rattle.cjc_verified_proof.specs.Suited.{AreStanding, HaveSorts, StandsAt, ho
 use Rattle.cjc_bytes.proofs.Gets.{find_got}
 use Rattle.cjc_verify_proof.proofs.CalleeLaws.{fixed_calls, outer_calls, taken_counted}
 use Rattle.cjc_verified_proof.proofs.EntryLaws.{IsTyped, entry_typed, unless_holds}
-use Rattle.cjc_verified_proof.proofs.SupersLaws.{along_none}
+use Rattle.cjc_verified_proof.proofs.PlaceLaws.{along_none}
 use Rattle.cjc_verified_proof.proofs.ThereLaws.{outside_there}
 
 -- ---- methods of export files

@@ -23,3 +23,4 @@ pub mod DescribedLaws
 pub mod ThrownLaws
 pub mod FlagLaws
 pub mod StandingLaws
+pub mod PlaceLaws

@@ -56,7 +56,7 @@ use Rattle.cjc_token_proof.proofs.ComponentsLaws.Starts.{infos_stand_alike}
 use Rattle.cjc_token_proof.proofs.TablesLaws.Above.{says_kinds}
 use Rattle.cjc_verified_proof.proofs.InfoLaws.{class_is, infos_are, infos_by_order, map_twice, wanted_class, wanted_info}
 use Rattle.cjc_verified_proof.proofs.InfoLaws.{wanted_infos}
-use Rattle.cjc_verified_proof.proofs.SupersLaws.{import_is}
+use Rattle.cjc_verified_proof.proofs.PlaceLaws.{import_is}
 
 -- ---- lists
 

@@ -46,15 +46,15 @@ use Rattle.cjc_verify_proof.specs.Instructions.{Suits}
 use Rattle.cjc_verify_proof.specs.Instructions as suits
 use Rattle.cjc_verify_proof.specs.Uses.{is_index, is_index_form, is_used_by}
 use Rattle.cjc_bytes.proofs.Lists.{none_left, none_right}
-use Rattle.cjc_verified_proof.specs.Entries.{IsRef}
+use Rattle.cjc_verified_proof.specs.Entries.{IsRef, AreRefs}
 use Rattle.cjc_verified_proof.specs.Programs.{IsProgramOf}
-use Rattle.cjc_verified_proof.specs.Suited.{HaveRefs, IsRight}
+use Rattle.cjc_verified_proof.specs.Suited.{IsRight}
 use Rattle.cjc_verify_proof.proofs.OperandLaws.{operands_read}
 use Rattle.cjc_verify_proof.proofs.RowSuits.{jump_suits, jumps_jump, numbers_mean, pairs_suit, range_suits, return_suits}
 use Rattle.cjc_verify_proof.proofs.RowSuits.{switches_jump_not, use_is}
 use Rattle.cjc_verify_proof.proofs.TableLaws.{beside}
 use Rattle.cjc_verified_proof.proofs.EntryLaws.{unless_holds}
-use Rattle.cjc_verified_proof.proofs.MakeLaws.{all_read}
+use Rattle.cjc_verified_proof.proofs.PlaceLaws.{all_read}
 use Rattle.cjc_verified_proof.proofs.PlainRows.{plain_read}
 use Rattle.cjc_verified_proof.proofs.ThereLaws.{entry_meant}
 
@@ -188,7 +188,7 @@ module _ (c : Complete) (clean : index_spots c ≡ []) (j : ℕ) (code : Code) (
       by (Some (Lookup k)) f e = cc
 
 module _ (applets : Bool) (files : Files) (image : StaticImage) (c : Complete) (program : Program)
-    (of : IsProgramOf (pair_of applets files image c) program) (refs : HaveRefs c)
+    (is_program : IsProgramOf (pair_of applets files image c) program) (refs : AreRefs c)
     (clean : class_ref_spots c files.exports ≡ []) where
   abbrev p : Pair
   p = pair_of applets files image c
@@ -218,7 +218,7 @@ module _ (applets : Bool) (files : Files) (image : StaticImage) (c : Complete) (
   }
 
   pub class_named : (k : ℕ) (r : ClassRef) → slice_get pool k ≡ Some (Classref r) → IsNamed r
-  class_named k r is = meaning_named r (refs k (Classref r) is) (entry_meant applets files image c clean k (Classref r) r
+  class_named k r is = meaning_named r (refs.entries k (Classref r) is) (entry_meant applets files image c clean k (Classref r) r
       is (λ at. refl))
 
   -- what a type test names
@@ -311,7 +311,7 @@ module _ (applets : Bool) (files : Files) (image : StaticImage) (c : Complete) (
 
     throw_suits : Suits l program result (last (exception_needs (throwable p))) (Touch Throw)
     throw_suits = subst (λ (o : Option (List ℕ)). Suits l program result (last (exception_needs o)) (Touch Throw)) (sym
-        of.exceptions) suits.athrow
+        is_program.exceptions) suits.athrow
 
   -- ---- by the row
 

@@ -28,8 +28,7 @@ use Rattle.cjc_components.specs.Paired.Naming.{files_from}
 use Rattle.cjc_verify.specs.Pairs.{Pair, pair_of}
 use Rattle.cjc_bytes.proofs.Lists.{none_left}
 use Rattle.cjc_verified_proof.proofs.EntryLaws.{unless_holds}
-use Rattle.cjc_verified_proof.proofs.MakeLaws.{import_there}
-use Rattle.cjc_verified_proof.proofs.SupersLaws.{along_none, class_bytes, found_token}
+use Rattle.cjc_verified_proof.proofs.PlaceLaws.{along_none, class_bytes, found_token, import_there}
 
 -- ---- infos of Class by their starts
 

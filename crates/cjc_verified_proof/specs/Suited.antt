@@ -25,24 +25,6 @@ use Rattle.cjc_verify_proof.specs.Calls.{argument_cells, AreSorts, IsResult}
 use Rattle.cjc_verify_proof.specs.Frames.{Typing, Program, Begins}
 use Rattle.cjc_verified_proof.specs.Entries.{IsRef}
 
--- the class of a static reference is one that two bytes spell
-abbrev pub IsStaticRef : StaticRef → Type 0
-IsStaticRef (Inside offset) = Unit {0}
-IsStaticRef (Outside import class token) = IsRef (refs.Outside import class)
-
--- the class_ref of an entry is one that two bytes spell
-abbrev pub IsEntryRef : PoolEntry → Type 0
-IsEntryRef (Classref class) = IsRef class
-IsEntryRef (InstanceFieldref class token) = IsRef class
-IsEntryRef (VirtualMethodref class token) = IsRef class
-IsEntryRef (SuperMethodref class token) = IsRef class
-IsEntryRef (StaticFieldref member) = IsStaticRef member
-IsEntryRef (StaticMethodref member) = IsStaticRef member
-
--- each entry of the constant pool is so
-abbrev pub HaveRefs : Complete → Type 0
-HaveRefs c = (k : ℕ) (item : PoolEntry) → slice_get (let q = c.pool in q.entries) k ≡ Some item → IsEntryRef item
-
 -- the type of the receiver of a method of Method; a static one has none
 abbrev pub holder_type : Body → Option (List ℕ)
 holder_type b = let m = b.method in if is_static m.flags then None else Some (class_type b.holder)
