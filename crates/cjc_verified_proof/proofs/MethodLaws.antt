@@ -42,8 +42,7 @@ use Rattle.cjc_verify.specs.Named.{entry_of}
 use Rattle.cjc_verify.specs.Pairs.{Pair, pair_of}
 use Rattle.cjc_verify.specs.Verified.{IsVerified, in_code}
 use Rattle.cjc_verify_proof.specs.Frames.{Begins, IsCatch, IsCaught, IsMethod, Typing}
-use Rattle.cjc_verified_proof.specs.Entries.{IsRef}
-use Rattle.cjc_verified_proof.specs.Spelt.{AreRefs}
+use Rattle.cjc_verified_proof.specs.Entries.{AreRefs, IsRef}
 use Rattle.cjc_verified_proof.specs.Programs.{IsTypingOf, code_of}
 use Rattle.cjc_bytes.proofs.Gets.{contains_at, get_mapped, mapped_at}
 use Rattle.cjc_bytes.proofs.Numbers.{number_same_number, other_number}
@@ -57,7 +56,7 @@ use Rattle.cjc_cut_proof.proofs.CutLaws.{first_begins}
 use Rattle.cjc_tokens.proofs.Facts.{position-cons}
 use Rattle.cjc_verified_proof.proofs.EndLaws.{last_falls_not}
 use Rattle.cjc_cut_proof.proofs.LandLaws.{all_jumps, code_begins, covered_lands, handler_leads, jump_lands}
-use Rattle.cjc_verified_proof.proofs.MakeLaws.{all_read}
+use Rattle.cjc_verified_proof.proofs.PlaceLaws.{all_read}
 
 -- ---- instructions by their offsets
 

@@ -31,8 +31,7 @@ use Rattle.cjc_tokens.specs.Tokens.{Assigned, assigned}
 use Rattle.cjc_verify.specs.Infos.{infos}
 use Rattle.cjc_verify.specs.Pairs.{Pair, class_ref, pair_of}
 use Rattle.cjc_verify.specs.Pairs as pairs
-use Rattle.cjc_verified_proof.specs.Entries.{IsRef}
-use Rattle.cjc_verified_proof.specs.Spelt.{AreCounted, AreRefs}
+use Rattle.cjc_verified_proof.specs.Entries.{AreCounted, AreRefs, IsRef}
 use Rattle.cjc_bytes.proofs.Gets.{get_below, get_inside}
 use Rattle.cjc_bytes.proofs.Lists.{none_left, none_right}
 use Rattle.cjc_bytes.proofs.Numbers.{number_same, number_same_number, other_number}
@@ -40,7 +39,7 @@ use Rattle.cjc_bytes.proofs.Plain.{same_some}
 use Rattle.cjc_tokens.proofs.Facts.{position-cons}
 use Rattle.cjc_card_link.proofs.InfoPlaces.{all_starts as starts_of_infos}
 use Rattle.cjc_verified_proof.proofs.EntryLaws.{unless_holds}
-use Rattle.cjc_verified_proof.proofs.MakeLaws.{all_read, import_there}
+use Rattle.cjc_verified_proof.proofs.PlaceLaws.{all_read, import_there}
 
 -- ---- infos by number
 

@@ -40,7 +40,7 @@ use Rattle.cjc_verify_proof.specs.Control.{cells_of}
 use Rattle.cjc_verify_proof.specs.Frames.{Begins, Program, Typing}
 use Rattle.cjc_verified_proof.specs.PackageTypes.{field_types}
 use Rattle.cjc_verified_proof.specs.Programs.{IsProgramOf, IsTypingOf, code_of, is_concrete, is_made}
-use Rattle.cjc_verified_proof.specs.Spelt.{AreCounted, AreRefs}
+use Rattle.cjc_verified_proof.specs.Entries.{AreCounted, AreRefs}
 use Rattle.cjc_verified_proof.specs.Suited.{AreStanding, HaveSorts, StandsAt, holder_type}
 use Rattle.cjc_bytes.proofs.BrokenRules.{among_left, among_right}
 use Rattle.cjc_bytes.proofs.Gets.{any_at, contained, contains_at, mapped_at, item_there, none_each}

@@ -38,7 +38,7 @@ use Rattle.cjc_verify.specs.Instructions.{throwable}
 use Rattle.cjc_verify.specs.Pairs.{Pair, pair_of}
 use Rattle.cjc_verify_proof.specs.Memories.{SupersStand}
 use Rattle.cjc_verify_proof.specs.Scripts.{HasExceptions}
-use Rattle.cjc_verified_proof.specs.Spelt.{AreCounted, AreRefs}
+use Rattle.cjc_verified_proof.specs.Entries.{AreCounted, AreRefs}
 use Rattle.cjc_verified_proof.specs.PackageTypes.{HasNoObject}
 use Rattle.cjc_bytes.proofs.Bools.{both_back, both_front}
 use Rattle.cjc_bytes.proofs.Plain.{same_some}
@@ -46,7 +46,7 @@ use Rattle.cjc_token_proof.proofs.TablesLaws.Clean.{language}
 use Rattle.cjc_token_proof.proofs.TablesLaws.Tables.{kinds_agree}
 use Rattle.cjc_token_proof.proofs.TablesLaws.Telling.{has_lang, has_object, says_names}
 use Rattle.cjc_verify_proof.proofs.Upwards.{Over, here, over_told, told_over, up}
-use Rattle.cjc_verified_proof.proofs.MakeLaws.{all_read}
+use Rattle.cjc_verified_proof.proofs.PlaceLaws.{all_read}
 use Rattle.cjc_verified_proof.proofs.NameLaws.{imported_meant}
 
 -- ---- what stands above by supers alone stands above

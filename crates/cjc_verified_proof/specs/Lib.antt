@@ -3,4 +3,3 @@ pub mod Entries
 pub mod Checked
 pub mod Programs
 pub mod Suited
-pub mod Spelt
