@@ -24,3 +24,4 @@ pub mod ThrownLaws
 pub mod FlagLaws
 pub mod StandingLaws
 pub mod PlaceLaws
+pub mod FieldSuits

@@ -59,12 +59,12 @@ module _ (applets : Bool) (list : List ℕ) (files : Files) (image : StaticImage
   l = p.loaded
 
   -- a class of which an object may be made
-  record IsMade (r : ClassRef) : Type 0 where
-    class : Class
-    meant : class_of l 0 r ≡ Some class
-    plain : is_interface l class ≡ false
+  pub record IsMade (r : ClassRef) : Type 0 where
+    pub class : Class
+    pub meant : class_of l 0 r ≡ Some class
+    pub plain : is_interface l class ≡ false
 
-  made_there : (r : ClassRef) → names_unmade p r ≡ false → IsMade r
+  pub made_there : (r : ClassRef) → names_unmade p r ≡ false → IsMade r
   made_there (Inside offset) e = by (class_at p offset) refl e
     where
       by : (o : Option world.Class) → class_at p offset ≡ o → is_unmade_class o ≡ false → IsMade (Inside offset)

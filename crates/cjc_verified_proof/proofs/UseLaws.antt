@@ -43,13 +43,13 @@ use Rattle.cjc_verified_proof.proofs.PlaceLaws.{ref_read}
 -- a class that is there is meant by its class_ref
 module _ (l : Loaded) (t : FieldTypes) (declared : AreDeclared l t) (offset token : ℕ) (type : ValueType)
     (typed : t.field (record { class = Own 0 offset; token = token }) ≡ Some type) where
-  class_meant : class_of l 0 (Inside offset) ≡ Some (Own 0 offset)
+  pub class_meant : class_of l 0 (Inside offset) ≡ Some (Own 0 offset)
   class_meant =
       let d = declared (record { class = Own 0 offset; token = token }) type typed in
       let there : is_there l (Own 0 offset) ≡ true = ap (is_there l) d.class ∙ ap is_some d.info in
       ap (λ b. if b then Some (Own 0 offset) else None) there
 
-  class_named : offset < 2 ^ 15 → shape_by l (class_type (Inside offset)) ≡ Some (OfClass (Own 0 offset))
+  pub class_named : offset < 2 ^ 15 → shape_by l (class_type (Inside offset)) ≡ Some (OfClass (Own 0 offset))
   class_named lt = ap (option_map OfClass) (ref_read l offset lt ∙ class_meant)
 
 -- ---- instructions
