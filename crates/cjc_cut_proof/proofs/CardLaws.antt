@@ -242,8 +242,11 @@ module _ (c : Complete) (whole : whole_spots c ≡ []) where
         let is_at = s.at in
         let within = s.within in
         let n : m.offset - from + h.size + s.skipped ≡ i.at - from = omega (arith, low, is_at) in
-        let decoded : decode (bytes_from part i.at) ≡ Some i.item = ap decode (bytes_alike i.at (omega (arith, low,
-        is_at))) ∙ sym (ap decode (drop-drop s.skipped h.size (drop (m.offset - from) x.methods)
+        let decoded : decode (bytes_from part i.at) ≡ Some i.item = ap decode (bytes_alike i.at (omega (
+          arith,
+          low,
+          is_at,
+        ))) ∙ sym (ap decode (drop-drop s.skipped h.size (drop (m.offset - from) x.methods)
         ∙ drop-drop (h.size + s.skipped) (m.offset - from) x.methods ∙ (let z : m.offset - from
         + (h.size + s.skipped) ≡ i.at - from = omega (arith, low, is_at) in ap (λ y. drop y x.methods) z)))
         ∙ s.decoded in

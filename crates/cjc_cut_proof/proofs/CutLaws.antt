@@ -261,8 +261,13 @@ first_of_offset at bytes (n ∷ ms) (code ∷ codes) h (suc k) m e =
     let far = c.offset in
     let some = h.1 in
     let here = h.2 in
-    ap (λ b. if b then Some n else method_among ms m.offset) (other_number n.offset m.offset (λ same. omega (arith, far,
-    some, here, same)))
+    ap (λ b. if b then Some n else method_among ms m.offset) (other_number n.offset m.offset (λ same. omega (
+      arith,
+      far,
+      some,
+      here,
+      same,
+    )))
     ∙ first_of_offset (at + h.0) (drop h.0 bytes) ms codes h.4 k m e
 
 -- what is found by an offset stands there

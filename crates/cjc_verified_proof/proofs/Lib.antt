@@ -25,3 +25,4 @@ pub mod FlagLaws
 pub mod StandingLaws
 pub mod PlaceLaws
 pub mod FieldSuits
+pub mod ProgramLaws

@@ -1,17 +1,18 @@
 -- The methods of components that the type checker passes are typed: their tables are closed and break no rule, their
 -- handlers are those of the package, and their instructions lead to instructions.
 use Rattle.std.proofs.Common.{◌≡◌, ◌⊎◌, ℕ, zero, suc, ◌+◌, ◌-◌, ◌<◌, ◌≤◌, ◌==◌, refl, sym, ap, subst, ◌∙◌, arith, Bool}
-use Rattle.std.proofs.Common.{true, false, inl, inr, ⊎_elim, List, [], ◌∷◌, length, map, slice_get, Option, Some, None}
+use Rattle.std.proofs.Common.{true, false, inl, inr, ⊎_elim, List, [], ◌∷◌, drop, length, map, slice_get, Option, Some, None}
 use Rattle.std.specs.Prelude.{Contains, ◌&&◌, ◌||◌, nat_le, nat_lt, not, option_and_then, option_map, if◌then◌else◌, position}
 use Rattle.std.specs.List.{AllZip, list_all}
 use Rattle.std.proofs.lemmas.Bool.{leb-true, ltb-true}
 use Rattle.cjc_capread.specs.declared.tree.ClassRef.{ClassRef}
 use Rattle.cjc_capread.specs.declared.tree.Handler.{Handler}
+use Rattle.cjc_capread.specs.declared.tree.MethodDescriptor.{MethodDescriptor}
 use Rattle.cjc_capread.specs.declared.tree.PoolEntry.{PoolEntry}
 use Rattle.cjc_capread.specs.declared.tree.PoolEntry.TheVariants.{Classref, InstanceFieldref, VirtualMethodref}
 use Rattle.cjc_capread.specs.declared.tree.PoolEntry.TheVariants.{SuperMethodref, StaticFieldref, StaticMethodref}
 use Rattle.cjc_capread.specs.Decode.{Instruction, decode, size}
-use Rattle.cjc_check_rules.specs.Codes.{Code as Cut, codes, whole_spots}
+use Rattle.cjc_check_rules.specs.Codes.{Code as Cut, codes, methods_begin, whole_spots}
 use Rattle.cjc_check_rules.specs.Complete.{Complete}
 use Rattle.cjc_check_rules.specs.Handlers.{handler_spots}
 use Rattle.cjc_check_rules.specs.Instructions.{ends_code, has_start, jump_spots, jumps, lands}
@@ -52,7 +53,7 @@ use Rattle.cjc_verified_proof.proofs.ActLaws.{act_leads, may_fall}
 use Rattle.cjc_verified_proof.proofs.BodyLaws.{StandsIn, body_stands, method_has_body}
 use Rattle.cjc_cut_proof.specs.Cuts.{AreOf, EndBehind, IsMethodAt, StandApart}
 use Rattle.cjc_cut_proof.proofs.CardLaws.{follows_next, instruction_fetched, method_starts, starts_there}
-use Rattle.cjc_cut_proof.proofs.CutLaws.{first_begins}
+use Rattle.cjc_cut_proof.proofs.CutLaws.{first_begins, stands}
 use Rattle.cjc_tokens.proofs.Facts.{position-cons}
 use Rattle.cjc_verified_proof.proofs.EndLaws.{last_falls_not}
 use Rattle.cjc_cut_proof.proofs.LandLaws.{all_jumps, code_begins, covered_lands, handler_leads, jump_lands}
@@ -118,6 +119,17 @@ begins_there (j ∷ is) (suc k) i e = by (j.at == i.at) (begins_there is k i e)
 both : (a b : Bool) → (a && b) ≡ true → (a ≡ true) × (b ≡ true)
 both true b e = (refl, e)
 both false b e = absurd cc
+
+-- an instruction of a code is what some bytes say
+item_decoded : (c : Complete) (m : MethodDescriptor) (code : Cut) → IsMethodAt c m code → (k : ℕ)
+    (i : Placed Instruction) → slice_get code.instructions k ≡ Some i → (bytes : List ℕ) × (decode bytes ≡ Some i.item)
+item_decoded c m code at k i e =
+    let is = at.is_cut in
+    let h = is.header in
+    let x = c.method in
+    let bytes = drop h.size (drop (m.offset - methods_begin c) x.methods) in
+    let s = stands m.bytecode_count m.bytecode_count (m.offset + h.size) bytes code.instructions is.cut k i e in
+    (drop s.skipped bytes, s.decoded)
 
 -- a method with its table
 abbrev pub typing : Pair → Body → List (Option State) → Typing
@@ -192,6 +204,8 @@ module _ (applets : Bool) (files : Files) (image : StaticImage) (c : Complete) (
     pub is_item : slice_get b.instructions place ≡ Some item
     pub is : step p (let t = type_of_body c b in t.result) item ≡ s
     pub fetched : fetch l (code_of b) item.at ≡ Some (fetched_as l 0 part.pool item.at item.item)
+    pub bytes : List ℕ
+    pub decoded : decode bytes ≡ Some item.item
 
   pub step_there : (k : ℕ) (b : Body) → slice_get (bodies c) k ≡ Some b → (place : ℕ) (s : Step)
       → slice_get (let f = frames_of p b in f.steps) place ≡ Some s → IsStep b place s
@@ -211,6 +225,10 @@ module _ (applets : Bool) (files : Files) (image : StaticImage) (c : Complete) (
           end = m.offset + x.size + m.bytecode_count;
         }) (r.0).at) (sym stands.header) ∙ instruction_fetched c whole part of l 0 h.max_stack refl m stands.code stands.at
             place r.0 (ap (λ is. slice_get is place) (sym stands.instructions) ∙ r.1);
+        bytes = (item_decoded c b.method stands.code stands.at place r.0 (ap (λ is. slice_get is place)
+            (sym stands.instructions) ∙ r.1)).0;
+        decoded = (item_decoded c b.method stands.code stands.at place r.0 (ap (λ is. slice_get is place)
+            (sym stands.instructions) ∙ r.1)).1;
       }
 
   -- the place of an instruction that begins at an offset
@@ -261,8 +279,8 @@ module _ (applets : Bool) (files : Files) (image : StaticImage) (c : Complete) (
 
     module _ (k : ℕ) (b : Body) (e : slice_get (bodies c) k ≡ Some b) (rows : List (Option State))
         (least : IsLeastTable (frames_of p b) rows) where
-      stands : StandsIn c k b
-      stands = body_stands c whole k b e
+      standing : StandsIn c k b
+      standing = body_stands c whole k b e
 
       abbrev result : ValueType
       result = let t = type_of_body c b in t.result
@@ -280,12 +298,12 @@ module _ (applets : Bool) (files : Files) (image : StaticImage) (c : Complete) (
           let w = h.0 in
           let q = i.item in
           let t = both (nat_le w.start q.at) (nat_lt q.at (w.start + w.length)) at in
-          let starts : has_start stands.code q.at ≡ true = begins_there (let y = stands.code in y.instructions) place q
-          (ap (λ is. slice_get is place) (sym stands.instructions) ∙ i.is_item) in
+          let starts : has_start standing.code q.at ≡ true = begins_there (let y = standing.code in y.instructions) place q
+          (ap (λ is. slice_get is place) (sym standing.instructions) ∙ i.is_item) in
           let leads = handler_leads c handled r.0 w h.1 in
-          let to = covered_lands (codes c) apart ends w leads k stands.code stands.among q.at starts
+          let to = covered_lands (codes c) apart ends w leads k standing.code standing.among q.at starts
           (leb-true w.start q.at t.0) (ltb-true q.at (w.start + w.length) t.1) in
-          let place_to = place_of k b stands w.handler to in
+          let place_to = place_of k b standing w.handler to in
           (place_to.0, ap (λ (y : Catch). place_at (let f = frames_of p b in f.steps) y.target) (sym h.2) ∙ place_to.1)
 
       jumps_there : (place : ℕ) (s : Step) → slice_get (let f = frames_of p b in f.steps) place ≡ Some s → (at : ℕ)
@@ -297,10 +315,10 @@ module _ (applets : Bool) (files : Files) (image : StaticImage) (c : Complete) (
           let leads = act_leads p result q (row (let x = q.item in x.opcode)) in
           let here : Contains (let a = act p result q in a.targets) at = subst (λ (y : Step). Contains (let a = y.act
           in a.targets) at) (sym i.is) among in
-          let j = all_jumps c jump k stands.code stands.among place q (ap (λ is. slice_get is place) (sym stands.instructions) ∙ i.is_item) in
-          place_of k b stands at (⊎_elim
+          let j = all_jumps c jump k standing.code standing.among place q (ap (λ is. slice_get is place) (sym standing.instructions) ∙ i.is_item) in
+          place_of k b standing at (⊎_elim
           (λ none. absurd (no_target (subst (λ ts. Contains ts at) none here)))
-          (λ some. jump_lands stands.code q.at (jumps q.item) j.land at (subst (λ ts. Contains ts at) some here))
+          (λ some. jump_lands standing.code q.at (jumps q.item) j.land at (subst (λ ts. Contains ts at) some here))
           leads.targets)
         where
           no_target : {n : ℕ} → Contains [] n → ⊥
@@ -316,17 +334,17 @@ module _ (applets : Bool) (files : Files) (image : StaticImage) (c : Complete) (
           let op = (let x = q.item in x.opcode) in
           let leads = act_leads p result q (row op) in
           let may : may_fall (row op) ≡ true = sym leads.falls ∙ ap (λ (y : Step). let a = y.act in a.falls) i.is ∙ falls in
-          let got = ap (λ is. slice_get is place) (sym stands.instructions) ∙ i.is_item in
-          let j = all_jumps c jump k stands.code stands.among place q got in
+          let got = ap (λ is. slice_get is place) (sym standing.instructions) ∙ i.is_item in
+          let j = all_jumps c jump k standing.code standing.among place q got in
           let next : f_next g ≡ q.at + size q.item = ap f_next (same_some (sym fetches ∙ ap (λ (y : Step).
           fetch l (code_of b) y.at) (sym i.is) ∙ i.fetched)) in
           by q got (slice_get b.instructions (suc place)) refl may
-          (λ none. j.last (ap (λ is. slice_get is (suc place)) (sym stands.instructions) ∙ none)) next
+          (λ none. j.last (ap (λ is. slice_get is (suc place)) (sym standing.instructions) ∙ none)) next
         where
           f_next : Fetched Class Field StaticCell Callee → ℕ
           f_next x = x.next
 
-          by : (q : Placed Instruction) → slice_get (let y = stands.code in y.instructions) place ≡ Some q
+          by : (q : Placed Instruction) → slice_get (let y = standing.code in y.instructions) place ≡ Some q
               → (o : Option (Placed Instruction)) → slice_get b.instructions (suc place) ≡ o
               → may_fall (row (let x = q.item in x.opcode)) ≡ true
               → (slice_get b.instructions (suc place) ≡ None → ends_code (let x = q.item in x.opcode) ≡ true)
@@ -335,7 +353,7 @@ module _ (applets : Bool) (files : Files) (image : StaticImage) (c : Complete) (
           by q got None none may last next = absurd (let x = q.item in let no = last_falls_not x.opcode (last none)
               in let clash : true ≡ false = sym may ∙ no in cc)
           by q got (Some z) some may last next =
-              let at = stands.at in
+              let at = standing.at in
               let is = at.is_cut in
               let m = b.method in
               let one : place + 1 ≡ suc place = omega arith in
@@ -344,7 +362,7 @@ module _ (applets : Bool) (files : Files) (image : StaticImage) (c : Complete) (
                 (
                   ap (slice_get (let f = frames_of p b in f.steps)) one ∙ get_mapped (step p result) b.instructions
                       (suc place) ∙ ap (option_map (step p result)) some,
-                  follows_next c m stands.code at place q z got (ap (λ is. slice_get is (suc place)) (sym stands.instructions) ∙ some) ∙ sym next,
+                  follows_next c m standing.code at place q z got (ap (λ is. slice_get is (suc place)) (sym standing.instructions) ∙ some) ∙ sym next,
                 ),
               )
 
@@ -371,18 +389,18 @@ module _ (applets : Bool) (files : Files) (image : StaticImage) (c : Complete) (
       pub begins_there_typed : (let h = b.header in h.is_abstract ≡ false)
           → Begins (typing p b rows) (start_at 0 (let m = b.method in m.offset) b.header b.method)
       begins_there_typed concrete =
-          let at = stands.at in
+          let at = standing.at in
           let is = at.is_cut in
           let m = b.method in
-          let first = code_begins c jump k stands.code stands.among (is.is_abstract ∙ ap (λ h. h.is_abstract)
-          stands.header ∙ concrete) in
+          let first = code_begins c jump k standing.code standing.among (is.is_abstract ∙ ap (λ h. h.is_abstract)
+          standing.header ∙ concrete) in
           record {
             is_code = refl;
             first = step p result first.0;
             is_first = get_mapped (step p result) b.instructions 0 ∙ ap (λ is. option_map (step p result)
-                (slice_get is 0)) stands.instructions ∙ ap (option_map (step p result)) first.1;
-            at_first = first_begins m.bytecode_count m.bytecode_count _ _ (let y = stands.code in y.instructions) is.cut
-                first.0 first.1 ∙ ap (λ h. m.offset + h.size) stands.header;
+                (slice_get is 0)) standing.instructions ∙ ap (option_map (step p result)) first.1;
+            at_first = first_begins m.bytecode_count m.bytecode_count _ _ (let y = standing.code in y.instructions) is.cut
+                first.0 first.1 ∙ ap (λ h. m.offset + h.size) standing.header;
             count = refl;
             concrete = concrete;
           }
