@@ -237,6 +237,29 @@ module _ (applets : Bool) (files : Files) (image : StaticImage) (c : Complete) (
   place_of k b stands offset e = place_there (step p (let t = type_of_body c b in t.result)) (λ (s : Step). s.at)
       (λ i. refl) b.instructions offset (ap (λ is. begins is offset) stands.instructions ∙ e)
 
+  -- a method that is not abstract begins where its first instruction stands
+  pub begins_there_typed : (k : ℕ) (b : Body) → slice_get (bodies c) k ≡ Some b → (rows : List (Option State))
+      → (let h = b.header in h.is_abstract ≡ false)
+      → Begins (typing p b rows) (start_at 0 (let m = b.method in m.offset) b.header b.method)
+  begins_there_typed k b e rows concrete =
+      let standing = body_stands c whole k b e in
+      let at = standing.at in
+      let is = at.is_cut in
+      let m = b.method in
+      let result = (let t = type_of_body c b in t.result) in
+      let first = code_begins c jump k standing.code standing.among (is.is_abstract ∙ ap (λ h. h.is_abstract)
+      standing.header ∙ concrete) in
+      record {
+        is_code = refl;
+        first = step p result first.0;
+        is_first = get_mapped (step p result) b.instructions 0 ∙ ap (λ is. option_map (step p result)
+            (slice_get is 0)) standing.instructions ∙ ap (option_map (step p result)) first.1;
+        at_first = first_begins m.bytecode_count m.bytecode_count _ _ (let y = standing.code in y.instructions) is.cut
+            first.0 first.1 ∙ ap (λ h. m.offset + h.size) standing.header;
+        count = refl;
+        concrete = concrete;
+      }
+
   module _ (handled : handler_spots c ≡ []) (refs : AreRefs c) (verified : IsVerified p) (exceptions : List ℕ)
       (thrown : throwable p ≡ Some exceptions) where
     -- ---- handlers
@@ -384,23 +407,3 @@ module _ (applets : Bool) (files : Files) (image : StaticImage) (c : Complete) (
         jumps = jumps_there;
         follows = follows_there;
       }
-
-      -- a method that is not abstract begins where its first instruction stands
-      pub begins_there_typed : (let h = b.header in h.is_abstract ≡ false)
-          → Begins (typing p b rows) (start_at 0 (let m = b.method in m.offset) b.header b.method)
-      begins_there_typed concrete =
-          let at = standing.at in
-          let is = at.is_cut in
-          let m = b.method in
-          let first = code_begins c jump k standing.code standing.among (is.is_abstract ∙ ap (λ h. h.is_abstract)
-          standing.header ∙ concrete) in
-          record {
-            is_code = refl;
-            first = step p result first.0;
-            is_first = get_mapped (step p result) b.instructions 0 ∙ ap (λ is. option_map (step p result)
-                (slice_get is 0)) standing.instructions ∙ ap (option_map (step p result)) first.1;
-            at_first = first_begins m.bytecode_count m.bytecode_count _ _ (let y = standing.code in y.instructions) is.cut
-                first.0 first.1 ∙ ap (λ h. m.offset + h.size) standing.header;
-            count = refl;
-            concrete = concrete;
-          }
