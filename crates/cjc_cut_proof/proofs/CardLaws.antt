@@ -1,11 +1,10 @@
 -- The methods of components as the card runs them: what begins at an offset, and which instruction is fetched.
-use Rattle.std.proofs.Common.{◌≡◌, ℕ, zero, suc, ◌+◌, ◌-◌, ◌<◌, ◌≤◌, ◌==◌, refl, sym, ap, subst, ◌∙◌, arith, Bool, true}
+use Rattle.std.proofs.Common.{◌≡◌, ℕ, suc, ◌+◌, ◌-◌, ◌<◌, ◌≤◌, ◌==◌, refl, sym, ap, subst, ◌∙◌, arith, Bool, true}
 use Rattle.std.proofs.Common.{false, List, [], ◌∷◌, ◌++◌, length, drop, map, slice_get, Option, Some, None, Result, Ok, Err}
 use Rattle.std.specs.Prelude.{◌*◌, if◌then◌else◌, ◌||◌, cond, filter, flat_map, nat_le, option_and_then, option_map, sum_by}
 use Rattle.std.proofs.lemmas.List.{drop-drop}
 use Rattle.std.proofs.lemmas.List.Concat.{flat_map-cons}
 use Rattle.std.proofs.lemmas.List.Sums.{sum_by-cons}
-use Rattle.std.proofs.lemmas.Bool.Decides.{nat_tests}
 use Rattle.cjc_capread.specs.declared.tree.ClassEntry.{ClassEntry}
 use Rattle.cjc_capread.specs.declared.tree.ClassRef.{ClassRef}
 use Rattle.cjc_capread.specs.declared.tree.ClassRef.TheVariants.{Inside, Outside}
@@ -26,10 +25,10 @@ use Rattle.cjc_card_semantics.specs.Machine.Classes.{Info, IsClass, IsInterface,
 use Rattle.cjc_card_semantics.specs.Machine.Loaded.{Loaded, Part}
 use Rattle.cjc_card_semantics.specs.Machine.Methods.{Code, bytes_from, described, fetch, fetched_as, fetched_in}
 use Rattle.cjc_card_semantics.specs.Machine.Methods.{fetched_within, is_class_at, is_class_info, method_among}
-use Rattle.cjc_card_semantics.specs.Machine.Methods.{methods_begin, start_at, start_in, start_of}
+use Rattle.cjc_card_semantics.specs.Machine.Methods.{methods_begin, start_at, start_in}
 use Rattle.cjc_bytes.proofs.Numbers.{at_most, number_same, other_number}
-use Rattle.cjc_cut_proof.specs.Cuts.{AreOf, IsCut, IsMethodAt, Stands}
-use Rattle.cjc_cut_proof.proofs.CutLaws.{AreCut, CutAt, code_beside, cut_from, first_of_offset}
+use Rattle.cjc_cut_proof.specs.Cuts.{AreOf, IsCut, IsMethodAt}
+use Rattle.cjc_cut_proof.proofs.CutLaws.{AreCut, code_beside, cut_from, first_of_offset}
 use Rattle.cjc_cut_proof.proofs.CutLaws.{found_by_offset, next_begins, stands}
 
 -- ---- infos of classes

@@ -1,11 +1,10 @@
 -- Methods that are cut into headers and whole instructions: where each instruction stands, and what follows it.
 use Rattle.std.proofs.Common.{◌≡◌, ℕ, zero, suc, ◌+◌, ◌-◌, ◌<◌, ◌≤◌, ◌==◌, refl, sym, ap, subst, ◌∙◌, arith, Bool, true, false}
-use Rattle.std.proofs.Common.{List, [], ◌∷◌, ◌++◌, length, take, drop, slice_get, Option, Some, None, Result, Ok, Err}
+use Rattle.std.proofs.Common.{List, [], ◌∷◌, take, drop, slice_get, Option, Some, None, Result, Ok, Err}
 use Rattle.std.specs.Prelude.{if◌then◌else◌}
 use Rattle.std.proofs.lemmas.List.{take-append-drop, drop-drop, length-take}
 use Rattle.cjc_capread.specs.declared.tree.MethodDescriptor.{MethodDescriptor}
-use Rattle.cjc_capread.specs.Opcodes.{Form, form}
-use Rattle.cjc_capread.specs.Decode.{Instruction, decode, size, size_by}
+use Rattle.cjc_capread.specs.Decode.{Instruction, decode, size}
 use Rattle.cjc_capread.specs.MethodHeader.{MethodHeader, extended_header, is_extended, method_header, short_header}
 use Rattle.cjc_check_rules.specs.Spots.{Placed}
 use Rattle.cjc_check_rules.specs.Codes.{Code, codes_from, instructions, onto, with_code, with_header, with_instruction}

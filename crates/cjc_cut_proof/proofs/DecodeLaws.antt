@@ -1,10 +1,10 @@
 -- An instruction is decoded whatever stands behind it.
-use Rattle.std.proofs.Common.{◌≡◌, ℕ, ◌+◌, refl, sym, ap, subst, ◌∙◌, arith, Bool, true, false, List, [], ◌∷◌, ◌++◌}
-use Rattle.std.proofs.Common.{length, Option, Some, None, ℤ, pos}
+use Rattle.std.proofs.Common.{◌≡◌, ℕ, ◌+◌, refl, ap, subst, ◌∙◌, arith, Bool, true, false, List, [], ◌∷◌, ◌++◌}
+use Rattle.std.proofs.Common.{length, Option, Some, None}
 use Rattle.std.specs.Prelude.{if◌then◌else◌}
 use Rattle.cjc_capread.specs.Opcodes.{Operand, Byte, Signed1, Signed2, Signed4, Index1, Index2, Form, width, widths}
 use Rattle.cjc_capread.specs.Opcodes.{form}
-use Rattle.cjc_capread.specs.Decode.{Instruction, First, Front, operand, operands_of, put_first, first_and, signed}
+use Rattle.cjc_capread.specs.Decode.{Instruction, First, Front, operand, operands_of, put_first, first_and}
 use Rattle.cjc_capread.specs.Decode.{before_table, in_table, is_whole, with_table, with_operands, decode_as, decode}
 use Rattle.cjc_capread.specs.Decode.{size, size_as, size_by}
 use Rattle.cjc_bytes.proofs.Plain.{same_some}

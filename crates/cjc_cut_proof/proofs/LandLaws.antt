@@ -1,8 +1,7 @@
 -- Jumps and handlers of codes that are consistent lead to instructions of the same code.
-use Rattle.std.proofs.Common.{◌≡◌, ◌⊎◌, ℕ, zero, suc, ◌+◌, ◌-◌, ◌≤◌, ◌<◌, ◌==◌, refl, sym, ap, subst, ◌∙◌, arith, Bool}
-use Rattle.std.proofs.Common.{true, false, inl, inr, ⊎_elim, List, [], ◌∷◌, ◌++◌, length, map, slice_get, Option, Some, None, ℤ, pos, negsuc}
-use Rattle.std.proofs.Common.{position}
-use Rattle.std.specs.Prelude.{if◌then◌else◌, ◌+ℤ◌, ◌&&◌, ◌||◌, nat_lt, nat_le, cond, Contains, option_map, not}
+use Rattle.std.proofs.Common.{◌≡◌, ◌⊎◌, ℕ, zero, suc, ◌+◌, ◌≤◌, ◌<◌, ◌==◌, refl, sym, ap, subst, ◌∙◌, arith, Bool}
+use Rattle.std.proofs.Common.{true, false, inl, inr, ⊎_elim, List, [], ◌∷◌, map, slice_get, Option, Some, None, ℤ, pos, negsuc}
+use Rattle.std.specs.Prelude.{◌+ℤ◌, ◌&&◌, ◌||◌, Contains, not}
 use Rattle.std.specs.List.{find, list_all, list_any}
 use Rattle.std.specs.Ordering.{int_eq}
 use Rattle.std.proofs.lemmas.Bool.Decides.{Decides-int_eq}
@@ -13,7 +12,7 @@ use Rattle.cjc_check_rules.specs.declared.spot.ComponentPlace.{ComponentPlace}
 use Rattle.cjc_check_rules.specs.Spots.{Placed, along, begins, in_info, unless}
 use Rattle.cjc_check_rules.specs.Complete.{Complete}
 use Rattle.cjc_check_rules.specs.Codes.{Code, codes}
-use Rattle.cjc_check_rules.specs.Instructions.{code_spots, ends_code, has_start, in_code, jump_spots, jumps, jumps_land}
+use Rattle.cjc_check_rules.specs.Instructions.{code_spots, ends_code, has_start, in_code, jump_spots, jumps_land}
 use Rattle.cjc_check_rules.specs.Instructions.{lands, is_empty}
 use Rattle.cjc_check_rules.specs.Handlers.{handler_spots, handler_stands, is_classref, targets_from}
 use Rattle.cjc_check_rules.specs.Handlers as handlers

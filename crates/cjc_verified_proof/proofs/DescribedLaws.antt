@@ -32,8 +32,7 @@ use Rattle.cjc_components.specs.Descriptor.{method_flags, method_in}
 use Rattle.cjc_components.specs.Paired.Naming.{part_of}
 use Rattle.cjc_components.specs.Paired.Pairs.{ArePaired, cell_spots, count_spots, head_of, info_count, methods_spots}
 use Rattle.cjc_components.specs.Paired.Pairs as pairing
-use Rattle.cjc_verify.specs.Bodies.{Body, bodies, listed, listed_in, type_of_body}
-use Rattle.cjc_verify.specs.declared.listed.Listed.{Listed}
+use Rattle.cjc_verify.specs.Bodies.{Body, bodies, type_of_body}
 use Rattle.cjc_verify.specs.Described.{class_spots, described_spots, entry_spots, field_spots, member_token, method_spots}
 use Rattle.cjc_verify.specs.Described.{says, wanted_fields, class_token}
 use Rattle.cjc_verify.specs.Infos.{all_info_spots, class_spots as info_class_spots, info_spots, infos, interface_spots}
@@ -45,7 +44,7 @@ use Rattle.cjc_bytes.proofs.Lists.{length_mapped, map_append, none_left, none_ri
 use Rattle.cjc_bytes.proofs.Numbers.{number_same, number_same_number}
 use Rattle.cjc_bytes.proofs.Plain.{same_some}
 use Rattle.cjc_card_link.proofs.InfoPlaces.{all_starts as starts_of_infos}
-use Rattle.cjc_verified_proof.proofs.BodyLaws.{body_stands, listed_methods}
+use Rattle.cjc_verified_proof.proofs.BodyLaws.{Under, body_stands, under, under_in, under_methods}
 use Rattle.cjc_cut_proof.proofs.CardLaws.{all_cut, class_refs_agree}
 use Rattle.cjc_cut_proof.proofs.CutLaws.{AreCut, code_beside}
 use Rattle.cjc_verified_proof.proofs.DeclaredLaws.{infos_none}
@@ -139,7 +138,7 @@ same_place at bytes (x ∷ ms) (y ∷ cs) h (suc i) (suc k) m n e f g = ap suc (
 
 -- ---- methods of one class
 
-abbrev as_listed : Described → Listed
+abbrev as_listed : Described → Under
 as_listed d = record { holder = d.holder; method = d.method }
 
 -- of a class that is no interface
@@ -276,7 +275,7 @@ module _ (applets : Bool) (files : Files) (image : StaticImage) (c : Complete) (
   all_flat : (order : List Class) (xs : List ClassDescriptor) → ((k : ℕ) (d : ClassDescriptor) → slice_get xs k ≡ Some d
       → (cl : Class) × (slice_get order k ≡ Some cl) × (is_own_class c.class d.this_class
       ≡ not (is_interface cl.flags)) × (length d.methods ≡ length (methods_of_class w cl)))
-      → map as_listed (filter is_plain (described_among w order xs)) ≡ flat_map listed_in (filter (λ (d : ClassDescriptor).
+      → map as_listed (filter is_plain (described_among w order xs)) ≡ flat_map under_in (filter (λ (d : ClassDescriptor).
       is_own_class c.class d.this_class) xs)
   all_flat [] [] all = refl
   all_flat [] (d ∷ xs) all = let r = all 0 d refl in let no = r.1 in absurd cc
@@ -294,20 +293,20 @@ module _ (applets : Bool) (files : Files) (image : StaticImage) (c : Complete) (
       (in_class cl d.this_class (methods_of_class w cl) d.methods count (is_own_class c.class d.this_class) (sym own))
       ∙ by (is_own_class c.class d.this_class) (all_flat order xs (λ k q e. all (suc k) q e))
     where
-      by : (b : Bool) → map as_listed (filter is_plain (described_among w order xs)) ≡ flat_map listed_in
+      by : (b : Bool) → map as_listed (filter is_plain (described_among w order xs)) ≡ flat_map under_in
           (filter (λ (d : ClassDescriptor). is_own_class c.class d.this_class) xs)
           → (if b then map (λ (m : MethodDescriptor). record { holder = d.this_class; method = m }) d.methods else [])
-          ++ map as_listed (filter is_plain (described_among w order xs)) ≡ flat_map listed_in (cond b (d
+          ++ map as_listed (filter is_plain (described_among w order xs)) ≡ flat_map under_in (cond b (d
           ∷ filter (λ (d : ClassDescriptor). is_own_class c.class d.this_class) xs) (filter (λ (d : ClassDescriptor).
           is_own_class c.class d.this_class) xs))
-      by true e = ap (λ ys. listed_in d ++ ys) e ∙ sym (flat_map-cons listed_in d (filter (λ (d : ClassDescriptor).
+      by true e = ap (λ ys. under_in d ++ ys) e ∙ sym (flat_map-cons under_in d (filter (λ (d : ClassDescriptor).
           is_own_class c.class d.this_class) xs))
       by false e = e
 
   abbrev plain_ones : List Described
   plain_ones = filter is_plain (described p)
 
-  listed_so : map as_listed plain_ones ≡ listed c
+  listed_so : map as_listed plain_ones ≡ under c
   listed_so = all_flat (class_order w) ds (λ k d e. (let f = fits k d e in (f.class, f.ordered, f.own, f.count)))
 
   -- what the package says of a method
@@ -378,14 +377,14 @@ module _ (applets : Bool) (files : Files) (image : StaticImage) (c : Complete) (
       let r = mapped_at as_listed plain_ones k (record { holder = b.holder; method = b.method }) (ap (λ xs. slice_get xs k)
       listed_so ∙ s.listed) in
       let m = b.method in
-      let is_holder : (r.0).holder ≡ b.holder = ap (λ (x : Listed). x.holder) r.2 in
-      let is_method : (r.0).method ≡ b.method = ap (λ (x : Listed). x.method) r.2 in
+      let is_holder : (r.0).holder ≡ b.holder = ap (λ (x : Under). x.holder) r.2 in
+      let is_method : (r.0).method ≡ b.method = ap (λ (x : Under). x.method) r.2 in
       let f = find_there (λ (x : Described). (let y = x.method in y.offset == m.offset)) plain_ones k r.0 r.1
       (number_same_number _ m.offset (ap (λ (y : MethodDescriptor). y.offset) is_method)) in
       let g = find_got (λ (x : Described). (let y = x.method in y.offset == m.offset)) plain_ones f.0 f.1 in
       let method_of : (j : ℕ) (x : Described) → slice_get plain_ones j ≡ Some x → slice_get (class_methods c) j
-      ≡ Some x.method = λ j x h. ap (λ ms. slice_get ms j) (sym (listed_methods c)) ∙ ap (λ xs.
-      slice_get (map (λ (y : Listed). y.method) xs) j) (sym listed_so) ∙ twice plain_ones j x h in
+      ≡ Some x.method = λ j x h. ap (λ ms. slice_get ms j) (sym (under_methods c)) ∙ ap (λ xs.
+      slice_get (map (λ (y : Under). y.method) xs) j) (sym listed_so) ∙ twice plain_ones j x h in
       let place : g.0 ≡ k = same_place (code_begins c) (let y = c.method in y.methods) (class_methods c) (codes c)
       (all_cut c whole) g.0 k (f.0).method b.method (method_of g.0 f.0 g.1) s.method (number_same _ m.offset g.2) in
       let one : f.0 ≡ r.0 = same_some (sym g.1 ∙ ap (slice_get plain_ones) place ∙ r.1) in
@@ -401,7 +400,7 @@ module _ (applets : Bool) (files : Files) (image : StaticImage) (c : Complete) (
       }
     where
       twice : (xs : List Described) (j : ℕ) (x : Described) → slice_get xs j ≡ Some x
-          → slice_get (map (λ (y : Listed). y.method) (map as_listed xs)) j ≡ Some x.method
+          → slice_get (map (λ (y : Under). y.method) (map as_listed xs)) j ≡ Some x.method
       twice [] j x h = absurd cc
       twice (y ∷ xs) zero x h = ap (λ (z : Described). Some z.method) (same_some h)
       twice (y ∷ xs) (suc j) x h = twice xs j x h

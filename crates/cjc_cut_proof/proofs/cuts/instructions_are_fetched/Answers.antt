@@ -1,4 +1,3 @@
-use Rattle.cjc_cut_proof.specs.Cuts.{IsMethodAt}
 use Rattle.cjc_cut_proof.proofs.CardLaws.{follows_next, instruction_fetched}
 use Rattle.cjc_cut_proof.proofs.cuts.instructions_are_fetched.Goals as goal
 
