@@ -47,8 +47,7 @@ use Rattle.cjc_card_link.proofs.InfoPlaces.{all_starts as starts_of_infos}
 use Rattle.cjc_verified_proof.proofs.BodyLaws.{Under, body_stands, under, under_in, under_methods}
 use Rattle.cjc_cut_proof.proofs.CardLaws.{all_cut, class_refs_agree}
 use Rattle.cjc_cut_proof.proofs.CutLaws.{AreCut, code_beside}
-use Rattle.cjc_verified_proof.proofs.DeclaredLaws.{infos_none}
-use Rattle.cjc_verified_proof.proofs.EntryLaws.{Says, beside_none, described_none, said, unless_holds}
+use Rattle.cjc_verified_proof.proofs.EntryLaws.{Says, beside_none, described_none, infos_none, said, unless_holds}
 use Rattle.cjc_verified_proof.proofs.NameLaws.{holder_is, number_back, starts_read}
 
 -- ---- lists

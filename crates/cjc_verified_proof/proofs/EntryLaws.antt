@@ -19,11 +19,12 @@ use Rattle.cjc_card_acts.specs.CardTypes.{MemberType, type_at, type_by, type_of,
 use Rattle.cjc_card_calls.specs.World.Order.{class_order}
 use Rattle.cjc_verify.specs.Described.{are_nibbles, class_spots, described_spots, entry_spots, is_entry_type}
 use Rattle.cjc_verify.specs.Described.{says, all_array_spots}
+use Rattle.cjc_verify.specs.Infos.{all_abstract_spots, all_info_spots, all_table_spots}
 use Rattle.cjc_verify.specs.Named.{entry_of, entry_type, named_desc}
 use Rattle.cjc_verify.specs.Pairs.{Pair, nibbles_of, world}
 use Rattle.cjc_verify.specs.Verified.{IsVerified, class_breaks, header_breaks, listed}
 use Rattle.cjc_verified_proof.specs.PackageTypes.{field_types, type_of_desc, type_said}
-use Rattle.cjc_bytes.proofs.BrokenRules.{among_right}
+use Rattle.cjc_bytes.proofs.BrokenRules.{among_left, among_right}
 use Rattle.cjc_bytes.proofs.Lists.{bytes_true, none_left, none_right}
 use Rattle.cjc_bytes.proofs.Gets.{get_below, get_inside}
 
@@ -39,6 +40,14 @@ pub described_none : (p : Pair) → IsVerified p → described_spots p ≡ []
 described_none p verified = no_spots 721 (described_spots p) (λ b among. verified b (listed b (among_right b
     (class_breaks p ++ header_breaks p ++ map (break_at 728) (all_array_spots p)) (map (break_at 721)
     (described_spots p)) among)))
+
+-- no rule of infos is broken
+pub infos_none : (p : Pair) → IsVerified p → all_info_spots p ≡ []
+infos_none p verified = no_spots 729 (all_info_spots p) (λ b among. verified b (listed b (among_left b (class_breaks p
+    ++ header_breaks p ++ map (break_at 728) (all_array_spots p)) (map (break_at 721) (described_spots p))
+    (among_left b (class_breaks p ++ header_breaks p) (map (break_at 728) (all_array_spots p)) (among_left b
+    (class_breaks p) (header_breaks p) (among_right b (map (break_at 725) (all_table_spots p)
+    ++ map (break_at 727) (all_abstract_spots p)) (map (break_at 729) (all_info_spots p)) among))))))
 
 -- items beside each other of which none is broken
 pub beside_none : {A B : Type 0} (size : A → ℕ) (broken : ℕ → A → B → List ComponentPlace) (at : ℕ) (xs : List A)
