@@ -14,7 +14,8 @@ pub use Rattle.cjc_vtable.proofs.Read as VTableRead
 pub use Rattle.cjc_vtable.proofs.Shown as VTableShown
 pub use Rattle.cjc_vtable.proofs.SlotNames as VTableSlotNames
 pub use Rattle.cjc_narrow.proofs.KeysLaws.Indices as NarrowIndices
-pub use Rattle.cjc_narrow.proofs.RowsLaws.Keys as NarrowKeys
+pub use Rattle.cjc_narrow.proofs.RowsLaws.Handlers as NarrowHandlers
+pub use Rattle.cjc_narrow.proofs.PairsLaws.Roles as NarrowRoles
 pub use Rattle.cjc_emit.proofs.LayoutLowered as LayoutLowered
 pub use Rattle.cjc_emit.proofs.LayoutPlaces as LayoutPlaces
 pub use Rattle.cjc_emit.proofs.EmitLaws.Forms as EmitForms

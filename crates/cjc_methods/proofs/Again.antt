@@ -1,7 +1,6 @@
 -- The pool of methods that are selected again, by other instance fields that have an index of one byte.
-use Rattle.std.proofs.Common.{◌≡◌, refl, sym, ap, ◌∙◌, List, [], ◌∷◌, ◌++◌}
+use Rattle.std.proofs.Common.{◌≡◌, refl, sym, ap, ◌∙◌, List, [], ◌∷◌}
 use Rattle.std.specs.Prelude.{map, Option, Some, None}
-use Rattle.std.specs.List.{flat_map, list_any}
 use Rattle.cjc_bytes.specs.declared.fault.MemberId.{MemberId}
 use Rattle.cjc_types.specs.declared.state.State.{State}
 use Rattle.cjc_world.specs.declared.found.Found.{Found}
@@ -10,44 +9,34 @@ use Rattle.cjc_world.specs.Files.{Files}
 use Rattle.cjc_components.specs.JvmSemantics.Linked.{Method}
 use Rattle.cjc_components.specs.JvmSemantics.OnePackage.{method_at}
 use Rattle.cjc_ncode.specs.declared.narrow.NMethod.{NMethod}
-use Rattle.cjc_ncode.specs.PoolOrder.{class_key, has_catch_type, insn_keys, is_some, method_keys, pool_order}
-use Rattle.cjc_ncode.specs.Written.{reached}
+use Rattle.cjc_ncode.specs.PoolOrder.{has_catch_type, method_keys, pool_order}
 use Rattle.cjc_components.proofs.NarrowIndices.{same_pool}
 use Rattle.cjc_components.specs.Narrow.Rows.Forms.{FormsOnly}
-use Rattle.cjc_components.specs.Narrow.Rows.Package.{code_of}
-use Rattle.cjc_components.specs.Narrow.Rows.Resolved.{is_near, resolution}
+use Rattle.cjc_components.specs.Narrow.Rows.Package.{code_of, flags_of, read_of}
+use Rattle.cjc_components.specs.Narrow.Rows.Resolved.{is_near, method_found, resolution}
 use Rattle.cjc_components.specs.Narrow.Rows.Selected.{near_fields}
-use Rattle.cjc_components.proofs.NarrowKeys.{forms_only}
+use Rattle.cjc_components.proofs.NarrowHandlers.{forms_only, same_keys, same_types}
 use Rattle.cjc_components.specs.Written.{code_at, code_by}
 
 module _ (files : Files) (rows : Method → List (Option State)) (before after : List MemberId) where
-  only_forms : (m : Method)
-      → (let id = m.id in FormsOnly (resolution files before id.class) (is_near (all_classes files) after)
-      (reached m.insns (rows m)))
-  only_forms m = let id = m.id in forms_only (resolution files before id.class) (is_near (all_classes files) after)
-      (reached m.insns (rows m))
-
-  same_insns : (m : Method) → flat_map insn_keys (code_of files before rows m).insns
-      ≡ flat_map insn_keys (code_of files after rows m).insns
-  unfolding resolution
-  same_insns m = sym (only_forms m).keys
-
-  same_catches : (m : Method) → (code_of files before rows m).catches ≡ (code_of files after rows m).catches
-  unfolding resolution
-  same_catches m = sym ((only_forms m).catches m.catches)
+  only_forms : (m : Method) → (let id = m.id in FormsOnly (resolution files before id.class)
+      (is_near (all_classes files) after) (read_of m (flags_of (method_found (all_classes files) id))) (rows m))
+  only_forms m = let id = m.id in forms_only (read_of m (flags_of (method_found (all_classes files) id))) (rows m)
+      (resolution files before id.class) (is_near (all_classes files) after)
 
   keys_of : (f : Found) (o : Option Method) → method_keys (code_by files before rows f o)
       ≡ method_keys (code_by files after rows f o)
+  unfolding resolution
   keys_of f None = refl
-  keys_of f (Some m) =
-      ap (λ ks. ks ++ flat_map (λ c. class_key c.class) (code_of files before rows m).catches) (same_insns m)
-      ∙ ap (λ cs. flat_map insn_keys (code_of files after rows m).insns ++ flat_map (λ c. class_key c.class) cs)
-      (same_catches m)
+  keys_of f (Some m) = same_keys (code_of files before rows m) (code_of files after rows m) (sym (only_forms m).keys)
+      (sym (only_forms m).classes)
 
   types_of : (f : Found) (o : Option Method) → has_catch_type (code_by files before rows f o)
       ≡ has_catch_type (code_by files after rows f o)
+  unfolding resolution
   types_of f None = refl
-  types_of f (Some m) = ap (λ cs. list_any (λ c. is_some c.class) cs) (same_catches m)
+  types_of f (Some m) = same_types (code_of files before rows m) (code_of files after rows m)
+      (sym (only_forms m).classes)
 
   all_keys : (fs : List Found) → map method_keys (map (code_at files before rows) fs)
       ≡ map method_keys (map (code_at files after rows) fs)

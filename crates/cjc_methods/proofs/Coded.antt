@@ -7,7 +7,9 @@ use Rattle.cjc_world.specs.ClassFile.declared.tree.ClassTree.{ClassTree}
 use Rattle.cjc_world.specs.ClassFile.declared.tree.MethodTree.{MethodTree}
 use Rattle.cjc_types.specs.Bytecode.Decoded.{decoded, decoding, insns_of, of_code, of_method}
 use Rattle.cjc_types.specs.Bytecode.declared.method_code.MethodCode.{MethodCode}
+use Rattle.cjc_types.specs.Flow.{body_of}
 use Rattle.cjc_types.specs.Tables.{IsMethodOf}
+use Rattle.cjc_components.specs.Narrow.Pairs.Roles.{with_pairs}
 use Rattle.cjc_types.specs.declared.state.State.{State}
 use Rattle.cjc_types.specs.declared.table.TypeTable.{TypeTable}
 use Rattle.cjc_world.specs.declared.found.Found.{Found}
@@ -19,7 +21,7 @@ use Rattle.cjc_components.specs.Narrow.Rows.Package.{code_of, flags_of}
 use Rattle.cjc_components.specs.Narrow.Rows.Resolved.{argument_words, method_found, resolution}
 use Rattle.cjc_components.specs.Narrow.Rows.Selected.{selected_code}
 use Rattle.cjc_ncode.specs.Written.{narrow_method}
-use Rattle.cjc_components.specs.Narrow.Written.Rows.{by_rows_there, has_rows, rows_by}
+use Rattle.cjc_components.specs.Narrow.Written.Rows.{by_rows_there, has_rows, has_rows_by, rows_by}
 use Rattle.cjc_components.specs.Descriptor as Descriptor
 use Rattle.cjc_components.specs.Written.{added_words, code_at, code_by, no_code}
 use Rattle.cjc_methods.specs.Ready.{AreReady, AreRows, states}
@@ -60,11 +62,18 @@ module _ (files : Files) (near : List MemberId) (rows : Method → List (Option 
   selected_for code class method tree table found insns same =
       let r = resolution files near class.name in
       let n = argument_words method.flags method.desc in
-      ap (λ flags. narrow_method r tree (argument_words flags method.desc) (decoded class method tree)
-      (rows (method_by class method (Some tree)))) found
-      ∙ ap (λ is. narrow_method r tree n is (rows (method_by class method (Some tree)))) insns
-      ∙ ap (λ rs. narrow_method r tree n code.insns rs) same
-      ∙ by_rows_there r tree n code.insns (states code class method tree table)
+      let b = body_of class method tree code.insns in
+      let table_rows = states code class method tree table in
+      ap (λ flags. narrow_method (with_pairs r (record (body_of class method tree (decoded class method tree)) {
+        flags = flags;
+      }) (has_rows (rows (method_by class method (Some tree))))) tree (argument_words flags method.desc)
+      (decoded class method tree) (rows (method_by class method (Some tree)))) found
+      ∙ ap (λ is. narrow_method (with_pairs r (body_of class method tree is) (has_rows (rows (method_by class method
+      (Some tree))))) tree n is (rows (method_by class method (Some tree)))) insns
+      ∙ ap (λ rs. narrow_method (with_pairs r b (has_rows rs)) tree n code.insns rs) same
+      ∙ by_rows_there (with_pairs r b (has_rows table_rows)) tree n code.insns table_rows
+      ∙ ap (λ hs. narrow_method (with_pairs r b hs) tree n code.insns (rows_by (has_rows table_rows)))
+      (sym (has_rows_by (has_rows table_rows)))
 
   pub with_code : (codes : List MethodCode) (types : List TypeTable) → AreReady files codes types
       → AreRows files codes types rows → (f : Found) (t : ClassTree) (k : ℕ) → f.imported ≡ false

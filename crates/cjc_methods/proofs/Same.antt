@@ -1,11 +1,13 @@
 -- The method that is read is the one that its code names.
-use Rattle.std.proofs.Common.{◌≡◌, sym, ap, subst, ◌∙◌, Bool, List}
+use Rattle.std.proofs.Common.{◌≡◌, ℕ, sym, ap, subst, ◌∙◌, Bool, List}
 use Rattle.std.specs.Prelude.{Some}
 use Rattle.cjc_bytes.specs.declared.fault.MemberId.{MemberId}
 use Rattle.cjc_world.specs.ClassFile.Code.{CodeTree}
 use Rattle.cjc_world.specs.ClassFile.declared.tree.ClassTree.{ClassTree}
 use Rattle.cjc_world.specs.ClassFile.declared.tree.MethodTree.{MethodTree}
 use Rattle.cjc_types.specs.Bytecode.declared.insn.JInsn.{JInsn}
+use Rattle.cjc_types.specs.Flow.{body_of}
+use Rattle.cjc_types.specs.Marks.{marks_of}
 use Rattle.cjc_world.specs.Files.{Files}
 use Rattle.cjc_components.specs.Narrow.Rows.Selected.{selected_code}
 use Rattle.cjc_components.specs.Narrow.Written.Rows.{rows_by}
@@ -34,3 +36,14 @@ selected_here files near class k method m tree t insns is flags fs o a b c d =
     ∙ ap (λ (x : CodeTree). selected_code files near k m x insns (rows_by flags)) b
     ∙ ap (λ (xs : List JInsn). selected_code files near k m t xs (rows_by flags)) c
     ∙ ap (λ (xs : List Bool). selected_code files near k m t is (rows_by xs)) d
+
+-- the marks of the code, by what it was decoded from
+pub marks_here : (class k : ClassTree) (method m : MethodTree) (tree t : CodeTree) (insns is : List JInsn)
+    (marks : List ℕ) → class ≡ k → method ≡ m → tree ≡ t → insns ≡ is → marks ≡ marks_of (body_of k m t is)
+    → marks ≡ marks_of (body_of class method tree insns)
+marks_here class k method m tree t insns is marks same_class same_method same_tree same_insns e =
+    e
+    ∙ ap (λ c. marks_of (body_of c m t is)) (sym same_class)
+    ∙ ap (λ x. marks_of (body_of class x t is)) (sym same_method)
+    ∙ ap (λ x. marks_of (body_of class method x is)) (sym same_tree)
+    ∙ ap (λ x. marks_of (body_of class method tree x)) (sym same_insns)

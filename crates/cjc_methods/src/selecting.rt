@@ -55,6 +55,7 @@ fn selected(
         Some(tree) => {
             let reaches = reached(alloc, world, code, types)?;
             let insns = code.insns.items();
+            let marks = types.marks.items();
             select(
                 alloc,
                 world,
@@ -63,6 +64,7 @@ fn selected(
                 tree,
                 insns,
                 reaches.items(),
+                marks,
                 pool,
             )
         }

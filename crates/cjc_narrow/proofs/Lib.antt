@@ -1,6 +1,7 @@
 pub mod KeysLaws
 pub mod RowsLaws
 pub mod WrittenLaws
+pub mod PairsLaws
 pub mod SelectLaws
 -- Lemmas of lower crates, for those above.
 pub use Rattle.cjc_bytes.proofs.BrokenRules as BytesBrokenRules

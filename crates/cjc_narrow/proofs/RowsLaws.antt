@@ -1,3 +1,4 @@
 pub mod Keys
 pub mod Fields
 pub mod Exports
+pub mod Handlers

@@ -1,6 +1,7 @@
 pub mod Keys
 pub mod Rows
 pub mod Written
+pub mod Pairs
 pub mod Select
 -- Definitions of lower crates, for those above.
 pub use Rattle.cjc_bytes.specs as Bytes

@@ -2,12 +2,13 @@
 //! the look-ups of the machine that runs it. It knows no token and no offset of the components.
 ghost use Rattle.std.specs.Prelude.{◌≡◌, Bool, List};
 ghost use Rattle.cjc_bytes.specs.declared.fault.MemberId.{MemberId};
-ghost use Rattle.cjc_ncode.specs.Bytecode.declared.insn.JInsn.{JInsn};
+ghost use Rattle.cjc_types.specs.Flow.{Body};
 ghost use Rattle.cjc_ncode.specs.Written.{Resolution};
 ghost use Rattle.cjc_jvm_semantics.specs.World.declared.image.StaticImage.{StaticImage};
 ghost use Rattle.cjc_jvm_semantics.specs.World.Files.{Files};
 ghost use Rattle.cjc_narrow.specs.Rows.Forms.{FormsOnly};
 ghost use Rattle.cjc_narrow.specs.Rows.Names.{FieldsAgreeIn, IsCounted};
+ghost use Rattle.cjc_narrow.specs.Written.Rows.{rows_by};
 
 mod constants;
 mod hits;
@@ -16,11 +17,12 @@ mod names;
 pub use constants::constant_named;
 pub use names::{resolved_field, resolved_method, special_key, virtual_method};
 
-/// Code names the same keys in the same order, and stands at the same places under the same handlers, whichever of its
-/// field instructions have an index of one byte. So the constant pool does not depend on the forms that its order
-/// chooses.
+/// Code names the same keys in the same order, and has handlers of the same classes, whichever of its field
+/// instructions have an index of one byte, and so are written as one with an aload_0. So the constant pool does not
+/// depend on the forms that its order chooses.
 pub fn forms_change_no_key()
-    ensures { (r : Resolution) (near : MemberId → Bool) (insns : List JInsn) → FormsOnly r near insns }
+    ensures { (r : Resolution) (near : MemberId → Bool) (b : Body) (reached : List Bool)
+        → FormsOnly r near b (rows_by reached) }
 {}
 
 /// What the machine by name finds for a field that code names is what is written for it: a constant's value, or

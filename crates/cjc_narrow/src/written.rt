@@ -12,7 +12,7 @@ mod type_tests;
 mod widest;
 
 pub use catches::catches_at;
-pub use descriptor::{field_access, static_access, words_by};
+pub use descriptor::{field_access, static_access, this_access, words_by};
 pub use number::pushed;
 pub use places::Places;
 pub use plain::put_plain;

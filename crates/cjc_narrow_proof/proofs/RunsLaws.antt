@@ -1,3 +1,4 @@
+pub mod Pairs
 pub mod Whole
 pub mod Calls
 pub mod Named

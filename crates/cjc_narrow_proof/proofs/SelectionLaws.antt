@@ -36,3 +36,4 @@ pub mod Reached
 pub mod KeptRows
 pub mod KeptHandlers
 pub mod ActsDone
+pub mod Own

@@ -16,5 +16,6 @@ pub mod Arrays
 pub mod Elements
 pub mod Passed
 pub mod Called
+pub mod Pairs
 pub mod Points
 pub mod Package

@@ -7,7 +7,7 @@ use Rattle.cjc_code.specs.Jvm as jvm
 use Rattle.cjc_ncode.specs.declared.narrow.NInsn.{NInsn}
 use Rattle.cjc_ncode.specs.declared.narrow.NInsn.TheVariants as insns
 use Rattle.cjc_ncode.specs.declared.narrow.PoolKey.TheVariants as keys
-use Rattle.cjc_ncode.specs.Written.{Resolution, field_access, nargs_of, static_access}
+use Rattle.cjc_ncode.specs.Written.{Resolution, field_access, nargs_of, static_access, this_access}
 use Rattle.cjc_script.specs.Sorts.{OfClass, OfReferences, Shape, field_sort, shape_named}
 use Rattle.cjc_card_semantics.specs.CapRead.Card as card
 
@@ -32,6 +32,8 @@ pub data IsWrittenFor (r : Resolution) : JOp → NInsn → Type 0 where
   of_field : {put : Bool} {f : MemberId}
       → IsWrittenFor r (jop.Field put f) (insns.Named (field_access put (r.is_near f) (field_sort f.desc))
       (keys.Field (r.field f)))
+  of_own_field : {put : Bool} {f : MemberId}
+      → IsWrittenFor r (jop.Field put f) (insns.Named (this_access put (field_sort f.desc)) (keys.Field (r.field f)))
   virtual_call : {op : ℕ} {m : MemberId} → op ≡ jvm.invokevirtual
       → IsWrittenFor r (jop.Call op m) (insns.Named card.invokevirtual (r.virtual m))
   special_call : {op : ℕ} {m : MemberId} → op ≡ jvm.invokespecial

@@ -5,3 +5,4 @@ pub mod Names
 pub mod Arrays
 pub mod Calls
 pub mod Package
+pub mod Pairs

@@ -31,7 +31,7 @@ ghost use Rattle.cjc_ncode.specs.Written.{reached, widest};
 ghost use Rattle.cjc_narrow_proof.specs.Selected.Names.{NamesFit};
 ghost use Rattle.cjc_narrow.specs.Rows.Selected.{near_fields};
 ghost use Rattle.cjc_ncode.specs.declared.narrow.PoolKey.{PoolKey as Key};
-ghost use Rattle.cjc_narrow.specs.Written.Operands.{CanBeSaid as IsSaid};
+ghost use Rattle.cjc_narrow.specs.Written.Operands.{CanBeSaid as IsSaid, IsAscending};
 ghost use Rattle.cjc_narrow_proof.specs.Selected.Operands.{IsSmall, NumbersFit, OperandsFit};
 
 /// The narrow code of a method that was decoded, of the instructions that its least type table reaches, can be
@@ -105,7 +105,7 @@ pub fn decoded_operands_fit()
 pub fn selected_numbers_fit()
     ensures { (n : Naming) (pool : List Key) → IsSmall n pool
         → (files : Files) (class : ClassTree) (method : MethodTree) (tree : CodeTree) (insns : List JInsn)
-        (flags : List Bool)
+        (flags : List Bool) → IsAscending insns
         → ((k : ℕ) (i : JInsn) → slice_get (reached insns (rows_by flags)) k ≡ Some i → IsSaid i.op)
         → (k : ℕ) (insn : Insn) → (let m = selected_code files (near_fields pool) class method tree insns
         (rows_by flags) in slice_get m.insns k ≡ Some insn) → NumbersFit n insn }

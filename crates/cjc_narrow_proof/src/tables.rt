@@ -8,7 +8,7 @@ ghost use Rattle.cjc_code.specs.declared.insn.JOp.{JOp as Op};
 ghost use Rattle.cjc_code.specs.declared.insn.JOp.TheVariants as jop;
 ghost use Rattle.cjc_script.specs.declared.value.Value.{Value};
 ghost use Rattle.cjc_ncode.specs.declared.narrow.NInsn.{NInsn};
-ghost use Rattle.cjc_ncode.specs.Written.{Resolution, written, reached, place_in};
+ghost use Rattle.cjc_ncode.specs.Written.{Resolution, written_for, reached, place_in};
 ghost use Rattle.cjc_jvm_semantics.specs.Linked.{Method, Linked};
 ghost use Rattle.cjc_jvm_semantics.specs.Effects.{Store, Toss, effect};
 ghost use Rattle.cjc_types.specs.declared.state.State.{State as Typed};
@@ -25,6 +25,7 @@ ghost use Rattle.cjc_narrow_proof.specs.Tables.Package.{IsPackage};
 ghost use Rattle.cjc_narrow_proof.specs.Tables.Analysis.{Analysis, Ascend, IsDecoded, IsSound, IsRead, CatchesAreTold};
 ghost use Rattle.cjc_narrow_proof.specs.Tables.Analysis.{TypesAreTold, IsGiven, ThrowablesMay, HasRoomToBegin};
 ghost use Rattle.cjc_narrow_proof.specs.Tables.Analysis.{declared_kinds, table_of};
+ghost use Rattle.cjc_narrow_proof.specs.Tables.Pairs.{StandsAlone};
 ghost use Rattle.cjc_narrow_proof.specs.Tables.Supported.{IsPlain, IsReturn};
 ghost use Rattle.cjc_narrow_proof.specs.Tables.Names.{IsResolved};
 ghost use Rattle.cjc_narrow_proof.specs.Tables.Arrays.{ClassesAreNamed, IsOnArray};
@@ -43,13 +44,13 @@ pub fn only_athrow_throws()
 pub fn written_code_stands_in_order()
     ensures stands { (r : Resolution) (p : ℕ → ℕ) (insns : List JInsn) (rows : List (Option Typed)) → Ascend insns
         → (at : ℕ) (i : JInsn) (row : Typed) → slice_get insns at ≡ Some i → slice_get rows at ≡ Some (Some row)
-        → (j : ℕ) (insn : NInsn) → slice_get (written r p i.op) j ≡ Some insn
-        → slice_get (flat_map (λ i. written r p i.op) (reached insns rows)) (place_in r (reached insns rows) i.at + j)
+        → (j : ℕ) (insn : NInsn) → slice_get (written_for r p i) j ≡ Some insn
+        → slice_get (flat_map (written_for r p) (reached insns rows)) (place_in r (reached insns rows) i.at + j)
         ≡ Some insn }
     ensures behind { (r : Resolution) (insns : List JInsn) (rows : List (Option Typed)) → Ascend insns
         → (at : ℕ) (i n : JInsn) (row : Typed) → slice_get insns at ≡ Some i → slice_get insns (suc at) ≡ Some n
         → slice_get rows at ≡ Some (Some row) → place_in r (reached insns rows) n.at ≡ place_in r (reached insns rows)
-        i.at + length (written r (λ o. 0) i.op) }
+        i.at + length (written_for r (λ o. 0) i) }
 {}
 
 /// In a method that was read as the machine by name has it, whose code is written from its least type table,
@@ -60,22 +61,27 @@ pub fn written_code_stands_in_order()
 /// given what the descriptor says, and athrow. Those on arrays, where arrays are named by their classes:
 /// arraylength and loads and stores of elements. And calls, where both sides name, select and begin the same
 /// methods, or name the same imported ones. Handlers are found there as whole runs ask, where types are told
-/// alike.
+/// alike. So it is where no pair of an aload_0 and a field instruction is open; `packages_run_alike` has those too.
 pub fn instructions_keep_rules()
     ensures plain { (by : Linked) (l : Named) (w : List Class) (a : Analysis) (m : Method) → IsRead a m
         → IsDecoded (let f = a.found m in f.body) → IsSound w (let r = a.resolution m in r.constant) (a.found m)
-        → CatchesAreTold by l a m → (at : ℕ) (i : JInsn) (p : Point) → slice_get (let f = a.found m in let b = f.body
+        → CatchesAreTold by l a m → (at : ℕ) (i : JInsn) (p : Point)
+        → StandsAlone (a.resolution m) (let f = a.found m in let b = f.body in b.insns) (a.opened m) at
+        → slice_get (let f = a.found m in let b = f.body
         in b.insns) at ≡ Some i → (let tb = table_of l a in tb.point m at ≡ Some p) → IsPlain i.op
         → Rule by l (table_of l a) m at p i }
     ensures resolved { (by : Linked) (l : Named) (w : List Class) (a : Analysis) (m : Method) → IsRead a m
         → IsDecoded (let f = a.found m in f.body) → IsSound w (let r = a.resolution m in r.constant) (a.found m)
-        → CatchesAreTold by l a m → TypesAreTold w l → (at : ℕ) (i : JInsn) (p : Point) → slice_get (let f = a.found m
+        → CatchesAreTold by l a m → TypesAreTold w l → (at : ℕ) (i : JInsn) (p : Point)
+        → StandsAlone (a.resolution m) (let f = a.found m in let b = f.body in b.insns) (a.opened m) at
+        → slice_get (let f = a.found m
         in let b = f.body in b.insns) at ≡ Some i → (let tb = table_of l a in tb.point m at ≡ Some p)
         → ((t : Typed) → HasRow (let f = a.found m in f.types) at t
         → IsResolved by l (a.resolution m) m (cells_of t.stack) i.op) → Rule by l (table_of l a) m at p i }
     ensures returns { (by : Linked) (l : Named) (w : List Class) (a : Analysis) (m : Method) → IsRead a m
         → IsDecoded (let f = a.found m in f.body) → IsSound w (let r = a.resolution m in r.constant) (a.found m)
         → CatchesAreTold by l a m → TypesAreTold w l → IsGiven l a m → (at offset opcode : ℕ) (p : Point)
+        → StandsAlone (a.resolution m) (let f = a.found m in let b = f.body in b.insns) (a.opened m) at
         → slice_get (let f = a.found m in let b = f.body in b.insns) at ≡ Some (record {
           at = offset;
           op = jop.Return opcode;
@@ -84,6 +90,7 @@ pub fn instructions_keep_rules()
     ensures throws { (by : Linked) (l : Named) (w : List Class) (a : Analysis) (m : Method) → IsRead a m
         → IsDecoded (let f = a.found m in f.body) → IsSound w (let r = a.resolution m in r.constant) (a.found m)
         → CatchesAreTold by l a m → TypesAreTold w l → ThrowablesMay l a → (at offset : ℕ) (p : Point)
+        → StandsAlone (a.resolution m) (let f = a.found m in let b = f.body in b.insns) (a.opened m) at
         → slice_get (let f = a.found m in let b = f.body in b.insns) at ≡ Some (record { at = offset; op = jop.Throw })
         → (let tb = table_of l a in tb.point m at ≡ Some p) → Rule by l (table_of l a) m at p (record {
           at = offset;
@@ -92,12 +99,15 @@ pub fn instructions_keep_rules()
     ensures elements { (by : Linked) (l : Named) (w : List Class) (a : Analysis) (m : Method) → IsRead a m
         → IsDecoded (let f = a.found m in f.body) → IsSound w (let r = a.resolution m in r.constant) (a.found m)
         → CatchesAreTold by l a m → TypesAreTold w l → ClassesAreNamed w l → (at : ℕ) (i : JInsn) (p : Point)
+        → StandsAlone (a.resolution m) (let f = a.found m in let b = f.body in b.insns) (a.opened m) at
         → slice_get (let f = a.found m in let b = f.body in b.insns) at ≡ Some i
         → (let tb = table_of l a in tb.point m at ≡ Some p) → IsOnArray i.op → Rule by l (table_of l a) m at p i }
     ensures calls { (by : Linked) (l : Named) (w : List Class) (a : Analysis) (m : Method) → IsRead a m
         → IsDecoded (let f = a.found m in f.body) → IsSound w (let r = a.resolution m in r.constant) (a.found m)
         → CatchesAreTold by l a m → TypesAreTold w l → MayRaise l (table_of l a) → IsAnswered by l (table_of l a)
-        → (at : ℕ) (i : JInsn) (p : Point) → slice_get (let f = a.found m in let b = f.body in b.insns) at ≡ Some i
+        → (at : ℕ) (i : JInsn) (p : Point)
+        → StandsAlone (a.resolution m) (let f = a.found m in let b = f.body in b.insns) (a.opened m) at
+        → slice_get (let f = a.found m in let b = f.body in b.insns) at ≡ Some i
         → (let tb = table_of l a in tb.point m at ≡ Some p) → ((t : Typed) → HasRow (let f = a.found m in f.types) at t
         → IsCalled by l w a m (cells_of t.stack) i.op) → Rule by l (table_of l a) m at p i }
 {}

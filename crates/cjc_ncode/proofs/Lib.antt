@@ -1,4 +1,5 @@
 pub mod LoweringLaws
+pub mod WrittenCases
 pub mod IntCode
 -- Lemmas of lower crates, for those above.
 pub use Rattle.cjc_code.proofs.BytesBools as BytesBools

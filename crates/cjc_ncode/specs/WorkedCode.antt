@@ -1,6 +1,6 @@
 -- Methods made by hand, with their look-ups: p/B extends p/A, p/T has static methods.
-use Rattle.std.specs.Prelude.{ℕ, List, [], ◌∷◌, Option, Some, None, Bool, false, replicate, ◌&&◌, ◌||◌, if◌then◌else◌}
-use Rattle.std.specs.Prelude.{pos, codes}
+use Rattle.std.specs.Prelude.{ℕ, List, [], ◌∷◌, Option, Some, None, Bool, true, false, replicate, ◌==◌, ◌&&◌, ◌||◌}
+use Rattle.std.specs.Prelude.{if◌then◌else◌, pos, codes}
 use Rattle.std.specs.Str.{bytes_eq}
 use Rattle.cjc_code.specs.Bytes.declared.fault.MemberId.{MemberId}
 use Rattle.cjc_code.specs.ClassFile.Code.{CodeTree}
@@ -21,6 +21,7 @@ use Rattle.cjc_card_semantics.specs.Bytecode.Machine.{Start, Reached, Nowhere, W
 use Rattle.cjc_ncode.specs.declared.narrow.NInsn.{NInsn}
 use Rattle.cjc_ncode.specs.declared.narrow.NInsn.TheVariants as insns
 use Rattle.cjc_ncode.specs.declared.narrow.NMethod.{NMethod}
+use Rattle.cjc_ncode.specs.declared.narrow.PairRole.TheVariants.{Alone, Opens, Closes}
 use Rattle.cjc_ncode.specs.declared.narrow.PoolKey.TheVariants as keys
 use Rattle.cjc_ncode.specs.Written.{Resolution}
 use Rattle.cjc_ncode.specs.ByLabel.{Callee, Fixed, OnObject, Named}
@@ -179,7 +180,12 @@ resolution = record {
   special = keys.StaticMethod;
   static = keys.StaticMethod;
   interface = λ m. m;
+  role = λ offset. Alone;
 }
+
+-- the same, where the instructions at 0 and 1 are a pair
+abbrev pub paired : Resolution
+paired = record resolution { role = λ offset. if offset == 0 then Opens else (if offset == 1 then Closes else Alone) }
 
 -- an instruction at its offset
 abbrev pub at : ℕ → JOp → JInsn
@@ -193,6 +199,11 @@ code max_stack max_locals catches = record {
   bytes = [];
   catches = catches;
 }
+
+-- aload_0 getfield ireturn
+abbrev pub reads_own : List JInsn
+reads_own = at 0 (jop.Load true 0) ∷ at 1 (jop.Field false (id (codes "p/B") (codes "s") (codes "S")))
+    ∷ at 4 (jop.Return 0xAC) ∷ []
 
 -- iload_0 iconst_1 iadd i2s ireturn
 abbrev pub one_more : List JInsn

@@ -24,6 +24,8 @@ use Rattle.cjc_ncode.specs.declared.narrow.NInsn.TheVariants.{Op, Push, Local, I
 use Rattle.cjc_ncode.specs.declared.narrow.NInsn.TheVariants.{Interface, NewArray, TypeTest}
 use Rattle.cjc_ncode.specs.declared.narrow.NCatch.{NCatch}
 use Rattle.cjc_ncode.specs.declared.narrow.NMethod.{NMethod}
+use Rattle.cjc_ncode.specs.declared.narrow.PairRole.{PairRole}
+use Rattle.cjc_ncode.specs.declared.narrow.PairRole.TheVariants.{Alone, Opens, Closes}
 use Rattle.cjc_ncode.specs.declared.narrow.PoolKey.{PoolKey}
 use Rattle.cjc_ncode.specs.declared.narrow.PoolKey.TheVariants as keys
 
@@ -42,6 +44,8 @@ pub record Resolution : Type 0 where
   pub static : MemberId → PoolKey
   -- a method with the interface in which it is found
   pub interface : MemberId → MemberId
+  -- what the instruction at an offset is to a pair that is written as one
+  pub role : (offset : ℕ) → PairRole
 
 -- ---- numbers and locals
 
@@ -152,6 +156,10 @@ field_access put near sort =
     (if near then (if put then card.putfield_a else card.getfield_a) else (if put then card.putfield_a_w
     else card.getfield_a_w)) + behind_reference sort
 
+-- getfield_this or putfield_this of a type
+abbrev pub this_access : (put : Bool) → Sort → ℕ
+this_access put sort = field_access put false sort + 4
+
 -- a constant is pushed
 abbrev pub static_by : Resolution → (put : Bool) → MemberId → Option ℤ → List NInsn
 static_by r put f (Some z) = pushed z
@@ -225,12 +233,49 @@ written r place jop.Throw = Op card.athrow ∷ []
 written r place (jop.CheckCast class) = type_test card.checkcast (shape_named class)
 written r place (jop.InstanceOf class) = type_test card.instanceof (shape_named class)
 
+-- ---- pairs that are written as one
+
+-- an access of an instance field
+pub record Access : Type 0 where
+  pub put : Bool
+  pub field : MemberId
+
+-- that of getfield and putfield
+abbrev pub accessed : JOp → Option Access
+accessed (jop.Field put f) = Some (record { put = put; field = f })
+accessed op = None
+
+-- a load of a local
+abbrev pub is_load : JOp → Bool
+is_load (jop.Load refs l) = true
+is_load op = false
+
+-- the load that opens a pair is left out
+abbrev pub written_open : Resolution → (place : ℕ → ℕ) → JOp → List NInsn
+written_open r place op = if is_load op then [] else written r place op
+
+-- the access that closes a pair takes the object of local 0
+abbrev pub on_this : Resolution → (place : ℕ → ℕ) → JOp → Option Access → List NInsn
+on_this r place op None = written r place op
+on_this r place op (Some a) =
+    let f = a.field in Named (this_access a.put (field_sort f.desc)) (keys.Field (r.field f)) ∷ []
+
+-- what is written for an instruction of this role
+abbrev pub written_as : PairRole → Resolution → (place : ℕ → ℕ) → JOp → List NInsn
+written_as Alone r place op = written r place op
+written_as Opens r place op = written_open r place op
+written_as Closes r place op = on_this r place op (accessed op)
+
+-- What is written for an instruction at its offset.
+abbrev pub written_for : Resolution → (place : ℕ → ℕ) → JInsn → List NInsn
+written_for r place i = written_as (r.role i.at) r place i.op
+
 -- ---- a method
 
 -- how many instructions are written before an offset, of reached ones
 abbrev pub place_in : Resolution → List JInsn → (offset : ℕ) → ℕ
 place_in r [] offset = 0
-place_in r (i ∷ insns) offset = (if nat_lt i.at offset then length (written r (λ o. 0) i.op) else 0) + place_in r insns
+place_in r (i ∷ insns) offset = (if nat_lt i.at offset then length (written_for r (λ o. 0) i) else 0) + place_in r insns
     offset
 
 -- what a table says of reached instructions: the rows that are there
@@ -255,11 +300,11 @@ catches_at place catches = filter (λ c. nat_lt c.start c.end) (map (catch_at pl
 
 -- The instructions of a method: those of each reached instruction in order.
 abbrev pub narrow_code : Resolution → List JInsn → List NInsn
-narrow_code r insns = flat_map (λ i. written r (place_in r insns) i.op) insns
+narrow_code r insns = flat_map (written_for r (place_in r insns)) insns
 
 -- of each written instruction the place of its own in the method's list, where the first has this place
 abbrev pub sources : {A : Type 0} → Resolution → (first : ℕ) → List JInsn → List (Option A) → List ℕ
-sources r k (i ∷ insns) (Some row ∷ rows) = replicate (length (written r (λ o. 0) i.op)) k
+sources r k (i ∷ insns) (Some row ∷ rows) = replicate (length (written_for r (λ o. 0) i)) k
     ++ sources r (k + 1) insns rows
 sources r k (i ∷ insns) (None ∷ rows) = sources r (k + 1) insns rows
 sources r k insns rows = []

@@ -6,11 +6,11 @@ ghost use Rattle.std.specs.Prelude.{◌≡◌, ◌++◌, codes, pos, negsuc, fal
 ghost use Rattle.cjc_ncode.specs.declared.narrow.NInsn.TheVariants as insns;
 ghost use Rattle.cjc_ncode.specs.declared.narrow.PoolKey.TheVariants as keys;
 ghost use Rattle.cjc_ncode.specs.WorkedCode.{id, resolution};
-ghost use Rattle.cjc_ncode.specs.IntCode.IntCode.{element_written as stored, on_stack, pushed, written, scratch_pairs};
+ghost use Rattle.cjc_ncode.specs.IntCode.IntCode.{element_written as stored, on_stack, pushed, written, scratch_pairs, widest};
 ghost use Rattle.cjc_ncode.specs.IntCode.IntCode.{int_method};
 ghost use Rattle.cjc_ncode.specs.IntCode.Worked.{code, reached, is_less_frame, is_less, is_less_written, element_frame};
 ghost use Rattle.cjc_ncode.specs.IntCode.Worked.{element, element_written, loop_frame, loop, loop_written, call};
-ghost use Rattle.cjc_ncode.specs.IntCode.Worked.{call_frame};
+ghost use Rattle.cjc_ncode.specs.IntCode.Worked.{call_frame, constants, read};
 
 /// What is written for three methods made by hand: a comparison of a short, an element of a byte array at an
 /// int, whose index has its guard, and a loop over such an array.
@@ -30,7 +30,8 @@ pub fn methods_are_written()
 {}
 
 /// What is written for stores of elements, for cells of one and two words on the stack, for numbers, and for
-/// calls with values of one word: the last parameter is cut where it is; others go by scratch pairs.
+/// calls with values of one word: the last parameter is cut where it is; others go by scratch pairs. A constant is a
+/// number of five bytes at most, any other static field an access of four.
 pub fn instructions_are_written()
     ensures elements { stored 0x53 true 0 ≡ insns.Words 0x40 1 2 ∷ insns.Op 0x5E ∷ insns.Words 0x40 1 1 ∷ insns.Op 0x37
         ∷ [] }
@@ -50,4 +51,8 @@ pub fn instructions_are_written()
         (call (codes "(SI)B")) ≡ insns.Op 0x35 ∷ insns.Op 0x33 ∷ insns.Op 0x20 ∷ insns.Op 0x5E ∷ insns.Op 0x22
         ∷ insns.Named 0x8D (keys.StaticMethod (id (codes "p/T") (codes "m") (codes "(SI)B"))) ∷ insns.Op 0x5C ∷ [] }
     ensures pairs { scratch_pairs (reached 0 (call (codes "(SI)B")) [] ∷ reached 3 (call (codes "(IS)V")) [] ∷ []) ≡ 2 }
+    ensures constant { written call_frame (constants (pos 32768)) (λ o. 0) ((reached 0 read []).before) 0 read
+        ≡ insns.Push 0x14 (pos 32768) ∷ [] }
+    ensures of_constant { widest (constants (pos 32768)) read ≡ 5 }
+    ensures of_field { widest resolution read ≡ 4 }
 {}

@@ -11,7 +11,7 @@ pub use cjc_code::{bytes, classfile};
 pub mod int_code;
 pub mod lowering;
 
-ghost use Rattle.std.specs.Prelude.{◌≡◌, ◌++◌, codes, pos, negsuc, Some, None, [], ◌∷◌};
+ghost use Rattle.std.specs.Prelude.{◌≡◌, ◌++◌, codes, pos, negsuc, Some, None, [], ◌∷◌, ℕ, List, Bool, true, false};
 ghost use Rattle.cjc_script.specs.declared.value.Value.TheVariants.{Num, Null, Obj};
 ghost use Rattle.cjc_script.specs.declared.report.Note.TheVariants.{Result};
 ghost use Rattle.cjc_script.specs.declared.report.Outcome.TheVariants.{Done, Stuck};
@@ -20,13 +20,19 @@ ghost use Rattle.cjc_ncode.specs.declared.narrow.PoolKey.TheVariants as keys;
 ghost use Rattle.cjc_ncode.specs.PoolOrder.{pool_order};
 ghost use Rattle.cjc_ncode.specs.ByLabel.{run};
 ghost use Rattle.cjc_ncode.specs.declared.narrow.NInsn.TheVariants as insns;
-ghost use Rattle.cjc_ncode.specs.Written.{narrow_method};
+ghost use Rattle.cjc_ncode.specs.declared.narrow.NInsn.{NInsn as NarrowInsn};
+ghost use Rattle.cjc_ncode.specs.declared.narrow.PairRole.{PairRole as Role};
+ghost use Rattle.cjc_code.specs.declared.insn.JOp.{JOp as JvmOp};
+ghost use Rattle.cjc_script.specs.Sorts.{field_sort};
+ghost use Rattle.cjc_ncode.specs.Written.{Access, Resolution, accessed, is_load, narrow_method, on_this, this_access};
+ghost use Rattle.cjc_ncode.specs.Written.{written, written_as};
 ghost use Rattle.cjc_ncode.specs.WorkedCode.{linked, methods, script, call, ends, id, resolution, code, one_more};
+ghost use Rattle.cjc_ncode.specs.WorkedCode.{paired, reads_own};
 ghost use Rattle.cjc_ncode.specs.WorkedCode.{divides, divides_catches, jumps, all};
 
 mod narrow;
 
-pub use narrow::{NCase, NCatch, NInsn, NMethod, PoolKey};
+pub use narrow::{NCase, NCatch, NInsn, NMethod, PairRole, PoolKey};
 
 /// The pool of the methods made by hand: the class of any exception first, since there is a handler with a
 /// catch type, then instance fields, then the other keys as they are met, each once.
@@ -77,4 +83,23 @@ pub fn methods_are_written()
     ensures jumps { (narrow_method resolution (code 1 1 []) 1 jumps (all 5 ++ None ∷ [])).insns ≡ insns.Op 0x1C
         ∷ insns.Switch 0x73 2 (pos 32767) (record { value = pos 32767; target = 3 } ∷ []) ∷ insns.Op 0x7A
         ∷ insns.Inc 0x96 0 (pos 200) ∷ insns.Jump 0x70 0 ∷ [] }
+    ensures pair { narrow_method paired (code 1 1 []) 1 reads_own (all 3) ≡ record {
+      insns = insns.Named (this_access false (field_sort (codes "S")))
+          (keys.Field (id (codes "p/B") (codes "s") (codes "S"))) ∷ insns.Op 0x78 ∷ [];
+      from = 1 ∷ 2 ∷ [];
+      catches = [];
+      max_stack = 1;
+      nargs = 1;
+      max_locals = 0;
+      widest = 6;
+    } }
+{}
+
+/// Whatever role an instruction has, nothing is written for a load, or what stands alone, or one access of a field. So
+/// what holds of these holds of what is written.
+pub fn roles_write_little()
+    ensures { (holds : List NarrowInsn → Bool) (role : Role) (r : Resolution) (place : ℕ → ℕ) (op : JvmOp)
+        → (is_load op ≡ true → holds [] ≡ true) → holds (written r place op) ≡ true
+        → ((a : Access) → accessed op ≡ Some a → holds (on_this r place op (Some a)) ≡ true)
+        → holds (written_as role r place op) ≡ true }
 {}

@@ -15,6 +15,17 @@ pub enum PoolKey {
     StaticMethod(MemberId),
 }
 
+/// What an instruction of the class file is to an aload_0 and a field instruction that are written as one.
+#[derive(Clone, Copy)]
+pub enum PairRole {
+    /// It is neither of the two.
+    Alone,
+    /// The aload_0, which is left out.
+    Opens,
+    /// The field instruction, which reads local 0 itself.
+    Closes,
+}
+
 /// A case of a switch.
 #[derive(Clone, Copy)]
 pub struct NCase {

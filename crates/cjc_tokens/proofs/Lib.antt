@@ -1,6 +1,7 @@
 pub mod Places
 pub mod Offers
 pub mod Facts
+pub mod Noted
 pub mod Held
 pub mod Takings
 pub mod Steps

@@ -6,6 +6,7 @@ pub mod Methods
 pub mod Tokens
 pub mod Rules
 pub mod MethodNames
+pub mod SlotRows
 pub mod Working
 pub mod TokenLaws
 -- Definitions of lower crates, for those above.

@@ -1,5 +1,6 @@
 -- What the code holds of a line while it assigns tokens.
 use Rattle.std.specs.Prelude.{◌≡◌, ℕ, zero, suc, List, [], ◌∷◌, ◌++◌, map, slice_get, nat_lt, count_by, Bool, true}
+use Rattle.std.specs.Prelude.{position}
 use Rattle.std.specs.Prelude.{false, not, ◌&&◌, ◌||◌, Option, Some, None, option_map, Result, Ok, Err, if◌then◌else◌}
 use Rattle.std.specs.HashMap.{get_by}
 use Rattle.std.specs.List.{list_any}
@@ -12,10 +13,12 @@ use Rattle.cjc_world.specs.Classes.{Member, Class, all_classes, declared, method
 use Rattle.cjc_world.specs.Supertypes.{Supertypes, supertypes}
 use Rattle.cjc_world.specs.Interfaces.{gathered, known}
 use Rattle.cjc_world.specs.Added.{methods_of}
-use Rattle.cjc_world.specs.Lookup.{or_else}
+use Rattle.cjc_world.specs.Lookup.{is_called, or_else}
 use Rattle.cjc_tokens.specs.declared.slot.Slot.{Slot}
 use Rattle.cjc_tokens.specs.declared.slot.Rows.{Rows}
+use Rattle.cjc_tokens.specs.declared.indexed.Places.{Places}
 use Rattle.cjc_tokens.specs.declared.told.Shown.{Shown}
+pub use Rattle.cjc_tokens.specs.SlotRows.{place_under, signature_in, signs}
 use Rattle.cjc_tokens.specs.declared.told.Told.{Told}
 use Rattle.cjc_tokens.specs.Members.{Signature, signature_of, same, is_exposed, is_virtual_by, is_shown, is_virtual}
 use Rattle.cjc_tokens.specs.Members.{is_initialiser}
@@ -29,14 +32,6 @@ use Rattle.cjc_world.specs.Exported.{is_exported}
 use Rattle.cjc_tokens.specs.Tokens.{OfClass, classes_from, of_class}
 use Rattle.cjc_tokens.specs.Rules.{at_class, has_high_token, is_above, token_breaks}
 use Rattle.cjc_bytes.specs.Order.{file_of}
-
--- the signature of a slot
-abbrev pub signature_in : Slot → Signature
-signature_in s = record { name = s.name.now; desc = s.desc.now }
-
--- the signatures of a row
-abbrev pub signs : List (Option Slot) → Slots
-signs row = map (option_map signature_in) row
 
 -- the method that a slot means, none of a token that no method has
 abbrev pub meant : Option Slot → Option Found
@@ -104,6 +99,10 @@ token_under t s = get_by (λ k. same s k) t.tokens
 abbrev pub IsToldOf : Line → Told → Type 0
 IsToldOf line t = (s : Signature) → token_under t s ≡ listed_token line s
 
+-- Of each signature the place of the first method of the kind is noted.
+abbrev pub AreOwn : (hidden : Bool) → Places → List Member → Type 0
+AreOwn hidden p ms = (s : Signature) → place_under p s ≡ position (λ m. is_of_kind hidden m && is_called s.name s.desc m) ms
+
 -- the token where the first slot of the signature has this place, and the line has this method of it
 abbrev pub token_with : (listed : Option ℕ) → Slots → (method : Option Found) → Signature → (place : Option ℕ) →
     Option ℕ
@@ -117,7 +116,7 @@ token_meant listed slots method s = token_with listed slots method s (token slot
 
 -- the token of a signature, from the slots of a class, the methods there and what is listed
 abbrev pub slot_token : Shown → Signature → Option ℕ
-slot_token t s = token_among (token_under t.told.now s) (signs t.row.now) t.methods.now s
+slot_token t s = token_among (token_under t.told.now s) (signs t.row) t.methods.now s
 
 -- The rows are those of the line.
 pub record AreRowsOf (line : Line) (r : Rows) : Type 0 where

@@ -16,6 +16,7 @@ ghost use Rattle.cjc_tokens.specs.Working.{signature_in, signs, slot_token};
 ghost use Rattle.cjc_world.specs.Lookup.{method_of_interface};
 
 use crate::fields::{field_tokens, instance_tokens, open_statics};
+use crate::indexed::IndexedRow;
 use crate::interfaces::interface_methods;
 use crate::methods::{
     any_high, any_high_added, as_byte, open_bounds, put_added_tokens, put_method_tokens,
@@ -54,7 +55,7 @@ fn own_token(exported: bool, before: u32) -> Option<u8>
 fn is_high_class(
     exported: bool,
     shown: &Shown<'_, '_>,
-    hidden: &[Option<Slot<'_>>],
+    hidden: &IndexedRow<'_, '_>,
     class: &ClassTree<'_>,
     added: &[MemberId],
 ) -> bool
@@ -75,7 +76,7 @@ pub(crate) fn class_tokens<'w, 'a>(
     before: u32,
     number: u32,
     class: &'w ClassTree<'a>,
-    rows: &Rows<'_>,
+    rows: &Rows<'w>,
     ids: &[MemberId],
 ) -> Result<Option<ClassTokens>, NoMemory>
     requires plain { is_interface class.now.flags ≡ false }
@@ -90,23 +91,26 @@ pub(crate) fn class_tokens<'w, 'a>(
     let exported = world.is_exported(applets, Known::Declared(number, class));
     let told = told_at(alloc, world, Known::Declared(number, class))?;
     let public_methods = methods_of(alloc, &rows.shown)?;
+    let hidden = IndexedRow::new(alloc, &rows.hidden)?;
+    let slots = IndexedRow::new(alloc, &rows.shown)?;
     let shown = Shown {
-        row: &rows.shown,
+        row: slots,
         methods: public_methods.items(),
         told: &told,
     };
-    if is_high_class(exported, &shown, &rows.hidden, class, ids) {
+    if is_high_class(exported, &shown, &hidden, class, ids) {
         return Ok(None);
     }
     let mut members = field_tokens(alloc, exported, class.fields.items())?;
     put_method_tokens(
         &mut members,
         &shown,
-        &rows.hidden,
+        &hidden,
         exported,
         class.methods.items(),
     )?;
     put_added_tokens(&mut members, &shown, ids)?;
+    drop(shown);
     let instances = instance_tokens(alloc, class.fields.items())?;
     let package_methods = methods_of(alloc, &rows.hidden)?;
     Ok(Some(ClassTokens {

@@ -14,7 +14,8 @@ ghost use Rattle.cjc_tokens.specs.Methods.{interface_methods};
 ghost use Rattle.cjc_tokens.specs.Slots.{new_in, with_new};
 ghost use Rattle.cjc_tokens.specs.Working.{above_where, asked, listed_method, signs};
 
-use crate::slot::{Slot, is_initialiser, put_name};
+use crate::growing::GrowingRow;
+use crate::slot::{Slot, is_initialiser};
 use cjc_bytes::NoMemory;
 use cjc_world::classfile::MethodTree;
 use cjc_world::export_file::ExportMethod;
@@ -22,24 +23,17 @@ use cjc_world::{Known, World, lookup_laws};
 use std::alloc::Global;
 
 /// Puts a method at the end that is there not yet, unless it is an initialiser.
-fn put_method<'w>(
-    row: &mut Vec<Option<Slot<'w>>>,
-    name: &'w [u8],
-    desc: &'w [u8],
-) -> Result<(), NoMemory>
+fn put_method<'w>(row: &mut GrowingRow<'w>, name: &'w [u8], desc: &'w [u8]) -> Result<(), NoMemory>
     ensures { OnOk result (signs row.new.items ≡ with_new (signs row.old.items) (listed_method name.now desc.now)) }
 {
     if is_initialiser(name) {
         Ok(())
     } else {
-        put_name(row, name, desc)
+        row.put_name(name, desc)
     }
 }
 
-fn put_declared<'w>(
-    row: &mut Vec<Option<Slot<'w>>>,
-    methods: &'w [MethodTree<'_>],
-) -> Result<(), NoMemory>
+fn put_declared<'w>(row: &mut GrowingRow<'w>, methods: &'w [MethodTree<'_>]) -> Result<(), NoMemory>
     ensures { OnOk result (signs row.new.items ≡ with_new (signs row.old.items)
         (map signature_of (without_initialiser (map method_of_class methods.now)))) }
 {
@@ -63,7 +57,7 @@ fn token_place(methods: &[ExportMethod], token: usize) -> Option<usize>
 
 /// Puts the method of a token.
 fn put_token<'w>(
-    row: &mut Vec<Option<Slot<'w>>>,
+    row: &mut GrowingRow<'w>,
     methods: &'w [ExportMethod],
     token: usize,
 ) -> Result<(), NoMemory>
@@ -82,10 +76,7 @@ fn put_token<'w>(
 }
 
 /// Puts the methods of an export file by their tokens.
-fn put_exported<'w>(
-    row: &mut Vec<Option<Slot<'w>>>,
-    methods: &'w [ExportMethod],
-) -> Result<(), NoMemory>
+fn put_exported<'w>(row: &mut GrowingRow<'w>, methods: &'w [ExportMethod]) -> Result<(), NoMemory>
     ensures { OnOk result (signs row.new.items ≡ with_new (signs row.old.items)
         (map signature_of (without_initialiser (by_token (length methods.now) 0 (map method_of_export methods.now))))) }
 {
@@ -96,7 +87,7 @@ fn put_exported<'w>(
 }
 
 /// Puts a class's own methods, those of an export file by their tokens.
-fn put_own<'w>(row: &mut Vec<Option<Slot<'w>>>, class: Known<'w, '_>) -> Result<(), NoMemory>
+fn put_own<'w>(row: &mut GrowingRow<'w>, class: Known<'w, '_>) -> Result<(), NoMemory>
     ensures { OnOk result (signs row.new.items ≡ with_new (signs row.old.items)
         (map signature_of (own_methods (class_of class.entry)))) }
 {
@@ -110,7 +101,7 @@ fn put_own<'w>(row: &mut Vec<Option<Slot<'w>>>, class: Known<'w, '_>) -> Result<
 fn put_places<'w>(
     world: &'w World<'_>,
     places: &[u32],
-    row: &mut Vec<Option<Slot<'w>>>,
+    row: &mut GrowingRow<'w>,
 ) -> Result<(), NoMemory>
     ensures { OnOk result (signs row.new.items ≡ with_new (signs row.old.items)
         (map signature_of (methods_of (at_places (all_classes world.now) places.now)))) }
@@ -128,7 +119,7 @@ fn put_above<'w>(
     alloc: Global,
     world: &'w World<'_>,
     class: Known<'w, '_>,
-    row: &mut Vec<Option<Slot<'w>>>,
+    row: &mut GrowingRow<'w>,
 ) -> Result<(), NoMemory>
     ensures { OnOk result (signs row.new.items ≡ with_new (signs row.old.items)
         (asked false (supertypes (all_classes world.now) (class_of class.entry).supers)
@@ -145,7 +136,7 @@ fn put_above_where<'w>(
     alloc: Global,
     world: &'w World<'_>,
     class: Known<'w, '_>,
-    row: &mut Vec<Option<Slot<'w>>>,
+    row: &mut GrowingRow<'w>,
 ) -> Result<(), NoMemory>
     ensures { OnOk result (signs row.new.items ≡ with_new (signs row.old.items) (above_where (all_classes world.now)
         (class_of class.entry))) }
@@ -166,8 +157,8 @@ pub fn interface_methods<'w>(
     ensures { IfOk result (λ row. signs row.items ≡ map Some (interface_methods (all_classes world.now)
         (class_of class.entry))) }
 {
-    let mut row = Vec::new(alloc);
+    let mut row = GrowingRow::new(alloc, Vec::new(alloc))?;
     put_above_where(alloc, world, class, &mut row)?;
     put_own(&mut row, class)?;
-    Ok(row)
+    Ok(row.into_row())
 }

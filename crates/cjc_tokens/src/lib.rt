@@ -4,7 +4,9 @@
 mod assigning;
 mod class;
 mod fields;
+mod growing;
 mod imports;
+mod indexed;
 mod interfaces;
 mod laws;
 mod line;
@@ -18,6 +20,7 @@ mod tokens;
 mod told;
 
 pub use assigning::{assign, few, first_high};
+pub use indexed::IndexedRow;
 pub use interfaces::interface_methods;
 pub use laws::interface_laws;
 pub use slot::{Slot, is_exposed, is_virtual, token};

@@ -12,8 +12,9 @@ ghost use Rattle.cjc_world.specs.ClassFile.declared.tree.ClassTree.{ClassTree as
 ghost use Rattle.cjc_tokens.specs.declared.slot.Rows.{Rows as KeptRows};
 ghost use Rattle.cjc_tokens.specs.Working.{AreRowsOf, IsKept, IsToldOf, SameRows};
 
+use crate::growing::GrowingRow;
 use crate::listed::{rows_of, with_supers};
-use crate::slot::{Rows, offer_added, offer_methods, renewed};
+use crate::slot::{Rows, offer_added, offer_methods, own_places, renewed};
 use crate::taking::take_slots;
 use crate::told::{Told, told_at};
 use cjc_bytes::{MemberId, NoMemory, is_interface};
@@ -35,13 +36,28 @@ pub(crate) fn below<'w>(
         → added.now ≡ map (named_by class.now.name) given
         → IfOk result (AreRowsOf (Declared (declared number class.now) given line)) }
 {
-    let mut shown = renewed(alloc, class, number, added, false, &above.shown)?;
-    take_slots(&mut shown, &above.shown, told, class, number);
-    offer_methods(&mut shown, class, number, false)?;
-    offer_added(&mut shown, class, number, added)?;
-    let mut hidden = renewed(alloc, class, number, added, true, &above.hidden)?;
-    offer_methods(&mut hidden, class, number, true)?;
-    Ok(Rows { shown, hidden })
+    let own = own_places(alloc, class.methods.items(), false)?;
+    let mut shown = renewed(alloc, class, &own, number, added, false, &above.shown)?;
+    take_slots(&mut shown, &above.shown, told, class, &own, number);
+    let mut shown_row = GrowingRow::new(alloc, shown)?;
+    offer_methods(&mut shown_row, class, &own, number, false)?;
+    offer_added(&mut shown_row, class, number, added)?;
+    let own_hidden = own_places(alloc, class.methods.items(), true)?;
+    let hidden = renewed(
+        alloc,
+        class,
+        &own_hidden,
+        number,
+        added,
+        true,
+        &above.hidden,
+    )?;
+    let mut hidden_row = GrowingRow::new(alloc, hidden)?;
+    offer_methods(&mut hidden_row, class, &own_hidden, number, true)?;
+    Ok(Rows {
+        shown: shown_row.into_row(),
+        hidden: hidden_row.into_row(),
+    })
 }
 
 /// The methods that are added to a class of the package.

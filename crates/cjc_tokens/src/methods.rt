@@ -9,7 +9,8 @@ ghost use Rattle.cjc_tokens.specs.Methods.{class_method_token, class_method_toke
 ghost use Rattle.cjc_tokens.specs.Rules.{is_above};
 ghost use Rattle.cjc_tokens.specs.Working.{member_of, signs, slot_token};
 
-use crate::slot::{Slot, is_constructor, is_exposed, is_initialiser, is_of_kind, token};
+use crate::indexed::IndexedRow;
+use crate::slot::{is_constructor, is_exposed, is_initialiser, is_of_kind};
 use crate::told::Shown;
 use cjc_bytes::{MemberId, NoMemory, Row, is_static};
 use cjc_world::classfile::MethodTree;
@@ -45,7 +46,7 @@ fn bounds(methods: &[MethodTree<'_>]) -> usize
 /// The token of a virtual method, without the high bit of a package-visible one.
 fn virtual_token(
     shown: &Shown<'_, '_>,
-    hidden: &[Option<Slot<'_>>],
+    hidden: &IndexedRow<'_, '_>,
     method: &MethodTree<'_>,
 ) -> Option<usize>
     ensures { result ≡ virtual_token (slot_token shown.now) (signs hidden.now) (method_of_class method.now) }
@@ -55,7 +56,7 @@ fn virtual_token(
     if is_of_kind(false, method.flags, name) {
         shown.token(name, desc)
     } else if is_of_kind(true, method.flags, name) {
-        token(hidden, name, desc)
+        hidden.token(name, desc)
     } else {
         None
     }
@@ -74,7 +75,7 @@ pub(crate) fn is_above(limit: usize, token: Option<usize>) -> bool
 /// Whether a virtual method would get a token above 127.
 pub(crate) fn any_high(
     shown: &Shown<'_, '_>,
-    hidden: &[Option<Slot<'_>>],
+    hidden: &IndexedRow<'_, '_>,
     methods: &[MethodTree<'_>],
 ) -> bool
     ensures { result ≡ list_any (λ m. is_above 127 (virtual_token (slot_token shown.now) (signs hidden.now)
@@ -106,7 +107,7 @@ pub(crate) fn as_byte(token: Option<usize>, more: u8) -> Option<u8>
 #[tactic(auto, unfolding(crate::specs::Methods::class_method_token))]
 fn method_token(
     shown: &Shown<'_, '_>,
-    hidden: &[Option<Slot<'_>>],
+    hidden: &IndexedRow<'_, '_>,
     exported: bool,
     methods: &[MethodTree<'_>],
     place: usize,
@@ -136,7 +137,7 @@ fn method_token(
 pub(crate) fn put_method_tokens(
     tokens: &mut Row<Option<u8>>,
     shown: &Shown<'_, '_>,
-    hidden: &[Option<Slot<'_>>],
+    hidden: &IndexedRow<'_, '_>,
     exported: bool,
     methods: &[MethodTree<'_>],
 ) -> Result<(), NoMemory>

@@ -8,11 +8,13 @@ ghost use Rattle.cjc_world.specs.declared.found.Found.{Found as Method};
 ghost use Rattle.cjc_world.specs.Classes.{Member, declared, method_of_class};
 ghost use Rattle.cjc_world.specs.Lookup.{is_called, or_else};
 ghost use Rattle.cjc_tokens.specs.Members.{Signature, is_exposed, is_virtual_by, signature_of, signatures};
-ghost use Rattle.cjc_tokens.specs.Slots.{got, has_slot, holds, own, token, with_new};
+ghost use Rattle.cjc_tokens.specs.Slots.{got, holds, own, token};
 ghost use Rattle.cjc_tokens.specs.declared.slot.Slot.{Slot as RowSlot};
-ghost use Rattle.cjc_tokens.specs.Working.{is_kind, is_of_kind, member_of, nearest, Offered, Renewed, signature_in};
+ghost use Rattle.cjc_tokens.specs.Working.{AreOwn, is_kind, is_of_kind, member_of, nearest, Offered, Renewed, signature_in};
 ghost use Rattle.cjc_tokens.specs.Working.{signs};
 
+use crate::growing::GrowingRow;
+use crate::indexed::Places;
 use cjc_bytes::{MemberId, NoMemory, is_private, is_protected, is_public, is_static};
 use cjc_world::Found;
 use cjc_world::classfile::{ClassTree, MethodTree};
@@ -76,6 +78,7 @@ pub(crate) fn is_of_kind(hidden: bool, flags: u16, name: &[u8]) -> bool
     }
 }
 
+/// Whether a slot is of a name and descriptor.
 pub(crate) fn holds(slot: &Option<Slot<'_>>, name: &[u8], desc: &[u8]) -> bool
     ensures { result ≡ holds (option_map signature_in slot.now) (record { name = name.now; desc = desc.now }) }
 {
@@ -83,18 +86,6 @@ pub(crate) fn holds(slot: &Option<Slot<'_>>, name: &[u8], desc: &[u8]) -> bool
         None => false,
         Some(slot) => slot.name == name && slot.desc == desc,
     }
-}
-
-/// Whether some slot is of this name and descriptor.
-pub(crate) fn has_slot(row: &[Option<Slot<'_>>], name: &[u8], desc: &[u8]) -> bool
-    ensures { result ≡ has_slot (signs row.now) (record { name = name.now; desc = desc.now }) }
-{
-    for slot in row {
-        if holds(slot, name, desc) {
-            return true;
-        }
-    }
-    false
 }
 
 fn slot_place(row: &[Option<Slot<'_>>], name: &[u8], desc: &[u8]) -> Option<usize>
@@ -113,40 +104,41 @@ pub fn token(row: &[Option<Slot<'_>>], name: &[u8], desc: &[u8]) -> Option<usize
     slot_place(row, name, desc)
 }
 
-fn method_place(methods: &[MethodTree<'_>], hidden: bool, name: &[u8], desc: &[u8]) -> Option<usize>
-    ensures { result ≡ position (λ m. is_kind hidden m.flags m.name && (bytes_eq m.name name.now
-        && bytes_eq m.desc desc.now)) methods.now }
+/// The places of a class's own virtual methods of a kind, of two with a name and descriptor that of the first.
+pub(crate) fn own_places<'w>(
+    alloc: Global,
+    methods: &'w [MethodTree<'_>],
+    hidden: bool,
+) -> Result<Places<'w>, NoMemory>
+    ensures { IfOk result (λ places. AreOwn hidden places (map method_of_class methods.now)) }
 {
-    methods.iter().position(|m| {
-        (m.name.items() == name && m.desc.items() == desc)
-            && is_of_kind(hidden, m.flags, m.name.items())
-    })
+    let mut places = Places::new(alloc);
+    for (place, method) in methods.iter().enumerate() {
+        let name = method.name.items();
+        if is_of_kind(hidden, method.flags, name) {
+            places.note(name, method.desc.items(), place)?;
+        }
+    }
+    Ok(places)
 }
 
-/// The place of a class's own virtual method.
-#[tactic(auto, using(cjc_world::proofs::Places::position_of_map, cjc_world::proofs::Places::position_within))]
-fn own_place(methods: &[MethodTree<'_>], hidden: bool, name: &[u8], desc: &[u8]) -> Option<usize>
-    ensures place { result ≡ position (λ m. is_of_kind hidden m && is_called name.now desc.now m)
-        (map method_of_class methods.now) }
-    ensures within { IfSome result (λ i. i < length methods.now) }
-{
-    method_place(methods, hidden, name, desc)
-}
-
-/// A class's own virtual method.
+/// A class's own virtual method, by the places of such methods.
 #[tactic(auto, unfolding(crate::specs::Slots::own))]
 pub(crate) fn own(
     class: &ClassTree<'_>,
+    places: &Places<'_>,
     number: u32,
     hidden: bool,
     name: &[u8],
     desc: &[u8],
 ) -> Option<Found>
-    requires { length class.now.fields + length class.now.methods < 2 ^ 32 }
+    requires few { length class.now.fields + length class.now.methods < 2 ^ 32 }
+    requires places { AreOwn hidden places.now (map method_of_class class.now.methods) }
     ensures { result ≡ own (is_of_kind hidden) (record { name = name.now; desc = desc.now })
         (declared number class.now) }
 {
-    let place = own_place(class.methods.items(), hidden, name, desc)?;
+    let _hidden = hidden;
+    let place = places.get(name, desc)?;
     Some(Found {
         imported: false,
         class: number,
@@ -195,6 +187,7 @@ fn got(
 /// The method of the nearest class, with the one that the superclass has.
 fn nearest(
     class: &ClassTree<'_>,
+    places: &Places<'_>,
     number: u32,
     added: &[MemberId],
     hidden: bool,
@@ -202,13 +195,14 @@ fn nearest(
     desc: &[u8],
     above: Option<Found>,
 ) -> Option<Found>
-    requires { length class.now.fields + length class.now.methods + length added.now < 2 ^ 32 }
+    requires few { length class.now.fields + length class.now.methods + length added.now < 2 ^ 32 }
+    requires places { AreOwn hidden places.now (map method_of_class class.now.methods) }
     ensures { result ≡ nearest (declared number class.now) (map member_of added.now) hidden (record {
       name = name.now;
       desc = desc.now;
     }) above }
 {
-    if let Some(method) = own(class, number, hidden, name, desc) {
+    if let Some(method) = own(class, places, number, hidden, name, desc) {
         return Some(method);
     }
     if !hidden {
@@ -223,12 +217,14 @@ fn nearest(
 pub(crate) fn renewed<'w>(
     alloc: Global,
     class: &ClassTree<'_>,
+    places: &Places<'_>,
     number: u32,
     added: &[MemberId],
     hidden: bool,
     above: &[Option<Slot<'w>>],
 ) -> Result<Vec<Option<Slot<'w>>>, NoMemory>
-    requires { length class.now.fields + length class.now.methods + length added.now < 2 ^ 32 }
+    requires few { length class.now.fields + length class.now.methods + length added.now < 2 ^ 32 }
+    requires places { AreOwn hidden places.now (map method_of_class class.now.methods) }
     ensures { IfOk result (λ row. Renewed (declared number class.now) (map member_of added.now) hidden above.now
         row.items) }
 {
@@ -239,6 +235,7 @@ pub(crate) fn renewed<'w>(
             Some(slot) => {
                 let method = nearest(
                     class,
+                    places,
                     number,
                     added,
                     hidden,
@@ -257,31 +254,16 @@ pub(crate) fn renewed<'w>(
     Ok(row)
 }
 
-/// Puts a slot at the end for a name and descriptor that has none yet.
-fn put_new<'w>(
-    row: &mut Vec<Option<Slot<'w>>>,
-    name: &'w [u8],
-    desc: &'w [u8],
-    method: Option<Found>,
-) -> Result<(), NoMemory>
-    ensures { (ss : List Signature) (method_of : Signature → Option Method) (old : List (Option RowSlot))
-        → Offered ss method_of old row.old.items → method ≡ method_of (record { name = name.now; desc = desc.now })
-        → OnOk result (Offered (ss ++ record { name = name.now; desc = desc.now } ∷ []) method_of old row.new.items) }
-{
-    if !has_slot(row, name, desc) {
-        row.push(Some(Slot { name, desc, method }))?;
-    }
-    Ok(())
-}
-
 /// Puts a slot at the end for each method of the class that has none yet.
 pub(crate) fn offer_methods<'w>(
-    row: &mut Vec<Option<Slot<'w>>>,
+    row: &mut GrowingRow<'w>,
     class: &'w ClassTree<'_>,
+    places: &Places<'_>,
     number: u32,
     hidden: bool,
 ) -> Result<(), NoMemory>
-    requires { length class.now.fields + length class.now.methods < 2 ^ 32 }
+    requires few { length class.now.fields + length class.now.methods < 2 ^ 32 }
+    requires places { AreOwn hidden places.now (map method_of_class class.now.methods) }
     ensures { OnOk result (Offered (signatures (is_of_kind hidden) (declared number class.now).methods)
         (λ s. own (is_of_kind hidden) s (declared number class.now)) row.old.items row.new.items) }
 {
@@ -289,8 +271,8 @@ pub(crate) fn offer_methods<'w>(
         let name = method.name.items();
         let desc = method.desc.items();
         if is_of_kind(hidden, method.flags, name) {
-            let found = own(class, number, hidden, name, desc);
-            put_new(row, name, desc, found)?;
+            let found = own(class, places, number, hidden, name, desc);
+            row.put_new(name, desc, found)?;
         }
     }
     Ok(())
@@ -298,7 +280,7 @@ pub(crate) fn offer_methods<'w>(
 
 /// Puts a slot at the end for each added method that has none yet.
 pub(crate) fn offer_added<'w>(
-    row: &mut Vec<Option<Slot<'w>>>,
+    row: &mut GrowingRow<'w>,
     class: &ClassTree<'_>,
     number: u32,
     added: &'w [MemberId],
@@ -311,21 +293,7 @@ pub(crate) fn offer_added<'w>(
         let name = id.name.items();
         let desc = id.desc.items();
         let found = got(class, number, added, name, desc);
-        put_new(row, name, desc, found)?;
+        row.put_new(name, desc, found)?;
     }
     Ok(())
-}
-
-/// Puts a name and descriptor at the end that has no slot yet, with no method.
-pub(crate) fn put_name<'w>(
-    row: &mut Vec<Option<Slot<'w>>>,
-    name: &'w [u8],
-    desc: &'w [u8],
-) -> Result<(), NoMemory>
-    ensures { OnOk result (signs row.new.items ≡ with_new (signs row.old.items) (record {
-      name = name.now;
-      desc = desc.now;
-    } ∷ [])) }
-{
-    put_new(row, name, desc, None)
 }

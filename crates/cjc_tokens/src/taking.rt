@@ -1,13 +1,14 @@
 //! Slots that methods of a class take from its superclass: those of the tokens that export files list for them.
 //! Where these don't contradict one another each method has its slot already. Called by `line`.
 
-ghost use Rattle.std.specs.Prelude.{◌≡◌, ◌+◌, ◌<◌, ◌^◌, Bool, Option, true, false, length, slice_get};
+ghost use Rattle.std.specs.Prelude.{◌≡◌, ◌+◌, ◌<◌, ◌^◌, Bool, Option, true, false, length, map, slice_get};
 ghost use Rattle.cjc_world.specs.declared.found.Found.{Found as Method};
-ghost use Rattle.cjc_world.specs.Classes.{declared};
+ghost use Rattle.cjc_world.specs.Classes.{declared, method_of_class};
 ghost use Rattle.cjc_tokens.specs.Members.{Signature, has, signatures};
 ghost use Rattle.cjc_tokens.specs.Slots.{is_of_package, own, with_taken};
-ghost use Rattle.cjc_tokens.specs.Working.{AreMeant, is_of_kind, methods_in, signature_in, signs, Taken, token_under};
+ghost use Rattle.cjc_tokens.specs.Working.{AreMeant, AreOwn, is_of_kind, methods_in, signature_in, signs, Taken, token_under};
 
+use crate::indexed::Places;
 use crate::slot::{Slot, is_of_kind, own};
 use crate::told::Told;
 use cjc_world::classfile::ClassTree;
@@ -53,9 +54,11 @@ pub(crate) fn take_slots<'w>(
     above: &[Option<Slot<'_>>],
     told: &Told<'_>,
     class: &'w ClassTree<'_>,
+    places: &Places<'_>,
     number: u32,
 )
-    requires { length class.now.fields + length class.now.methods < 2 ^ 32 }
+    requires few { length class.now.fields + length class.now.methods < 2 ^ 32 }
+    requires places { AreOwn false places.now (map method_of_class class.now.methods) }
     ensures { (implements : Signature → Option Method)
         → ((s : Signature) → has (signatures (is_of_kind false) (declared number class.now).methods) s ≡ true
         → own (is_of_kind false) s (declared number class.now) ≡ implements s)
@@ -67,7 +70,7 @@ pub(crate) fn take_slots<'w>(
         let desc = method.desc.items();
         if is_of_kind(false, method.flags, name) {
             let listed = told.token(name, desc);
-            let found = own(class, number, false, name, desc);
+            let found = own(class, places, number, false, name, desc);
             take(
                 row,
                 above,

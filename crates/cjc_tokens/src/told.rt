@@ -12,6 +12,7 @@ ghost use Rattle.cjc_tokens.specs.Slots.{told_by};
 ghost use Rattle.cjc_tokens.specs.Slots.{told_in};
 ghost use Rattle.cjc_tokens.specs.Working.{IsToldOf, signs, slot_token, token_meant, told_among, token_under};
 
+use crate::indexed::IndexedRow;
 use crate::listed::{listed, nearest_virtual, with_supers};
 use crate::method_name::MethodName;
 use crate::slot::{Slot, holds, is_of_kind, token};
@@ -109,7 +110,7 @@ pub fn told_at<'w, 'a>(
 /// superclasses list.
 #[derive(Drop)]
 pub struct Shown<'r, 'w> {
-    pub row: &'r [Option<Slot<'w>>],
+    pub row: IndexedRow<'r, 'w>,
     pub methods: &'r [Option<Found>],
     pub told: &'r Told<'w>,
 }
@@ -158,9 +159,9 @@ impl Shown<'_, '_> {
         ensures { result ≡ slot_token self.now (record { name = name.now; desc = desc.now }) }
     {
         let listed = self.told.token(name, desc);
-        match token(self.row, name, desc) {
+        match self.row.token(name, desc) {
             Some(place) if is_of_package(self.methods, place) => {
-                Some(nearer(listed, self.row, name, desc, place))
+                Some(nearer(listed, self.row.slots(), name, desc, place))
             }
             _ => listed.map(usize::from),
         }

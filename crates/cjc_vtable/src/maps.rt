@@ -10,9 +10,9 @@ ghost use Rattle.cjc_world.specs.Working.Known.{class_of};
 ghost use Rattle.cjc_world.specs.Working.Places.{at_places};
 ghost use Rattle.cjc_tokens.specs.Lines.{line_at};
 ghost use Rattle.cjc_tokens.specs.Methods.{interfaces_at};
-ghost use Rattle.cjc_tokens.specs.Slots.{shown_token, slots};
+ghost use Rattle.cjc_tokens.specs.Slots.{shown_token, slots, token_among};
 ghost use Rattle.cjc_tokens.specs.Tokens.{assigned};
-ghost use Rattle.cjc_tokens.specs.Working.{signature_in, signs, slot_token};
+ghost use Rattle.cjc_tokens.specs.Working.{signature_in, signs, slot_token, token_under};
 ghost use Rattle.cjc_vtable.specs.Working.Naming.{index_of};
 ghost use Rattle.cjc_vtable.specs.Working.Standing.{IsOwn};
 ghost use Rattle.cjc_vtable.specs.Tables.{interface_map};
@@ -21,8 +21,8 @@ use crate::naming::named_row;
 use crate::table::InterfaceMap;
 use cjc_bytes::{Bytes, NoMemory, Row};
 use cjc_order::classes::class_count;
-use cjc_tokens::{Shown, Slot, Tokens, interface_methods, told_at};
-use cjc_world::{Known, World, lookup_laws};
+use cjc_tokens::{IndexedRow, Shown, Slot, Tokens, Told, interface_methods, told_at};
+use cjc_world::{Found, Known, World, lookup_laws};
 use std::alloc::Global;
 
 /// A token as it stands in a component.
@@ -117,6 +117,28 @@ fn maps_at(
     Ok(maps)
 }
 
+/// The maps of the interfaces at these places, by a class's slots, the methods there and the tokens that are listed.
+fn maps_by<'r, 'w>(
+    alloc: Global,
+    world: &World<'_>,
+    row: &'r [Option<Slot<'w>>],
+    methods: &'r [Option<Found>],
+    told: &'r Told<'w>,
+    places: &[u32],
+) -> Result<Row<InterfaceMap>, NoMemory>
+    ensures { IfOk result (λ maps. maps ≡ map (interface_map (all_classes world.now)
+        (λ s. token_among (token_under told.now s) (signs row.now) methods.now s))
+        (at_places (all_classes world.now) places.now)) }
+{
+    let indexed = IndexedRow::new(alloc, row)?;
+    let shown = Shown {
+        row: indexed,
+        methods,
+        told,
+    };
+    maps_at(alloc, world, &shown, places)
+}
+
 /// The slots of a class of the package that is no interface, by token.
 fn slots_of<'w>(
     alloc: Global,
@@ -141,11 +163,11 @@ fn slots_of<'w>(
 }
 
 /// The interface maps of a class of the package that is no interface, in the order of its interfaces.
-pub(crate) fn interface_maps<'a>(
+pub(crate) fn interface_maps<'w, 'a>(
     alloc: Global,
-    world: &World<'a>,
+    world: &'w World<'a>,
     tokens: &Tokens,
-    class: Known<'_, 'a>,
+    class: Known<'w, 'a>,
     number: u32,
 ) -> Result<Row<InterfaceMap>, NoMemory>
     requires class { IsOwn world.now number (class_of class) }
@@ -157,11 +179,7 @@ pub(crate) fn interface_maps<'a>(
 {
     let row = slots_of(alloc, world, tokens, class, number)?;
     let told = told_at(alloc, world, class)?;
-    let shown = Shown {
-        row: &row,
-        methods: tokens.public_methods(number),
-        told: &told,
-    };
     let places = world.interfaces(alloc, class)?;
-    maps_at(alloc, world, &shown, places.items())
+    let methods = tokens.public_methods(number);
+    maps_by(alloc, world, &row, methods, &told, places.items())
 }

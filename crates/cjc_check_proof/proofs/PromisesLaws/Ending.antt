@@ -24,10 +24,11 @@ use Rattle.cjc_ncode.specs.declared.narrow.NCase.{NCase}
 use Rattle.cjc_ncode.specs.declared.narrow.NInsn.{NInsn}
 use Rattle.cjc_ncode.specs.declared.narrow.NMethod.{NMethod}
 use Rattle.cjc_ncode.specs.Written.{leaving, low_of, pair_cases, place_in, reached, Resolution, switched, table_cases}
-use Rattle.cjc_ncode.specs.Written.{written}
-use Rattle.cjc_components.specs.Narrow.Rows.Resolved.{argument_words, resolution}
-use Rattle.cjc_components.specs.Narrow.Rows.Selected.{selected_code}
-use Rattle.cjc_components.specs.Narrow.Written.Rows.{by_rows_there, has_rows, rows_by}
+use Rattle.cjc_ncode.specs.Written.{Access, accessed, is_load, narrow_method, on_this, written, written_for}
+use Rattle.cjc_ncode.proofs.WrittenCases.{written_cases}
+use Rattle.cjc_components.specs.Narrow.Rows.Resolved.{argument_words}
+use Rattle.cjc_components.specs.Narrow.Rows.Selected.{paired, selected_code}
+use Rattle.cjc_components.specs.Narrow.Written.Rows.{by_rows_there, has_rows, has_rows_by, rows_by}
 use Rattle.cjc_narrow_proof.specs.Types.declared.state.State.{State}
 use Rattle.cjc_narrow_proof.specs.Types.Flow.{body_of, next_place, successors}
 use Rattle.cjc_narrow_proof.specs.Types.Steps.{goes_on}
@@ -94,6 +95,21 @@ op_ends r place jop.ArrayLength e = absurd cc
 op_ends r place (jop.CheckCast class) e = absurd cc
 op_ends r place (jop.InstanceOf class) e = absurd cc
 
+-- whatever its role
+role_ends : (r : Resolution) (place : ℕ → ℕ) (i : JInsn) → goes_on i.op ≡ false → last_ends (written_for r place i)
+    ≡ true
+role_ends r place i e = written_cases (λ xs. last_ends xs ≡ true) (r.role i.at) r place i.op (λ f. load i.op e f)
+    (op_ends r place i.op e) (λ a f. access i.op a e f)
+  where
+    load : (op : JOp) → goes_on op ≡ false → is_load op ≡ true → last_ends [] ≡ true
+    load (jop.Load refs l) e f = absurd cc
+    load op e f = absurd cc
+
+    access : (op : JOp) (a : Access) → goes_on op ≡ false → accessed op ≡ Some a
+        → last_ends (on_this r place op (Some a)) ≡ true
+    access (jop.Field put f) a e g = absurd cc
+    access op a e g = absurd cc
+
 -- ---- reached instructions
 
 -- a reached instruction at the front is the first of the reached ones
@@ -113,7 +129,7 @@ LeadsOn insns rows = (k : ℕ) (i : JInsn) (x : State) → slice_get insns k ≡
 
 module _ (r : Resolution) (place : ℕ → ℕ) where
   abbrev code : List JInsn → List NInsn
-  code kept = flat_map (λ i. written r place i.op) kept
+  code kept = flat_map (written_for r place) kept
 
   reached_end : (insns : List JInsn) (rows : List (Option State)) → LeadsOn insns rows → (c : JInsn) (rest : List JInsn)
       → reached insns rows ≡ c ∷ rest → last_ends (code (reached insns rows)) ≡ true
@@ -125,10 +141,10 @@ module _ (r : Resolution) (place : ℕ → ℕ) where
     where
       by : (later : List JInsn) → reached insns rows ≡ later → ((d : JInsn) (ds : List JInsn) → reached insns rows ≡ d
           ∷ ds → last_ends (code (reached insns rows)) ≡ true)
-          → (goes : Bool) → goes_on i.op ≡ goes → last_ends (written r place i.op ++ code (reached insns rows)) ≡ true
-      by (d ∷ ds) is more goes f = last_back (written r place i.op) (code (reached insns rows)) (more d ds is)
-      by [] is more false f = ap (λ xs. last_ends (written r place i.op ++ code xs)) is
-          ∙ last_alone (written r place i.op) (op_ends r place i.op f)
+          → (goes : Bool) → goes_on i.op ≡ goes → last_ends (written_for r place i ++ code (reached insns rows)) ≡ true
+      by (d ∷ ds) is more goes f = last_back (written_for r place i) (code (reached insns rows)) (more d ds is)
+      by [] is more false f = ap (λ xs. last_ends (written_for r place i ++ code xs)) is
+          ∙ last_alone (written_for r place i) (role_ends r place i f)
       by [] is more true f =
           let n = on 0 i x refl refl f in
           let there = first_reached insns rows n.0 n.1 n.2 n.3 in
@@ -179,10 +195,12 @@ module _ (files : Files) (code : MethodCode) (class : ClassTree) (method : Metho
   pub selected_ends : 0 < length tree.bytes → (near : List MemberId)
       → last_ends (selected_code files near class method tree code.insns (rows_by (has_rows rows))).insns ≡ true
   selected_ends some near =
-      let r = resolution files near class.name in
+      let r = paired files near class method tree code.insns (has_rows rows) in
       let nargs = argument_words method.flags method.desc in
       let front = get_inside code.insns 0 (some_insns some) in
       let on = closed.first (some_insns some) in
       let there = first_reached code.insns rows front.0 on.row front.1 on.is_row in
-      subst (λ (m : NMethod). last_ends m.insns ≡ true) (by_rows_there r tree nargs code.insns rows)
+      subst (λ (m : NMethod). last_ends m.insns ≡ true) (by_rows_there r tree nargs code.insns rows
+      ∙ ap (λ hs. narrow_method (paired files near class method tree code.insns hs) tree nargs code.insns (rows_by
+      (has_rows rows))) (sym (has_rows_by (has_rows rows))))
       (reached_end r (place_in r (reached code.insns rows)) code.insns rows leads_on front.0 there.0 there.1)

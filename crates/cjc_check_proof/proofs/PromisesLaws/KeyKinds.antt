@@ -11,6 +11,9 @@ use Rattle.cjc_narrow_proof.specs.Range.Words.{low_word}
 use Rattle.cjc_ncode.specs.Bytecode.declared.insn.JInsn.{JInsn}
 use Rattle.cjc_ncode.specs.Bytecode.declared.insn.JOp.{JOp}
 use Rattle.cjc_ncode.specs.Bytecode.declared.insn.JOp.TheVariants as jop
+use Rattle.cjc_world.specs.ClassFile.Code.{CodeTree}
+use Rattle.cjc_world.specs.ClassFile.declared.tree.ClassTree.{ClassTree}
+use Rattle.cjc_world.specs.ClassFile.declared.tree.MethodTree.{MethodTree}
 use Rattle.cjc_world.specs.Files.{Files}
 use Rattle.cjc_token_proof.specs.JvmSemantics.OnePackage.{ResolvedMember, is_constructor, of_class}
 use Rattle.cjc_ncode.specs.declared.narrow.NCase.{NCase}
@@ -20,8 +23,15 @@ use Rattle.cjc_ncode.specs.declared.narrow.PoolKey.{PoolKey}
 use Rattle.cjc_ncode.specs.declared.narrow.PoolKey.TheVariants as keys
 use Rattle.cjc_ncode.specs.Written.{call_by, field_access, local, low_of, nargs_of, on_stack, pair_cases, pushed}
 use Rattle.cjc_ncode.specs.Written.{pushed_word, Resolution, static_access, static_by, switched, table_cases, type_test}
-use Rattle.cjc_ncode.specs.Written.{written}
+use Rattle.cjc_ncode.specs.Written.{place_in, reached, this_access, written, written_as, written_for}
+use Rattle.cjc_ncode.specs.declared.narrow.PairRole.{PairRole}
+use Rattle.cjc_ncode.proofs.WrittenCases.{written_cases}
+use Rattle.cjc_components.proofs.NarrowRoles.{written_as_same}
+use Rattle.cjc_components.specs.Narrow.Pairs.Roles.{role_in, roles_of, with_pairs}
 use Rattle.cjc_components.specs.Narrow.Rows.Resolved.{by_owner, resolution, special_by}
+use Rattle.cjc_components.specs.Narrow.Rows.Selected.{paired, selected_code}
+use Rattle.cjc_components.specs.Narrow.Written.Rows.{has_rows}
+use Rattle.cjc_narrow_proof.specs.Types.Flow.{body_of}
 use Rattle.cjc_check_proof.specs.Code.Kinds.{HasKind, is_for}
 
 AllKind : List NInsn → Type 0
@@ -109,6 +119,21 @@ field_suits false false Short f = refl
 field_suits false false Int f = refl
 field_suits false false (Reference shape) f = refl
 field_suits false false NoValue f = refl
+
+this_suits : (put : Bool) (sort : Sort) (f : MemberId) → suits (meaning (this_access put sort)) (keys.Field f) ≡ true
+unfolding meaning
+this_suits true Boolean f = refl
+this_suits true Byte f = refl
+this_suits true Short f = refl
+this_suits true Int f = refl
+this_suits true (Reference shape) f = refl
+this_suits true NoValue f = refl
+this_suits false Boolean f = refl
+this_suits false Byte f = refl
+this_suits false Short f = refl
+this_suits false Int f = refl
+this_suits false (Reference shape) f = refl
+this_suits false NoValue f = refl
 
 virtual_suits : (m : MemberId) → suits (meaning 0x8B) (keys.Virtual m) ≡ true
 unfolding meaning
@@ -261,11 +286,33 @@ module _ (files : Files) (near : List MemberId) (holder : List ℕ) where
   op_kind place (jop.CheckCast class) = test_kind 0x94 (shape_named class)
   op_kind place (jop.InstanceOf class) = test_kind 0x95 (shape_named class)
 
-  code_kind : (place : ℕ → ℕ) (kept : List JInsn) → AllKind (flat_map (λ i. written r place i.op) kept)
-  code_kind place [] = none_kind
-  code_kind place (i ∷ kept) = append (written r place i.op) (flat_map (λ j. written r place j.op) kept)
-      (op_kind place i.op) (code_kind place kept)
+  module _ (role_at : ℕ → PairRole) where
+    role_kind : (place : ℕ → ℕ) (i : JInsn) → AllKind (written_as (role_at i.at) r place i.op)
+    role_kind place i = written_cases AllKind (role_at i.at) r place i.op (λ e. none_kind) (op_kind place i.op)
+        (λ a e. (let f = a.field in one (Named (this_access a.put (field_sort f.desc)) (keys.Field (r.field f)))
+        (named_kind (this_access a.put (field_sort f.desc)) (keys.Field (r.field f)) (this_suits a.put
+        (field_sort f.desc) (r.field f)))))
 
-  pub code_has_kinds : (place : ℕ → ℕ) (kept : List JInsn) (k : ℕ) (i : NInsn)
-      → slice_get (flat_map (λ i. written r place i.op) kept) k ≡ Some i → HasKind i
-  code_has_kinds place kept k i e = at (flat_map (λ i. written r place i.op) kept) k i (code_kind place kept) e
+    code_kind : (place : ℕ → ℕ) (kept : List JInsn)
+        → AllKind (flat_map (λ i. written_as (role_at i.at) r place i.op) kept)
+    code_kind place [] = none_kind
+    code_kind place (i ∷ kept) = append (written_as (role_at i.at) r place i.op)
+        (flat_map (λ j. written_as (role_at j.at) r place j.op) kept) (role_kind place i) (code_kind place kept)
+
+    pub code_has_kinds : (place : ℕ → ℕ) (kept : List JInsn) (k : ℕ) (i : NInsn)
+        → slice_get (flat_map (written_for (record r { role = role_at }) place) kept) k ≡ Some i → HasKind i
+    code_has_kinds place kept k i e = at (flat_map (λ j. written_as (role_at j.at) r place j.op) kept) k i
+        (code_kind place kept) (ap (λ (f : JInsn → List NInsn). slice_get (flat_map f kept) k)
+        (λ t j. sym (written_as_same r role_at (role_at j.at) place j.op) t) ∙ e)
+
+-- those of a method that is selected
+pub selected_has_kinds : {A : Type 0} (files : Files) (near : List MemberId) (class : ClassTree) (method : MethodTree)
+    (tree : CodeTree) (insns : List JInsn) (rows : List (Option A)) (k : ℕ) (i : NInsn)
+    → slice_get (let m = selected_code files near class method tree insns rows in m.insns) k ≡ Some i → HasKind i
+unfolding with_pairs
+selected_has_kinds files near class method tree insns rows k i e =
+    let kept = reached insns rows in
+    let flags = has_rows rows in
+    code_has_kinds files near class.name (role_in insns (roles_of (resolution files near class.name)
+    (body_of class method tree insns) flags)) (place_in (paired files near class method tree insns flags) kept) kept k i
+    e

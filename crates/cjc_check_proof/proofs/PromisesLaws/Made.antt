@@ -4,9 +4,7 @@ use Rattle.std.specs.Prelude.{slice_get, Some}
 use Rattle.cjc_world.specs.Files.{Files}
 use Rattle.cjc_ncode.specs.declared.narrow.NInsn.{NInsn}
 use Rattle.cjc_ncode.specs.declared.narrow.NMethod.{NMethod}
-use Rattle.cjc_ncode.specs.Written.{place_in, reached}
 use Rattle.cjc_ncode.specs.Lowering.Naming.{Naming}
-use Rattle.cjc_components.specs.Narrow.Rows.Resolved.{resolution}
 use Rattle.cjc_components.specs.Narrow.Written.Rows.{has_rows, rows_by}
 use Rattle.cjc_components.specs.Layout.Handlers.{AllLie}
 use Rattle.cjc_components.specs.Layout.Sizes.{AllLead}
@@ -19,7 +17,7 @@ use Rattle.cjc_check_proof.specs.Code.Kinds.{AllHaveKinds, HasKind}
 use Rattle.cjc_check_proof.specs.Code.Written.{AllWritable}
 use Rattle.cjc_check_proof.specs.Made.{AllAreMade, by_selection, IsMade, without_code}
 use Rattle.cjc_check_proof.proofs.PromisesLaws.Ending.{selected_ends}
-use Rattle.cjc_check_proof.proofs.PromisesLaws.KeyKinds.{code_has_kinds}
+use Rattle.cjc_check_proof.proofs.PromisesLaws.KeyKinds.{selected_has_kinds}
 use Rattle.cjc_check_proof.proofs.PromisesLaws.Nothing.{nothing_inside, nothing_named, nothing_written}
 
 module _ (n : Naming) (files : Files) (m : LaidMethod) where
@@ -49,8 +47,7 @@ module _ (n : Naming) (files : Files) (m : LaidMethod) where
   one_kind (without_code abstract_one none uncaught least) k i e = nothing_named m none k i e
   one_kind (by_selection {code = code} {class = class} {method = method} {tree = tree} is {rows = rows} least some near
       made can) k i e =
-      let kept = reached code.insns (rows_by (has_rows rows)) in
-      code_has_kinds files near class.name (place_in (resolution files near class.name) kept) kept k i
+      selected_has_kinds files near class method tree code.insns (rows_by (has_rows rows)) k i
       (ap (λ (x : NMethod). slice_get x.insns k) (sym made) ∙ e)
 
 module _ (n : Naming) (files : Files) (ms : List LaidMethod) (made : AllAreMade n files ms) where

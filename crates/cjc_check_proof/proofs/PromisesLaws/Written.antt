@@ -11,9 +11,10 @@ use Rattle.cjc_token_proof.specs.JvmSemantics.Linked.{Method}
 use Rattle.cjc_token_proof.specs.JvmSemantics.OnePackage.{method_at, method_by}
 use Rattle.cjc_ncode.specs.declared.narrow.NMethod.{NMethod}
 use Rattle.cjc_ncode.specs.Lowering.Naming.{Naming}
-use Rattle.cjc_components.specs.Narrow.Rows.Resolved.{argument_words, resolution}
-use Rattle.cjc_components.specs.Narrow.Rows.Selected.{selected_code}
-use Rattle.cjc_components.specs.Narrow.Written.Rows.{by_rows_there}
+use Rattle.cjc_components.specs.Narrow.Rows.Resolved.{argument_words}
+use Rattle.cjc_components.specs.Narrow.Rows.Selected.{paired, selected_code}
+use Rattle.cjc_ncode.specs.Written.{narrow_method}
+use Rattle.cjc_components.specs.Narrow.Written.Rows.{by_rows_there, has_rows, has_rows_by, rows_by}
 use Rattle.cjc_narrow_proof.specs.Types.declared.state.State.{State}
 use Rattle.cjc_narrow_proof.specs.Types.Flow.{body_of}
 use Rattle.cjc_narrow_proof.specs.Types.Tables.{IsLeastTable, IsMethodOf}
@@ -62,5 +63,8 @@ module _ (n : Naming) (files : Files) (near : List MemberId) (rows : Method → 
       ∙ same_code files near rows class method tree itself
       ∙ ap (λ insns. selected_code files near class method tree insns (rows x)) (insns_are files code class method tree
       is)
-      ∙ by_rows_there (resolution files near class.name) tree (argument_words method.flags method.desc) code.insns
-      (rows x)) can
+      ∙ by_rows_there (paired files near class method tree code.insns (has_rows (rows x))) tree
+      (argument_words method.flags method.desc) code.insns (rows x)
+      ∙ ap (λ hs. narrow_method (paired files near class method tree code.insns hs) tree
+      (argument_words method.flags method.desc) code.insns (rows_by (has_rows (rows x))))
+      (sym (has_rows_by (has_rows (rows x))))) can

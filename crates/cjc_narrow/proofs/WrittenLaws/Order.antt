@@ -17,45 +17,53 @@ use Rattle.cjc_ncode.specs.Bytecode.declared.insn.JOp.{JOp}
 use Rattle.cjc_ncode.specs.Bytecode.declared.insn.JOp.TheVariants as jop
 use Rattle.cjc_ncode.specs.declared.narrow.NCatch.{NCatch}
 use Rattle.cjc_ncode.specs.Written.{Resolution, catch_at, catches_at, low_of, place_in, reached, static_by, table_cases}
-use Rattle.cjc_ncode.specs.Written.{widest_sum, written}
+use Rattle.cjc_ncode.specs.Written.{Access, accessed, is_load, on_this, widest_sum, written, written_as, written_for}
+use Rattle.cjc_ncode.specs.declared.narrow.PairRole.{PairRole}
+use Rattle.cjc_ncode.specs.declared.narrow.PairRole.TheVariants.{Alone, Opens, Closes}
+use Rattle.cjc_narrow.specs.Pairs.Roles.{AreRoles}
 use Rattle.cjc_narrow.specs.Written.Operands.{IsAscending}
 use Rattle.cjc_narrow.specs.Written.Rows.{rows_by}
 use Rattle.cjc_narrow.specs.Written.Labels.{place_of}
-use Rattle.cjc_narrow.specs.Written.Working.Places.{as_named, catch_if, count, count_if, starts, widest_if}
+use Rattle.cjc_narrow.specs.Written.Working.Places.{as_named, catch_if, count_as, count_if, starts, widest_if}
 use Rattle.cjc_narrow.proofs.WrittenLaws.Cases.{table_length, pair_length}
 
 -- ---- starts
 
-starts_first : (before : ℕ) (i : JInsn) (insns : List JInsn) (is : Bool) (flags : List Bool)
-    → starts before (i ∷ insns) (is ∷ flags) ≡ before ∷ starts (count_if is before i.op) insns flags
-starts_first before i insns is flags = refl
-
-pub starts_next : (row : List ℕ) (before : ℕ) (insns : List JInsn) (flags : List Bool) (k : ℕ) (d : JInsn) (e : Bool)
-    (total : List ℕ) → k < length insns → length flags ≡ length insns
-    → row ++ starts before (drop k insns) (drop k flags) ≡ total → (let i = get_or insns k d in (row ++ before ∷ [])
-    ++ starts (count_if (get_or flags k e) before i.op) (drop (k + 1) insns) (drop (k + 1) flags) ≡ total)
-starts_next row before insns flags k d e total lt same so_far =
+pub starts_next : (row : List ℕ) (before : ℕ) (insns : List JInsn) (flags : List Bool) (roles : List PairRole) (k : ℕ)
+    (d : JInsn) (e : Bool) (f : PairRole) (total : List ℕ) → k < length insns → length flags ≡ length insns
+    → length roles ≡ length insns
+    → row ++ starts before (drop k insns) (drop k flags) (drop k roles) ≡ total
+    → (let i = get_or insns k d in (row ++ before ∷ [])
+    ++ starts (count_if (get_or flags k e) (get_or roles k f) before i.op) (drop (k + 1) insns) (drop (k + 1) flags)
+    (drop (k + 1) roles) ≡ total)
+starts_next row before insns flags roles k d e f total lt same alike so_far =
     let i = get_or insns k d in
     let less : k < length flags = omega arith in
-    append_assoc row (before ∷ []) (starts (count_if (get_or flags k e) before i.op) (drop (k + 1) insns)
-    (drop (k + 1) flags))
-    ∙ ap (λ fs. row ++ starts before (i ∷ drop (k + 1) insns) fs) (sym (from_index flags k e less))
-    ∙ ap (λ is. row ++ starts before is (drop k flags)) (sym (from_index insns k d lt))
+    let within : k < length roles = omega arith in
+    append_assoc row (before ∷ []) (starts (count_if (get_or flags k e) (get_or roles k f) before i.op)
+    (drop (k + 1) insns) (drop (k + 1) flags) (drop (k + 1) roles))
+    ∙ ap (λ rs. row ++ starts before (i ∷ drop (k + 1) insns) (get_or flags k e ∷ drop (k + 1) flags) rs)
+    (sym (from_index roles k f within))
+    ∙ ap (λ fs. row ++ starts before (i ∷ drop (k + 1) insns) fs (drop k roles)) (sym (from_index flags k e less))
+    ∙ ap (λ is. row ++ starts before is (drop k flags) (drop k roles)) (sym (from_index insns k d lt))
     ∙ so_far
 
-pub starts_end : (row : List ℕ) (before : ℕ) (insns : List JInsn) (flags : List Bool) (k : ℕ) (total : List ℕ)
-    → length insns ≤ k
-    → row ++ starts before (drop k insns) (drop k flags) ≡ total → row ++ before ∷ [] ≡ total
-starts_end row before insns flags k total le so_far = ap (λ is. row ++ starts before is (drop k flags))
-    (sym (drop_all k insns le)) ∙ so_far
+pub starts_end : (row : List ℕ) (before : ℕ) (insns : List JInsn) (flags : List Bool) (roles : List PairRole) (k : ℕ)
+    (total : List ℕ) → length insns ≤ k
+    → row ++ starts before (drop k insns) (drop k flags) (drop k roles) ≡ total → row ++ before ∷ [] ≡ total
+starts_end row before insns flags roles k total le so_far =
+    ap (λ is. row ++ starts before is (drop k flags) (drop k roles)) (sym (drop_all k insns le)) ∙ so_far
 
-pub starts_long : (before : ℕ) (insns : List JInsn) (flags : List Bool) → length flags ≡ length insns
-    → length (starts before insns flags) ≡ length insns + 1
-starts_long before [] flags same = refl
-starts_long before (i ∷ insns) [] same = cc
-starts_long before (i ∷ insns) (is ∷ flags) same =
+pub starts_long : (before : ℕ) (insns : List JInsn) (flags : List Bool) (roles : List PairRole)
+    → length flags ≡ length insns → length roles ≡ length insns
+    → length (starts before insns flags roles) ≡ length insns + 1
+starts_long before [] flags roles same alike = refl
+starts_long before (i ∷ insns) [] roles same alike = cc
+starts_long before (i ∷ insns) (is ∷ flags) [] same alike = cc
+starts_long before (i ∷ insns) (is ∷ flags) (role ∷ roles) same alike =
     let rest : length flags ≡ length insns = omega arith in
-    let long = starts_long (count_if is before i.op) insns flags rest in omega arith
+    let others : length roles ≡ length insns = omega arith in
+    let long = starts_long (count_if is role before i.op) insns flags roles rest others in omega arith
 
 -- ---- widest sizes
 
@@ -170,6 +178,21 @@ same_length r q f g jop.Throw = refl
 same_length r q f g (jop.CheckCast class) = refl
 same_length r q f g (jop.InstanceOf class) = refl
 
+-- of any role
+pub same_length_as : (r q : Resolution) (f g : ℕ → ℕ) (role : PairRole) (op : JOp) → length (written_as role r f op)
+    ≡ length (written_as role q g op)
+same_length_as r q f g Alone op = same_length r q f g op
+same_length_as r q f g Opens op = by (is_load op)
+  where
+    by : (b : Bool) → length (if b then [] else written r f op) ≡ length (if b then [] else written q g op)
+    by true = refl
+    by false = same_length r q f g op
+same_length_as r q f g Closes op = by (accessed op)
+  where
+    by : (found : Option Access) → length (on_this r f op found) ≡ length (on_this q g op found)
+    by None = same_length r q f g op
+    by (Some a) = refl
+
 -- ---- the place of an offset
 
 -- no instruction stands before the offset
@@ -183,7 +206,7 @@ none_before r offset [] flags behind = refl
 none_before r offset (i ∷ insns) [] behind = refl
 none_before r offset (i ∷ insns) (false ∷ flags) behind = none_before r offset insns flags (λ k x e. behind (suc k) x e)
 none_before r offset (i ∷ insns) (true ∷ flags) behind =
-    ap (λ b. (if b then length (written r (λ o. 0) i.op) else 0) + place_in r (reached insns (rows_by flags)) offset)
+    ap (λ b. (if b then length (written_for r (λ o. 0) i) else 0) + place_in r (reached insns (rows_by flags)) offset)
     (behind 0 i refl)
     ∙ (let rest = none_before r offset insns flags (λ k x e. behind (suc k) x e)
     in let zero_more : 0 + place_in r (reached insns (rows_by flags)) offset ≡ 0 = omega arith in zero_more)
@@ -199,59 +222,64 @@ all_behind offset i insns ascending e zero x is = let same : i ≡ x = cc in sub
 all_behind offset i insns ascending e (suc k) x is = later i.at x.at offset e (ascending 0 (suc k) i x refl is
     (omega arith))
 
-ascending_rest : (i : JInsn) (insns : List JInsn) → IsAscending (i ∷ insns) → IsAscending insns
+pub ascending_rest : (i : JInsn) (insns : List JInsn) → IsAscending (i ∷ insns) → IsAscending insns
 ascending_rest i insns ascending j k x y is_x is_y lt = ascending (suc j) (suc k) x y is_x is_y (omega arith)
 
-place_found : (r : Resolution) (offset before : ℕ) (insns : List JInsn) (flags : List Bool) → IsAscending insns
-    → length flags ≡ length insns
-    → get_or (starts before insns flags) (prefix_len (λ i. nat_lt i.at offset) insns) 0
+place_found : (r : Resolution) (offset before : ℕ) (insns : List JInsn) (flags : List Bool) (roles : List PairRole)
+    → IsAscending insns → length flags ≡ length insns → length roles ≡ length insns → AreRoles r insns roles
+    → get_or (starts before insns flags roles) (prefix_len (λ i. nat_lt i.at offset) insns) 0
     ≡ before + place_in r (reached insns (rows_by flags)) offset
-place_found r offset before [] flags ascending same = let s : before ≡ before + 0 = omega arith in s
-place_found r offset before (i ∷ insns) [] ascending same = cc
-place_found r offset before (i ∷ insns) (is ∷ flags) ascending same =
-    by is (nat_lt i.at offset) refl (place_found r offset (count_if is before i.op) insns flags (ascending_rest i insns
-    ascending) (let s : length flags ≡ length insns = omega arith in s))
+place_found r offset before [] flags roles ascending same alike are = let s : before ≡ before + 0 = omega arith in s
+place_found r offset before (i ∷ insns) [] roles ascending same alike are = cc
+place_found r offset before (i ∷ insns) (is ∷ flags) [] ascending same alike are = cc
+place_found r offset before (i ∷ insns) (is ∷ flags) (role ∷ roles) ascending same alike are =
+    by is (nat_lt i.at offset) refl (place_found r offset (count_if is role before i.op) insns flags roles
+    (ascending_rest i insns ascending) (let s : length flags ≡ length insns = omega arith in s)
+    (let s : length roles ≡ length insns = omega arith in s) (λ k d e lt. are (suc k) d e (omega arith)))
   where
     behind : (flag : Bool) → nat_lt i.at offset ≡ false → place_in r (reached (i ∷ insns) (rows_by (flag ∷ flags)))
         offset ≡ 0
     behind flag e = none_before r offset (i ∷ insns) (flag ∷ flags) (all_behind offset i insns ascending e)
 
     more : (flag : Bool) → nat_lt i.at offset ≡ true
-        → count_if flag before i.op + place_in r (reached insns (rows_by flags)) offset
+        → count_if flag role before i.op + place_in r (reached insns (rows_by flags)) offset
         ≡ before + place_in r (reached (i ∷ insns) (rows_by (flag ∷ flags))) offset
     more false e = refl
     more true e =
-        let same_count : count i.op ≡ length (written r (λ o. 0) i.op) = same_length as_named r (λ o. 0) (λ o. 0) i.op
-        in
-        let here : (if nat_lt i.at offset then length (written r (λ o. 0) i.op) else 0)
-        ≡ length (written r (λ o. 0) i.op) = ap (λ b. if b then length (written r (λ o. 0) i.op) else 0) e in
+        let same_count : count_as role i.op ≡ length (written_for r (λ o. 0) i) =
+        same_length_as as_named r (λ o. 0) (λ o. 0) role i.op
+        ∙ ap (λ x. length (written_as x r (λ o. 0) i.op)) (are 0 i role (omega arith)) in
+        let here : (if nat_lt i.at offset then length (written_for r (λ o. 0) i) else 0)
+        ≡ length (written_for r (λ o. 0) i) = ap (λ b. if b then length (written_for r (λ o. 0) i) else 0) e in
         omega arith
 
-    by : (flag b : Bool) → nat_lt i.at offset ≡ b → get_or (starts (count_if flag before i.op) insns flags)
-        (prefix_len (λ i. nat_lt i.at offset) insns) 0 ≡ count_if flag before i.op + place_in r
+    by : (flag b : Bool) → nat_lt i.at offset ≡ b → get_or (starts (count_if flag role before i.op) insns flags roles)
+        (prefix_len (λ i. nat_lt i.at offset) insns) 0 ≡ count_if flag role before i.op + place_in r
         (reached insns (rows_by flags)) offset
-        → get_or (before ∷ starts (count_if flag before i.op) insns flags) (cond (nat_lt i.at offset)
+        → get_or (before ∷ starts (count_if flag role before i.op) insns flags roles) (cond (nat_lt i.at offset)
         (1 + prefix_len (λ i. nat_lt i.at offset) insns) 0) 0
         ≡ before + place_in r (reached (i ∷ insns) (rows_by (flag ∷ flags))) offset
     by flag true e rest =
         let n = prefix_len (λ i. nat_lt i.at offset) insns in
         let next : 1 + n ≡ suc n = omega arith in
-        ap (λ b. get_or (before ∷ starts (count_if flag before i.op) insns flags) (cond b (1 + n) 0) 0) e
-        ∙ ap (λ m. get_or (before ∷ starts (count_if flag before i.op) insns flags) m 0) next
+        ap (λ b. get_or (before ∷ starts (count_if flag role before i.op) insns flags roles) (cond b (1 + n) 0) 0) e
+        ∙ ap (λ m. get_or (before ∷ starts (count_if flag role before i.op) insns flags roles) m 0) next
         ∙ rest
         ∙ more flag e
     by flag false e rest =
         let n = prefix_len (λ i. nat_lt i.at offset) insns in
         let s : before ≡ before + 0 = omega arith in
-        ap (λ b. get_or (before ∷ starts (count_if flag before i.op) insns flags) (cond b (1 + n) 0) 0) e
+        ap (λ b. get_or (before ∷ starts (count_if flag role before i.op) insns flags roles) (cond b (1 + n) 0) 0) e
         ∙ s
         ∙ ap (λ m. before + m) (sym (behind flag e))
 
 -- Places from the first instruction on are those of the narrow code.
-pub places_found : (r : Resolution) (insns : List JInsn) (flags : List Bool) → IsAscending insns
-    → length flags ≡ length insns
-    → place_of (record { insns = insns; starts = starts 0 insns flags }) ≡ place_in r (reached insns (rows_by flags))
-places_found r insns flags ascending same i offset = (place_found r offset 0 insns flags ascending same
+pub places_found : (r : Resolution) (insns : List JInsn) (flags : List Bool) (roles : List PairRole)
+    → IsAscending insns → length flags ≡ length insns → length roles ≡ length insns → AreRoles r insns roles
+    → place_of (record { insns = insns; starts = starts 0 insns flags roles })
+    ≡ place_in r (reached insns (rows_by flags))
+places_found r insns flags roles ascending same alike are i offset =
+    (place_found r offset 0 insns flags roles ascending same alike are
     ∙ zero_add (place_in r (reached insns (rows_by flags)) offset)) i
   where
     zero_add : (n : ℕ) → 0 + n ≡ n

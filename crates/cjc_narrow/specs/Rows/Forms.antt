@@ -1,19 +1,23 @@
--- What does not depend on the forms of field instructions, of one byte or two: where code stands, its handlers, and the
--- keys that it names.
-use Rattle.std.specs.Prelude.{◌≡◌, ℕ, List, flat_map, Bool}
+-- What does not depend on the forms of field instructions, of one byte or two, nor on which are written as one with an
+-- aload_0: the keys that a method names, and the classes of its handlers.
+use Rattle.std.specs.Prelude.{◌≡◌, List, flat_map, map, Bool, Option}
 use Rattle.cjc_bytes.specs.declared.fault.MemberId.{MemberId}
-use Rattle.cjc_ncode.specs.ClassFile.declared.tree.Catch.{Catch}
-use Rattle.cjc_ncode.specs.Bytecode.declared.insn.JInsn.{JInsn}
+use Rattle.cjc_types.specs.Flow.{Body}
 use Rattle.cjc_ncode.specs.PoolOrder.{insn_keys}
-use Rattle.cjc_ncode.specs.Written.{Resolution, place_in, narrow_code, catches_at}
+use Rattle.cjc_ncode.specs.Written.{Resolution, reached, place_in, narrow_code, catches_at}
+use Rattle.cjc_narrow.specs.Pairs.Roles.{with_pairs}
+use Rattle.cjc_narrow.specs.Written.Rows.{has_rows}
 
 -- the same names with other instance fields at an index of one byte
 abbrev pub with_near : Resolution → (near : MemberId → Bool) → Resolution
 with_near r near = record r { is_near = near }
 
--- The instructions of a method name the same keys in the same order, and its handlers are the same.
-pub record FormsOnly (r : Resolution) (near : MemberId → Bool) (insns : List JInsn) : Type 0 where
-  pub places : (offset : ℕ) → place_in (with_near r near) insns offset ≡ place_in r insns offset
-  pub keys : flat_map insn_keys (narrow_code (with_near r near) insns) ≡ flat_map insn_keys (narrow_code r insns)
-  pub catches : (catches : List Catch) → catches_at (place_in (with_near r near) insns) catches
-      ≡ catches_at (place_in r insns) catches
+-- The instructions of a method name the same keys in the same order, and its handlers are of the same classes.
+pub record FormsOnly {A : Type 0} (r : Resolution) (near : MemberId → Bool) (b : Body) (rows : List (Option A)) :
+    Type 0 where
+  pub keys : (let kept = reached b.insns rows
+      in flat_map insn_keys (narrow_code (with_pairs (with_near r near) b (has_rows rows)) kept)
+      ≡ flat_map insn_keys (narrow_code (with_pairs r b (has_rows rows)) kept))
+  pub classes : (let kept = reached b.insns rows
+      in map (λ c. c.class) (catches_at (place_in (with_pairs (with_near r near) b (has_rows rows)) kept) b.catches)
+      ≡ map (λ c. c.class) (catches_at (place_in (with_pairs r b (has_rows rows)) kept) b.catches))

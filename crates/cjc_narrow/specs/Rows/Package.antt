@@ -29,6 +29,9 @@ use Rattle.cjc_jvm_semantics.specs.Linked
 use Rattle.cjc_jvm_semantics.specs.OnePackage.{ResolvedMember, callee_at, selected_from, select_in, first_super}
 use Rattle.cjc_jvm_semantics.specs.OnePackage.{interface_callee, made_of, entry_named, sent_named, is_plain_import}
 use Rattle.cjc_jvm_semantics.specs.OnePackage.{cells}
+use Rattle.cjc_types.specs.Flow.{Body}
+use Rattle.cjc_narrow.specs.Pairs.Roles.{with_pairs}
+use Rattle.cjc_narrow.specs.Written.Rows.{has_rows}
 use Rattle.cjc_narrow.specs.Rows.Resolved.{method_found, parameter_words, resolution, argument_words}
 
 -- ---- methods
@@ -58,14 +61,27 @@ flags_of (Some hit) = hit.flags
 abbrev pub tree_of : Method → CodeTree
 tree_of m = record { max_stack = m.max_stack; max_locals = m.max_locals; bytes = []; catches = m.catches }
 
+-- what inference reads of it
+abbrev pub read_of : Method → (flags : ℕ) → Body
+read_of m flags = let id = m.id in record {
+  class = id.class;
+  flags = flags;
+  desc = id.desc;
+  max_stack = m.max_stack;
+  max_locals = m.max_locals;
+  catches = m.catches;
+  insns = m.insns;
+}
+
 -- The narrow code that is written for a method of the package, by the rows of its least table, where these instance
 -- fields have an index of one byte.
 abbrev pub code_of : {A : Type 0} → Files → (near : List MemberId) → (rows : Method → List (Option A)) → Method
     → NMethod
 code_of files near rows m =
     let id = m.id in
-    narrow_method (resolution files near id.class) (tree_of m)
-    (argument_words (flags_of (method_found (all_classes files) id)) id.desc) m.insns (rows m)
+    let flags = flags_of (method_found (all_classes files) id) in
+    narrow_method (with_pairs (resolution files near id.class) (read_of m flags) (has_rows (rows m))) (tree_of m)
+    (argument_words flags id.desc) m.insns (rows m)
 
 -- ---- calls
 

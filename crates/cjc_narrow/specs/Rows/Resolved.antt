@@ -9,6 +9,7 @@ use Rattle.cjc_ncode.specs.CardSemantics.Bytecode.Arguments.{widths}
 use Rattle.cjc_jvm_semantics.specs.World.Files.{Files}
 use Rattle.cjc_jvm_semantics.specs.World.Classes.{Class, all_classes, class_named}
 use Rattle.cjc_jvm_semantics.specs.World.Lookup.{find_field, find_method}
+use Rattle.cjc_ncode.specs.declared.narrow.PairRole.TheVariants.{Alone}
 use Rattle.cjc_ncode.specs.declared.narrow.PoolKey.{PoolKey}
 use Rattle.cjc_ncode.specs.declared.narrow.PoolKey.TheVariants as keys
 use Rattle.cjc_ncode.specs.PoolOrder.{same_member}
@@ -75,6 +76,7 @@ resolution_by files w near holder = record {
   special = λ id. special_by holder id (method_found w id);
   static = λ id. keys.StaticMethod (resolved_method w id);
   interface = resolved_method w;
+  role = λ offset. Alone;
 }
 
 -- What the names in the code of a class stand for, where these instance fields have an index of one byte.

@@ -1,23 +1,34 @@
 -- The narrow code of a method of a package, and of all its methods, by which instructions their least tables reach.
-use Rattle.std.specs.Prelude.{List, [], ◌∷◌, ◌++◌, take, Option}
+use Rattle.std.specs.Prelude.{Bool, List, [], ◌∷◌, ◌++◌, take, Option}
 use Rattle.cjc_bytes.specs.declared.fault.MemberId.{MemberId}
 use Rattle.cjc_ncode.specs.ClassFile.Code.{CodeTree}
 use Rattle.cjc_ncode.specs.ClassFile.declared.tree.ClassTree.{ClassTree}
 use Rattle.cjc_ncode.specs.ClassFile.declared.tree.MethodTree.{MethodTree}
 use Rattle.cjc_ncode.specs.Bytecode.declared.insn.JInsn.{JInsn}
+use Rattle.cjc_types.specs.Flow.{body_of}
 use Rattle.cjc_jvm_semantics.specs.World.Files.{Files}
 use Rattle.cjc_ncode.specs.declared.narrow.NMethod.{NMethod}
 use Rattle.cjc_ncode.specs.declared.narrow.PoolKey.{PoolKey}
 use Rattle.cjc_ncode.specs.declared.narrow.PoolKey.TheVariants as keys
-use Rattle.cjc_ncode.specs.Written.{narrow_method}
+use Rattle.cjc_ncode.specs.Written.{Resolution, narrow_method}
+use Rattle.cjc_narrow.specs.Pairs.Roles.{with_pairs}
 use Rattle.cjc_narrow.specs.Rows.Resolved.{resolution, argument_words}
+use Rattle.cjc_narrow.specs.Written.Rows.{has_rows}
+
+-- what its names stand for, and the roles of its instructions
+abbrev pub paired : Files → (near : List MemberId) → ClassTree → MethodTree → CodeTree → List JInsn
+    → (reached : List Bool)
+    → Resolution
+paired files near class method tree insns reached = with_pairs (resolution files near class.name)
+    (body_of class method tree insns) reached
 
 -- The narrow method of a method of a class: its names stand for what the files say, and its instructions are those that
--- have a row.
+-- have a row, each pair of an aload_0 and a field instruction of its own object written as one.
 abbrev pub selected_code : {A : Type 0} → Files → (near : List MemberId) → ClassTree → MethodTree → CodeTree
     → List JInsn → List (Option A) → NMethod
 selected_code files near class method tree insns rows =
-    narrow_method (resolution files near class.name) tree (argument_words method.flags method.desc) insns rows
+    narrow_method (paired files near class method tree insns (has_rows rows)) tree
+    (argument_words method.flags method.desc) insns rows
 
 -- ---- fields with an index of one byte
 

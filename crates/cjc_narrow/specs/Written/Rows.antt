@@ -6,7 +6,7 @@ use Rattle.cjc_ncode.specs.ClassFile.Code.{CodeTree}
 use Rattle.cjc_ncode.specs.Bytecode.declared.insn.JInsn.{JInsn}
 use Rattle.cjc_ncode.specs.declared.narrow.NMethod.{NMethod}
 use Rattle.cjc_ncode.specs.Written.{Resolution, catches_at, narrow_code, narrow_method, place_in, reached, sources}
-use Rattle.cjc_ncode.specs.Written.{widest_sum, written}
+use Rattle.cjc_ncode.specs.Written.{widest_sum, written_for}
 
 -- a row where an instruction is reached
 abbrev pub row_if : Bool → Option (Unit {0})
@@ -21,6 +21,12 @@ rows_by reached = map row_if reached
 abbrev pub has_rows : {A : Type 0} → List (Option A) → List Bool
 has_rows rows = map is_some rows
 
+-- a table of which instructions are reached says which are
+pub has_rows_by : (flags : List Bool) → has_rows (rows_by flags) ≡ flags
+has_rows_by [] = refl
+has_rows_by (true ∷ flags) = ap (λ fs. true ∷ fs) (has_rows_by flags)
+has_rows_by (false ∷ flags) = ap (λ fs. false ∷ fs) (has_rows_by flags)
+
 same_reached : {A : Type 0} (insns : List JInsn) (rows : List (Option A))
     → reached insns rows ≡ reached insns (rows_by (has_rows rows))
 same_reached [] rows = refl
@@ -32,7 +38,7 @@ same_sources : {A : Type 0} (r : Resolution) (k : ℕ) (insns : List JInsn) (row
     → sources r k insns rows ≡ sources r k insns (rows_by (has_rows rows))
 same_sources r k [] rows = refl
 same_sources r k (i ∷ insns) [] = refl
-same_sources r k (i ∷ insns) (Some row ∷ rows) = ap (λ rest. replicate (length (written r (λ o. 0) i.op)) k
+same_sources r k (i ∷ insns) (Some row ∷ rows) = ap (λ rest. replicate (length (written_for r (λ o. 0) i)) k
     ++ rest) (same_sources r (k + 1) insns rows)
 same_sources r k (i ∷ insns) (None ∷ rows) = same_sources r (k + 1) insns rows
 

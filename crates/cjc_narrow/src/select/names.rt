@@ -4,7 +4,7 @@ ghost use Rattle.std.specs.Prelude.{◌≡◌, ◌++◌, ◌∷◌, [], IfOk, On
 ghost use Rattle.cjc_ncode.specs.Bytecode.Jvm as jvm;
 ghost use Rattle.cjc_ncode.specs.declared.narrow.NInsn.TheVariants.{Named};
 ghost use Rattle.cjc_ncode.specs.declared.narrow.PoolKey.TheVariants as keys;
-ghost use Rattle.cjc_ncode.specs.Written.{call_by, called, field_access, nargs_of, static_by};
+ghost use Rattle.cjc_ncode.specs.Written.{call_by, called, field_access, nargs_of, static_by, this_access};
 ghost use Rattle.cjc_ncode.specs.Script.Sorts.{field_sort};
 ghost use Rattle.cjc_narrow.specs.Keys.Index.{index_of};
 ghost use Rattle.cjc_narrow.specs.Written.Operands.{IsByte};
@@ -12,7 +12,7 @@ ghost use Rattle.cjc_narrow.specs.Select.Working.Names.{is_one_byte, resolution_
 
 use crate::keys::Numbers;
 use crate::rows::{constant_named, resolved_field, resolved_method, special_key, virtual_method};
-use crate::written::{field_access, pushed, static_access, words_by};
+use crate::written::{field_access, pushed, static_access, this_access, words_by};
 use cjc_bytes::{MemberId, NoMemory, Row};
 use cjc_jvm_semantics::world::World;
 use cjc_ncode::bytecode::jvm;
@@ -79,6 +79,36 @@ pub(crate) fn put_static(
             out.push(NInsn::Named { op, key })
         }
     }
+}
+
+/// Whether a field has an index of one byte.
+#[tactic(auto, unfolding(crate::specs::Rows::Resolved::resolution), using(crate::proofs::SelectLaws::Near::near_by_index))]
+pub(crate) fn is_near_field(
+    alloc: Global,
+    names: &Names<'_, '_>,
+    field: &MemberId,
+) -> Result<bool, NoMemory>
+    ensures { let r = resolution_of names.now in IfOk result (λ near. near ≡ r.is_near field.now) }
+{
+    let key = PoolKey::Field(resolved_field(alloc, names.world, field)?);
+    Ok(is_near(names.pool, &key))
+}
+
+/// getfield_this or putfield_this.
+#[tactic(auto, unfolding(crate::specs::Rows::Resolved::resolution))]
+pub(crate) fn put_this(
+    out: &mut Row<NInsn>,
+    alloc: Global,
+    names: &Names<'_, '_>,
+    put: bool,
+    field: &MemberId,
+) -> Result<(), NoMemory>
+    ensures { let r = resolution_of names.now in OnOk result (out.new ≡ out.old
+        ++ Named (this_access put (field_sort field.now.desc)) (keys.Field (r.field field.now)) ∷ []) }
+{
+    let key = PoolKey::Field(resolved_field(alloc, names.world, field)?);
+    let op = this_access(put, field.desc.items())?;
+    out.push(NInsn::Named { op, key })
 }
 
 /// getfield or putfield, with an index of one byte where the pool has one.

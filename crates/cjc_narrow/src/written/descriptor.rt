@@ -7,7 +7,7 @@ ghost use Rattle.cjc_ncode.specs.CapRead.Card as card;
 ghost use Rattle.cjc_bytes.specs.Spots.{desc_of};
 ghost use Rattle.cjc_ncode.specs.Script.Sorts.{field_sort, signature_of, sort_by, sort_of};
 ghost use Rattle.cjc_ncode.specs.CardSemantics.Bytecode.Arguments.{width, widths};
-ghost use Rattle.cjc_ncode.specs.Written.{behind_reference, field_access, static_access, words_by};
+ghost use Rattle.cjc_ncode.specs.Written.{behind_reference, field_access, static_access, this_access, words_by};
 
 use cjc_bytes::{Desc, Kind, NoMemory};
 use cjc_ncode::capread::card;
@@ -119,4 +119,12 @@ pub fn field_access(put: bool, near: bool, desc: &[u8]) -> Result<u8, NoMemory>
 {
     let behind = behind_reference(desc)?;
     Ok(first_access(put, near) + behind)
+}
+
+/// getfield_this or putfield_this of a field of this type.
+pub fn this_access(put: bool, desc: &[u8]) -> Result<u8, NoMemory>
+    ensures { IfOk result (λ op. op ≡ this_access put (field_sort desc.now)) }
+{
+    let behind = behind_reference(desc)?;
+    Ok(first_access(put, false) + behind + 4)
 }

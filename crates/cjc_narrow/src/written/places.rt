@@ -7,11 +7,13 @@ ghost use Rattle.cjc_ncode.specs.Written.{Resolution, place_in, reached, type_te
 ghost use Rattle.cjc_narrow.specs.Written.Labels.{place_of};
 ghost use Rattle.cjc_narrow.specs.Written.Operands.{IsAscending};
 ghost use Rattle.cjc_narrow.specs.Written.Rows.{rows_by};
-ghost use Rattle.cjc_narrow.specs.Written.Working.Places.{count, count_if, starts};
+ghost use Rattle.cjc_narrow.specs.Written.Working.Places.{count, count_as, count_if, starts};
+ghost use Rattle.cjc_narrow.specs.Pairs.Roles.{AreRoles};
 
 use crate::written::switches::{has_pair, has_word};
 use crate::written::type_tests::tested;
 use cjc_bytes::{NoMemory, Row};
+use cjc_ncode::PairRole;
 use cjc_ncode::bytecode::{JInsn, JOp, jvm};
 use std::alloc::Global;
 use std::marker::Model;
@@ -61,12 +63,22 @@ pub(crate) fn sum(m: u32, n: u32) -> Result<u32, NoMemory>
     }
 }
 
+/// How many instructions are written for one of this role.
+fn count_as(role: PairRole, op: &JOp) -> Result<u32, NoMemory>
+    ensures { IfOk result (λ n. n ≡ count_as role op.now) }
+{
+    match (role, op) {
+        (PairRole::Opens, JOp::Load { .. }) => Ok(0),
+        _ => count(op),
+    }
+}
+
 /// A number of instructions, with those that are written for one where it is reached.
-fn count_if(is_reached: bool, before: u32, op: &JOp) -> Result<u32, NoMemory>
-    ensures { IfOk result (λ total. total ≡ count_if is_reached before op.now) }
+fn count_if(is_reached: bool, role: PairRole, before: u32, op: &JOp) -> Result<u32, NoMemory>
+    ensures { IfOk result (λ total. total ≡ count_if is_reached role before op.now) }
 {
     if is_reached {
-        sum(before, count(op)?)
+        sum(before, count_as(role, op)?)
     } else {
         Ok(before)
     }
@@ -74,15 +86,21 @@ fn count_if(is_reached: bool, before: u32, op: &JOp) -> Result<u32, NoMemory>
 
 /// How many instructions are written before each one, and at the end of all.
 #[tactic(auto, using(crate::proofs::WrittenLaws::Order::starts_next, crate::proofs::WrittenLaws::Order::starts_end))]
-fn starts(alloc: Global, insns: &[JInsn], reaches: &[bool]) -> Result<Row<u32>, NoMemory>
-    requires { length reaches.now ≡ length insns.now }
-    ensures { IfOk result (λ row. row ≡ starts 0 insns.now reaches.now) }
+fn starts(
+    alloc: Global,
+    insns: &[JInsn],
+    reaches: &[bool],
+    roles: &[PairRole],
+) -> Result<Row<u32>, NoMemory>
+    requires each { length reaches.now ≡ length insns.now }
+    requires roles { length roles.now ≡ length insns.now }
+    ensures { IfOk result (λ row. row ≡ starts 0 insns.now reaches.now roles.now) }
 {
     let mut row = Row::new(alloc);
     let mut before = 0;
     for k in 0..insns.len() {
         row.push(before)?;
-        before = count_if(reaches[k], before, &insns[k].op)?;
+        before = count_if(reaches[k], roles[k], before, &insns[k].op)?;
     }
     row.push(before)?;
     Ok(row)
@@ -126,14 +144,20 @@ fn place_before(insns: &[JInsn], offset: u32) -> usize
 }
 
 impl<'a> Places<'a> {
-    /// Those of a method, by which of its instructions are reached.
-    pub fn new(alloc: Global, insns: &'a [JInsn], reaches: &[bool]) -> Result<Places<'a>, NoMemory>
+    /// Those of a method, by which of its instructions are reached and by their roles.
+    pub fn new(
+        alloc: Global,
+        insns: &'a [JInsn],
+        reaches: &[bool],
+        roles: &[PairRole],
+    ) -> Result<Places<'a>, NoMemory>
         requires each { length reaches.now ≡ length insns.now }
+        requires roles { length roles.now ≡ length insns.now }
         requires ascending { IsAscending insns.now }
-        ensures { (r : Resolution)
+        ensures { (r : Resolution) → AreRoles r insns.now roles.now
             → IfOk result (λ places. place_of places ≡ place_in r (reached insns.now (rows_by reaches.now))) }
     {
-        let starts = starts(alloc, insns, reaches)?;
+        let starts = starts(alloc, insns, reaches, roles)?;
         Ok(Places { insns, starts })
     }
 

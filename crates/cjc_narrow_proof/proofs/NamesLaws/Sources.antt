@@ -1,5 +1,6 @@
 -- Each instruction of narrow code is written for one of the class file.
-use Rattle.std.proofs.Common.{◌≡◌, ℕ, zero, suc, ◌+◌, refl, subst, Bool, true, false, List, [], ◌∷◌, ◌++◌}
+use Rattle.std.proofs.Common.{◌≡◌, ℕ, zero, suc, ◌+◌, refl, sym, ap, subst, ◌∙◌, Bool, true, false, List, []}
+use Rattle.std.proofs.Common.{◌∷◌, ◌++◌}
 use Rattle.std.specs.Prelude.{Option, Some, None, flat_map, nat_le, slice_get, ◌==◌, if◌then◌else◌, ℤ, pos, negsuc}
 use Rattle.std.proofs.lemmas.Bool.{eqb-true}
 use Rattle.cjc_bytes.specs.declared.fault.MemberId.{MemberId}
@@ -13,8 +14,12 @@ use Rattle.cjc_ncode.specs.declared.narrow.NInsn.{NInsn}
 use Rattle.cjc_ncode.specs.declared.narrow.NInsn.TheVariants.{Op, Push, Local, Words, Named, Interface}
 use Rattle.cjc_ncode.specs.Written.{Resolution, call_by, local, low_of, nargs_of, on_stack, pair_cases, pushed_word}
 use Rattle.cjc_ncode.specs.Written.{static_by, switched, table_cases, type_test, written}
+use Rattle.cjc_ncode.specs.Written.{Access, accessed, on_this, written_as, written_for}
+use Rattle.cjc_ncode.specs.declared.narrow.PairRole.{PairRole}
+use Rattle.cjc_narrow.proofs.PairsLaws.Roles.{written_as_same}
+use Rattle.cjc_ncode.proofs.WrittenCases.{written_cases}
 use Rattle.cjc_narrow_proof.specs.Sources.{IsWrittenFor, NamesClass, array, interface_call, itself, names_nothing}
-use Rattle.cjc_narrow_proof.specs.Sources.{of_array, of_cast, of_class, of_field, of_static, of_test, plain}
+use Rattle.cjc_narrow_proof.specs.Sources.{of_array, of_cast, of_class, of_field, of_own_field, of_static, of_test, plain}
 use Rattle.cjc_narrow_proof.specs.Sources.{special_call, static_call, virtual_call}
 
 module _ (r : Resolution) (op : JOp) where
@@ -140,18 +145,39 @@ module _ (r : Resolution) where
     op_for (jop.CheckCast name) = tests_for (jop.CheckCast name) 0x94 (shape_named name) (λ class kind h. of_cast h)
     op_for (jop.InstanceOf name) = tests_for (jop.InstanceOf name) 0x95 (shape_named name) (λ class kind h. of_test h)
 
-    -- the instruction for which one of the code is written
-    pub source_at : (kept : List JInsn) (k : ℕ) (insn : NInsn) → slice_get (flat_map (λ i. written r place i.op) kept) k
-        ≡ Some insn → (j : ℕ) × (i : JInsn) × (slice_get kept j ≡ Some i) × IsWrittenFor r i.op insn
-    unfolding AllFor
-    source_at [] k insn e = cc
-    source_at (i ∷ kept) k insn e = by (λ j f. source_at kept j insn f) (written r place i.op) (op_for i.op) k e
-      where
-        by : ((k : ℕ) → slice_get (flat_map (λ j. written r place j.op) kept) k ≡ Some insn → (j : ℕ) × (y : JInsn)
-            × (slice_get kept j ≡ Some y) × IsWrittenFor r y.op insn)
-            → (is : List NInsn) → AllFor r i.op is → (k : ℕ)
-            → slice_get (is ++ flat_map (λ j. written r place j.op) kept) k ≡ Some insn → (j : ℕ) × (y : JInsn)
-            × (slice_get (i ∷ kept) j ≡ Some y) × IsWrittenFor r y.op insn
-        by rest [] h k e = let found = rest k e in (suc found.0, found.1, found.2, found.3)
-        by rest (x ∷ is) h zero e = let same : x ≡ insn = cc in (0, i, refl, subst (IsWrittenFor r i.op) same h.0)
-        by rest (x ∷ is) h (suc k) e = by rest is h.1 k e
+    -- in any roles
+    module _ (role_at : ℕ → PairRole) where
+      role_for : (i : JInsn) → AllFor r i.op (written_as (role_at i.at) r place i.op)
+      role_for i = written_cases (AllFor r i.op) (role_at i.at) r place i.op (λ e. none r i.op) (op_for i.op)
+          (λ a e. access i.op a e)
+        where
+          access : (op : JOp) (a : Access) → accessed op ≡ Some a → AllFor r op (on_this r place op (Some a))
+          access (jop.Field put f) a e =
+              subst (λ a. AllFor r (jop.Field put f) (on_this r place (jop.Field put f) (Some a)))
+              (let same : record { put = put; field = f } ≡ a = cc in same) (one r (jop.Field put f) _ of_own_field)
+          access op a e = cc
+
+      from_role : (kept : List JInsn) (k : ℕ) (insn : NInsn)
+          → slice_get (flat_map (λ i. written_as (role_at i.at) r place i.op) kept) k ≡ Some insn
+          → (j : ℕ) × (i : JInsn)
+          × (slice_get kept j ≡ Some i) × IsWrittenFor r i.op insn
+      unfolding AllFor
+      from_role [] k insn e = cc
+      from_role (i ∷ kept) k insn e = by (λ j f. from_role kept j insn f) (written_as (role_at i.at) r place i.op)
+          (role_for i) k e
+        where
+          by : ((k : ℕ) → slice_get (flat_map (λ i. written_as (role_at i.at) r place i.op) kept) k ≡ Some insn
+              → (j : ℕ) × (y : JInsn) × (slice_get kept j ≡ Some y) × IsWrittenFor r y.op insn)
+              → (is : List NInsn) → AllFor r i.op is → (k : ℕ)
+              → slice_get (is ++ flat_map (λ i. written_as (role_at i.at) r place i.op) kept) k ≡ Some insn → (j : ℕ)
+              × (y : JInsn) × (slice_get (i ∷ kept) j ≡ Some y) × IsWrittenFor r y.op insn
+          by rest [] h k e = let found = rest k e in (suc found.0, found.1, found.2, found.3)
+          by rest (x ∷ is) h zero e = let same : x ≡ insn = cc in (0, i, refl, subst (IsWrittenFor r i.op) same h.0)
+          by rest (x ∷ is) h (suc k) e = by rest is h.1 k e
+
+      -- the instruction for which one of the code is written
+      pub source_at : (kept : List JInsn) (k : ℕ) (insn : NInsn)
+          → slice_get (flat_map (written_for (record r { role = role_at }) place) kept) k ≡ Some insn → (j : ℕ)
+          × (i : JInsn) × (slice_get kept j ≡ Some i) × IsWrittenFor r i.op insn
+      source_at kept k insn e = from_role kept k insn (ap (λ (f : JInsn → List NInsn). slice_get (flat_map f kept) k)
+          (λ t j. sym (written_as_same r role_at (role_at j.at) place j.op) t) ∙ e)

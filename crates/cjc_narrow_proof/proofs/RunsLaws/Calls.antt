@@ -36,10 +36,11 @@ use Rattle.cjc_narrow_proof.specs.Tables.Calls as told
 use Rattle.cjc_narrow_proof.proofs.TablesLaws.Called.{signature_is}
 use Rattle.cjc_narrow_proof.proofs.TablesLaws.Spelt.{class_read}
 use Rattle.cjc_narrow.specs.Rows.Resolved.{method_found, by_owner, resolved_method, virtual_by, special_by, resolution}
+use Rattle.cjc_narrow.specs.Pairs.Roles.{with_pairs}
 use Rattle.cjc_narrow.specs.Rows.Resolved.{parameter_words}
 use Rattle.cjc_narrow.specs.Rows.Package.{name_there, reached_by, direct, above, selected_on, class_of_callee}
 use Rattle.cjc_narrow.specs.Rows.Package.{words_where, named}
-use Rattle.cjc_narrow_proof.specs.Runs.Tables.{Tables, narrow_codes, look_ups, analysis, HasTables}
+use Rattle.cjc_narrow_proof.specs.Runs.Tables.{Tables, narrow_codes, look_ups, analysis, HasTables, paired_in}
 use Rattle.cjc_narrow_proof.specs.Runs.Types.{IsThere, of_class as class_there, of_numbers, of_references}
 use Rattle.cjc_narrow_proof.specs.Runs.Begun.{IsBegun}
 use Rattle.cjc_narrow_proof.specs.Runs.Calls.{IsCallee, IsReached, IsChosen, Chooses, IsStaticOn, IsChoice}
@@ -141,10 +142,10 @@ module _ (files : Files) (image : StaticImage) (near : List MemberId) (tables : 
     -- ---- static
 
     static_named : IsStaticNamed l (analysis files image near tables) m id (Fixed false declared)
-    unfolding named resolution
+    unfolding named resolution with_pairs
     static_named = record {
       desc = c.desc;
-      names = subst (λ d. Names (resolution files near holder) 0xB8 id (Fixed false d)) resolved_is (a_static refl);
+      names = subst (λ d. Names (paired_in files near tables m) 0xB8 id (Fixed false d)) resolved_is (a_static refl);
       on_class = refl;
       words = counted false declared (method_found w declared) refl found_again ∙ ap Some (let e : 0 + count_of id.desc
           ≡ count_of id.desc = omega arith in e);
@@ -186,7 +187,7 @@ module _ (files : Files) (image : StaticImage) (near : List MemberId) (tables : 
   -- what narrow code names for a call that chooses so
   record ToldAlike (op : ℕ) (id : MemberId) (class : List ℕ) (choice : List ℕ → Option linked_by.Callee) : Type 0 where
     callee : Callee
-    names : Names (resolution files near holder) op id callee
+    names : Names (paired_in files near tables m) op id callee
     one : receivers op ≡ 1
     on_an_object : on_object callee ≡ true
     words : l.words callee ≡ Some (1 + count_of id.desc)
@@ -200,7 +201,7 @@ module _ (files : Files) (image : StaticImage) (near : List MemberId) (tables : 
 
     on_class_told : is_constructor id.name ≡ false → is_selectable c.hit.flags ≡ true
         → ToldAlike 0xB6 id id.class (λ type. selected_from files w (select_in w) type id)
-    unfolding linked named resolution
+    unfolding linked named resolution with_pairs
     on_class_told no_constructor selectable = go (class_named w id.class) refl
       where
         called : call_named files w holder 0xB6 id
@@ -251,7 +252,7 @@ module _ (files : Files) (image : StaticImage) (near : List MemberId) (tables : 
 
     itself_told : is_static c.hit.flags ≡ false → (is_constructor id.name || is_private c.hit.flags) ≡ true
         → ToldAlike 0xB7 id id.class (λ type. callee_at files c.hit.owner.name id c.place)
-    unfolding linked named resolution
+    unfolding linked named resolution with_pairs
     itself_told not_static own = record {
       callee = Fixed true (declared id c);
       names = a_direct (ap (special_by holder id) (found_is id c) ∙ ap (λ b. if b then keys.StaticMethod (declared id c)
@@ -277,7 +278,7 @@ module _ (files : Files) (image : StaticImage) (near : List MemberId) (tables : 
         ≡ Some callee
         → ToldAlike 0xB7 id holder (λ type. option_and_then (λ super. selected_from files w (select_in w) super id)
         (first_super (class_named w holder)))
-    unfolding linked named resolution
+    unfolding linked named resolution with_pairs
     above_told callee not_static own there = record {
       callee = OnSuper (of_class holder id);
       names = a_super (ap (special_by holder id) (found_is id c) ∙ ap (λ b. if b then keys.StaticMethod (declared id c)
@@ -300,10 +301,11 @@ module _ (files : Files) (image : StaticImage) (near : List MemberId) (tables : 
     interface_told : is_constructor id.name ≡ false → (is_interface c.hit.owner.flags && is_selectable c.hit.flags)
         ≡ true → ToldAlike 0xB9 id id.class (λ type. interface_callee files w (select_in w) c.hit.owner.name type id
         (class_named w (receiver type)))
-    unfolding linked named resolution
+    unfolding linked named resolution with_pairs
     interface_told no_constructor selectable = record {
       callee = OnInterface (nargs_of id) (declared id c);
-      names = subst (λ d. Names (resolution files near holder) 0xB9 id (OnInterface (nargs_of id) d)) (resolved_is id c)
+      names = subst (λ d. Names (paired_in files near tables m) 0xB9 id (OnInterface (nargs_of id) d))
+          (resolved_is id c)
           an_interface;
       one = refl;
       on_an_object = refl;

@@ -39,7 +39,8 @@ use Rattle.cjc_narrow_proof.specs.Tables.Package.{IsEntered, IsScripted, IsPacka
 use Rattle.cjc_narrow_proof.specs.Tables.Package as whole_package
 use Rattle.cjc_narrow_proof.specs.Tables.Calls.{IsReachedBy}
 use Rattle.cjc_narrow_proof.proofs.TablesLaws.Spelt.{shape_spelt, class_read}
-use Rattle.cjc_narrow_proof.proofs.TablesLaws.Points.{point_from}
+use Rattle.cjc_narrow_proof.proofs.TablesLaws.Points.{point_from, point_under}
+use Rattle.cjc_narrow_proof.specs.Tables.Kinds.{point_at}
 use Rattle.cjc_narrow.specs.Rows.Package.{fault_name, name_there, plain_import, start_of, first_array, first_cell}
 use Rattle.cjc_narrow.specs.Rows.Package.{element_of_kind, named}
 use Rattle.cjc_narrow_proof.specs.Runs.Tables.{Tables, narrow_codes, look_ups, analysis, HasTables}
@@ -166,8 +167,11 @@ module _ (files : Files) (image : StaticImage) (near : List MemberId) (tables : 
 
   has_tables : (m : Method) (at : ℕ) (p : Point) → (let tb = table_of l (analysis files image near tables)
       in tb.point m at ≡ Some p) → HasTables files tables m
-  has_tables m at p known = let h = point_from l (slice_get (tables.types m) at) (slice_get (tables.ranges m) at) p
-      known in is.methods m at h.typed h.has_types
+  has_tables m at p known =
+      let q = point_under (point_at l (tables.types m) (tables.ranges m) at) (let a = analysis files image near tables
+      in a.opened m at) p known in
+      let h = point_from l (slice_get (tables.types m) at) (slice_get (tables.ranges m) at) q.0 q.1 in
+      is.methods m at h.typed h.has_types
 
   may_throw_all : (kind : Shape (List ℕ)) → l.is_of kind (OfClass (codes "java/lang/Throwable")) ≡ true
       → is_subtype w (shape_name kind) (codes "java/lang/Throwable") ≡ true

@@ -31,6 +31,7 @@ use Rattle.cjc_narrow_proof.specs.Tables.Package as supported
 use Rattle.cjc_narrow_proof.specs.Tables.Names as resolved
 use Rattle.cjc_narrow_proof.proofs.TablesLaws.Spelt.{shape_spelt, class_read}
 use Rattle.cjc_narrow.specs.Rows.Resolved.{resolved_field, by_owner, field_found, resolution}
+use Rattle.cjc_narrow.specs.Pairs.Roles.{with_pairs}
 use Rattle.cjc_narrow.specs.Rows.Package.{first_cell, named}
 use Rattle.cjc_narrow.proofs.RowsLaws.Fields.{fields_agree}
 use Rattle.cjc_narrow_proof.specs.Runs.Tables.{Tables, look_ups, analysis}
@@ -75,7 +76,7 @@ module _ (files : Files) (image : StaticImage) (near : List MemberId) (tables : 
   field_there : (id f : MemberId) (receiver : Cell) → IsFieldOf files image near tables m id f receiver
       → (types : List (List ℕ)) → receiver ≡ Refs types → FieldIsThere by l (let a = analysis files image near tables
       in a.resolution m) m id (is_one_of l types)
-  unfolding linked resolution
+  unfolding linked resolution with_pairs
   field_there id f receiver h types e =
       let agree = fields_agree files image near (let n = m.id in n.class) id in
       let same = agree.instance f h.found in
@@ -89,7 +90,7 @@ module _ (files : Files) (image : StaticImage) (near : List MemberId) (tables : 
 
   cell_there : (id f : MemberId) → IsStaticOf files image near tables m id f
       → CellIsThere by l (let a = analysis files image near tables in a.resolution m) m id
-  unfolding linked named resolution
+  unfolding linked named resolution with_pairs
   cell_there id f h =
       let agree = fields_agree files image near (let n = m.id in n.class) id in
       let same = agree.static f h.found in
@@ -105,7 +106,7 @@ module _ (files : Files) (image : StaticImage) (near : List MemberId) (tables : 
 
   is_constant : (id : MemberId) (z : ℤ) → field_named files w id ≡ Some (Constant z)
       → IsConstant by (let a = analysis files image near tables in a.resolution m) m id z
-  unfolding linked resolution
+  unfolding linked resolution with_pairs
   is_constant id z found = record {
     by_name = found;
     narrow = (let agree = fields_agree files image near (let n = m.id

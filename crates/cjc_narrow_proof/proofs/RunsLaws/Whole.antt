@@ -30,13 +30,15 @@ use Rattle.cjc_jvm_semantics.specs.Linked.{Method}
 use Rattle.cjc_jvm_semantics.specs.OnePackage.{method_by}
 use Rattle.cjc_jvm_semantics.specs.ByName.{linked}
 use Rattle.cjc_narrow_proof.specs.Selection.Rows.{is_word_sort}
-use Rattle.cjc_narrow_proof.specs.Tables.Analysis.{IsDecoded, IsSound, IsRead, CatchesAreTold, HasRoomToBegin}
+use Rattle.cjc_narrow_proof.specs.Tables.Analysis.{Ascend, IsDecoded, IsSound, IsRead, CatchesAreTold, HasRoomToBegin}
 use Rattle.cjc_narrow_proof.specs.Tables.Calls.{IsWordDesc, IsWhole}
 use Rattle.cjc_narrow_proof.proofs.TablesLaws.Called.{signature_is}
 use Rattle.cjc_narrow_proof.proofs.TablesLaws.Spelt.{class_read}
 use Rattle.cjc_narrow.specs.Rows.Resolved.{method_found, constant_named, resolution, receiver_words, parameter_words}
 use Rattle.cjc_narrow.specs.Rows.Resolved.{argument_words}
 use Rattle.cjc_narrow.specs.Rows.Package.{flags_of, named}
+use Rattle.cjc_narrow.specs.Pairs.Roles.{with_pairs}
+use Rattle.cjc_narrow_proof.proofs.RunsLaws.Pairs.{are_in_pairs}
 use Rattle.cjc_narrow_proof.specs.Runs.Tables.{Tables, look_ups, body_in, analysis, HasTables}
 
 -- ---- words of arguments
@@ -74,8 +76,9 @@ words_are flags class desc word =
 
 module _ (files : Files) (image : StaticImage) (near : List MemberId) (tables : Tables) where
   -- it is read as the machine by name has it, and what is written for it stands in narrow code
-  pub is_read : (m : Method) → IsRead (analysis files image near tables) m
-  is_read m = record {
+  pub is_read : (m : Method) → Ascend m.insns → length (tables.types m) ≡ length m.insns
+      → IsRead (analysis files image near tables) m
+  is_read m up sized = record {
     insns = refl;
     catches = refl;
     max_stack = refl;
@@ -84,6 +87,7 @@ module _ (files : Files) (image : StaticImage) (near : List MemberId) (tables : 
     begins = refl;
     code = refl;
     handlers = refl;
+    pairs = are_in_pairs (let id = m.id in resolution files near id.class) (body_in files m) (tables.types m) up sized;
     narrow_max_stack = refl;
   }
 
@@ -141,7 +145,7 @@ module _ (files : Files) (image : StaticImage) (near : List MemberId) (tables : 
   pub is_whole : (m : Method) → HasTables files tables m
       → IsWhole (linked files image) (look_ups files image near tables) (all_classes files) (analysis files image near
       tables) m
-  unfolding resolution linked named
+  unfolding resolution linked named with_pairs
   is_whole m h = subst (λ n. IsWhole (linked files image) (look_ups files image near tables) (all_classes files)
       (analysis files image near tables) n) (sym h.is) whole
     where
@@ -227,7 +231,7 @@ module _ (files : Files) (image : StaticImage) (near : List MemberId) (tables : 
       whole : IsWhole (linked files image) (look_ups files image near tables) (all_classes files)
           (analysis files image near tables) (method_by h.class h.method (Some h.tree))
       whole = record {
-        read = is_read (method_by h.class h.method (Some h.tree));
+        read = is_read (method_by h.class h.method (Some h.tree)) decoded_here.ascend sound_here.types.sized;
         decoded = decoded_here;
         sound = sound_by;
         told = told_here;

@@ -14,6 +14,8 @@ use Rattle.cjc_ncode.specs.declared.narrow.NInsn.{NInsn}
 use Rattle.cjc_ncode.specs.declared.narrow.NInsn.TheVariants as insns
 use Rattle.cjc_ncode.specs.declared.narrow.PoolKey.TheVariants as keys
 use Rattle.cjc_ncode.specs.Written.{Resolution, call_by, field_access, is_byte, local, low_of, nargs_of, on_stack}
+use Rattle.cjc_ncode.specs.Written.{written_for}
+use Rattle.cjc_ncode.proofs.WrittenCases.{written_cases}
 use Rattle.cjc_ncode.specs.Written.{pair_cases, pushed_word, static_access, static_by, switched, table_cases, type_test}
 use Rattle.cjc_ncode.specs.Written.{written}
 
@@ -165,6 +167,10 @@ module _ (r : Resolution) where
     op_from (jop.CheckCast class) = tests_from (jop.CheckCast class) 0x94 (shape_named class)
     op_from (jop.InstanceOf class) = tests_from (jop.InstanceOf class) 0x95 (shape_named class)
 
+    role_from : (i : JInsn) → AllFrom r i.op (written_for r place i)
+    unfolding AllFrom IsFrom
+    role_from i = written_cases (AllFrom r i.op) (r.role i.at) r place i.op (λ e. tt) (op_from i.op) (λ a e. (tt, tt))
+
     -- ---- the code of a method
 
     -- the reached instruction for which a call is written
@@ -173,16 +179,16 @@ module _ (r : Resolution) where
         × (id ≡ r.interface m)
 
     pub called_from : (kept : List JInsn) (k nargs : ℕ) (id : MemberId)
-        → slice_get (flat_map (λ i. written r place i.op) kept) k ≡ Some (insns.Interface nargs id) → IsCalled kept id
+        → slice_get (flat_map (written_for r place) kept) k ≡ Some (insns.Interface nargs id) → IsCalled kept id
     unfolding AllFrom IsFrom
     called_from [] k nargs id e = cc
-    called_from (i ∷ kept) k nargs id e = by (λ j f. called_from kept j nargs id f) (written r place i.op)
-        (op_from i.op) k e
+    called_from (i ∷ kept) k nargs id e = by (λ j f. called_from kept j nargs id f) (written_for r place i)
+        (role_from i) k e
       where
-        by : ((k : ℕ) → slice_get (flat_map (λ j. written r place j.op) kept) k ≡ Some (insns.Interface nargs id)
+        by : ((k : ℕ) → slice_get (flat_map (written_for r place) kept) k ≡ Some (insns.Interface nargs id)
             → IsCalled kept id)
             → (is : List NInsn) → AllFrom r i.op is → (k : ℕ)
-            → slice_get (is ++ flat_map (λ j. written r place j.op) kept) k ≡ Some (insns.Interface nargs id)
+            → slice_get (is ++ flat_map (written_for r place) kept) k ≡ Some (insns.Interface nargs id)
             → IsCalled (i ∷ kept) id
         by rest [] h k e = let found = rest k e in (suc found.0, found.1, found.2, found.3, found.4, found.5)
         by rest (x ∷ is) h zero e = let same : x ≡ insns.Interface nargs id = cc in let found =

@@ -24,6 +24,8 @@ use Rattle.cjc_ncode.specs.declared.narrow.NInsn.TheVariants.{Interface, NewArra
 use Rattle.cjc_ncode.specs.declared.narrow.PoolKey.{PoolKey}
 use Rattle.cjc_ncode.specs.declared.narrow.PoolKey.TheVariants as keys
 use Rattle.cjc_ncode.specs.Written.{Resolution, call_by, condition, field_access, is_byte, local as local_form, low_of}
+use Rattle.cjc_ncode.specs.Written.{this_access, written_for}
+use Rattle.cjc_ncode.proofs.WrittenCases.{written_cases}
 use Rattle.cjc_ncode.specs.Written.{nargs_of, on_stack, pair_cases, pushed_word, static_access, static_by, switched}
 use Rattle.cjc_ncode.specs.Written.{table_cases, type_test, written}
 use Rattle.cjc_narrow_proof.specs.Selected.Names.{NamesFit}
@@ -243,6 +245,21 @@ field_forms false false Int key = uses 0xAC key _ refl
 field_forms false false (Reference shape) key = uses 0xA9 key _ refl
 field_forms false false NoValue key = uses 0xA9 key _ refl
 
+this_forms : (put : Bool) (sort : Sort) (key : PoolKey) → HasForm (Named (this_access put sort) key)
+unfolding meaning
+this_forms true Boolean key = uses 0xB6 key _ refl
+this_forms true Byte key = uses 0xB6 key _ refl
+this_forms true Short key = uses 0xB7 key _ refl
+this_forms true Int key = uses 0xB8 key _ refl
+this_forms true (Reference shape) key = uses 0xB5 key _ refl
+this_forms true NoValue key = uses 0xB5 key _ refl
+this_forms false Boolean key = uses 0xAE key _ refl
+this_forms false Byte key = uses 0xAE key _ refl
+this_forms false Short key = uses 0xAF key _ refl
+this_forms false Int key = uses 0xB0 key _ refl
+this_forms false (Reference shape) key = uses 0xAD key _ refl
+this_forms false NoValue key = uses 0xAD key _ refl
+
 interface_forms : (nargs : ℕ) (m : MemberId) → HasForm (Interface nargs m)
 interface_forms nargs m = by_interface
 
@@ -328,15 +345,20 @@ module _ (r : Resolution) (place : ℕ → ℕ) where
   op_forms (jop.CheckCast class) = cast_forms (shape_named class)
   op_forms (jop.InstanceOf class) = ask_forms (shape_named class)
 
-  code_forms : (kept : List JInsn) → AllForm (flat_map (λ i. written r place i.op) kept)
+  role_forms : (i : JInsn) → AllForm (written_for r place i)
+  unfolding AllForm
+  role_forms i = written_cases AllForm (r.role i.at) r place i.op (λ e. tt) (op_forms i.op)
+      (λ a e. (let f = a.field in this_forms a.put (field_sort f.desc) (keys.Field (r.field f)), tt))
+
+  code_forms : (kept : List JInsn) → AllForm (flat_map (written_for r place) kept)
   unfolding AllForm
   code_forms [] = tt
-  code_forms (i ∷ kept) = append (written r place i.op) (flat_map (λ j. written r place j.op) kept) (op_forms i.op)
+  code_forms (i ∷ kept) = append (written_for r place i) (flat_map (written_for r place) kept) (role_forms i)
       (code_forms kept)
 
-  pub all_have_forms : (kept : List JInsn) (k : ℕ) (i : NInsn) → slice_get (flat_map (λ i. written r place i.op) kept) k
+  pub all_have_forms : (kept : List JInsn) (k : ℕ) (i : NInsn) → slice_get (flat_map (written_for r place) kept) k
       ≡ Some i → HasForm i
-  all_have_forms kept k i e = at (flat_map (λ j. written r place j.op) kept) k i (code_forms kept) e
+  all_have_forms kept k i e = at (flat_map (written_for r place) kept) k i (code_forms kept) e
 
 -- ---- with names
 

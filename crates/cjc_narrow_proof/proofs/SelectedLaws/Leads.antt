@@ -16,6 +16,8 @@ use Rattle.cjc_ncode.specs.declared.narrow.NCase.{NCase}
 use Rattle.cjc_ncode.specs.declared.narrow.NInsn.{NInsn}
 use Rattle.cjc_ncode.specs.declared.narrow.NInsn.TheVariants.{Op, Push, Local, Words, Named, Interface}
 use Rattle.cjc_ncode.specs.Written.{Resolution, call_by, local, low_of, nargs_of, on_stack, pair_case, pair_cases}
+use Rattle.cjc_ncode.specs.Written.{is_load, written_for}
+use Rattle.cjc_ncode.proofs.WrittenCases.{written_cases}
 use Rattle.cjc_ncode.specs.Written.{pushed, pushed_word, static_by, switched, table_cases, type_test, written}
 use Rattle.cjc_types.specs.Steps.{case_target, goes_on, targets}
 use Rattle.cjc_emit.specs.Layout.Sizes.{AllLead, CasesLead, Leads}
@@ -55,6 +57,14 @@ goes_on_unwritten r (jop.ANewArray class) e = refl
 goes_on_unwritten r jop.ArrayLength e = refl
 goes_on_unwritten r (jop.CheckCast class) e = refl
 goes_on_unwritten r (jop.InstanceOf class) e = refl
+
+pub role_goes_on : (r : Resolution) (i : JInsn) → length (written_for r (λ o. 0) i) ≡ 0 → goes_on i.op ≡ true
+role_goes_on r i = written_cases (λ xs. length xs ≡ 0 → goes_on i.op ≡ true) (r.role i.at) r (λ o. 0) i.op
+    (λ e none. load i.op e) (goes_on_unwritten r i.op) (λ a e none. absurd cc)
+  where
+    load : (op : JOp) → is_load op ≡ true → goes_on op ≡ true
+    load (jop.Load refs l) e = refl
+    load op e = cc
 
 -- ---- what is written leads to the places of targets
 
@@ -191,11 +201,15 @@ module _ (r : Resolution) (place : ℕ → ℕ) (count : ℕ) where
   append_leads [] ys h g = g
   append_leads (x ∷ xs) ys h g = (h.0, append_leads xs ys h.1 g)
 
+  role_leads : (i : JInsn) → AllBelow (targets i.op) → AllLead count (written_for r place i)
+  role_leads i h = written_cases (AllLead count) (r.role i.at) r place i.op (λ e. tt) (op_leads i.op h)
+      (λ a e. (tt, tt))
+
   -- of instructions whose targets have places below the count
   pub code_leads : (kept : List JInsn) → ((k : ℕ) (i : JInsn) (t : ℕ) → slice_get kept k ≡ Some i
-      → Contains (targets i.op) t → place t < count) → AllLead count (flat_map (λ i. written r place i.op) kept)
+      → Contains (targets i.op) t → place t < count) → AllLead count (flat_map (written_for r place) kept)
   code_leads [] h = tt
   code_leads (i ∷ kept) h =
-      append_leads (written r place i.op) (flat_map (λ j. written r place j.op) kept)
-      (op_leads i.op (all_below (targets i.op) (λ t there. h 0 i t refl there)))
+      append_leads (written_for r place i) (flat_map (written_for r place) kept)
+      (role_leads i (all_below (targets i.op) (λ t there. h 0 i t refl there)))
       (code_leads kept (λ k j t e there. h (suc k) j t e there))

@@ -16,7 +16,7 @@ use Rattle.cjc_code.specs.declared.insn.JOp.TheVariants as jop
 use Rattle.cjc_narrow.specs.Keys.Index.{index_of}
 use Rattle.cjc_ncode.specs.Lowering.Naming.{Naming}
 use Rattle.cjc_narrow.specs.Rows.Resolved.{resolution, resolved_field}
-use Rattle.cjc_narrow.specs.Rows.Selected.{near_fields}
+use Rattle.cjc_narrow.specs.Rows.Selected.{near_fields, selected_code}
 use Rattle.cjc_ncode.specs.declared.narrow.NCase.{NCase}
 use Rattle.cjc_ncode.specs.declared.narrow.NInsn.{NInsn}
 use Rattle.cjc_ncode.specs.declared.narrow.NInsn.TheVariants.{Op, Push, Local, Words, Named, Interface}
@@ -24,12 +24,25 @@ use Rattle.cjc_ncode.specs.declared.narrow.PoolKey.{PoolKey}
 use Rattle.cjc_ncode.specs.declared.narrow.PoolKey.TheVariants as keys
 use Rattle.cjc_ncode.specs.PoolOrder.{same_key}
 use Rattle.cjc_ncode.specs.Written.{Resolution, call_by, field_access, local, low_of, nargs_of, on_stack, pair_cases}
+use Rattle.cjc_ncode.specs.Written.{Access, accessed, is_load, on_this, place_in, reached, this_access, written_as}
+use Rattle.cjc_ncode.specs.Written.{written_for}
+use Rattle.cjc_ncode.specs.declared.narrow.PairRole.{PairRole}
+use Rattle.cjc_ncode.specs.declared.narrow.PairRole.TheVariants.{Alone, Opens, Closes}
+use Rattle.cjc_narrow.proofs.PairsLaws.Near.{closes_near}
+use Rattle.cjc_narrow.proofs.PairsLaws.Roles.{written_as_same}
+use Rattle.cjc_narrow.specs.Pairs.Roles.{keeps_this, role_in, roles_of, with_pairs}
+use Rattle.cjc_narrow.specs.Written.Rows.{has_rows}
+use Rattle.cjc_types.specs.Flow.{body_of}
+use Rattle.cjc_types.specs.Marks.{marks_of}
+use Rattle.cjc_code.specs.ClassFile.Code.{CodeTree}
+use Rattle.cjc_code.specs.ClassFile.declared.tree.ClassTree.{ClassTree}
+use Rattle.cjc_code.specs.ClassFile.declared.tree.MethodTree.{MethodTree}
 use Rattle.cjc_ncode.specs.Written.{pushed_word, static_access, static_by, switched, table_cases, type_test, written}
 use Rattle.cjc_narrow.specs.Select.Working.Names.{is_one_byte}
 use Rattle.cjc_narrow.proofs.SelectLaws.Near.{near_by_index}
 use Rattle.cjc_world.specs.Classes.{all_classes}
 use Rattle.cjc_world.specs.Files.{Files}
-use Rattle.cjc_narrow.specs.Written.Operands.{CanBeSaid}
+use Rattle.cjc_narrow.specs.Written.Operands.{CanBeSaid, IsAscending}
 use Rattle.cjc_narrow_proof.specs.Selected.Operands.{IndexFits, IsSmall, NumbersFit}
 
 module _ (n : Naming) (ks : List PoolKey) (small : IsSmall n ks) where
@@ -169,6 +182,22 @@ module _ (n : Naming) (ks : List PoolKey) (small : IsSmall n ks) where
   field_fits false false (Reference shape) key h = two_fits 0xA9 key refl
   field_fits false false NoValue key h = two_fits 0xA9 key refl
 
+  this_fits : (put : Bool) (sort : Sort) (key : PoolKey) → n.index key < 256
+      → NumbersFit n (Named (this_access put sort) key)
+  unfolding form forms
+  this_fits true Boolean key h = one_fits 0xB6 key refl h
+  this_fits true ByteSort key h = one_fits 0xB6 key refl h
+  this_fits true Short key h = one_fits 0xB7 key refl h
+  this_fits true Int key h = one_fits 0xB8 key refl h
+  this_fits true (Reference shape) key h = one_fits 0xB5 key refl h
+  this_fits true NoValue key h = one_fits 0xB5 key refl h
+  this_fits false Boolean key h = one_fits 0xAE key refl h
+  this_fits false ByteSort key h = one_fits 0xAE key refl h
+  this_fits false Short key h = one_fits 0xAF key refl h
+  this_fits false Int key h = one_fits 0xB0 key refl h
+  this_fits false (Reference shape) key h = one_fits 0xAD key refl h
+  this_fits false NoValue key h = one_fits 0xAD key refl h
+
   tests_fit : (op : ℕ) (type : Option (Shape (List ℕ))) → AllFit (type_test op type)
   unfolding AllFit
   tests_fit op None = tt
@@ -245,13 +274,63 @@ module _ (n : Naming) (ks : List PoolKey) (small : IsSmall n ks) where
     op_fits (jop.CheckCast class) h = tests_fit 0x94 (shape_named class)
     op_fits (jop.InstanceOf class) h = tests_fit 0x95 (shape_named class)
 
-    code_fits : (kept : List JInsn) → ((k : ℕ) (i : JInsn) → slice_get kept k ≡ Some i → CanBeSaid i.op)
-        → AllFit (flat_map (λ i. written r place i.op) kept)
-    unfolding AllFit
-    code_fits [] h = tt
-    code_fits (i ∷ kept) h = append (written r place i.op) (flat_map (λ j. written r place j.op) kept)
-        (op_fits i.op (h 0 i refl)) (code_fits kept (λ k j e. h (suc k) j e))
+    -- by these roles, where a field instruction that closes a pair has an index of one byte
+    module _ (role_at : ℕ → PairRole) where
+      abbrev NearThere : JInsn → Type 0
+      NearThere i = role_at i.at ≡ Closes → (a : Access) → accessed i.op ≡ Some a → r.is_near a.field ≡ true
 
-    pub all_fit : (kept : List JInsn) → ((k : ℕ) (i : JInsn) → slice_get kept k ≡ Some i → CanBeSaid i.op)
-        → (k : ℕ) (i : NInsn) → slice_get (flat_map (λ i. written r place i.op) kept) k ≡ Some i → NumbersFit n i
-    all_fit kept h k i e = at (flat_map (λ j. written r place j.op) kept) k i (code_fits kept h) e
+      role_fits : (i : JInsn) → CanBeSaid i.op → NearThere i → AllFit (written_as (role_at i.at) r place i.op)
+      unfolding AllFit
+      role_fits i h near = by (role_at i.at) refl
+        where
+          closes : (o : Option Access) → accessed i.op ≡ o → role_at i.at ≡ Closes → AllFit (on_this r place i.op o)
+          closes None e f = op_fits i.op h
+          closes (Some a) e f = (
+            (let field = a.field
+                in this_fits a.put (field_sort field.desc) (keys.Field (r.field field)) (near_low field (near f a e))),
+            tt,
+          )
+
+          opens : (b : Bool) → AllFit (if b then [] else written r place i.op)
+          opens true = tt
+          opens false = op_fits i.op h
+
+          by : (role : PairRole) → role_at i.at ≡ role → AllFit (written_as role r place i.op)
+          by Alone f = op_fits i.op h
+          by Opens f = opens (is_load i.op)
+          by Closes f = closes (accessed i.op) refl f
+
+      code_fits : (kept : List JInsn) → ((k : ℕ) (i : JInsn) → slice_get kept k ≡ Some i → CanBeSaid i.op × NearThere i)
+          → AllFit (flat_map (λ i. written_as (role_at i.at) r place i.op) kept)
+      unfolding AllFit
+      code_fits [] h = tt
+      code_fits (i ∷ kept) h = append (written_as (role_at i.at) r place i.op)
+          (flat_map (λ j. written_as (role_at j.at) r place j.op) kept) (role_fits i (h 0 i refl).0 (h 0 i refl).1)
+          (code_fits kept (λ k j e. h (suc k) j e))
+
+      pub all_fit : (kept : List JInsn) → ((k : ℕ) (i : JInsn) → slice_get kept k ≡ Some i
+          → CanBeSaid i.op × NearThere i)
+          → (k : ℕ) (i : NInsn) → slice_get (flat_map (written_for (record r { role = role_at }) place) kept) k ≡ Some i
+          → NumbersFit n i
+      all_fit kept h k i e = at (flat_map (λ j. written_as (role_at j.at) r place j.op) kept) k i (code_fits kept h)
+          (ap (λ (f : JInsn → List NInsn). slice_get (flat_map f kept) k) (λ t j. sym (written_as_same r role_at
+          (role_at j.at) place
+          j.op) t) ∙ e)
+
+  -- of a method whose instructions ascend
+  pub selected_fit : {A : Type 0} (files : Files) (class : ClassTree) (method : MethodTree) (tree : CodeTree)
+      (insns : List JInsn) (rows : List (Option A)) → IsAscending insns
+      → ((k : ℕ) (i : JInsn) → slice_get (reached insns rows) k ≡ Some i → CanBeSaid i.op)
+      → (k : ℕ) (i : NInsn) → slice_get (let m = selected_code files (near_fields ks) class method tree insns rows
+      in m.insns) k ≡ Some i → NumbersFit n i
+  unfolding with_pairs
+  selected_fit files class method tree insns rows up said k i e =
+      let b = body_of class method tree insns in
+      let r = resolution files (near_fields ks) class.name in
+      all_fit files class.name (place_in (with_pairs r b (has_rows rows)) (reached insns rows))
+      (role_in insns (roles_of r b (has_rows rows))) (reached insns rows)
+      (λ j x f. (
+        said j x f,
+        λ closes a g. closes_near (keeps_this b (has_rows rows)) r (marks_of b) b.catches false 0 0
+            insns rows up j x f closes a g,
+      )) k i e

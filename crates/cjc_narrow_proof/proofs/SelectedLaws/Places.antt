@@ -5,8 +5,8 @@ use Rattle.std.specs.Prelude.{Option, Some, None, flat_map, nat_lt, slice_get, i
 use Rattle.std.proofs.lemmas.Bool.{ltb-true, ltb-false}
 use Rattle.std.proofs.lemmas.List.{length-append}
 use Rattle.cjc_code.specs.declared.insn.JInsn.{JInsn}
-use Rattle.cjc_ncode.specs.Written.{Resolution, place_in, reached, written}
-use Rattle.cjc_narrow.proofs.WrittenLaws.Order.{same_length}
+use Rattle.cjc_ncode.specs.Written.{Resolution, place_in, reached, written_for}
+use Rattle.cjc_narrow.proofs.WrittenLaws.Order.{same_length_as}
 
 -- an instruction that has a row is reached, and a reached one has a row
 module _ {A : Type 0} where
@@ -34,7 +34,7 @@ module _ {A : Type 0} where
 module _ (r : Resolution) where
   -- how much is written for an instruction
   abbrev pub size : JInsn → ℕ
-  size i = length (written r (λ o. 0) i.op)
+  size i = length (written_for r (λ o. 0) i)
 
   -- and for all
   abbrev pub sizes : List JInsn → ℕ
@@ -110,10 +110,10 @@ module _ (r : Resolution) where
       go later false e false f lt = later (omega (arith, lt))
 
   -- as many instructions are written, wherever labels lie
-  pub all_sizes : (p : ℕ → ℕ) (kept : List JInsn) → length (flat_map (λ i. written r p i.op) kept) ≡ sizes kept
+  pub all_sizes : (p : ℕ → ℕ) (kept : List JInsn) → length (flat_map (written_for r p) kept) ≡ sizes kept
   all_sizes p [] = refl
   all_sizes p (i ∷ kept) =
-      let both = length-append (written r p i.op) (flat_map (λ j. written r p j.op) kept) in
-      let first = same_length r r p (λ o. 0) i.op in
+      let both = length-append (written_for r p i) (flat_map (written_for r p) kept) in
+      let first = same_length_as r r p (λ o. 0) (r.role i.at) i.op in
       let rest = all_sizes p kept in
       omega (arith, both, first, rest)

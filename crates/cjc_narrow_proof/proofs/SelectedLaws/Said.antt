@@ -31,6 +31,8 @@ use Rattle.cjc_ncode.specs.declared.narrow.NInsn.TheVariants.{Interface, NewArra
 use Rattle.cjc_ncode.specs.declared.narrow.PoolKey.{PoolKey}
 use Rattle.cjc_ncode.specs.declared.narrow.PoolKey.TheVariants as keys
 use Rattle.cjc_ncode.specs.Written.{Resolution, arithmetic, array_load, array_store, call_by, condition, element_number}
+use Rattle.cjc_ncode.specs.Written.{this_access, written_for}
+use Rattle.cjc_ncode.proofs.WrittenCases.{written_cases}
 use Rattle.cjc_ncode.specs.Written.{field_access, is_byte, leaving, local, low_of, nargs_of, on_stack, pair_cases}
 use Rattle.cjc_ncode.specs.Written.{pushed_word, static_access, static_by, switched, table_cases, type_test, written}
 use Rattle.cjc_narrow_proof.specs.Selected.Operands.{IndexFits, NumbersFit, OperandsFit}
@@ -485,6 +487,21 @@ module _ (n : Naming) where
   field_says false false (Reference shape) key = two_say 0xA9 key refl
   field_says false false NoValue key = two_say 0xA9 key refl
 
+  this_says : (put : Bool) (sort : Sort) (key : PoolKey) → Says (Named (this_access put sort) key)
+  unfolding form forms
+  this_says true Boolean key = one_says 0xB6 key refl
+  this_says true ByteSort key = one_says 0xB6 key refl
+  this_says true Short key = one_says 0xB7 key refl
+  this_says true Int key = one_says 0xB8 key refl
+  this_says true (Reference shape) key = one_says 0xB5 key refl
+  this_says true NoValue key = one_says 0xB5 key refl
+  this_says false Boolean key = one_says 0xAE key refl
+  this_says false ByteSort key = one_says 0xAE key refl
+  this_says false Short key = one_says 0xAF key refl
+  this_says false Int key = one_says 0xB0 key refl
+  this_says false (Reference shape) key = one_says 0xAD key refl
+  this_says false NoValue key = one_says 0xAD key refl
+
   interface_says : (nargs : ℕ) (m : MemberId) → Says (Interface nargs m)
   unfolding Says form forms
   interface_says nargs m fit = record {
@@ -608,15 +625,20 @@ module _ (n : Naming) where
     op_says (jop.CheckCast class) h = tests_say 0x94 refl (shape_named class)
     op_says (jop.InstanceOf class) h = tests_say 0x95 refl (shape_named class)
 
+    role_says : (i : JInsn) → OperandsFit i.op → AllSay (written_for r place i)
+    unfolding AllSay
+    role_says i h = written_cases AllSay (r.role i.at) r place i.op (λ e. tt) (op_says i.op h)
+        (λ a e. (let f = a.field in this_says a.put (field_sort f.desc) (keys.Field (r.field f)), tt))
+
     code_says : (kept : List JInsn) → ((k : ℕ) (i : JInsn) → slice_get kept k ≡ Some i → OperandsFit i.op)
-        → AllSay (flat_map (λ i. written r place i.op) kept)
+        → AllSay (flat_map (written_for r place) kept)
     unfolding AllSay
     code_says [] h = tt
-    code_says (i ∷ kept) h = append (written r place i.op) (flat_map (λ j. written r place j.op) kept)
-        (op_says i.op (h 0 i refl)) (code_says kept (λ k j e. h (suc k) j e))
+    code_says (i ∷ kept) h = append (written_for r place i) (flat_map (written_for r place) kept)
+        (role_says i (h 0 i refl)) (code_says kept (λ k j e. h (suc k) j e))
 
     pub all_said : (kept : List JInsn) → ((k : ℕ) (i : JInsn) → slice_get kept k ≡ Some i → OperandsFit i.op)
-        → (k : ℕ) (i : NInsn) → slice_get (flat_map (λ i. written r place i.op) kept) k ≡ Some i → NumbersFit n i
+        → (k : ℕ) (i : NInsn) → slice_get (flat_map (written_for r place) kept) k ≡ Some i → NumbersFit n i
         → IsSpellable (laid n (λ label. 0) 0 false i)
     unfolding Says
-    all_said kept h k i e = at (flat_map (λ j. written r place j.op) kept) k i (code_says kept h) e
+    all_said kept h k i e = at (flat_map (written_for r place) kept) k i (code_says kept h) e

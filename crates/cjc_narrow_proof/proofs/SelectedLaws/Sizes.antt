@@ -18,6 +18,8 @@ use Rattle.cjc_ncode.specs.declared.narrow.NCase.{NCase}
 use Rattle.cjc_ncode.specs.declared.narrow.NInsn.{NInsn}
 use Rattle.cjc_ncode.specs.declared.narrow.NInsn.TheVariants.{Op, Push, Local, Inc, Words, Named, Interface}
 use Rattle.cjc_ncode.specs.Written.{Resolution, arithmetic, array_load, array_store, call_by, field_access, is_byte}
+use Rattle.cjc_ncode.specs.Written.{Access, accessed, on_this, this_access, written_for}
+use Rattle.cjc_ncode.proofs.WrittenCases.{written_cases}
 use Rattle.cjc_ncode.specs.Written.{leaving, local, low_of, nargs_of, on_stack, pair_case, pair_cases, pushed}
 use Rattle.cjc_ncode.specs.Written.{pushed_word, static_access, static_by, switched, table_cases, type_test, widest}
 use Rattle.cjc_ncode.specs.Written.{widest_sum, written}
@@ -177,6 +179,21 @@ field_low false false Short = low _ 3 refl
 field_low false false Int = low _ 3 refl
 field_low false false (Reference shape) = low _ 3 refl
 field_low false false NoValue = low _ 3 refl
+
+this_low : (put : Bool) (sort : Sort) → bytes (this_access put sort) ≤ 3
+unfolding form forms
+this_low true Boolean = low _ 3 refl
+this_low true Byte = low _ 3 refl
+this_low true Short = low _ 3 refl
+this_low true Int = low _ 3 refl
+this_low true (Reference shape) = low _ 3 refl
+this_low true NoValue = low _ 3 refl
+this_low false Boolean = low _ 3 refl
+this_low false Byte = low _ 3 refl
+this_low false Short = low _ 3 refl
+this_low false Int = low _ 3 refl
+this_low false (Reference shape) = low _ 3 refl
+this_low false NoValue = low _ 3 refl
 
 -- ---- pop to swap
 
@@ -349,12 +366,23 @@ module _ (r : Resolution) (place : ℕ → ℕ) where
   op_low (jop.CheckCast class) h = test_low 0x94 (low _ 4 refl) (shape_named class)
   op_low (jop.InstanceOf class) h = test_low 0x95 (low _ 4 refl) (shape_named class)
 
+  role_low : (i : JInsn) → ((n : ℕ) → i.op ≡ jop.Stack n → 0x57 ≤ n) → wide_sum (written_for r place i) ≤ widest i.op
+  unfolding form forms
+  role_low i h = written_cases (λ xs. wide_sum xs ≤ widest i.op) (r.role i.at) r place i.op (λ e. omega arith)
+      (op_low i.op h) (λ a e. access i.op a e)
+    where
+      access : (op : JOp) (a : Access) → accessed op ≡ Some a → wide_sum (on_this r place op (Some a)) ≤ widest op
+      access (jop.Field put f) a e =
+          let field = a.field in
+          let le = this_low a.put (field_sort field.desc) in omega (arith, le)
+      access op a e = cc
+
   -- of instructions whose stack instructions are pop to swap
   pub code_low : (kept : List JInsn) → ((k n : ℕ) (i : JInsn) → slice_get kept k ≡ Some i → i.op ≡ jop.Stack n
-      → 0x57 ≤ n) → wide_sum (flat_map (λ i. written r place i.op) kept) ≤ widest_sum kept
+      → 0x57 ≤ n) → wide_sum (flat_map (written_for r place) kept) ≤ widest_sum kept
   code_low [] h = omega arith
   code_low (i ∷ kept) h =
-      let both = wide_append (written r place i.op) (flat_map (λ j. written r place j.op) kept) in
-      let first = op_low i.op (λ n e. h 0 n i refl e) in
+      let both = wide_append (written_for r place i) (flat_map (written_for r place) kept) in
+      let first = role_low i (λ n e. h 0 n i refl e) in
       let rest = code_low kept (λ k n j e f. h (suc k) n j e f) in
       omega (arith, both, first, rest)

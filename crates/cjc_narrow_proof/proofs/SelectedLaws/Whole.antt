@@ -1,5 +1,5 @@
 -- The narrow code of a method, of the instructions that its least type table reaches, is whole.
-use Rattle.std.proofs.Common.{◌≡◌, ℕ, zero, suc, ◌+◌, ◌<◌, ◌≤◌, refl, sym, subst, ◌∙◌, arith, Bool, true, false, List}
+use Rattle.std.proofs.Common.{◌≡◌, ℕ, zero, suc, ◌+◌, ◌<◌, ◌≤◌, refl, sym, ap, subst, ◌∙◌, arith, Bool, true, false, List}
 use Rattle.std.proofs.Common.{[], ◌∷◌, length}
 use Rattle.std.specs.Prelude.{Option, Some, nat_le, nat_lt, slice_get, ◌&&◌, if◌then◌else◌}
 use Rattle.std.specs.List.{Contains}
@@ -20,7 +20,8 @@ use Rattle.cjc_world.specs.Files.{Files}
 use Rattle.cjc_ncode.specs.Written.{Resolution, catch_at, catches_at, narrow_code, narrow_method, place_in, reached}
 use Rattle.cjc_narrow.specs.Rows.Resolved.{argument_words, resolution}
 use Rattle.cjc_narrow.specs.Rows.Selected.{selected_code}
-use Rattle.cjc_narrow.specs.Written.Rows.{by_rows_there, has_rows, rows_by}
+use Rattle.cjc_narrow.specs.Written.Rows.{by_rows_there, has_rows, has_rows_by, rows_by}
+use Rattle.cjc_narrow.specs.Pairs.Roles.{with_pairs}
 use Rattle.cjc_types.specs.declared.state.State.{State}
 use Rattle.cjc_types.specs.Flow.{body_of, covers, next_place, place_at, successors}
 use Rattle.cjc_types.specs.Steps.{goes_on, targets}
@@ -37,7 +38,7 @@ use Rattle.cjc_emit.specs.Layout.Sizes.{AllLead}
 use Rattle.cjc_narrow_proof.proofs.SelectedLaws.Cuts.{few, stack_opcode}
 use Rattle.cjc_narrow_proof.proofs.SelectedLaws.Places.{all_sizes, between, place_below, place_low, place_up}
 use Rattle.cjc_narrow_proof.proofs.SelectedLaws.Places.{reached_at, reached_from, size, sizes}
-use Rattle.cjc_narrow_proof.proofs.SelectedLaws.Leads.{code_leads, goes_on_unwritten}
+use Rattle.cjc_narrow_proof.proofs.SelectedLaws.Leads.{code_leads, role_goes_on}
 use Rattle.cjc_narrow_proof.proofs.SelectedLaws.Sizes.{code_low, widest_is}
 
 module _ (files : Files) (code : MethodCode) (class : ClassTree) (method : MethodTree) (tree : CodeTree)
@@ -83,7 +84,7 @@ module _ (files : Files) (code : MethodCode) (class : ClassTree) (method : Metho
 
         go : (m : ℕ) → size r i ≡ m → (goes_on i.op ≡ true → place i.at < total) → place i.at < total
         go (suc m) some on = let le = here in omega (arith, le, some)
-        go zero none on = on (goes_on_unwritten r i.op none)
+        go zero none on = on (role_goes_on r i none)
 
     -- so it is at each offset at which a reached instruction stands
     offset_below : (offset to : ℕ) (x : State) → HasPlace code.insns offset → place_at code.insns offset ≡ Some to
@@ -166,6 +167,9 @@ module _ (files : Files) (code : MethodCode) (class : ClassTree) (method : Metho
   pub selected_whole : (near : List MemberId)
       → IsWhole (selected_code files near class method tree code.insns (rows_by (has_rows rows)))
   selected_whole near =
-      subst IsWhole (by_rows_there (resolution files near class.name) tree (argument_words method.flags method.desc)
-      code.insns rows)
-      (narrow_whole (resolution files near class.name) (argument_words method.flags method.desc))
+      let r = resolution files near class.name in
+      let b = body_of class method tree code.insns in
+      let n = argument_words method.flags method.desc in
+      subst IsWhole (by_rows_there (with_pairs r b (has_rows rows)) tree n code.insns rows
+      ∙ ap (λ hs. narrow_method (with_pairs r b hs) tree n code.insns (rows_by (has_rows rows)))
+      (sym (has_rows_by (has_rows rows)))) (narrow_whole (with_pairs r b (has_rows rows)) n)

@@ -15,6 +15,7 @@ use Rattle.cjc_narrow_proof.specs.Selection.Rows.{HasRoom, RowAgrees, RowOnLocal
 use Rattle.cjc_narrow_proof.specs.Selection.Jumps.{JumpAgrees, ReturnAgrees}
 use Rattle.cjc_narrow_proof.specs.Selection.Switches.{TwoAgree}
 use Rattle.cjc_narrow_proof.specs.Selection.Tables.{Point, Table, code_of, written_place, spot, Arrives, Catches}
+use Rattle.cjc_narrow_proof.proofs.SelectionLaws.Whole.{comes}
 use Rattle.cjc_narrow_proof.specs.Selection.Runs.{Falls, Rule, does, jumps, goes_on, jumps_in_two, returns}
 
 pub row_rule : (by : Linked) (l : Named) (tb : Table) (m : Method) (at : ℕ) (p : Point) (i : JInsn) (before after ks :
@@ -27,10 +28,11 @@ pub row_rule : (by : Linked) (l : Named) (tb : Table) (m : Method) (at : ℕ) (p
     → Arrives tb m (at + 1) (spot tb m at + 1) (after ++ ks) p.locals → Catches by l tb m at p.locals
     → Rule by l tb m at p i
 row_rule by l tb m at p i before after ks insn is_written there row is room never arrives catches =
-    does insn (after ++ ks) p.locals there (λ locals words store memory vs ws stores held stack. row
+    does insn (after ++ ks) p.locals there (λ locals words store memory vs ws stores held stack owns. row
     (written_place tb m) insn is_written (let code = code_of tb m in code.max_stack) at (spot tb m at + 1) ks
     p.locals vs ws locals words store memory room stores held (subst (λ kinds. Stacks memory.heap kinds vs ws) is
-    stack)) never arrives catches
+    stack)) never (λ locals after words wafter store new memory grown vs stack ws wstack owns e f. comes by l tb stack
+    wafter arrives) catches
 
 pub on_locals_rule : (by : Linked) (l : Named) (tb : Table) (m : Method) (at : ℕ) (p : Point) (i : JInsn)
     (before after js ks : List Kind) (insn : NInsn) → written (tb.resolution m) (written_place tb m) i.op ≡ insn ∷ []
@@ -41,9 +43,12 @@ pub on_locals_rule : (by : Linked) (l : Named) (tb : Table) (m : Method) (at : �
     → by_name.effect by m at locals store i.op vs ≡ by_name.Toss object → ⊥)
     → Arrives tb m (at + 1) (spot tb m at + 1) (after ++ ks) js → Catches by l tb m at p.locals → Rule by l tb m at p i
 on_locals_rule by l tb m at p i before after js ks insn is_written there row is room never arrives catches =
-    does insn (after ++ ks) js there (λ locals words store memory vs ws stores held stack. row (written_place tb m) insn
+    does insn (after ++ ks) js there (λ locals words store memory vs ws stores held stack owns. row
+    (written_place tb m) insn
     is_written (let code = code_of tb m in code.max_stack) at (spot tb m at + 1) ks vs ws locals words store memory
-    room stores held (subst (λ kinds. Stacks memory.heap kinds vs ws) is stack)) never arrives catches
+    room stores held (subst (λ kinds. Stacks memory.heap kinds vs ws) is stack)) never
+    (λ locals after words wafter store new memory grown vs stack ws wstack owns e f. comes by l tb stack wafter
+    arrives) catches
 
 pub jump_rule : (by : Linked) (l : Named) (tb : Table) (m : Method) (at : ℕ) (p : Point) (i : JInsn)
     (before ks : List Kind) (offsets : List ℕ) (insn : NInsn) → written (tb.resolution m) (written_place tb m) i.op
@@ -60,8 +65,9 @@ pub not_written_rule : (by : Linked) (l : Named) (tb : Table) (m : Method) (at :
     (before after ks : List Kind) → IsNotWritten by (tb.resolution m) m i.op before after → p.stack ≡ before ++ ks
     → Arrives tb m (at + 1) (spot tb m at) (after ++ ks) p.locals → at < 65534 → Rule by l tb m at p i
 not_written_rule by l tb m at p i before after ks not_written is arrives low =
-    goes_on (after ++ ks) (λ locals store memory vs ws stack. not_written.does at ks vs ws locals store memory
-    (subst (λ kinds. Stacks memory.heap kinds vs ws) is stack)) arrives low
+    goes_on (after ++ ks) (λ locals words store memory vs ws held stack owns. (let on = not_written.does at ks vs ws
+    locals store memory (subst (λ kinds. Stacks memory.heap kinds vs ws) is stack)
+    in record { on = on; comes = comes by l tb on.stack words arrives })) low
 
 pub two_rule : (by : Linked) (l : Named) (tb : Table) (m : Method) (at : ℕ) (p : Point) (i : JInsn)
     (before ks : List Kind) (offsets : List ℕ) (insn second : NInsn) → written (tb.resolution m) (written_place tb m)

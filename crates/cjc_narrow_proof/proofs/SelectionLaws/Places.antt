@@ -4,13 +4,13 @@ use Rattle.std.proofs.Common.{◌∷◌, length}
 use Rattle.std.specs.Prelude.{Some, nat_le, nat_lt, slice_get, if◌then◌else◌}
 use Rattle.std.proofs.lemmas.Bool.Decides.{nat_tests}
 use Rattle.cjc_code.specs.declared.insn.JInsn.{JInsn}
-use Rattle.cjc_ncode.specs.Written.{Resolution, written, place_in}
+use Rattle.cjc_ncode.specs.Written.{Resolution, written_for, place_in}
 use Rattle.cjc_narrow_proof.specs.Selection.Calls.{IsWrittenAt}
 
 module _ (r : Resolution) where
   -- how much is written for an instruction
   abbrev size : JInsn → ℕ
-  size i = length (written r (λ o. 0) i.op)
+  size i = length (written_for r (λ o. 0) i)
 
   -- and what of it stands before an offset
   abbrev part : JInsn → ℕ → ℕ

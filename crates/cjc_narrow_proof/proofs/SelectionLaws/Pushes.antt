@@ -77,7 +77,7 @@ below_word n e = ap (λ b. operation (if b then insns.Op 0x02 else (if nat_le n 
     else insns.Push 0x11 (negsuc n)))) e ∙ either_form (negsuc n) (nat_le n 127)
 
 -- the instruction of a word pushes it
-word_is : (z : ℤ) → operation (pushed_word z) ≡ Do (pushed (Num z ∷ []))
+pub word_is : (z : ℤ) → operation (pushed_word z) ≡ Do (pushed (Num z ∷ []))
 unfolding meaning
 word_is (pos zero) = refl
 word_is (pos (suc zero)) = refl
@@ -161,7 +161,8 @@ number_far : (n : ℕ) → nat_le n 3 ≡ false → operation (if nat_le n 3 the
 unfolding meaning
 number_far n e = ap (λ b. operation (if b then insns.Op (0x1C + n) else insns.Local 0x16 n)) e
 
-number_load_is : (n : ℕ) → operation (if nat_le n 3 then insns.Op (0x1C + n) else insns.Local 0x16 n) ≡ Do (load_word n)
+pub number_load_is : (n : ℕ) → operation (if nat_le n 3 then insns.Op (0x1C + n) else insns.Local 0x16 n)
+    ≡ Do (load_word n)
 unfolding meaning
 number_load_is zero = refl
 number_load_is (suc zero) = refl
@@ -175,7 +176,7 @@ reference_far : (n : ℕ) → nat_le n 3 ≡ false → operation (if nat_le n 3 
 unfolding meaning
 reference_far n e = ap (λ b. operation (if b then insns.Op (0x18 + n) else insns.Local 0x15 n)) e
 
-reference_load_is : (n : ℕ) → operation (if nat_le n 3 then insns.Op (0x18 + n) else insns.Local 0x15 n)
+pub reference_load_is : (n : ℕ) → operation (if nat_le n 3 then insns.Op (0x18 + n) else insns.Local 0x15 n)
     ≡ Do (load_reference n)
 unfolding meaning
 reference_load_is zero = refl

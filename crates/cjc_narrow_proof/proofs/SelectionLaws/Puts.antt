@@ -248,7 +248,7 @@ putstatic by l r m named k there may_be =
 
 -- ---- fields of objects
 
-put_means : (near : Bool) (sort : Sort) → meaning (field_access true near sort) ≡ Uses (Puts false (letter_of sort))
+pub put_means : (near : Bool) (sort : Sort) → meaning (field_access true near sort) ≡ Uses (Puts false (letter_of sort))
 unfolding meaning
 put_means true Boolean = refl
 put_means true Byte = refl

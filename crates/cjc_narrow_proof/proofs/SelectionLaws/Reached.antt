@@ -22,6 +22,7 @@ use Rattle.cjc_jvm_semantics.specs.Effects as by_name
 use Rattle.cjc_jvm_semantics.specs.Machine.{Frame, State, frame_for_call, at_callee, after_fault, after_effect, step}
 use Rattle.cjc_jvm_semantics.specs.Machine.{room, report, begins as named_begins}
 use Rattle.cjc_narrow_proof.specs.Selection.Relation.{OnBoth, Kind, Refers, Stacks, IsMadeOf}
+use Rattle.cjc_narrow_proof.specs.Selection.Relation.{all_there}
 use Rattle.cjc_narrow_proof.specs.Selection.Rows.{HasRoom, narrow_fault}
 use Rattle.cjc_narrow_proof.specs.Selection.Calls.{NFrame, NState, NTurn, CallAgrees, begins, fails, IsStaticCall}
 use Rattle.cjc_narrow_proof.specs.Selection.Calls.{IsReceiverCall}
@@ -44,7 +45,7 @@ use Rattle.cjc_narrow_proof.proofs.SelectionLaws.Begins.{selected_both}
 use Rattle.cjc_narrow_proof.proofs.SelectionLaws.Entries.{entry_begun, none_begun}
 use Rattle.cjc_narrow_proof.proofs.SelectionLaws.Imports.{static_reached, selected_abroad}
 use Rattle.cjc_narrow_proof.proofs.SelectionLaws.Paths.{turns_are}
-use Rattle.cjc_narrow_proof.proofs.SelectionLaws.Whole.{both_spent, waiting_kept, arrived, Meets, meets_kept}
+use Rattle.cjc_narrow_proof.proofs.SelectionLaws.Whole.{both_spent, waiting_kept, comes, arrived, Meets, meets_kept}
 use Rattle.cjc_narrow_proof.proofs.SelectionLaws.Whole.{raised_both, failed_both, report_alike}
 use Rattle.cjc_narrow_proof.proofs.SelectionLaws.Widens.{stacks_wider, locals_wider}
 
@@ -100,6 +101,7 @@ module _ (by : Linked) (l : Named) (tb : Table) (may_raise : MayRaise l tb) wher
               stack = stacks_wider enters.stack frames.stack;
               locals = locals_wider enters.locals frames.locals;
             };
+            owns = all_there enters.all_there;
           } in
           let in_caller : Waits by l tb (nheap t) (tb.results callee) (waits vs) (waiting_at ws) = record {
             ks = facts.ks;
@@ -142,8 +144,9 @@ module _ (by : Linked) (l : Named) (tb : Table) (may_raise : MayRaise l tb) wher
             stack = after';
           }) others v agree
           (arrived by l tb (waits vs) (waiting_at ws) (nheap v) (f.at + 1) (g.at + 1) (results ++ facts.ks) known after
-          after' f.locals g.locals stands.code (subst (λ k. Arrives tb f.method (f.at + 1) (k + 1) (results
-          ++ facts.ks) known) (sym stands.place) may.resumes) stack held) (waiting_kept by l tb keeps waiting))
+          after' f.locals g.locals stands.code (comes by l tb after g.locals (subst (λ k. Arrives tb f.method (f.at + 1)
+          (k + 1) (results ++ facts.ks) known) (sym stands.place) may.resumes)) stack held)
+          (waiting_kept by l tb keeps waiting))
       replies_both results may vs ws (replies.throws class both) = both
       replies_both results may vs ws (waits_for_answer {s = u} {t = v} agree) =
           over (report WaitingOutcome u) WaitingOutcome v (report_alike by l tb WaitingOutcome u v agree) (λ e. cc)
@@ -365,6 +368,7 @@ entry_both by l tb on params e entries noted may (entries_spec.begins s t m word
         stack = stacks_wider enters.stack frames.stack;
         locals = locals_wider enters.locals frames.locals;
       };
+      owns = all_there enters.all_there;
     } in
     into (frame_for_call m e.args) [] (record s { entries = entries }) (narrow.frame_for_call (tb.narrowed m) words) []
     (record t { entries = entries }) same stands (no_frame h.short) same_notes

@@ -33,7 +33,7 @@ use Rattle.cjc_ncode.specs.declared.narrow.NMethod.{NMethod}
 use Rattle.cjc_ncode.specs.declared.narrow.NInsn.TheVariants as insns
 use Rattle.cjc_ncode.specs.ByLabel.{Named, by_label, classes, operation}
 use Rattle.cjc_ncode.specs.ByLabel as labels
-use Rattle.cjc_jvm_semantics.specs.Linked.{Linked}
+use Rattle.cjc_jvm_semantics.specs.Linked.{Method, Linked}
 use Rattle.cjc_jvm_semantics.specs.Effects.{Fault, NullPointer, exception_class, Store, place, effect}
 use Rattle.cjc_jvm_semantics.specs.Effects as by_name
 use Rattle.cjc_jvm_semantics.specs.Machine.{Frame, State, heap_of, with_frames, with_note, with_last, offset, room}
@@ -42,7 +42,7 @@ use Rattle.cjc_jvm_semantics.specs.Machine.{spend, spend_unless_stuck, begins, s
 use Rattle.cjc_jvm_semantics.specs.Machine as named
 use Rattle.cjc_narrow_proof.specs.Selection.Relation.{Kind, Refers, Heap, null, object as object_here, Stacks, bottom}
 use Rattle.cjc_narrow_proof.specs.Selection.Relation.{cell, Locals, AllWider, none_wider, one_wider, no_slots, of_class}
-use Rattle.cjc_narrow_proof.specs.Selection.Relation.{shown, Stores, bare}
+use Rattle.cjc_narrow_proof.specs.Selection.Relation.{NMemory, shown, Stores, bare, all_there}
 use Rattle.cjc_narrow_proof.specs.Selection.Rows.{narrow_fault, NEffect, Same, goes, raises, tosses}
 use Rattle.cjc_narrow_proof.specs.Selection.Jumps.{Jumps, jumps, falls, Results, no_result, result, Returns, leaves}
 use Rattle.cjc_narrow_proof.specs.Selection.Switches.{JumpsInTwo}
@@ -56,6 +56,7 @@ use Rattle.cjc_narrow_proof.specs.Selection.Replies.{StatesAgree}
 use Rattle.cjc_narrow_proof.specs.Selection.Turns.{with_spent}
 use Rattle.cjc_narrow_proof.specs.Selection.Paths.{one_further}
 use Rattle.cjc_narrow_proof.specs.Selection.Tables.{Table, code_of, written_place, spot, Arrives, handler_at, Catches}
+use Rattle.cjc_narrow_proof.specs.Selection.Tables.{Comes}
 use Rattle.cjc_narrow_proof.specs.Selection.Tables.{Stands, Waits, Waiting, no_frame, a_frame, Couple, between, inside}
 use Rattle.cjc_narrow_proof.specs.Selection.Tables.{left, right, measure}
 use Rattle.cjc_narrow_proof.specs.Selection.Runs.{Both, onward, over, Rule, does, goes_on, jumps_in_two, throws}
@@ -147,8 +148,20 @@ module _ (by : Linked) (l : Named) (tb : Table) where
 
   -- ---- where both go on
 
+  -- nothing is left out there
+  pub comes : {m : Method} {at next : ℕ} {ks ls : List Kind} (vs : List Value) (words : List (Option Value))
+      → Arrives tb m at next ks ls → Comes tb m at next ks ls vs words
+  comes vs words a = record {
+    point = a.point;
+    is_reached = a.is_reached;
+    place = a.place;
+    stack = a.stack;
+    locals = a.locals;
+    owns = all_there a.all_there;
+  }
+
   pub arrived : (f : Frame) (g : NFrame) (heap : Heap) (at next : ℕ) (ks ls : List Kind) (vs ws : List Value)
-      (locals words : List (Option Value)) → g.code ≡ code_of tb f.method → Arrives tb f.method at next ks ls
+      (locals words : List (Option Value)) → g.code ≡ code_of tb f.method → Comes tb f.method at next ks ls vs words
       → Stacks heap ks vs ws → Locals heap ls locals words
       → Stands tb heap (record f { at = at; stack = vs; locals = locals }) (record g {
         at = next;
@@ -161,6 +174,7 @@ module _ (by : Linked) (l : Named) (tb : Table) where
     code = code;
     place = a.place;
     agree = record { stack = stacks_wider a.stack stack; locals = locals_wider a.locals held };
+    owns = a.owns;
   }
 
   -- ---- exceptions
@@ -224,7 +238,8 @@ module _ (by : Linked) (l : Named) (tb : Table) where
             (onward (inside f' outer s g' others t same
             (arrived f g (nheap t) (place (let m = f.method in m.insns) target) (written_place tb f.method target)
             (Refers h.within ∷ []) meets.ls (Obj object ∷ []) (Obj object ∷ []) f.locals g.locals meets.code
-            h.arrives (cell (object_here thing there h.passes) bottom) meets.held) waiting)))
+            (comes (Obj object ∷ []) g.locals h.arrives) (cell (object_here thing there h.passes) bottom) meets.held)
+            waiting)))
 
     unwound : (results : List Kind) (outer : List Frame) (others : List NFrame)
         → Waiting by l tb (nheap t) results outer others
@@ -351,7 +366,8 @@ module _ (by : Linked) (l : Named) (tb : Table) where
   from_resumes results ks ls f outer s g others t same code arrives held waiting (resumes {vs = vs} {ws = ws} stack) =
       onward (inside (record f { at = f.at + 1; stack = vs }) outer s (record g { at = g.next; stack = ws }) others t
       same
-      (arrived f g (nheap t) (f.at + 1) g.next (results ++ ks) ls vs ws f.locals g.locals code arrives stack held)
+      (arrived f g (nheap t) (f.at + 1) g.next (results ++ ks) ls vs ws f.locals g.locals code (comes vs g.locals
+      arrives) stack held)
       waiting)
 
   left_both : (from : Frame) (s : State) (at : NFrame) (t : NState) (next : ℕ) → StatesAgree l s t
@@ -393,7 +409,7 @@ module _ (by : Linked) (l : Named) (tb : Table) where
         spent = t.spent + 1;
       })
       (record { stores = stores; entries = same.entries; answers = same.answers; notes = same.notes })
-      (arrived f g memory.heap to to' ks ls vs ws locals words code (there target among) stack held)
+      (arrived f g memory.heap to to' ks ls vs ws locals words code (comes vs words (there target among)) stack held)
       (waiting_kept keeps waiting))
   jump_both f outer s g others t same code waiting ks ls offsets there _ _ behind (falls {vs = vs} {ws = ws}
       {locals = locals} {words = words} {store = store} {memory = memory} stack held stores) (types.goes_on keeps) =
@@ -406,8 +422,8 @@ module _ (by : Linked) (l : Named) (tb : Table) where
         spent = t.spent + 1;
       })
       (record { stores = stores; entries = same.entries; answers = same.answers; notes = same.notes })
-      (arrived f g memory.heap (f.at + 1) (g.at + 1) ks ls vs ws locals words code (behind vs locals store refl) stack
-      held) (waiting_kept keeps waiting))
+      (arrived f g memory.heap (f.at + 1) (g.at + 1) ks ls vs ws locals words code (comes vs words (behind vs locals
+      store refl)) stack held) (waiting_kept keeps waiting))
 
   -- ---- turns
 
@@ -464,14 +480,20 @@ module _ (by : Linked) (l : Named) (tb : Table) where
       at_place P h = subst (λ code. P code g.at) (sym stands.code) (subst (P (code_of tb f.method)) (sym stands.place)
           h)
 
+      -- where both go on behind their instructions
+      abbrev Behind : (ks ls : List Kind) → (next : ℕ) → by_name.Effect → NEffect → Type 0
+      Behind ks ls next effect effect' = (after wafter : List (Option Value)) (new : Store) (grown : NMemory)
+          (stack wstack : List Value) → effect ≡ by_name.Go (f.at + 1) stack after new
+          → effect' ≡ effects.Go next wstack wafter grown → Comes tb f.method (f.at + 1) next ks ls stack wafter
+
       -- both go on behind their instructions, or raise
-      row_both : (ks ls : List Kind) → Arrives tb f.method (f.at + 1) (g.at + 1) ks ls
-          → Catches by l tb f.method f.at known → (effect : by_name.Effect) (effect' : NEffect)
-          → ((object : ℕ) → effect ≡ by_name.Toss object → ⊥) → Same l ks ls (f.at + 1) (g.at + 1) effect effect'
+      row_both : (ks ls : List Kind) → Catches by l tb f.method f.at known
+          → (effect : by_name.Effect) (effect' : NEffect) → Behind ks ls (g.at + 1) effect effect' → ((object : ℕ)
+          → effect ≡ by_name.Toss object → ⊥) → Same l ks ls (f.at + 1) (g.at + 1) effect effect'
           → TypesStay (nheap t) effect'
           → Both by l tb (spend by (after_effect by effect f outer s)) (narrow.spent_by (by_label l) t.spent
           (narrow.made (by_label l) effect' (g.at + 1) g others (with_spent t)))
-      row_both ks ls arrives catches _ _ never (goes {vs = vs} {ws = ws} {locals = locals} {words = words}
+      row_both ks ls catches _ _ lands never (goes {vs = vs} {ws = ws} {locals = locals} {words = words}
           {store = store} {memory = memory} stack held stores) (types.goes_on keeps) =
           onward (inside (record f { at = f.at + 1; stack = vs; locals = locals }) outer (record s {
             store = store;
@@ -479,12 +501,12 @@ module _ (by : Linked) (l : Named) (tb : Table) where
           }) (record g { at = g.at + 1; stack = ws; locals = words }) others
           (record t { memory = memory; spent = t.spent + 1 })
           (record { stores = stores; entries = same.entries; answers = same.answers; notes = same.notes })
-          (arrived f g memory.heap (f.at + 1) (g.at + 1) ks ls vs ws locals words stands.code arrives stack held)
-          (waiting_kept keeps waiting))
-      row_both ks ls arrives catches _ _ never (raises {fault = fault}) stays =
+          (arrived f g memory.heap (f.at + 1) (g.at + 1) ks ls vs ws locals words stands.code (lands locals words store
+          memory vs ws refl refl) stack held) (waiting_kept keeps waiting))
+      row_both ks ls catches _ _ lands never (raises {fault = fault}) stays =
           both_spent t.spent (failed_both f outer s g others (with_spent t) same' (meets catches) waiting fault
           (fine.exceptions.raises fault) (fine.exceptions.may_raise fault))
-      row_both ks ls arrives catches _ _ never (tosses {object = object}) stays = absurd (never object refl)
+      row_both ks ls catches _ _ lands never (tosses {object = object}) stays = absurd (never object refl)
 
       throw_both : (within : Shape (List ℕ) → Bool) (ks : List Kind) → ((kind : Shape (List ℕ)) → within kind ≡ true
           → tb.may_throw kind ≡ true) → Catches by l tb f.method f.at known → (vs ws : List Value)
@@ -514,7 +536,7 @@ module _ (by : Linked) (l : Named) (tb : Table) where
         (same : StatesAgree l s t) (stands : Stands tb (nheap t) f g) (waiting : Waiting by l tb (nheap t)
         (tb.results f.method) outer others) (i : JInsn) → slice_get (let m = f.method in m.insns) f.at ≡ Some i
         → Rule by l tb f.method f.at stands.point i → Follows (inside f outer s g others t same stands waiting)
-    by_rule f outer s g others t same stands waiting i there (does insn ks ls written holds never arrives catches) =
+    by_rule f outer s g others t same stands waiting i there (does insn ks ls written holds never lands catches) =
         let s0 = record s { frames = f ∷ outer } in
         let t0 = record t { frames = g ∷ others } in
         let same0 : StatesAgree l s0 t0 = record {
@@ -531,12 +553,15 @@ module _ (by : Linked) (l : Named) (tb : Table) where
         let row : Same l ks ls (f.at + 1) (g.at + 1) effect effect' = at_place f outer s g others t same stands waiting
         (λ code k. Same l ks ls (f.at + 1) (k + 1) effect (effects.effect (classes l) (operation insn)
         code.max_stack (k + 1) g.locals t.memory g.stack)) (holds f.locals g.locals s.store t.memory f.stack g.stack
-        same.stores stands.agree.locals stands.agree.stack) in
-        let behind : Arrives tb f.method (f.at + 1) (g.at + 1) ks ls =
-        subst (λ k. Arrives tb f.method (f.at + 1) (k + 1) ks ls) (sym stands.place) arrives in
+        same.stores stands.agree.locals stands.agree.stack stands.owns) in
+        let behind : Behind f outer s g others t same stands waiting ks ls (g.at + 1) effect effect' =
+        at_place f outer s g others t same stands waiting (λ code k. Behind f outer s g others t same stands waiting ks
+        ls (k + 1) effect (effects.effect (classes l) (operation insn) code.max_stack (k + 1) g.locals t.memory
+        g.stack)) (λ after wafter new grown stack wstack e e'. lands f.locals after g.locals wafter s.store new
+        t.memory grown f.stack stack g.stack wstack stands.owns e e') in
         one_turn (inside f outer s g others t same stands waiting) (named_step by f outer s0 i there)
         (narrow_step l g others t0 insn is_there)
-        (row_both f outer s0 g others t0 same0 stands waiting ks ls behind catches effect effect'
+        (row_both f outer s0 g others t0 same0 stands waiting ks ls catches effect effect' behind
         (never f.locals s.store f.stack) row (types_stay l (let code = g.code in code.max_stack) (g.at + 1) g.locals
         t.memory (operation insn) g.stack))
     by_rule f outer s g others t same stands waiting i there (rules.jumps insn ks ls offsets written holds arrives
@@ -566,9 +591,12 @@ module _ (by : Linked) (l : Named) (tb : Table) where
         (λ vs after new e. subst (λ k. Arrives tb f.method (f.at + 1) (k + 1) ks ls) (sym stands.place)
         (behind f.locals after s.store new f.stack vs e)) row (types_stay l (let code = g.code in code.max_stack)
         (g.at + 1) g.locals t.memory (operation insn) g.stack))
-    by_rule f outer s g others t same stands waiting i there (goes_on ks holds arrives low) =
+    by_rule f outer s g others t same stands waiting i there (goes_on ks holds low) =
         let s0 = record s { frames = f ∷ outer } in
-        let on = holds f.locals s.store t.memory f.stack g.stack stands.agree.stack in
+        let waits = holds f.locals g.locals s.store t.memory f.stack g.stack stands.agree.locals stands.agree.stack
+        stands.owns in
+        let on = waits.on in
+        let arrives = waits.comes in
         let f' = record f { at = f.at + 1; stack = on.stack } in
         let same0 : StatesAgree l (record s { spent = s.spent + 1 }) t = record {
           stores = same.stores;
@@ -585,6 +613,7 @@ module _ (by : Linked) (l : Named) (tb : Table) where
             stack = stacks_wider arrives.stack on.agree;
             locals = locals_wider arrives.locals stands.agree.locals;
           };
+          owns = arrives.owns;
         } in
         silent (inside f' outer (record s { spent = s.spent + 1 }) g others t same0 stands' waiting)
         (named_step by f outer s0 i there ∙ ap (λ e. spend by (after_effect by e f outer s0)) on.goes_on) refl

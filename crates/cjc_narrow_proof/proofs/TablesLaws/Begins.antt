@@ -11,7 +11,6 @@ use Rattle.cjc_bytes.proofs.Gets.{get_inside}
 use Rattle.cjc_range.specs.Span.{Span, IsWord, full}
 use Rattle.cjc_code.specs.declared.insn.JInsn.{JInsn}
 use Rattle.cjc_code.specs.declared.insn.JOp.TheVariants as jop
-use Rattle.cjc_types.specs.Fixpoint.Tables.{HasRow}
 use Rattle.cjc_script.specs.Sorts.{OfClass}
 use Rattle.cjc_world.specs.Classes.{Class}
 use Rattle.cjc_types.specs.declared.cell.Cell.{Cell}
@@ -35,7 +34,8 @@ use Rattle.cjc_narrow_proof.specs.Selection.Calls.{first_locals}
 use Rattle.cjc_narrow_proof.specs.Selection.Tables.{spot, Arrives}
 use Rattle.cjc_narrow_proof.specs.Selection.Runs.{Rule, throws}
 use Rattle.cjc_narrow_proof.specs.Tables.Kinds.{is_one_of, kind_of_cell, kinds, kinds_from, point_of}
-use Rattle.cjc_narrow_proof.specs.Tables.Analysis.{Analysis, IsDecoded, IsSound, IsRead, CatchesAreTold, TypesAreTold}
+use Rattle.cjc_narrow_proof.specs.Tables.Analysis.{Analysis, IsAlone, IsDecoded, IsSound, IsRead, CatchesAreTold}
+use Rattle.cjc_narrow_proof.specs.Tables.Analysis.{TypesAreTold}
 use Rattle.cjc_narrow_proof.specs.Tables.Analysis.{ThrowablesMay, HasRoomToBegin, declared_kinds, table_of}
 use Rattle.cjc_narrow_proof.proofs.TablesLaws.Placed.{first_place}
 use Rattle.cjc_narrow_proof.proofs.TablesLaws.Told.{kinds_same, kinds_length}
@@ -137,7 +137,7 @@ module _ (by : Linked) (l : Named) (w : List Class) (a : Analysis) (m : Method) 
       let first = first_place (a.resolution m) b.insns f.types decoded.ascend i.0 i.1 in
       subst (λ ls. Arrives (table_of l a) m 0 (let s = a.narrowed m in s.at) [] ls) (first_locals_are roomy)
       (arrives by l w a m read decoded sound 0 (let s = a.narrowed m
-      in s.at) [] (kinds l (entry b).locals (first_state b).locals)
+      in s.at) [] (kinds l (entry b).locals (first_state b).locals) read.pairs.first
       (comes_to l w (let r = a.resolution m in r.constant) f sound 0 (entry b) [] (first_state b) [] refl (inl refl)
       (All-nil IsWord) (own_first b).1.own (sound.types.first roomy.some) (sound.ranges.entry roomy.some))
       (read.begins ∙ sym first ∙ sym here))
@@ -145,7 +145,7 @@ module _ (by : Linked) (l : Named) (w : List Class) (a : Analysis) (m : Method) 
   -- ---- athrow
 
   module _ (told : CatchesAreTold by l a m) (types : TypesAreTold w l) (may : ThrowablesMay l a) (at offset : ℕ)
-      (cells local_cells : List Cell) (x : RangeState) (ranged : HasRow (let f = a.found m in f.ranges) at x)
+      (cells local_cells : List Cell) (x : RangeState) (ranged : IsAlone a m at x)
       (row : IsRow by l w a m read decoded sound told at offset cells local_cells x ranged) where
     pub throws_on : Stands by l w a m read decoded sound told at offset cells local_cells x ranged jop.Throw
         → Keeps by l w a m read decoded sound told at offset cells local_cells x ranged jop.Throw
@@ -166,7 +166,8 @@ module _ (by : Linked) (l : Named) (w : List Class) (a : Analysis) (m : Method) 
         (sym top))
         (λ kind passing. may kind (passes w l types (codes "java/lang/Throwable")
         (OfClass (codes "java/lang/Throwable")) refl is.0 (all_of is.0 is.1 accepted) kind passing))
-        (catches by l w a m read decoded sound told at (record { at = offset; op = jop.Throw }) state x there row ranged
+        (catches by l w a m read decoded sound told at
+        (record { at = offset; op = jop.Throw }) state x there row ranged.row
         (some_written by l w a m read decoded sound told at offset jop.Throw state x there row ranged 0 refl))
       where
         all_of : (names : List (List ℕ)) → typed.operand cells 0 ≡ Refs names

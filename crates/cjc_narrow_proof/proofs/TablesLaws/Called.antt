@@ -13,7 +13,6 @@ use Rattle.cjc_bytes.proofs.Gets.{taken_length}
 use Rattle.cjc_range.specs.Span.{Span, full}
 use Rattle.cjc_code.specs.declared.insn.JOp.{JOp}
 use Rattle.cjc_code.specs.declared.insn.JOp.TheVariants as jop
-use Rattle.cjc_types.specs.Fixpoint.Tables.{HasRow}
 use Rattle.cjc_script.specs.Sorts.{Shape, signature_by, signature_of, sort_of, result_by}
 use Rattle.cjc_world.specs.Classes.{Class}
 use Rattle.cjc_types.specs.declared.cell.Cell.{Cell}
@@ -45,7 +44,8 @@ use Rattle.cjc_narrow_proof.specs.Selection.Reached as reached_spec
 use Rattle.cjc_narrow_proof.proofs.SelectionLaws.Callees.{call_written}
 use Rattle.cjc_narrow_proof.proofs.SelectionLaws.Reached.{static_rule, import_rule, object_rule}
 use Rattle.cjc_narrow_proof.specs.Tables.Kinds.{is_named, is_one_of, kind_of_cell, kinds, point_of}
-use Rattle.cjc_narrow_proof.specs.Tables.Analysis.{Analysis, IsDecoded, IsSound, IsRead, CatchesAreTold, TypesAreTold}
+use Rattle.cjc_narrow_proof.specs.Tables.Analysis.{Analysis, IsAlone, IsDecoded, IsSound, IsRead, CatchesAreTold}
+use Rattle.cjc_narrow_proof.specs.Tables.Analysis.{TypesAreTold}
 use Rattle.cjc_narrow_proof.specs.Tables.Analysis.{declared_kinds, table_of}
 use Rattle.cjc_narrow_proof.specs.Tables.Calls.{IsWordDesc, types_of, count_of, IsReachedBy, IsAsked, IsStaticNamed}
 use Rattle.cjc_narrow_proof.specs.Tables.Calls.{IsObjectNamed, IsSelected, IsCalled}
@@ -97,6 +97,7 @@ module _ (by : Linked) (l : Named) (w : List Class) (a : Analysis) where
         is_reached = there.is_reached;
         place = there.place;
         stack = there.stack;
+        all_there = there.all_there;
         locals = all_wider_through (subst (λ n. AllWider (first_locals callee params)
             (declared_kinds l (let f = a.found callee in f.body) ++ replicate (callee.max_locals - n) Free))
             (as_long wider) (wider_append wider (all_wider_itself (replicate (callee.max_locals - length params)
@@ -173,8 +174,8 @@ module _ (by : Linked) (l : Named) (w : List Class) (a : Analysis) (m : Method) 
     (decoded : IsDecoded (let f = a.found m in f.body)) (sound : IsSound w (let r = a.resolution m
     in r.constant) (a.found m)) (told : CatchesAreTold by l a m) (types : TypesAreTold w l) (may_raise : MayRaise l
     (table_of l a)) (answered : IsAnswered by l (table_of l a))
-    (at offset : ℕ) (cells local_cells : List Cell) (x : RangeState) (ranged : HasRow (let f = a.found m
-    in f.ranges) at x) (row : IsRow by l w a m read decoded sound told at offset cells local_cells x ranged) where
+    (at offset : ℕ) (cells local_cells : List Cell) (x : RangeState) (ranged : IsAlone a m at x)
+    (row : IsRow by l w a m read decoded sound told at offset cells local_cells x ranged) where
   abbrev KeepsHere : JOp → Type 0
   KeepsHere op = Keeps by l w a m read decoded sound told at offset cells local_cells x ranged op
 

@@ -3,7 +3,6 @@ use Rattle.std.proofs.Common.{◌≡◌, ℕ, List, [], ◌∷◌, take, drop, r
 use Rattle.cjc_range.specs.Span.{Span, Within, short_range, full}
 use Rattle.cjc_code.specs.declared.insn.JOp.{JOp}
 use Rattle.cjc_code.specs.declared.insn.JOp.TheVariants as jop
-use Rattle.cjc_types.specs.Fixpoint.Tables.{HasRow}
 use Rattle.cjc_world.specs.Classes.{Class}
 use Rattle.cjc_world.specs.Subtype.{starts}
 use Rattle.cjc_types.specs.declared.cell.Cell.{Cell}
@@ -23,7 +22,8 @@ use Rattle.cjc_narrow_proof.proofs.SelectionLaws.References.{arraylength}
 use Rattle.cjc_narrow_proof.proofs.SelectionLaws.Elements.{baload, saload, bastore, sastore}
 use Rattle.cjc_narrow_proof.proofs.SelectionLaws.ReferenceItems.{aaload, aastore}
 use Rattle.cjc_narrow_proof.specs.Tables.Kinds.{is_one_of, kind_of_cell, kinds}
-use Rattle.cjc_narrow_proof.specs.Tables.Analysis.{Analysis, IsDecoded, IsSound, IsRead, CatchesAreTold, TypesAreTold}
+use Rattle.cjc_narrow_proof.specs.Tables.Analysis.{Analysis, IsAlone, IsDecoded, IsSound, IsRead, CatchesAreTold}
+use Rattle.cjc_narrow_proof.specs.Tables.Analysis.{TypesAreTold}
 use Rattle.cjc_narrow_proof.specs.Tables.Arrays.{ClassesAreNamed, IsOnArray}
 use Rattle.cjc_narrow_proof.specs.Tables.Arrays as on
 use Rattle.cjc_narrow_proof.proofs.TablesLaws.Arrays.{of_types, arrays_only, bytes_only, shorts_only, references_only}
@@ -36,8 +36,7 @@ use Rattle.cjc_narrow_proof.proofs.TablesLaws.Plain.{reference_is, one_reference
 module _ (by : Linked) (l : Named) (w : List Class) (a : Analysis) (m : Method) (read : IsRead a m)
     (decoded : IsDecoded (let f = a.found m in f.body)) (sound : IsSound w (let r = a.resolution m
     in r.constant) (a.found m)) (told : CatchesAreTold by l a m) (types : TypesAreTold w l) (named : ClassesAreNamed w
-    l) (at offset : ℕ) (cells local_cells : List Cell) (x : RangeState) (ranged : HasRow (let f = a.found m
-    in f.ranges) at x)
+    l) (at offset : ℕ) (cells local_cells : List Cell) (x : RangeState) (ranged : IsAlone a m at x)
     (row : IsRow by l w a m read decoded sound told at offset cells local_cells x ranged) where
   abbrev KeepsHere : JOp → Type 0
   KeepsHere op = Keeps by l w a m read decoded sound told at offset cells local_cells x ranged op

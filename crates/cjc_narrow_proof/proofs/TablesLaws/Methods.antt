@@ -1,6 +1,6 @@
 -- Where both machines stand in a method, by what was read of it and its tables.
 use Rattle.std.proofs.Common.{◌≡◌, ◌<◌, ◌+◌, ℕ, suc, Bool, true, false, ◌==◌, ◌&&◌, ◌||◌, cond, List, [], ◌∷◌, length}
-use Rattle.std.proofs.Common.{slice_get, filter_map, Option, Some, None, refl, sym, ap, subst, ◌∙◌, arith}
+use Rattle.std.proofs.Common.{slice_get, filter_map, option_map, Option, Some, None, refl, sym, ap, subst, ◌∙◌, arith}
 use Rattle.std.specs.Prelude.{nat_le, nat_lt, not, codes, if◌then◌else◌}
 use Rattle.std.specs.List.{Contains, position_or_len}
 use Rattle.std.proofs.lemmas.Bool.Decides.{nat_tests}
@@ -16,20 +16,25 @@ use Rattle.cjc_types.specs.Steps.{goes_on, targets}
 use Rattle.cjc_types.specs.Flow.{Body, place_at, next_place, successors, covers, caught_type}
 use Rattle.cjc_types.specs.TypeLaws.Places.{IsPlaceOf}
 use Rattle.cjc_types.proofs.Typed.{contains_kept}
-use Rattle.cjc_intervals.specs.Frames.{RangeState}
+use Rattle.cjc_intervals.specs.Frames.{RangeState, spans_of}
 use Rattle.cjc_ncode.specs.declared.narrow.NInsn.{NInsn}
-use Rattle.cjc_ncode.specs.Written.{Resolution, written, place_in, narrow_code}
+use Rattle.cjc_ncode.specs.Written.{Resolution, written_for, place_in, narrow_code}
 use Rattle.cjc_ncode.specs.ByLabel.{Named}
 use Rattle.cjc_jvm_semantics.specs.Linked.{Method, Linked}
 use Rattle.cjc_jvm_semantics.specs.Effects.{place}
 use Rattle.cjc_jvm_semantics.specs.Machine.{offset_of, takes, handler}
-use Rattle.cjc_narrow_proof.specs.Selection.Relation.{Kind, Refers, AllWider, one_wider, none_wider}
+use Rattle.cjc_narrow.specs.Pairs.Open.{Open, closed}
+use Rattle.cjc_narrow_proof.specs.Tables.Pairs.{with_open}
+use Rattle.cjc_narrow_proof.specs.Selection.Tables.{Point}
+use Rattle.cjc_narrow_proof.proofs.TablesLaws.Told.{on_both}
+use Rattle.cjc_types.specs.Search.{cells_of}
+use Rattle.cjc_narrow_proof.specs.Selection.Relation.{Kind, Refers, OnBoth, AllWider, one_wider, none_wider}
 use Rattle.cjc_narrow_proof.specs.Selection.Calls.{IsWrittenAt}
 use Rattle.cjc_narrow_proof.specs.Selection.Replies.{is_of_some}
 use Rattle.cjc_narrow_proof.specs.Selection.Tables.{Table, class_of_code, code_of, written_place, offset_at, spot}
 use Rattle.cjc_narrow_proof.specs.Selection.Tables.{Arrives, Handles, handler_at, Catches}
 use Rattle.cjc_narrow_proof.proofs.SelectionLaws.KeptHandlers.{handlers_rule}
-use Rattle.cjc_narrow_proof.specs.Tables.Kinds.{is_one_of, kinds}
+use Rattle.cjc_narrow_proof.specs.Tables.Kinds.{is_one_of, kinds, point_at, point_of, point_where}
 use Rattle.cjc_narrow_proof.specs.Tables.Analysis.{Found, Analysis, reached_in, table_of, IsDecoded, IsSound, IsRead}
 use Rattle.cjc_narrow_proof.specs.Tables.Analysis.{CatchesAreTold}
 use Rattle.cjc_narrow_proof.proofs.TablesLaws.Placed.{size, size_fixed, reached_at, stands_at, next_at}
@@ -102,6 +107,25 @@ pub wider_length : {ks js : List Kind} → AllWider ks js → length ks ≡ leng
 wider_length none_wider = refl
 wider_length (one_wider w more) = ap suc (wider_length more)
 
+-- ---- points
+
+-- where no pair is open, what is known is what the tables say
+pub known_closed : (l : Named) (types : List (Option State)) (ranges : List (Option RangeState)) (at : ℕ) {o : Open}
+    (p : Point) → o ≡ closed → point_at l types ranges at ≡ Some p
+    → option_map (with_open o) (point_at l types ranges at) ≡ Some p
+known_closed l types ranges at p out is = ap (λ o. option_map (with_open o) (point_at l types ranges at)) out
+    ∙ ap (option_map (with_open closed)) is
+
+pub point_on_both : (l : Named) (types : Option (Option State)) (ranges : Option (Option RangeState)) (p : Point)
+    → point_where l types ranges ≡ Some p → OnBoth p.stack
+point_on_both l None ranges p e = cc
+point_on_both l (Some None) ranges p e = cc
+point_on_both l (Some (Some t)) None p e = cc
+point_on_both l (Some (Some t)) (Some None) p e = cc
+point_on_both l (Some (Some t)) (Some (Some x)) p e =
+    let same : point_of l t x ≡ p = cc in
+    subst (λ (q : Point). OnBoth q.stack) same (on_both l 0 (cells_of t.stack) (spans_of x.stack))
+
 -- ---- a method
 
 module _ (by : Linked) (l : Named) (w : List Class) (a : Analysis) (m : Method) (read : IsRead a m)
@@ -129,7 +153,7 @@ module _ (by : Linked) (l : Named) (w : List Class) (a : Analysis) (m : Method) 
 
   -- what is written stands there
   pub written_at : (at : ℕ) (i : JInsn) (t : State) → slice_get b.insns at ≡ Some i → HasRow f.types at t
-      → (j : ℕ) (insn : NInsn) → slice_get (written r (written_place tb m) i.op) j ≡ Some insn
+      → (j : ℕ) (insn : NInsn) → slice_get (written_for r (written_place tb m) i) j ≡ Some insn
       → slice_get (let code = code_of tb m in code.insns) (spot tb m at + j) ≡ Some insn
   written_at at i t there row j insn is =
       ap (λ code. slice_get code (spot tb m at + j)) read.code
@@ -137,13 +161,15 @@ module _ (by : Linked) (l : Named) (w : List Class) (a : Analysis) (m : Method) 
       ∙ stands_at r (place_in r (reached_in f)) b.insns f.types decoded.ascend at i t there row j insn is
 
   -- where both go on, the table has a point
-  pub arrives : (to next : ℕ) (ks ls : List Kind) → GoesTo to ks ls → next ≡ spot tb m to → Arrives tb m to next ks ls
-  arrives to next ks ls goes is = record {
+  pub arrives : (to next : ℕ) (ks ls : List Kind) → a.opened m to ≡ closed → GoesTo to ks ls → next ≡ spot tb m to
+      → Arrives tb m to next ks ls
+  arrives to next ks ls out goes is = record {
     point = goes.point;
-    is_reached = goes.is;
+    is_reached = known_closed l f.types f.ranges to goes.point out goes.is;
     place = is;
     stack = goes.stack;
     locals = goes.locals;
+    all_there = point_on_both l (slice_get f.types to) (slice_get f.ranges to) goes.point goes.is;
   }
 
   -- ---- behind an instruction
@@ -160,11 +186,11 @@ module _ (by : Linked) (l : Named) (w : List Class) (a : Analysis) (m : Method) 
 
   -- the place behind what is written is that of the next instruction
   pub next_spot : (at : ℕ) (i : JInsn) (t : State) → slice_get b.insns at ≡ Some i → HasRow f.types at t
-      → at + 1 < length b.insns → spot tb m at + length (written r (written_place tb m) i.op) ≡ spot tb m (at + 1)
+      → at + 1 < length b.insns → spot tb m at + length (written_for r (written_place tb m) i) ≡ spot tb m (at + 1)
   next_spot at i t there row low =
       let same : at + 1 ≡ suc at = omega arith in
       let n = get_inside b.insns (suc at) (omega (arith, low)) in
-      let sizes = size_fixed r (written_place tb m) (λ o. 0) i.op in
+      let sizes = size_fixed r (written_place tb m) (λ o. 0) i in
       let here = spot_is at i there in
       let behind = spot_is (suc at) n.0 n.1 in
       let next = next_at r b.insns f.types decoded.ascend at i n.0 t there n.1 row in
@@ -173,14 +199,14 @@ module _ (by : Linked) (l : Named) (w : List Class) (a : Analysis) (m : Method) 
   -- ---- jumps
 
   -- of an offset at which an instruction stands
-  at_place : (offset to : ℕ) → IsPlaceOf b.insns offset to → (ks ls : List Kind) → GoesTo to ks ls
-      → Arrives tb m (place m.insns offset) (written_place tb m offset) ks ls
-  at_place offset to stands ks ls known =
+  at_place : (offset to : ℕ) → IsPlaceOf b.insns offset to → (ks ls : List Kind) → a.opened m to ≡ closed
+      → GoesTo to ks ls → Arrives tb m (place m.insns offset) (written_place tb m offset) ks ls
+  at_place offset to stands ks ls out known =
       let named : place m.insns offset ≡ to = ap (λ insns. place insns offset) read.insns
       ∙ place_found b.insns offset to stands.found in
       let there = spot_is to stands.insn stands.is_insn in
       subst (λ k. Arrives tb m k (written_place tb m offset) ks ls) (sym named) (arrives to (written_place tb m offset)
-      ks ls known (ap (place_in r (reached_in f)) (sym stands.stands) ∙ sym there))
+      ks ls out known (ap (place_in r (reached_in f)) (sym stands.stands) ∙ sym there))
 
   -- an instruction that is a target stands in the list
   pub target_there : (at : ℕ) (i : JInsn) (offset : ℕ) → slice_get b.insns at ≡ Some i → Contains (targets i.op) offset
@@ -203,7 +229,7 @@ module _ (by : Linked) (l : Named) (w : List Class) (a : Analysis) (m : Method) 
       let known = goes to (Contains-append_right (next_place (goes_on i.op) (length b.insns) at)
       (filter_map (place_at b.insns) (targets i.op)) to (contains_kept (place_at b.insns) (targets i.op) offset to among
       stands.found)) in
-      at_place offset to stands ks ls known
+      at_place offset to stands ks ls (read.pairs.targets at i offset to there among stands) known
 
   -- ---- handlers
 
@@ -212,7 +238,7 @@ module _ (by : Linked) (l : Named) (w : List Class) (a : Analysis) (m : Method) 
     offset_here : offset_at m at ≡ i.at
     offset_here = ap (λ insns. offset_of (slice_get insns at)) read.insns ∙ ap offset_of there
 
-    is_written : 0 < length (written r (λ o. 0) i.op) → IsWrittenAt r (reached_in f) (offset_at m at) (spot tb m at)
+    is_written : 0 < length (written_for r (λ o. 0) i) → IsWrittenAt r (reached_in f) (offset_at m at) (spot tb m at)
     is_written some =
         let k = reached_at b.insns f.types at i t there row in
         let here = spot_is at i there in
@@ -262,12 +288,12 @@ module _ (by : Linked) (l : Named) (w : List Class) (a : Analysis) (m : Method) 
           arrives = subst (λ o. Arrives tb m (place m.insns o) (written_place tb m o)
               (Refers (is_one_of l (caught_type c.class ∷ [])) ∷ []) (kinds l t.locals x.locals)) h.leads
               (at_place c.target to stands (Refers (is_one_of l (caught_type c.class ∷ []))
-              ∷ []) (kinds l t.locals x.locals) known);
+              ∷ []) (kinds l t.locals x.locals) (read.pairs.handlers c to among stands) known);
           has_room = omega (arith, high, one, max);
           narrow_has_room = omega (arith, high, one, max, narrow_max);
         }
 
     -- Exceptions of each type that may be thrown are handled alike there, where something is written.
-    pub catches : 0 < length (written r (λ o. 0) i.op) → Catches by l tb m at (kinds l t.locals x.locals)
+    pub catches : 0 < length (written_for r (λ o. 0) i) → Catches by l tb m at (kinds l t.locals x.locals)
     catches some kind may = handlers_rule by l tb m at (kinds l t.locals x.locals) kind read.handlers (is_written some)
         (told.tells kind) (handled kind may)

@@ -32,7 +32,7 @@ use Rattle.cjc_narrow_proof.specs.Selection.Reached.{MayBegin}
 use Rattle.cjc_narrow_proof.specs.Selection.Tables.{Point}
 use Rattle.cjc_narrow_proof.specs.Selection.Runs.{Begins, IsFine}
 use Rattle.cjc_narrow_proof.proofs.SelectionLaws.Reached.{entry_rule, no_entry_rule}
-use Rattle.cjc_narrow_proof.specs.Tables.Kinds.{is_one_of}
+use Rattle.cjc_narrow_proof.specs.Tables.Kinds.{is_one_of, point_at}
 use Rattle.cjc_narrow_proof.specs.Tables.Analysis.{Analysis, table_of}
 use Rattle.cjc_narrow_proof.specs.Tables.Calls.{is_word_result, types_of, IsReachedBy}
 use Rattle.cjc_narrow_proof.specs.Tables.Package.{IsEntered, IsScripted, IsPackage}
@@ -40,7 +40,7 @@ use Rattle.cjc_narrow_proof.specs.Tables.Package as supported_by
 use Rattle.cjc_narrow_proof.proofs.TablesLaws.Passed.{IsPassed, number, reference, boolean_short, byte_short}
 use Rattle.cjc_narrow_proof.proofs.TablesLaws.Rows.{wider_itself}
 use Rattle.cjc_narrow_proof.proofs.TablesLaws.Called.{signature_is, each_sort, callee_begins, callee_narrowed}
-use Rattle.cjc_narrow_proof.proofs.TablesLaws.Points.{point_from, supported_rule}
+use Rattle.cjc_narrow_proof.proofs.TablesLaws.Points.{point_from, point_under, rule_at}
 
 -- ---- what a script gives
 
@@ -155,7 +155,7 @@ module _ (by : Linked) (l : Named) (w : List Class) (a : Analysis) (id : MemberI
 pub package_is_fine : (by : Linked) (l : Named) (w : List Class) (a : Analysis) → IsPackage by l w a
     → IsFine by l (table_of l a)
 package_is_fine by l w a is = record {
-  rules = λ m at p known i there. (let whole = is.methods m at p known in supported_rule by l w a m whole.read
+  rules = λ m at p known i there. (let whole = is.methods m at p known in rule_at by l w a m whole.read
       whole.decoded whole.sound whole.told is.types is.arrays whole.given is.throwables is.exceptions is.answered
       (is.supported m whole) at i p (subst (λ insns. slice_get insns at ≡ Some i) whole.read.insns there) known);
   is_there = λ m at p known. there m at p known;
@@ -168,8 +168,9 @@ package_is_fine by l w a is = record {
         × (slice_get m.insns at ≡ Some i)
     there m at p known =
         let whole = is.methods m at p known in
+        let q = point_under (let f = a.found m in point_at l f.types f.ranges at) (a.opened m at) p known in
         let h = point_from l (slice_get (let f = a.found m in f.types) at) (slice_get (let f = a.found m
-        in f.ranges) at) p known in
+        in f.ranges) at) q.0 q.1 in
         let lt = get_below (let f = a.found m in f.types) at (Some h.typed) h.has_types in
         let sized = whole.sound.types.sized in
         let i = get_inside (let f = a.found m in let b = f.body in b.insns) at (omega (arith, lt, sized)) in

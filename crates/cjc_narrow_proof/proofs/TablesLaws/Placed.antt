@@ -1,58 +1,24 @@
 -- Where narrow code has what is written for an instruction, and where it goes on behind it.
 use Rattle.std.proofs.Common.{◌≡◌, ℕ, zero, suc, ◌+◌, ◌<◌, ◌≤◌, refl, sym, ap, ◌∙◌, arith, Bool, true, false, List, []}
-use Rattle.std.proofs.Common.{◌∷◌, ◌++◌, length, pos}
-use Rattle.std.specs.Prelude.{Option, Some, None, filter, flat_map, nat_lt, slice_get, if◌then◌else◌}
+use Rattle.std.proofs.Common.{◌∷◌, ◌++◌, length}
+use Rattle.std.specs.Prelude.{Option, Some, None, flat_map, nat_lt, slice_get, if◌then◌else◌}
 use Rattle.std.proofs.lemmas.Bool.Decides.{nat_tests}
 use Rattle.cjc_code.specs.declared.insn.JInsn.{JInsn}
-use Rattle.cjc_code.specs.declared.insn.JOp.{JOp}
-use Rattle.cjc_code.specs.declared.insn.JOp.TheVariants as jop
-use Rattle.cjc_card_semantics.specs.Bytecode.Numbers.{is_word}
 use Rattle.cjc_ncode.specs.declared.narrow.NInsn.{NInsn}
-use Rattle.cjc_ncode.specs.Written.{Resolution, written, reached, place_in, table_cases, pair_cases}
-use Rattle.cjc_ncode.specs.Written.{low_of}
+use Rattle.cjc_ncode.specs.Written.{Resolution, written_for, reached, place_in}
 use Rattle.cjc_narrow_proof.specs.Tables.Analysis.{Ascend}
 use Rattle.cjc_bytes.proofs.Gets.{in_front, get_behind}
-use Rattle.cjc_narrow.proofs.RowsLaws.Keys.{switch_size, table_size, pair_size}
+use Rattle.cjc_narrow.proofs.WrittenLaws.Order.{same_length_as}
 
 -- ---- as much is written wherever targets lie
 
 module _ (r : Resolution) where
-  pub size_fixed : (f g : ℕ → ℕ) (op : JOp) → length (written r f op) ≡ length (written r g op)
-  size_fixed f g (jop.TableSwitch other low targets) = switch_size 0x73 (f other) (g other)
-      (low_of (table_cases f low targets)) (low_of (table_cases g low targets)) (table_cases f low targets)
-      (table_cases g low targets) (table_size f g low targets)
-  size_fixed f g (jop.LookupSwitch other cases) = switch_size 0x75 (f other) (g other) (pos 0) (pos 0)
-      (pair_cases f cases) (pair_cases g cases) (pair_size f g (filter (λ c. is_word c.value) cases))
-  size_fixed f g jop.Nop = refl
-  size_fixed f g jop.Null = refl
-  size_fixed f g (jop.Number z) = refl
-  size_fixed f g (jop.Load false l) = refl
-  size_fixed f g (jop.Load true l) = refl
-  size_fixed f g (jop.Store false l) = refl
-  size_fixed f g (jop.Store true l) = refl
-  size_fixed f g (jop.ArrayLoad op) = refl
-  size_fixed f g (jop.ArrayStore op) = refl
-  size_fixed f g (jop.Stack op) = refl
-  size_fixed f g (jop.Arith op) = refl
-  size_fixed f g (jop.Inc l by) = refl
-  size_fixed f g (jop.Narrow op) = refl
-  size_fixed f g (jop.If op target) = refl
-  size_fixed f g (jop.Goto target) = refl
-  size_fixed f g (jop.Return op) = refl
-  size_fixed f g (jop.Static put field) = refl
-  size_fixed f g (jop.Field put field) = refl
-  size_fixed f g (jop.Call op m) = refl
-  size_fixed f g (jop.New class) = refl
-  size_fixed f g (jop.NewArray kind) = refl
-  size_fixed f g (jop.ANewArray class) = refl
-  size_fixed f g jop.ArrayLength = refl
-  size_fixed f g jop.Throw = refl
-  size_fixed f g (jop.CheckCast class) = refl
-  size_fixed f g (jop.InstanceOf class) = refl
+  pub size_fixed : (f g : ℕ → ℕ) (i : JInsn) → length (written_for r f i) ≡ length (written_for r g i)
+  size_fixed f g i = same_length_as r r f g (r.role i.at) i.op
 
   -- how much is written for an instruction
   abbrev pub size : JInsn → ℕ
-  size i = length (written r (λ o. 0) i.op)
+  size i = length (written_for r (λ o. 0) i)
 
   abbrev part : JInsn → ℕ → ℕ
   part i o = if nat_lt i.at o then size i else 0
@@ -127,31 +93,31 @@ module _ {A : Type 0} where
     -- What is written for a reached instruction stands at the place of its offset.
     pub stands_at : (p : ℕ → ℕ) (insns : List JInsn) (rows : List (Option A)) → Ascend insns
         → (at : ℕ) (i : JInsn) (row : A) → slice_get insns at ≡ Some i → slice_get rows at ≡ Some (Some row)
-        → (j : ℕ) (insn : NInsn) → slice_get (written r p i.op) j ≡ Some insn
-        → slice_get (flat_map (λ i. written r p i.op) (reached insns rows)) (place_in r (reached insns rows) i.at + j)
+        → (j : ℕ) (insn : NInsn) → slice_get (written_for r p i) j ≡ Some insn
+        → slice_get (flat_map (written_for r p) (reached insns rows)) (place_in r (reached insns rows) i.at + j)
         ≡ Some insn
     stands_at p [] rows up at i row e f j insn is = cc
     stands_at p (x ∷ insns) [] up at i row e f j insn is = cc
     stands_at p (x ∷ insns) (None ∷ rows) up zero i row e f j insn is = cc
     stands_at p (x ∷ insns) (Some other ∷ rows) up zero i row e f j insn is =
         let same : x ≡ i = cc in
-        let here : slice_get (written r p x.op) j ≡ Some insn = ap (λ y. slice_get (written r p y.op) j) same ∙ is in
+        let here : slice_get (written_for r p x) j ≡ Some insn = ap (λ y. slice_get (written_for r p y) j) same ∙ is in
         let first = part_behind r x i.at (let e : i.at ≡ x.at = ap (λ y. y.at) (sym same) in omega (arith, e)) in
         let rest = none_of insns rows i.at (λ k y g. (let lt = ascend_first x insns up k y g in let e : i.at
         ≡ x.at = ap (λ y. y.at) (sym same) in omega (arith, lt, e))) in
         let none : place_in r (x ∷ reached insns rows) i.at + j ≡ j = omega arith in
-        ap (slice_get (written r p x.op ++ flat_map (λ i. written r p i.op) (reached insns rows))) none
-        ∙ in_front (written r p x.op) (flat_map (λ i. written r p i.op) (reached insns rows)) j insn here
+        ap (slice_get (written_for r p x ++ flat_map (written_for r p) (reached insns rows))) none
+        ∙ in_front (written_for r p x) (flat_map (written_for r p) (reached insns rows)) j insn here
     stands_at p (x ∷ insns) (None ∷ rows) up (suc at) i row e f j insn is =
         stands_at p insns rows (ascend_tail x insns up) at i row e f j insn is
     stands_at p (x ∷ insns) (Some other ∷ rows) up (suc at) i row e f j insn is =
         let rest = stands_at p insns rows (ascend_tail x insns up) at i row e f j insn is in
         let first = part_before r x i.at (ascend_first x insns up at i e) in
-        let long = size_fixed r p (λ o. 0) x.op in
-        let there : place_in r (x ∷ reached insns rows) i.at + j ≡ length (written r p x.op) +
+        let long = size_fixed r p (λ o. 0) x in
+        let there : place_in r (x ∷ reached insns rows) i.at + j ≡ length (written_for r p x) +
         (place_in r (reached insns rows) i.at + j) = omega arith in
-        ap (slice_get (written r p x.op ++ flat_map (λ i. written r p i.op) (reached insns rows))) there
-        ∙ get_behind (written r p x.op) (flat_map (λ i. written r p i.op) (reached insns rows))
+        ap (slice_get (written_for r p x ++ flat_map (written_for r p) (reached insns rows))) there
+        ∙ get_behind (written_for r p x) (flat_map (written_for r p) (reached insns rows))
         (place_in r (reached insns rows) i.at + j) ∙ rest
 
     -- What is written behind it begins at the place of the next instruction's offset, whether that is reached or not.

@@ -37,8 +37,7 @@ use Rattle.cjc_intervals.specs.Values.{exactly}
 use Rattle.cjc_intervals.specs.Steps.{operand, stored}
 use Rattle.cjc_intervals.specs.Bounds.{Bounds, divides, a_comparison, a_division, a_shift, a_table, a_lookup}
 use Rattle.cjc_intervals.proofs.Steps.{own_operand}
-use Rattle.cjc_narrow_proof.specs.Selection.Relation.{Kind, Range, Refers, OnBoth, no_cell, a_range, a_reference}
-use Rattle.cjc_narrow_proof.specs.Selection.Relation.{an_unused}
+use Rattle.cjc_narrow_proof.specs.Selection.Relation.{Kind, Range, Refers}
 use Rattle.cjc_narrow_proof.specs.Selection.Rows.{RowAgrees, RowOnLocals, IsNotWritten}
 use Rattle.cjc_narrow_proof.specs.Selection.Jumps.{JumpAgrees}
 use Rattle.cjc_narrow_proof.specs.Selection.Switches.{TwoAgree}
@@ -56,14 +55,15 @@ use Rattle.cjc_narrow_proof.proofs.SelectionLaws.Branches.{goto, ifeq, ifne, ifl
 use Rattle.cjc_narrow_proof.proofs.SelectionLaws.Branches.{if_icmpne, if_icmplt, if_icmpge, if_icmpgt, if_icmple}
 use Rattle.cjc_narrow_proof.proofs.SelectionLaws.Branches.{if_acmpeq, if_acmpne, ifnull, ifnonnull}
 use Rattle.cjc_narrow_proof.specs.Tables.Kinds.{is_one_of, kind_of_cell, kinds_from, kinds, point_of}
-use Rattle.cjc_narrow_proof.specs.Tables.Analysis.{Analysis, IsDecoded, IsSound, IsRead, CatchesAreTold}
+use Rattle.cjc_narrow_proof.specs.Tables.Analysis.{Analysis, IsAlone, IsDecoded, IsSound, IsRead}
+use Rattle.cjc_narrow_proof.specs.Tables.Analysis.{CatchesAreTold}
 use Rattle.cjc_narrow_proof.specs.Tables.Supported.{IsPlain}
 use Rattle.cjc_narrow_proof.specs.Tables.Supported as plain
 use Rattle.cjc_narrow_proof.proofs.TablesLaws.Typed.{IsTypedRow}
 use Rattle.cjc_narrow_proof.proofs.TablesLaws.Arrivals.{is_typed, own_numbers}
 use Rattle.cjc_narrow_proof.proofs.TablesLaws.Bounded.{lies}
 use Rattle.cjc_narrow_proof.proofs.TablesLaws.Methods.{tb}
-use Rattle.cjc_narrow_proof.proofs.TablesLaws.Told.{kinds_length}
+use Rattle.cjc_narrow_proof.proofs.TablesLaws.Told.{kinds_length, on_both}
 use Rattle.cjc_narrow_proof.proofs.TablesLaws.Rows.{row_by, on_locals_by, not_written_by, jump_by, jump_only_by, two_by}
 use Rattle.cjc_bytes.proofs.Bools.{not_false}
 use Rattle.cjc_bytes.proofs.Gets.{contained}
@@ -103,12 +103,6 @@ four_taken (c ∷ []) h = absurd (omega (arith, h))
 four_taken (c ∷ d ∷ []) h = absurd (omega (arith, h))
 four_taken (c ∷ d ∷ e ∷ []) h = absurd (omega (arith, h))
 four_taken (c ∷ d ∷ e ∷ f ∷ cs) h = refl
-
-on_both : (l : Named) (a : ℕ) (cs : List Cell) (s : List Span) → OnBoth (kinds_from l a cs s)
-on_both l a [] s = no_cell
-on_both l a (Number ∷ cs) s = a_range (on_both l (suc a) cs s)
-on_both l a (Refs names ∷ cs) s = a_reference (on_both l (suc a) cs s)
-on_both l a (Unusable ∷ cs) s = an_unused (on_both l (suc a) cs s)
 
 -- ---- locals
 
@@ -196,7 +190,7 @@ case_among other (c ∷ cases) z = go (is_same c.value z) (contains_cons other (
 module _ (by : Linked) (l : Named) (w : List Class) (a : Analysis) (m : Method) (read : IsRead a m)
     (decoded : IsDecoded (let f = a.found m in f.body)) (sound : IsSound w (let r = a.resolution m
     in r.constant) (a.found m)) (told : CatchesAreTold by l a m) (at offset : ℕ) (cells local_cells : List Cell)
-    (x : RangeState) (ranged : HasRow (let f = a.found m in f.ranges) at x) where
+    (x : RangeState) (ranged : IsAlone a m at x) where
   abbrev pub t : State
   t = record { stack = stacks.Cells cells; locals = local_cells }
 
@@ -227,7 +221,7 @@ module _ (by : Linked) (l : Named) (w : List Class) (a : Analysis) (m : Method) 
     own op there = own_numbers l w (let r = a.resolution m in r.constant) (a.found m) sound at (record {
       at = offset;
       op = op;
-    }) t x there row ranged
+    }) t x there row ranged.row
 
     pub word : (op : JOp) → Stands op → (k : ℕ) → IsWord (operand numbers k)
     word op there k = own_operand numbers k (own op there)
@@ -235,7 +229,7 @@ module _ (by : Linked) (l : Named) (w : List Class) (a : Analysis) (m : Method) 
     pub within : (op : JOp) → Stands op → (rule k : ℕ) (s : Span) → Bounds (let f = a.found m in f.body) op cells rule k
         s → Within (operand numbers k) s
     within op there rule k s bounds = lies (a.found m) sound.passes at (record { at = offset; op = op }) t x there row
-        ranged rule k s bounds
+        ranged.row rule k s bounds
 
     pub number_at : (op : JOp) → Stands op → (k : ℕ) → k < takes op
         → ((c : Cell) → accepts w (let f = a.found m in f.body) op k c ≡ is_number c) → typed.operand cells k ≡ Number
@@ -332,7 +326,7 @@ module _ (by : Linked) (l : Named) (w : List Class) (a : Analysis) (m : Method) 
     number_low : (op : JOp) (k : ℕ) → Stands op → local_of op ≡ Some k → 0 + k < length x.locals
     number_low op k there is =
         let low = decoded.locals at (record { at = offset; op = op }) k there is in
-        let sized = (sound.ranges.own at x ranged).1.sized in
+        let sized = (sound.ranges.own at x ranged.row).1.sized in
         omega (arith, low, sized)
 
     kinds_low : (op : JOp) (k : ℕ) → Stands op → local_of op ≡ Some k → k < length locals

@@ -1,5 +1,6 @@
 -- At a point of the table both tables have a row.
-use Rattle.std.proofs.Common.{◌≡◌, ℕ, refl, sym, subst, List, slice_get, Option, Some, None}
+use Rattle.std.proofs.Common.{◌≡◌, ℕ, suc, ◌+◌, refl, sym, ap, subst, ◌∙◌, arith, List, slice_get, Option, Some, None}
+use Rattle.std.specs.Prelude.{option_map}
 use Rattle.cjc_code.specs.declared.insn.JInsn.{JInsn}
 use Rattle.cjc_code.specs.declared.insn.JOp.{JOp}
 use Rattle.cjc_code.specs.declared.insn.JOp.TheVariants as jop
@@ -14,8 +15,12 @@ use Rattle.cjc_jvm_semantics.specs.Linked.{Method, Linked}
 use Rattle.cjc_intervals.specs.Frames.{RangeState}
 use Rattle.cjc_narrow_proof.specs.Selection.Tables.{Point}
 use Rattle.cjc_narrow_proof.specs.Selection.Runs.{Rule}
-use Rattle.cjc_narrow_proof.specs.Tables.Kinds.{point_of, point_where}
-use Rattle.cjc_narrow_proof.specs.Tables.Analysis.{Analysis, IsDecoded, IsSound, IsRead, CatchesAreTold, TypesAreTold}
+use Rattle.cjc_narrow_proof.specs.Tables.Kinds.{point_at, point_of, point_where}
+use Rattle.cjc_narrow.specs.Pairs.Open.{Open, closed}
+use Rattle.cjc_narrow_proof.specs.Tables.Pairs.{IsInPair, StandsAlone, with_open}
+use Rattle.cjc_narrow_proof.proofs.TablesLaws.Pairs.{pair_rule}
+use Rattle.cjc_narrow_proof.specs.Tables.Analysis.{Analysis, IsAlone, IsDecoded, IsSound, IsRead, CatchesAreTold}
+use Rattle.cjc_narrow_proof.specs.Tables.Analysis.{TypesAreTold}
 use Rattle.cjc_narrow_proof.specs.Tables.Analysis.{IsGiven, ThrowablesMay, table_of}
 use Rattle.cjc_narrow_proof.specs.Tables.Supported.{IsPlain, IsReturn, ireturn, areturn, returns}
 use Rattle.cjc_narrow_proof.specs.Tables.Names.{IsResolved}
@@ -42,6 +47,18 @@ pub record IsPointOf (l : Named) (types : Option (Option State)) (ranges : Optio
   pub has_ranges : ranges ≡ Some (Some ranged)
   pub is : p ≡ point_of l typed ranged
 
+-- where no pair is open
+said_closed : (known : Option Point) (p : Point) {o : Open} → o ≡ closed → option_map (with_open o) known ≡ Some p
+    → known ≡ Some p
+said_closed None p out e = absurd cc
+said_closed (Some q) p out e = ap (λ o. Some (with_open o q)) (sym out) ∙ e
+
+-- whichever is
+pub point_under : (known : Option Point) (o : Open) (p : Point) → option_map (with_open o) known ≡ Some p
+    → (q : Point) × (known ≡ Some q) × (p ≡ with_open o q)
+point_under None o p e = cc
+point_under (Some q) o p e = (q, refl, (let same : with_open o q ≡ p = cc in sym same))
+
 pub point_from : (l : Named) (types : Option (Option State)) (ranges : Option (Option RangeState)) (p : Point)
     → point_where l types ranges ≡ Some p → IsPointOf l types ranges p
 point_from l None ranges p e = cc
@@ -59,15 +76,17 @@ point_from l (Some (Some t)) (Some (Some x)) p e = record {
 module _ (by : Linked) (l : Named) (w : List Class) (a : Analysis) (m : Method) (read : IsRead a m)
     (decoded : IsDecoded (let f = a.found m in f.body)) (sound : IsSound w (let r = a.resolution m
     in r.constant) (a.found m)) (told : CatchesAreTold by l a m) where
-  -- what holds at each pair of rows holds at a point
-  at_point : (at : ℕ) (i : JInsn) (p : Point) → (let tb = table_of l a in tb.point m at ≡ Some p)
-      → ((cells local_cells : List Cell) (x : RangeState) → (ranged : HasRow (let f = a.found m in f.ranges) at x)
+  -- what holds at each pair of rows holds at a point where no pair is open
+  at_point : (at : ℕ) (i : JInsn) (p : Point) → StandsAlone (a.resolution m)
+      (let f = a.found m in let b = f.body in b.insns) (a.opened m) at
+      → (let tb = table_of l a in tb.point m at ≡ Some p)
+      → ((cells local_cells : List Cell) (x : RangeState) → (ranged : IsAlone a m at x)
       → HasRow (let f = a.found m in f.types) at (record { stack = stacks.Cells cells; locals = local_cells })
       → Rule by l (table_of l a) m at (point_of l (record { stack = stacks.Cells cells; locals = local_cells }) x)
       i) → Rule by l (table_of l a) m at p i
-  at_point at i p known go =
+  at_point at i p alone known go =
       let h = point_from l (slice_get (let f = a.found m in f.types) at) (slice_get (let f = a.found m in f.ranges) at)
-      p known in
+      p (said_closed (let f = a.found m in point_at l f.types f.ranges at) p alone.before known) in
       let t = h.typed in
       let cells = is_cells l w (let r = a.resolution m in r.constant) (a.found m) sound at t h.has_types in
       let whole : HasRow (let f = a.found m in f.types) at (record {
@@ -77,62 +96,81 @@ module _ (by : Linked) (l : Named) (w : List Class) (a : Analysis) (m : Method) 
         stack = s;
         locals = t.locals;
       })) cells h.has_types in
-      subst (λ q. Rule by l (table_of l a) m at q i) (sym h.is) (go (cells_of t.stack) t.locals h.ranged h.has_ranges
-      whole)
+      subst (λ q. Rule by l (table_of l a) m at q i) (sym h.is) (go (cells_of t.stack) t.locals h.ranged
+      (record { row = h.has_ranges; stands = alone }) whole)
 
-  pub plain_rule : (at : ℕ) (i : JInsn) (p : Point) → slice_get (let f = a.found m in let b = f.body in b.insns) at
+  pub plain_rule : (at : ℕ) (i : JInsn) (p : Point)
+      → StandsAlone (a.resolution m) (let f = a.found m in let b = f.body in b.insns) (a.opened m) at
+      → slice_get (let f = a.found m in let b = f.body in b.insns) at
       ≡ Some i → (let tb = table_of l a in tb.point m at ≡ Some p) → IsPlain i.op → Rule by l (table_of l a) m at p i
-  plain_rule at i p there known is =
-      at_point at i p known (λ cells local_cells x ranged row. keeps by l w a m read decoded sound told at i.at cells
+  plain_rule at i p alone there known is =
+      at_point at i p alone known (λ cells local_cells x ranged row. keeps by l w a m read decoded sound told at i.at
+      cells
       local_cells x ranged row i.op is there)
 
-  pub resolved_rule : TypesAreTold w l → (at : ℕ) (i : JInsn) (p : Point) → slice_get (let f = a.found m
+  pub resolved_rule : TypesAreTold w l → (at : ℕ) (i : JInsn) (p : Point)
+      → StandsAlone (a.resolution m) (let f = a.found m in let b = f.body in b.insns) (a.opened m) at
+      → slice_get (let f = a.found m
       in let b = f.body in b.insns) at ≡ Some i → (let tb = table_of l a in tb.point m at ≡ Some p)
       → ((t : State) → HasRow (let f = a.found m in f.types) at t
       → IsResolved by l (a.resolution m) m (cells_of t.stack) i.op) → Rule by l (table_of l a) m at p i
-  resolved_rule types at i p there known is =
-      at_point at i p known (λ cells local_cells x ranged row. resolved by l w a m read decoded sound told types at i.at
+  resolved_rule types at i p alone there known is =
+      at_point at i p alone known (λ cells local_cells x ranged row. resolved by l w a m read decoded sound told
+      types at i.at
       cells local_cells x ranged row i.op (is (record { stack = stacks.Cells cells; locals = local_cells }) row)
       there)
 
   -- the opcode is one of the three returns
-  pub return_rule : TypesAreTold w l → IsGiven l a m → (at offset opcode : ℕ) (p : Point) → slice_get (let f = a.found m
+  pub return_rule : TypesAreTold w l → IsGiven l a m → (at offset opcode : ℕ) (p : Point)
+      → StandsAlone (a.resolution m) (let f = a.found m in let b = f.body in b.insns) (a.opened m) at
+      → slice_get (let f = a.found m
       in let b = f.body in b.insns) at ≡ Some (record { at = offset; op = jop.Return opcode })
       → (let tb = table_of l a in tb.point m at ≡ Some p) → IsReturn opcode
       → Rule by l (table_of l a) m at p (record { at = offset; op = jop.Return opcode })
-  return_rule types given at offset _ p there known ireturn =
-      at_point at _ p known (λ cells local_cells x ranged row. number_return by l w a m read decoded sound told types
+  return_rule types given at offset _ p alone there known ireturn =
+      at_point at _ p alone known (λ cells local_cells x ranged row. number_return by l w a m read decoded sound told
+      types
       given at offset cells local_cells x ranged row there)
-  return_rule types given at offset _ p there known areturn =
-      at_point at _ p known (λ cells local_cells x ranged row. reference_return by l w a m read decoded sound told types
+  return_rule types given at offset _ p alone there known areturn =
+      at_point at _ p alone known (λ cells local_cells x ranged row. reference_return by l w a m read decoded sound
+      told types
       given at offset cells local_cells x ranged row there)
-  return_rule types given at offset _ p there known returns =
-      at_point at _ p known (λ cells local_cells x ranged row. plain_return by l w a m read decoded sound told types
+  return_rule types given at offset _ p alone there known returns =
+      at_point at _ p alone known (λ cells local_cells x ranged row. plain_return by l w a m read decoded sound told
+      types
       given at offset cells local_cells x ranged row there)
 
-  pub throw_rule : TypesAreTold w l → ThrowablesMay l a → (at offset : ℕ) (p : Point) → slice_get (let f = a.found m
+  pub throw_rule : TypesAreTold w l → ThrowablesMay l a → (at offset : ℕ) (p : Point)
+      → StandsAlone (a.resolution m) (let f = a.found m in let b = f.body in b.insns) (a.opened m) at
+      → slice_get (let f = a.found m
       in let b = f.body in b.insns) at ≡ Some (record { at = offset; op = jop.Throw })
       → (let tb = table_of l a in tb.point m at ≡ Some p) → Rule by l (table_of l a) m at p (record {
         at = offset;
         op = jop.Throw;
       })
-  throw_rule types may at offset p there known =
-      at_point at _ p known (λ cells local_cells x ranged row. throws_on by l w a m read decoded sound told types may at
+  throw_rule types may at offset p alone there known =
+      at_point at _ p alone known (λ cells local_cells x ranged row. throws_on by l w a m read decoded sound told
+      types may at
       offset cells local_cells x ranged row there)
 
   pub array_rule : TypesAreTold w l → ClassesAreNamed w l → (at : ℕ) (i : JInsn) (p : Point)
+      → StandsAlone (a.resolution m) (let f = a.found m in let b = f.body in b.insns) (a.opened m) at
       → slice_get (let f = a.found m in let b = f.body in b.insns) at ≡ Some i
       → (let tb = table_of l a in tb.point m at ≡ Some p) → IsOnArray i.op → Rule by l (table_of l a) m at p i
-  array_rule types named at i p there known is =
-      at_point at i p known (λ cells local_cells x ranged row. on_array by l w a m read decoded sound told types named
+  array_rule types named at i p alone there known is =
+      at_point at i p alone known (λ cells local_cells x ranged row. on_array by l w a m read decoded sound told
+      types named
       at i.at cells local_cells x ranged row i.op is there)
 
   pub call_rule : TypesAreTold w l → MayRaise l (table_of l a) → IsAnswered by l (table_of l a)
-      → (at : ℕ) (i : JInsn) (p : Point) → slice_get (let f = a.found m in let b = f.body in b.insns) at ≡ Some i
+      → (at : ℕ) (i : JInsn) (p : Point) → StandsAlone (a.resolution m)
+      (let f = a.found m in let b = f.body in b.insns) (a.opened m) at
+      → slice_get (let f = a.found m in let b = f.body in b.insns) at ≡ Some i
       → (let tb = table_of l a in tb.point m at ≡ Some p) → ((t : State) → HasRow (let f = a.found m in f.types) at t
       → IsCalled by l w a m (cells_of t.stack) i.op) → Rule by l (table_of l a) m at p i
-  call_rule types may_raise answered at i p there known is =
-      at_point at i p known (λ cells local_cells x ranged row. called_rule by l w a m read decoded sound told types
+  call_rule types may_raise answered at i p alone there known is =
+      at_point at i p alone known (λ cells local_cells x ranged row. called_rule by l w a m read decoded sound told
+      types
       may_raise answered at i.at cells local_cells x ranged row i.op (is (record {
         stack = stacks.Cells cells;
         locals = local_cells;
@@ -141,7 +179,7 @@ module _ (by : Linked) (l : Named) (w : List Class) (a : Analysis) (m : Method) 
   -- each instruction that is supported
   supported_here : TypesAreTold w l → ClassesAreNamed w l → IsGiven l a m → ThrowablesMay l a
       → MayRaise l (table_of l a) → IsAnswered by l (table_of l a) → (at offset : ℕ) (cells local_cells : List Cell)
-      (x : RangeState) (ranged : HasRow (let f = a.found m in f.ranges) at x)
+      (x : RangeState) (ranged : IsAlone a m at x)
       → HasRow (let f = a.found m in f.types) at (record { stack = stacks.Cells cells; locals = local_cells })
       → (op : JOp) → IsSupported by l w a m cells op → slice_get (let f = a.found m in let b = f.body in b.insns) at
       ≡ Some (record { at = offset; op = op })
@@ -171,13 +209,26 @@ module _ (by : Linked) (l : Named) (w : List Class) (a : Analysis) (m : Method) 
       (supported_by.calls is) there = called_rule by l w a m read decoded sound told types may_raise answered at offset
       cells local_cells x ranged row op is there
 
-  pub supported_rule : TypesAreTold w l → ClassesAreNamed w l → IsGiven l a m → ThrowablesMay l a
+  -- in a pair or alone
+  pub rule_at : TypesAreTold w l → ClassesAreNamed w l → IsGiven l a m → ThrowablesMay l a
       → MayRaise l (table_of l a) → IsAnswered by l (table_of l a) → AreSupported by l w a m
       → (at : ℕ) (i : JInsn) (p : Point) → slice_get (let f = a.found m in let b = f.body in b.insns) at ≡ Some i
       → (let tb = table_of l a in tb.point m at ≡ Some p) → Rule by l (table_of l a) m at p i
-  supported_rule types named given may may_raise answered supported at i p there known =
-      at_point at i p known (λ cells local_cells x ranged row. supported_here types named given may may_raise answered
-      at i.at cells local_cells x ranged row i.op (supported at i (record {
-        stack = stacks.Cells cells;
-        locals = local_cells;
-      }) there row) there)
+  rule_at types named given may may_raise answered supported at i p there known =
+      let f = a.found m in
+      let q = point_under (point_at l f.types f.ranges at) (a.opened m at) p known in
+      let h = point_from l (slice_get f.types at) (slice_get f.ranges at) q.0 q.1 in
+      let t = h.typed in
+      let cells = is_cells l w (let r = a.resolution m in r.constant) f sound at t h.has_types in
+      let whole : HasRow f.types at (record { stack = stacks.Cells (cells_of t.stack); locals = t.locals }) =
+      subst (λ s. HasRow f.types at (record { stack = s; locals = t.locals })) cells h.has_types in
+      let is = supported at i (record { stack = stacks.Cells (cells_of t.stack); locals = t.locals }) there whole in
+      let one : suc at ≡ at + 1 = omega arith in
+      let pair = subst (λ n. IsInPair (a.resolution m) (a.opened m at) i.op (let r = a.resolution m in r.role i.at)
+      (a.opened m n)) one (read.pairs.each at i t there h.has_types) in
+      subst (λ p. Rule by l (table_of l a) m at p i) (sym (q.2 ∙ ap (with_open (a.opened m at)) h.is))
+      (pair_rule by l w a m read decoded sound told at i.at
+      (cells_of t.stack) t.locals h.ranged whole h.has_ranges types
+      (a.opened m at) (a.opened m (at + 1)) (let r = a.resolution m in r.role i.at) i.op there refl refl refl pair is
+      (λ alone. supported_here types named given may may_raise answered at i.at (cells_of t.stack) t.locals h.ranged
+      (record { row = h.has_ranges; stands = alone }) whole i.op is there))

@@ -8,7 +8,6 @@ use Rattle.cjc_bytes.specs.declared.fault.MemberId.{MemberId}
 use Rattle.cjc_range.specs.Span.{Span, Holds, Within, short_range, full}
 use Rattle.cjc_code.specs.declared.insn.JOp.{JOp}
 use Rattle.cjc_code.specs.declared.insn.JOp.TheVariants as jop
-use Rattle.cjc_types.specs.Fixpoint.Tables.{HasRow}
 use Rattle.cjc_script.specs.Sorts.{Shape, OfClass, OfNumbers, OfReferences, Element, Booleans, Bytes, Shorts, Ints}
 use Rattle.cjc_script.specs.Sorts.{Sort, array_name, shape_name, shape_named, sort_of, sort_or_none, field_sort}
 use Rattle.cjc_world.specs.Classes.{Class}
@@ -37,7 +36,8 @@ use Rattle.cjc_narrow_proof.proofs.SelectionLaws.Pushes.{constant_field}
 use Rattle.cjc_narrow_proof.proofs.SelectionLaws.News.{new as new_object, booleans, bytes, shorts, anewarray}
 use Rattle.cjc_narrow_proof.proofs.SelectionLaws.Casts.{checkcast, instanceof}
 use Rattle.cjc_narrow_proof.specs.Tables.Kinds.{is_one_of, kind_of_cell, kinds}
-use Rattle.cjc_narrow_proof.specs.Tables.Analysis.{Analysis, IsDecoded, IsSound, IsRead, CatchesAreTold, TypesAreTold}
+use Rattle.cjc_narrow_proof.specs.Tables.Analysis.{Analysis, IsAlone, IsDecoded, IsSound, IsRead, CatchesAreTold}
+use Rattle.cjc_narrow_proof.specs.Tables.Analysis.{TypesAreTold}
 use Rattle.cjc_narrow_proof.specs.Tables.Names.{IsDesc, IsResolved}
 use Rattle.cjc_narrow_proof.specs.Tables.Names as named_here
 use Rattle.cjc_narrow_proof.proofs.TablesLaws.Values.{given_wider, may_put}
@@ -60,7 +60,7 @@ same_long p = go (is_void p.kind)
     go true = refl
     go false = refl
 
-sort_is : (desc : List ℕ) → IsDesc desc → field_sort desc ≡ sort_of (parts desc).result
+pub sort_is : (desc : List ℕ) → IsDesc desc → field_sort desc ≡ sort_of (parts desc).result
 sort_is desc e = ap sort_or_none e
 
 test_written : (op : ℕ) (kind : Shape (List ℕ)) → (insn : NInsn) × (type_test op (Some kind) ≡ insn ∷ [])
@@ -90,7 +90,7 @@ one_named l name shape named kind e = ap (λ o. is_of_some l kind o || false) na
 module _ (by : Linked) (l : Named) (w : List Class) (a : Analysis) (m : Method) (read : IsRead a m)
     (decoded : IsDecoded (let f = a.found m in f.body)) (sound : IsSound w (let r = a.resolution m
     in r.constant) (a.found m)) (told : CatchesAreTold by l a m) (types : TypesAreTold w l) (at offset : ℕ)
-    (cells local_cells : List Cell) (x : RangeState) (ranged : HasRow (let f = a.found m in f.ranges) at x)
+    (cells local_cells : List Cell) (x : RangeState) (ranged : IsAlone a m at x)
     (row : IsRow by l w a m read decoded sound told at offset cells local_cells x ranged) where
   abbrev KeepsHere : JOp → Type 0
   KeepsHere op = Keeps by l w a m read decoded sound told at offset cells local_cells x ranged op

@@ -7,7 +7,6 @@ use Rattle.cjc_bytes.proofs.Bools.{not_false}
 use Rattle.cjc_bytes.specs.declared.descriptor.Kind.TheVariants as kinds
 use Rattle.cjc_range.specs.Span.{Span, Within}
 use Rattle.cjc_code.specs.declared.insn.JOp.TheVariants as jop
-use Rattle.cjc_types.specs.Fixpoint.Tables.{HasRow}
 use Rattle.cjc_world.specs.Classes.{Class}
 use Rattle.cjc_types.specs.declared.cell.Cell.{Cell}
 use Rattle.cjc_types.specs.declared.cell.Cell.TheVariants.{Number, Refs, Unusable}
@@ -28,7 +27,8 @@ use Rattle.cjc_narrow_proof.specs.Selection.Runs.{Rule}
 use Rattle.cjc_narrow_proof.proofs.SelectionLaws.Branches.{ireturn, areturn, returns as void_return}
 use Rattle.cjc_narrow_proof.proofs.SelectionLaws.KeptRows.{return_rule}
 use Rattle.cjc_narrow_proof.specs.Tables.Kinds.{is_one_of, kind_of_cell, kinds, kinds_from, point_of}
-use Rattle.cjc_narrow_proof.specs.Tables.Analysis.{Analysis, IsDecoded, IsSound, IsRead, CatchesAreTold, TypesAreTold}
+use Rattle.cjc_narrow_proof.specs.Tables.Analysis.{Analysis, IsAlone, IsDecoded, IsSound, IsRead, CatchesAreTold}
+use Rattle.cjc_narrow_proof.specs.Tables.Analysis.{TypesAreTold}
 use Rattle.cjc_narrow_proof.specs.Tables.Analysis.{IsGiven}
 use Rattle.cjc_narrow_proof.proofs.TablesLaws.Values.{result_wider}
 use Rattle.cjc_narrow_proof.proofs.TablesLaws.Methods.{tb}
@@ -71,8 +71,8 @@ no_result l p kinds.Void e = refl
 module _ (by : Linked) (l : Named) (w : List Class) (a : Analysis) (m : Method) (read : IsRead a m)
     (decoded : IsDecoded (let f = a.found m in f.body)) (sound : IsSound w (let r = a.resolution m
     in r.constant) (a.found m)) (told : CatchesAreTold by l a m) (types : TypesAreTold w l) (given : IsGiven l a m)
-    (at offset : ℕ) (cells local_cells : List Cell) (x : RangeState) (ranged : HasRow (let f = a.found m
-    in f.ranges) at x) (row : IsRow by l w a m read decoded sound told at offset cells local_cells x ranged) where
+    (at offset : ℕ) (cells local_cells : List Cell) (x : RangeState) (ranged : IsAlone a m at x)
+    (row : IsRow by l w a m read decoded sound told at offset cells local_cells x ranged) where
   abbrev result : Part
   result = let f = a.found m in let b = f.body in (parts b.desc).result
 

@@ -19,7 +19,7 @@ use Rattle.cjc_intervals.specs.Frames.{RangeState, spans_of}
 use Rattle.cjc_intervals.specs.Steps.{gives, stack_behind, locals_after}
 use Rattle.cjc_ncode.specs.declared.narrow.NInsn.{NInsn}
 use Rattle.cjc_script.specs.declared.value.Value.{Value}
-use Rattle.cjc_ncode.specs.Written.{written}
+use Rattle.cjc_ncode.specs.Written.{written, written_as, written_for}
 use Rattle.cjc_ncode.specs.ByLabel.{Named}
 use Rattle.cjc_jvm_semantics.specs.Linked.{Method, Linked}
 use Rattle.cjc_range.proofs.Order.{within_refl, within_trans}
@@ -35,7 +35,8 @@ use Rattle.cjc_narrow_proof.specs.Selection.Runs.{Rule}
 use Rattle.cjc_narrow_proof.proofs.SelectionLaws.KeptRows.{row_rule, on_locals_rule, jump_rule, not_written_rule}
 use Rattle.cjc_narrow_proof.proofs.SelectionLaws.KeptRows.{two_rule}
 use Rattle.cjc_narrow_proof.specs.Tables.Kinds.{kinds, kinds_from, point_of}
-use Rattle.cjc_narrow_proof.specs.Tables.Analysis.{Analysis, IsDecoded, IsSound, IsRead, CatchesAreTold}
+use Rattle.cjc_narrow_proof.specs.Tables.Analysis.{Analysis, IsAlone, IsDecoded, IsSound, IsRead}
+use Rattle.cjc_narrow_proof.specs.Tables.Analysis.{CatchesAreTold}
 use Rattle.cjc_narrow_proof.proofs.TablesLaws.Calm.{never_tosses}
 use Rattle.cjc_narrow_proof.proofs.TablesLaws.Told.{kinds_length, before_is, behind_is}
 use Rattle.cjc_narrow_proof.proofs.TablesLaws.Arrivals.{is_typed, leads_on}
@@ -78,7 +79,7 @@ module _ (by : Linked) (l : Named) (w : List Class) (a : Analysis) (m : Method) 
     in r.constant) (a.found m)) (told : CatchesAreTold by l a m)
     (at offset : ℕ) (op : JOp) (t : State) (x : RangeState) (there : slice_get (let f = a.found m in let b = f.body
     in b.insns) at ≡ Some (record { at = offset; op = op })) (row : HasRow (let f = a.found m in f.types) at t)
-    (ranged : HasRow (let f = a.found m in f.ranges) at x) where
+    (ranged : IsAlone a m at x) where
   abbrev pub insn_here : JInsn
   insn_here = record { at = offset; op = op }
 
@@ -148,7 +149,12 @@ module _ (by : Linked) (l : Named) (w : List Class) (a : Analysis) (m : Method) 
   pub on : length given ≡ length new → (to : ℕ) → Contains (successors (let f = a.found m in let b = f.body
       in b.insns) at op) to → GoesTo by l w a m read decoded sound to (after ++ rest) locals_behind
   on same to is = subst (λ ks. GoesTo by l w a m read decoded sound to ks locals_behind) (stack_after same)
-      (leads_on l w (let r = a.resolution m in r.constant) (a.found m) sound at insn_here t x there row ranged to is)
+      (leads_on l w (let r = a.resolution m in r.constant)
+      (a.found m) sound at insn_here t x there row ranged.row to is)
+
+  -- its role changes nothing of what is written
+  pub as_alone : (p : ℕ → ℕ) → written_for (a.resolution m) p insn_here ≡ written (a.resolution m) p op
+  as_alone p = ap (λ role. written_as role (a.resolution m) p op) (ranged.stands.alone insn_here there)
 
   pub first_there : (insn : NInsn) (more : List NInsn)
       → written (a.resolution m) (written_place (tb by l w a m read decoded sound) m) op ≡ insn ∷ more
@@ -158,19 +164,21 @@ module _ (by : Linked) (l : Named) (w : List Class) (a : Analysis) (m : Method) 
       let here : spot (tb by l w a m read decoded sound) m at + 0 ≡ spot (tb by l w a m read decoded sound) m at =
       omega arith in
       subst (λ k. slice_get (let n = a.narrowed m in let code = n.code in code.insns) k ≡ Some insn) here
-      (written_at by l w a m read decoded sound at insn_here t there row 0 insn (ap (λ is. slice_get is 0) is))
+      (written_at by l w a m read decoded sound at insn_here t there row 0 insn
+      (ap (λ is. slice_get is 0) (as_alone (written_place (tb by l w a m read decoded sound) m) ∙ is)))
 
   second_there : (insn second : NInsn) → written (a.resolution m) (written_place (tb by l w a m read decoded sound) m)
       op ≡ insn ∷ second ∷ [] → slice_get (let n = a.narrowed m in let code = n.code
       in code.insns) (spot (tb by l w a m read decoded sound) m at + 1) ≡ Some second
   second_there insn second is = written_at by l w a m read decoded sound at insn_here t there row 1 second
-      (ap (λ is. slice_get is 1) is)
+      (ap (λ is. slice_get is 1) (as_alone (written_place (tb by l w a m read decoded sound) m) ∙ is))
 
   -- behind n instructions that are written
   place_behind : (n : ℕ) → length (written (a.resolution m) (written_place (tb by l w a m read decoded sound) m) op) ≡ n
       → at + 1 < length (let f = a.found m in let b = f.body in b.insns) → spot (tb by l w a m read decoded sound) m at
       + n ≡ spot (tb by l w a m read decoded sound) m (at + 1)
-  place_behind n long low = ap (λ k. spot (tb by l w a m read decoded sound) m at + k) (sym long)
+  place_behind n long low = ap (λ k. spot (tb by l w a m read decoded sound) m at + k)
+      (sym (ap length (as_alone (written_place (tb by l w a m read decoded sound) m)) ∙ long))
       ∙ next_spot by l w a m read decoded sound at insn_here t there row low
 
   pub next_place_is : (n : ℕ) → length (written (a.resolution m) (written_place (tb by l w a m read decoded sound) m)
@@ -179,9 +187,11 @@ module _ (by : Linked) (l : Named) (w : List Class) (a : Analysis) (m : Method) 
   next_place_is n long goes = place_behind n long (decoded.next at insn_here there goes)
 
   pub some_written : (n : ℕ) → length (written (a.resolution m) (written_place (tb by l w a m read decoded sound) m) op)
-      ≡ suc n → 0 < length (written (a.resolution m) (λ o. 0) op)
-  some_written n long = let same = size_fixed (a.resolution m) (written_place (tb by l w a m read decoded sound) m)
-      (λ o. 0) op in omega (arith, same, long)
+      ≡ suc n → 0 < length (written_for (a.resolution m) (λ o. 0) insn_here)
+  some_written n long =
+      let same = size_fixed (a.resolution m) (written_place (tb by l w a m read decoded sound) m) (λ o. 0) insn_here in
+      let alone = ap length (as_alone (written_place (tb by l w a m read decoded sound) m)) in
+      omega (arith, same, alone, long)
 
   -- ---- rules
 
@@ -196,10 +206,11 @@ module _ (by : Linked) (l : Named) (w : List Class) (a : Analysis) (m : Method) 
       (first_there insn [] is) agrees stack_before (roomy same)
       (λ locals store vs object. never_tosses by m at locals store op calm vs object)
       (arrives by l w a m read decoded sound (at + 1) (spot (tb by l w a m read decoded sound) m at + 1) (after
-      ++ rest) locals (subst (λ ls. GoesTo by l w a m read decoded sound (at + 1) (after ++ rest) ls) kept
+      ++ rest) locals ranged.stands.behind (subst (λ ls. GoesTo by l w a m read decoded sound (at + 1)
+      (after ++ rest) ls) kept
       (on same (at + 1) (follows by l w a m read decoded sound at insn_here there goes)))
       (next_place_is 1 long goes))
-      (catches by l w a m read decoded sound told at insn_here t x there row ranged (some_written 0 long))
+      (catches by l w a m read decoded sound told at insn_here t x there row ranged.row (some_written 0 long))
 
   -- the same where locals are read or written
   pub on_locals_by : op ≢ jop.Throw → goes_on op ≡ true → (insn : NInsn)
@@ -212,9 +223,10 @@ module _ (by : Linked) (l : Named) (w : List Class) (a : Analysis) (m : Method) 
       rest insn is (first_there insn [] is) agrees stack_before (roomy same)
       (λ locals store vs object. never_tosses by m at locals store op calm vs object)
       (arrives by l w a m read decoded sound (at + 1) (spot (tb by l w a m read decoded sound) m at + 1) (after
-      ++ rest) locals_behind (on same (at + 1) (follows by l w a m read decoded sound at insn_here there goes))
+      ++ rest) locals_behind ranged.stands.behind (on same (at + 1)
+      (follows by l w a m read decoded sound at insn_here there goes))
       (next_place_is 1 long goes))
-      (catches by l w a m read decoded sound told at insn_here t x there row ranged (some_written 0 long))
+      (catches by l w a m read decoded sound told at insn_here t x there row ranged.row (some_written 0 long))
 
   -- nothing is written
   pub not_written_by : goes_on op ≡ true → length given ≡ length new → locals_behind ≡ locals
@@ -229,7 +241,8 @@ module _ (by : Linked) (l : Named) (w : List Class) (a : Analysis) (m : Method) 
       not_written_rule by l (tb by l w a m read decoded sound) m at (point_of l t x) insn_here before after rest
       not_written stack_before
       (arrives by l w a m read decoded sound (at + 1) (spot (tb by l w a m read decoded sound) m at) (after
-      ++ rest) locals (subst (λ ls. GoesTo by l w a m read decoded sound (at + 1) (after ++ rest) ls) kept
+      ++ rest) locals ranged.stands.behind (subst (λ ls. GoesTo by l w a m read decoded sound (at + 1)
+      (after ++ rest) ls) kept
       (on same (at + 1) (follows by l w a m read decoded sound at insn_here there goes))) (sym here
       ∙ next_place_is 0 none goes))
       (omega (arith, few, low))
@@ -259,7 +272,8 @@ module _ (by : Linked) (l : Named) (w : List Class) (a : Analysis) (m : Method) 
       (λ ls after' store new' vs stack e. subst (λ ks. Arrives (tb by l w a m read decoded sound) m (at + 1)
       (spot (tb by l w a m read decoded sound) m at + 1) ks locals) nothing
       (arrives by l w a m read decoded sound (at + 1) (spot (tb by l w a m read decoded sound) m at + 1) (after
-      ++ rest) locals (subst (λ ls. GoesTo by l w a m read decoded sound (at + 1) (after ++ rest) ls) kept
+      ++ rest) locals ranged.stands.behind (subst (λ ls. GoesTo by l w a m read decoded sound (at + 1)
+      (after ++ rest) ls) kept
       (on same (at + 1) (follows by l w a m read decoded sound at insn_here there goes)))
       (next_place_is 1 long goes)))
 
@@ -280,6 +294,7 @@ module _ (by : Linked) (l : Named) (w : List Class) (a : Analysis) (m : Method) 
         point = lands_there.point;
         is_reached = subst (λ k. (tb by l w a m read decoded sound).point m k ≡ Some lands_there.point) is
             lands_there.is_reached;
+        all_there = lands_there.all_there;
         place = place_behind n long (subst (λ k. k < length (let f = a.found m in let b = f.body in b.insns)) is low);
         stack = lands_there.stack;
         locals = lands_there.locals;
@@ -344,7 +359,7 @@ module _ (by : Linked) (l : Named) (w : List Class) (a : Analysis) (m : Method) 
       let there_on = subst (λ ls. GoesTo by l w a m read decoded sound (at + 1) (after ++ rest) ls) kept
       (on same (at + 1) (follows by l w a m read decoded sound at insn_here there goes)) in
       arrives by l w a m read decoded sound (at + 1) (spot (tb by l w a m read decoded sound) m at + 1) (left
-      ++ rest) locals
+      ++ rest) locals ranged.stands.behind
       (record {
         point = there_on.point;
         is = there_on.is;
@@ -357,7 +372,7 @@ module _ (by : Linked) (l : Named) (w : List Class) (a : Analysis) (m : Method) 
   -- exceptions are handled alike where one instruction is written
   pub catches_here : (n : ℕ) → length (written (a.resolution m) (written_place (tb by l w a m read decoded sound) m) op)
       ≡ suc n → Catches by l (tb by l w a m read decoded sound) m at locals
-  catches_here n long = catches by l w a m read decoded sound told at insn_here t x there row ranged
+  catches_here n long = catches by l w a m read decoded sound told at insn_here t x there row ranged.row
       (some_written n long)
 
   -- one instruction is written, which leaves cells of which more is known

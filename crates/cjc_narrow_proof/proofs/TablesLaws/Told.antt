@@ -12,7 +12,8 @@ use Rattle.cjc_types.specs.Steps as typed
 use Rattle.cjc_ncode.specs.ByLabel.{Named}
 use Rattle.cjc_intervals.specs.Steps.{operand}
 use Rattle.cjc_narrow_proof.specs.Selection.Relation.{Wider, more_numbers, more_types, number_free, reference_free}
-use Rattle.cjc_narrow_proof.specs.Selection.Relation.{free_free, AllWider, none_wider, one_wider}
+use Rattle.cjc_narrow_proof.specs.Selection.Relation.{free_free, AllWider, none_wider, one_wider, OnBoth, no_cell}
+use Rattle.cjc_narrow_proof.specs.Selection.Relation.{a_range, a_reference, an_unused}
 use Rattle.cjc_narrow_proof.specs.Tables.Kinds.{is_named, is_one_of, kind_of_cell, kinds_from, kinds}
 use Rattle.cjc_bytes.proofs.Bools.{or_true}
 use Rattle.cjc_bytes.proofs.Gets.{taken_length}
@@ -144,3 +145,11 @@ behind_is l n given cells new s same =
     ∙ ap (λ ks. kinds l given (new ++ drop n s) ++ ks) (ap (λ k. kinds_from l k (drop n cells) (new ++ drop n s)) long
     ∙ kinds_same l (length new) n (drop n cells) (new ++ drop n s) s (λ k. operand_behind new (drop n s) k
     ∙ operand_dropped n s k))
+
+-- ---- cells on both stacks
+
+pub on_both : (l : Named) (a : ℕ) (cs : List Cell) (s : List Span) → OnBoth (kinds_from l a cs s)
+on_both l a [] s = no_cell
+on_both l a (Number ∷ cs) s = a_range (on_both l (suc a) cs s)
+on_both l a (Refs names ∷ cs) s = a_reference (on_both l (suc a) cs s)
+on_both l a (Unusable ∷ cs) s = an_unused (on_both l (suc a) cs s)

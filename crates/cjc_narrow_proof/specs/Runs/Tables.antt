@@ -28,6 +28,10 @@ use Rattle.cjc_narrow_proof.specs.Selection.Replies.{result_kinds}
 use Rattle.cjc_narrow_proof.specs.Tables.Analysis.{Analysis, HasRoomToBegin}
 use Rattle.cjc_narrow_proof.specs.Tables.Calls.{IsWordDesc}
 use Rattle.cjc_narrow.specs.Rows.Resolved.{method_found, constant_named, resolution}
+use Rattle.cjc_narrow.specs.Pairs.Open.{closed, open_at}
+use Rattle.cjc_narrow.specs.Pairs.Roles.{steps_of, with_pairs}
+use Rattle.cjc_narrow.specs.Written.Rows.{has_rows}
+use Rattle.cjc_ncode.specs.Written.{Resolution}
 use Rattle.cjc_narrow.specs.Rows.Package.{flags_of, start_of, code_of, named}
 
 -- The type table and the range table of each method; none of what is no method of the package with code.
@@ -55,12 +59,19 @@ body_in files m = let id = m.id in record {
   insns = m.insns;
 }
 
+-- what names in a method stand for, and the roles of its instructions
+abbrev pub paired_in : Files → (near : List MemberId) → Tables → Method → Resolution
+paired_in files near tables m = let id = m.id in with_pairs (resolution files near id.class) (body_in files m)
+    (has_rows (tables.types m))
+
 -- what is found of the package's methods
 abbrev pub analysis : Files → StaticImage → (near : List MemberId) → Tables → Analysis
 analysis files image near tables = record {
   found = λ m. record { body = body_in files m; types = tables.types m; ranges = tables.ranges m };
   narrowed = start_of (narrow_codes files near tables);
-  resolution = λ m. (let id = m.id in resolution files near id.class);
+  resolution = paired_in files near tables;
+  opened = λ m. (let id = m.id in open_at closed (steps_of (resolution files near id.class) (body_in files m)
+      (has_rows (tables.types m))));
   results = λ m. (let id = m.id in let p = (parts id.desc).result in result_kinds (look_ups files image near tables)
       (result_by p.kind p));
   may_throw = λ kind. is_subtype (all_classes files) (shape_name kind) (codes "java/lang/Throwable");

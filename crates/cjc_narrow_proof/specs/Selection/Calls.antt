@@ -13,7 +13,7 @@ use Rattle.cjc_card_semantics.specs.Bytecode.Effects.{Slot}
 use Rattle.cjc_card_semantics.specs.Bytecode.Machine.{Start, Within, Turn, Next}
 use Rattle.cjc_card_semantics.specs.Bytecode.Machine as narrow
 use Rattle.cjc_ncode.specs.declared.narrow.NMethod.{NMethod}
-use Rattle.cjc_ncode.specs.Written.{Resolution, written, place_in, catches_at}
+use Rattle.cjc_ncode.specs.Written.{Resolution, written_for, place_in, catches_at}
 use Rattle.cjc_ncode.specs.ByLabel.{Callee, Named, on_object, by_label}
 use Rattle.cjc_jvm_semantics.specs.Linked.{Method, Inside, OnClass, OnObject, Linked}
 use Rattle.cjc_jvm_semantics.specs.Linked
@@ -145,7 +145,7 @@ pub record IsWrittenAt (r : Resolution) (insns : List JInsn) (offset at : ℕ) :
   pub is_there : slice_get insns number ≡ Some insn
   pub is_at : insn.at ≡ offset
   pub behind : ℕ
-  pub is_among : behind < length (written r (λ o. 0) insn.op)
+  pub is_among : behind < length (written_for r (λ o. 0) insn)
   pub place : at ≡ place_in r insns offset + behind
 
 -- Both machines go on in the frame, at a handler and at what is written for its target, with the exception alone on the

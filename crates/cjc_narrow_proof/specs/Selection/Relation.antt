@@ -11,6 +11,7 @@ use Rattle.cjc_script.specs.declared.report.Thing.{Thing}
 use Rattle.cjc_script.specs.Sorts.{Element, Booleans, Bytes, Shorts, Ints, Shape, OfClass, OfNumbers, OfReferences}
 use Rattle.cjc_script.specs.Sorts.{Sort, Boolean, Byte, Short, Int, Reference, field_sort, shape_name, shape_named}
 use Rattle.cjc_card_semantics.specs.Bytecode.Effects.{Slot, HeapObject, Numbers, References, Object, Memory, shape}
+use Rattle.cjc_card_semantics.specs.Bytecode.Calculations.{is_reference}
 use Rattle.cjc_card_semantics.specs.Bytecode.Renaming.{keys}
 use Rattle.cjc_card_semantics.specs.Bytecode.Machine
 use Rattle.cjc_ncode.specs.ByLabel.{Named, by_label, shown_slot}
@@ -67,6 +68,14 @@ pub data OnBoth : List Kind → Type 0 where
   a_range : {numbers : Span} {ks : List Kind} → OnBoth ks → OnBoth (Range numbers ∷ ks)
   a_reference : {within : Shape (List ℕ) → Bool} {ks : List Kind} → OnBoth ks → OnBoth (Refers within ∷ ks)
   an_unused : {ks : List Kind} → OnBoth ks → OnBoth (Free ∷ ks)
+
+-- A reference that the narrow stack leaves out, on top or below one cell, is what narrow code has in its first local.
+pub data Owns (words : List (Option Value)) : List Kind → List Value → Type 0 where
+  all_there : {ks : List Kind} {vs : List Value} → OnBoth ks → Owns words ks vs
+  on_top : {k : Kind} {v : Value} {ks : List Kind} {vs : List Value} → is_reference v ≡ true
+      → slice_get words 0 ≡ Some (Some v) → OnBoth ks → Owns words (Away k ∷ ks) (v ∷ vs)
+  below_top : {j k : Kind} {x v : Value} {ks : List Kind} {vs : List Value} → is_reference v ≡ true
+      → slice_get words 0 ≡ Some (Some v) → OnBoth (j ∷ ks) → Owns words (j ∷ Away k ∷ ks) (x ∷ v ∷ vs)
 
 -- ---- less is known
 

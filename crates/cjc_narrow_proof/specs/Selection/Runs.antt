@@ -22,7 +22,7 @@ use Rattle.cjc_jvm_semantics.specs.Linked.{Method, Linked}
 use Rattle.cjc_jvm_semantics.specs.Effects.{Store, place}
 use Rattle.cjc_jvm_semantics.specs.Effects as by_name
 use Rattle.cjc_jvm_semantics.specs.Machine.{Frame, State, begins, step}
-use Rattle.cjc_narrow_proof.specs.Selection.Relation.{Kind, Refers, NMemory, Stacks, Locals, AllWider, Stores}
+use Rattle.cjc_narrow_proof.specs.Selection.Relation.{Kind, Refers, NMemory, Stacks, Locals, Owns, AllWider, Stores}
 use Rattle.cjc_narrow_proof.specs.Selection.Rows.{NEffect, Same, GoesOn}
 use Rattle.cjc_narrow_proof.specs.Selection.Jumps.{Jumps, Returns}
 use Rattle.cjc_narrow_proof.specs.Selection.Switches.{JumpsInTwo}
@@ -30,6 +30,7 @@ use Rattle.cjc_narrow_proof.specs.Selection.Calls.{NFrame, NState, NTurn}
 use Rattle.cjc_narrow_proof.specs.Selection.Throws.{nheap}
 use Rattle.cjc_narrow_proof.specs.Selection.Replies.{StatesAgree}
 use Rattle.cjc_narrow_proof.specs.Selection.Tables.{Point, Table, MayRaise, code_of, written_place, spot, Arrives}
+use Rattle.cjc_narrow_proof.specs.Selection.Tables.{Comes}
 use Rattle.cjc_narrow_proof.specs.Selection.Tables.{Catches, Stands, Waiting, Couple, left, right}
 
 -- Where a turn of each machine leads: to states that agree, or to the end with reports that are alike.
@@ -59,17 +60,31 @@ module _ (by : Linked) (l : Named) (tb : Table) (m : Method) (at : ℕ) (p : Poi
   Falls next ks ls = (locals after : List (Option Value)) (store new : Store) (vs stack : List Value)
       → named_effect locals store vs ≡ by_name.Go (at + 1) stack after new → Arrives tb m (at + 1) next ks ls
 
+  -- Where both go on behind a narrow instruction, no more is known, and what is left out is in its first local.
+  abbrev pub Lands : NInsn → (ks ls : List Kind) → Type 0
+  Lands insn ks ls = (locals after words wafter : List (Option Value)) (store new : Store) (memory grown : NMemory)
+      (vs stack ws wstack : List Value) → Owns words p.stack vs
+      → named_effect locals store vs ≡ by_name.Go (at + 1) stack after new
+      → narrow_effect insn (spot tb m at + 1) words memory ws ≡ narrow.Go (spot tb m at + 1) wstack wafter grown
+      → Comes tb m (at + 1) (spot tb m at + 1) ks ls stack wafter
+
+  -- The machine by name goes on, and narrow code stays before its instruction.
+  pub record Lingers (ks : List Kind) (locals words : List (Option Value)) (store : Store) (memory : NMemory)
+      (vs ws : List Value) : Type 0 where
+    pub on : GoesOn by m i.op at locals store memory ks vs ws
+    pub comes : Comes tb m (at + 1) (spot tb m at) ks p.locals on.stack words
+
   -- What both machines do at an instruction.
   pub data Rule : Type 0 where
     -- both go on behind it, or raise the same exception
     does : (insn : NInsn) (ks ls : List Kind) → IsAtPlace insn (spot tb m at)
         → ((locals words : List (Option Value)) (store : Store) (memory : NMemory) (vs ws : List Value)
         → Stores l store memory → Locals memory.heap p.locals locals words → Stacks memory.heap p.stack vs ws
-        → Same l ks ls (at + 1) (spot tb m at + 1) (named_effect locals store vs)
+        → Owns words p.stack vs → Same l ks ls (at + 1) (spot tb m at + 1) (named_effect locals store vs)
         (narrow_effect insn (spot tb m at + 1) words memory ws))
         → ((locals : List (Option Value)) (store : Store) (vs : List Value) (object : ℕ) → named_effect locals store vs
         ≡ by_name.Toss object → ⊥)
-        → Arrives tb m (at + 1) (spot tb m at + 1) ks ls → Catches by l tb m at p.locals → Rule
+        → Lands insn ks ls → Catches by l tb m at p.locals → Rule
     -- both jump
     jumps : (insn : NInsn) (ks ls : List Kind) (offsets : List ℕ) → IsAtPlace insn (spot tb m at)
         → ((locals words : List (Option Value)) (store : Store) (memory : NMemory) (vs ws : List Value)
@@ -80,9 +95,9 @@ module _ (by : Linked) (l : Named) (tb : Table) (m : Method) (at : ℕ) (p : Poi
         ls) → Falls (spot tb m at + 1) ks ls → Rule
     -- nothing is written
     goes_on : (ks : List Kind)
-        → ((locals : List (Option Value)) (store : Store) (memory : NMemory) (vs ws : List Value)
-        → Stacks memory.heap p.stack vs ws → GoesOn by m i.op at locals store memory ks vs ws)
-        → Arrives tb m (at + 1) (spot tb m at) ks p.locals → at < 65534 → Rule
+        → ((locals words : List (Option Value)) (store : Store) (memory : NMemory) (vs ws : List Value)
+        → Locals memory.heap p.locals locals words → Stacks memory.heap p.stack vs ws → Owns words p.stack vs
+        → Lingers ks locals words store memory vs ws) → at < 65534 → Rule
     -- narrow code jumps with its second instruction
     jumps_in_two : (first second : NInsn) (ks ls : List Kind) (offsets : List ℕ) → IsAtPlace first (spot tb m at)
         → IsAtPlace second (spot tb m at + 1)

@@ -11,7 +11,8 @@ use Rattle.cjc_ncode.specs.ByLabel as labels
 use Rattle.cjc_jvm_semantics.specs.Linked.{Method, Linked}
 use Rattle.cjc_jvm_semantics.specs.Effects.{Fault, exception_class, place}
 use Rattle.cjc_jvm_semantics.specs.Machine.{Frame, State, offset_of, handler, room}
-use Rattle.cjc_narrow_proof.specs.Selection.Relation.{Kind, Refers, Heap, AllWider}
+use Rattle.cjc_narrow_proof.specs.Selection.Relation.{Kind, Refers, Heap, OnBoth, Owns, AllWider}
+use Rattle.cjc_script.specs.declared.value.Value.{Value}
 use Rattle.cjc_narrow_proof.specs.Selection.Rows.{HasRoom}
 use Rattle.cjc_narrow_proof.specs.Selection.Calls.{NFrame, NState, Frames}
 use Rattle.cjc_narrow_proof.specs.Selection.Throws.{nheap, IsRaised}
@@ -58,6 +59,17 @@ pub record Arrives (tb : Table) (m : Method) (at next : ℕ) (ks ls : List Kind)
   pub place : next ≡ spot tb m at
   pub stack : AllWider ks point.stack
   pub locals : AllWider ls point.locals
+  pub all_there : OnBoth point.stack
+
+-- The same where the narrow stack may leave a reference out: it owns what the stack by name holds.
+pub record Comes (tb : Table) (m : Method) (at next : ℕ) (ks ls : List Kind) (vs : List Value)
+    (words : List (Option Value)) : Type 0 where
+  pub point : Point
+  pub is_reached : tb.point m at ≡ Some point
+  pub place : next ≡ spot tb m at
+  pub stack : AllWider ks point.stack
+  pub locals : AllWider ls point.locals
+  pub owns : Owns words point.stack vs
 
 -- Exceptions of the machine's own are made alike, and each may be thrown.
 pub record MayRaise (l : Named) (tb : Table) : Type 0 where
@@ -103,6 +115,7 @@ pub record Stands (tb : Table) (heap : Heap) (f : Frame) (g : NFrame) : Type 0 w
   pub code : g.code ≡ code_of tb f.method
   pub place : g.at ≡ spot tb f.method f.at
   pub agree : Frames heap point.stack point.locals f g
+  pub owns : Owns g.locals point.stack f.stack
 
 -- Both frames wait behind the same call: with a result of these kinds they go on, and an exception is handled alike.
 pub record Waits (by : Linked) (l : Named) (tb : Table) (heap : Heap) (results : List Kind) (f : Frame) (g : NFrame) :

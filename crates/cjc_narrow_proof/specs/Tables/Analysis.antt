@@ -1,6 +1,7 @@
 -- What is found of the methods of a package: the tables of each, closed and without a broken rule, and the table of all
 -- that whole runs go by.
-use Rattle.std.specs.Prelude.{◌≡◌, ◌<◌, ◌≤◌, ℕ, ◌+◌, Bool, true, List, length, slice_get, codes, Option, Some, ℤ}
+use Rattle.std.specs.Prelude.{◌≡◌, ◌<◌, ◌≤◌, ℕ, ◌+◌, Bool, true, List, length, slice_get, codes, Option, Some}
+use Rattle.std.specs.Prelude.{option_map, ℤ}
 use Rattle.std.specs.List.{Contains}
 use Rattle.cjc_bytes.specs.declared.fault.MemberId.{MemberId}
 use Rattle.cjc_code.specs.ClassFile.declared.tree.Catch.{Catch}
@@ -27,6 +28,9 @@ use Rattle.cjc_narrow_proof.specs.Selection.Relation.{Kind}
 use Rattle.cjc_narrow_proof.specs.Selection.Replies.{result_kinds}
 use Rattle.cjc_narrow_proof.specs.Selection.Tables.{Table, class_of_code}
 use Rattle.cjc_narrow_proof.specs.Tables.Kinds.{kinds, point_at}
+use Rattle.cjc_narrow_proof.specs.Tables.Pairs.{AreInPairs, StandsAlone, with_open}
+use Rattle.cjc_narrow.specs.Pairs.Open.{Open}
+use Rattle.cjc_types.specs.Fixpoint.Tables.{HasRow}
 
 -- what is read of a method, and its tables
 pub record Found : Type 0 where
@@ -34,13 +38,14 @@ pub record Found : Type 0 where
   pub types : List (Option State)
   pub ranges : List (Option RangeState)
 
--- of each method: what is found, what is written for it and how names are resolved there, and what its callers are
--- given; of each type
+-- of each method: what is found, what is written for it and how names are resolved there, which pair is open before
+-- each instruction, and what its callers are given; of each type
 -- whether it may be thrown
 pub record Analysis : Type 0 where
   pub found : Method → Found
   pub narrowed : Method → Start NMethod
   pub resolution : Method → Resolution
+  pub opened : Method → (at : ℕ) → Open
   pub results : Method → List Kind
   pub may_throw : Shape (List ℕ) → Bool
 
@@ -54,7 +59,7 @@ table_of l a = record {
   narrowed = a.narrowed;
   resolution = a.resolution;
   reached = λ m. reached_in (a.found m);
-  point = λ m at. (let f = a.found m in point_at l f.types f.ranges at);
+  point = λ m at. (let f = a.found m in option_map (with_open (a.opened m at)) (point_at l f.types f.ranges at));
   results = a.results;
   may_throw = a.may_throw;
 }
@@ -94,7 +99,13 @@ pub record IsRead (a : Analysis) (m : Method) : Type 0 where
   pub code : (let s = a.narrowed m in let n = s.code in n.insns) ≡ narrow_code (a.resolution m) (reached_in (a.found m))
   pub handlers : (let s = a.narrowed m in let n = s.code in n.catches)
       ≡ catches_at (place_in (a.resolution m) (reached_in (a.found m))) m.catches
+  pub pairs : (let f = a.found m in AreInPairs (a.resolution m) f.body f.types (a.opened m))
   pub narrow_max_stack : (let s = a.narrowed m in let n = s.code in n.max_stack) ≡ m.max_stack
+
+-- The instruction at a place stands alone, and its range table has this row there.
+pub record IsAlone (a : Analysis) (m : Method) (at : ℕ) (x : RangeState) : Type 0 where
+  pub row : HasRow (let f = a.found m in f.ranges) at x
+  pub stands : StandsAlone (a.resolution m) (let f = a.found m in let b = f.body in b.insns) (a.opened m) at
 
 -- Types are asked alike in the code of a method: what may be thrown is a java/lang/Throwable, and handlers name
 -- classes.

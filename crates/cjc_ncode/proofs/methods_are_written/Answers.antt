@@ -13,3 +13,7 @@ returns-clause-catches c = refl
 pub returns-clause-jumps : goal.returns-clause-jumps
 unfolding int_wrap
 returns-clause-jumps c = refl
+
+pub returns-clause-pair : goal.returns-clause-pair
+unfolding int_wrap
+returns-clause-pair c = refl

@@ -330,38 +330,43 @@ abbrev pub params_by : Option Signature → ℕ
 params_by None = 0
 params_by (Some types) = length types.params
 
+-- a static field that is read: a constant is a number that is pushed
+abbrev pub widest_get : Option ℤ → ℕ
+widest_get (Some z) = 5
+widest_get None = 4
+
 -- the most bytes that what is written for an instruction can have
-abbrev pub widest : JOp → ℕ
-widest jop.Nop = 0
-widest jop.Null = 1
-widest (jop.Number z) = 5
-widest (jop.Load refs l) = 2
-widest (jop.Store refs l) = 2
-widest (jop.ArrayLoad op) = if op == jvm.iaload then 12 else (if op == jvm.aaload then 12 else 13)
-widest (jop.ArrayStore op) = if op == jvm.iastore then 16 else (if op == jvm.aastore then 16 else 17)
-widest (jop.Stack op) = 2
-widest (jop.Arith op) = 1
-widest (jop.Inc l by) = 4
-widest (jop.Narrow op) = 2
-widest (jop.If op target) = if nat_le op jvm.ifle then 5 else (if nat_le op jvm.if_icmple then 4 else 3)
-widest (jop.Goto target) = 3
-widest (jop.TableSwitch other low targets) = 11 + 2 * length targets
-widest (jop.LookupSwitch other cases) = 5 + 6 * length cases
-widest (jop.Return op) = if op == jvm.ireturn then 2 else 1
-widest (jop.Static put f) = 4
-widest (jop.Field put f) = 4
-widest (jop.Call op m) = (if op == jvm.invokeinterface then 6 else 4) + 5 * params_by (signature_of m.desc)
-widest (jop.New class) = 3
-widest (jop.NewArray kind) = 4
-widest (jop.ANewArray class) = 4
-widest jop.ArrayLength = 2
-widest jop.Throw = 1
-widest (jop.CheckCast class) = 4
-widest (jop.InstanceOf class) = 5
+abbrev pub widest : Resolution → JOp → ℕ
+widest r jop.Nop = 0
+widest r jop.Null = 1
+widest r (jop.Number z) = 5
+widest r (jop.Load refs l) = 2
+widest r (jop.Store refs l) = 2
+widest r (jop.ArrayLoad op) = if op == jvm.iaload then 12 else (if op == jvm.aaload then 12 else 13)
+widest r (jop.ArrayStore op) = if op == jvm.iastore then 16 else (if op == jvm.aastore then 16 else 17)
+widest r (jop.Stack op) = 2
+widest r (jop.Arith op) = 1
+widest r (jop.Inc l by) = 4
+widest r (jop.Narrow op) = 2
+widest r (jop.If op target) = if nat_le op jvm.ifle then 5 else (if nat_le op jvm.if_icmple then 4 else 3)
+widest r (jop.Goto target) = 3
+widest r (jop.TableSwitch other low targets) = 11 + 2 * length targets
+widest r (jop.LookupSwitch other cases) = 5 + 6 * length cases
+widest r (jop.Return op) = if op == jvm.ireturn then 2 else 1
+widest r (jop.Static put f) = if put then 4 else widest_get (r.constant f)
+widest r (jop.Field put f) = 4
+widest r (jop.Call op m) = (if op == jvm.invokeinterface then 6 else 4) + 5 * params_by (signature_of m.desc)
+widest r (jop.New class) = 3
+widest r (jop.NewArray kind) = 4
+widest r (jop.ANewArray class) = 4
+widest r jop.ArrayLength = 2
+widest r jop.Throw = 1
+widest r (jop.CheckCast class) = 4
+widest r (jop.InstanceOf class) = 5
 
 -- of all reached instructions and the prologue, which counts 5 for each parameter and the receiver
-abbrev pub widest_sum : Frame → List Reached → ℕ
-widest_sum f reached = 5 * length f.params + sum_by (λ (i : Reached). let j = i.insn in widest j.op) reached
+abbrev pub widest_sum : Frame → Resolution → List Reached → ℕ
+widest_sum f r reached = 5 * length f.params + sum_by (λ (i : Reached). let j = i.insn in widest r j.op) reached
 
 -- The narrow method in int mode, of reached instructions with their places in the method's list. No handler covers the
 -- prologue, and a
@@ -374,5 +379,5 @@ int_method f r code reached places = record {
   max_stack = 2 * code.max_stack + 4;
   nargs = nargs f;
   max_locals = 2 * f.max_locals + 2 * scratch_pairs reached;
-  widest = widest_sum f reached;
+  widest = widest_sum f r reached;
 }

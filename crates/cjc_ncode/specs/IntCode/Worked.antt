@@ -1,12 +1,13 @@
 -- Methods made by hand, with what is written for them in int mode.
-use Rattle.std.specs.Prelude.{ℕ, List, [], ◌∷◌, Some, None, Bool, true, false, pos, codes}
+use Rattle.std.specs.Prelude.{ℕ, ℤ, List, [], ◌∷◌, Some, None, Bool, true, false, pos, codes}
 use Rattle.cjc_code.specs.ClassFile.Code.{CodeTree}
 use Rattle.cjc_code.specs.declared.insn.JOp.{JOp}
 use Rattle.cjc_code.specs.declared.insn.JOp.TheVariants as jop
 use Rattle.cjc_script.specs.Sorts.{Sort, Byte, Short, Int, Reference, OfNumbers, Bytes}
 use Rattle.cjc_ncode.specs.declared.narrow.NInsn.{NInsn}
 use Rattle.cjc_ncode.specs.declared.narrow.NInsn.TheVariants as insns
-use Rattle.cjc_ncode.specs.WorkedCode.{id}
+use Rattle.cjc_ncode.specs.Written.{Resolution}
+use Rattle.cjc_ncode.specs.WorkedCode.{id, resolution}
 use Rattle.cjc_ncode.specs.IntCode.IntCode.{Reached, Frame}
 
 -- a code without handlers
@@ -128,3 +129,13 @@ call desc = jop.Call 0xB8 (id (codes "p/T") (codes "m") desc)
 -- no parameters, no result and no locals
 abbrev pub call_frame : Frame
 call_frame = record { params = []; result = None; max_locals = 0 }
+
+-- ---- a static field that is a constant
+
+-- each field is one, of this value
+abbrev pub constants : ℤ → Resolution
+constants z = record resolution { constant = λ f. Some z }
+
+-- a read of p/T.c
+abbrev pub read : JOp
+read = jop.Static false (id (codes "p/T") (codes "c") (codes "I"))

@@ -21,7 +21,9 @@ use Rattle.cjc_methods.specs.Layout.declared.layout.Layout.{Layout}
 use Rattle.cjc_judge.specs.List.Listed.{ListTree}
 use Rattle.cjc_methods.specs.NCode.Lowering.Naming.{Naming}
 use Rattle.cjc_narrow_proof.specs.Narrow.Rows.Resolved.{resolution}
-use Rattle.cjc_narrow_proof.specs.Narrow.Rows.Selected.{near_fields, selected_code}
+use Rattle.cjc_narrow_proof.specs.Narrow.Pairs.Roles.{with_pairs}
+use Rattle.cjc_narrow_proof.specs.Narrow.Written.Operands.{IsAscending}
+use Rattle.cjc_narrow_proof.specs.Narrow.Rows.Selected.{near_fields, paired, selected_code}
 use Rattle.cjc_methods.specs.NCode.Written.{Resolution, place_in, reached, widest_sum}
 use Rattle.cjc_methods.specs.NCode.declared.narrow.NInsn.{NInsn}
 use Rattle.cjc_methods.specs.NCode.declared.narrow.NInsn.TheVariants as insns
@@ -34,7 +36,7 @@ use Rattle.cjc_methods.specs.Pool.Named.{CallsHaveTokens}
 use Rattle.cjc_narrow_proof.proofs.SelectedLaws.Calls.{called_from}
 use Rattle.cjc_narrow_proof.proofs.SelectedLaws.Decoded.{one_of_all, operands_fit}
 use Rattle.cjc_narrow_proof.proofs.SelectedLaws.Formed.{all_have_forms}
-use Rattle.cjc_narrow_proof.proofs.SelectedLaws.Numbers.{all_fit}
+use Rattle.cjc_narrow_proof.proofs.SelectedLaws.Numbers.{selected_fit}
 use Rattle.cjc_narrow_proof.proofs.SelectedLaws.Places.{reached_from}
 use Rattle.cjc_narrow_proof.proofs.SelectedLaws.Said.{all_said}
 use Rattle.cjc_narrow_proof.specs.Selected.Operands.{IndexFits, IsSmall, NumbersFit, OperandsFit}
@@ -136,13 +138,21 @@ module _ (list : ListTree) (files : List (List ℕ)) (judged : Judged) (is : IsT
     kept = reached of.code.insns (rows_by flags)
 
     abbrev r : Resolution
-    r = resolution judged.world near of.class.name
+    r = paired judged.world near of.class of.method of.tree of.code.insns (has_rows (rows_by flags))
 
     abbrev narrow : NMethod
     narrow = selected_code judged.world near of.class of.method of.tree of.code.insns (rows_by flags)
 
     in_code : (k : ℕ) (i : NInsn) → slice_get m.insns k ≡ Some i → slice_get narrow.insns k ≡ Some i
     in_code k i e = ap (λ (x : NMethod). slice_get x.insns k) (sym of.is) ∙ e
+
+    -- its instructions ascend
+    up : IsAscending of.code.insns
+    up =
+        let one = of.one in
+        let free = any_off (λ (x : MethodCode). code_works_on_int judged.world x) judged.codes one.place of.code
+        pooled.no_int one.is_code in
+        (judged_selectable list files judged is of.code of.class of.method of.tree of.table of.one free).ascending
 
     -- one byte says the numbers of what is reached
     said : (k : ℕ) (i : JInsn) → slice_get kept k ≡ Some i → IsSaid i.op
@@ -165,7 +175,7 @@ module _ (list : ListTree) (files : List (List ℕ)) (judged : Judged) (is : IsT
     -- a method of an interface that it calls is declared there
     call_declared : (k nargs : ℕ) (id : MemberId) → slice_get m.insns k ≡ Some (insns.Interface nargs id)
         → IsDeclared judged.world id
-    unfolding resolution
+    unfolding resolution with_pairs
     call_declared k nargs id e =
         let called = called_from r (place_in r kept) kept k nargs id (in_code k (insns.Interface nargs id) e) in
         let from = reached_from of.code.insns (rows_by flags) called.0 called.1 called.3 in
@@ -186,7 +196,7 @@ module _ (list : ListTree) (files : List (List ℕ)) (judged : Judged) (is : IsT
     -- a method of an interface that it calls has a token
     call_token : (k nargs : ℕ) (id : MemberId) → slice_get m.insns k ≡ Some (insns.Interface nargs id) → (t : ℕ)
         × (token_of judged.world (assigned applets judged.world) id ≡ Some t) × (t < 256)
-    unfolding resolution
+    unfolding resolution with_pairs
     call_token k nargs id e =
         let called = called_from r (place_in r kept) kept k nargs id (in_code k (insns.Interface nargs id) e) in
         let from = reached_from of.code.insns (rows_by flags) called.0 called.1 called.3 in
@@ -253,8 +263,8 @@ module _ (list : ListTree) (files : List (List ℕ)) (judged : Judged) (is : IsT
     can_be_said short k i e =
         let o = of k i e in
         let small = by_pool_small pool.keys (token_in pool) n named pooled.few tokens_low in
-        let fit = all_fit (by_pool pool.keys (token_in pool) n named) pool.keys small judged.world o.class.name
-        (place_in (r m o) (kept m o)) (kept m o) (said m o) k i (in_code m o k i e) in
+        let fit = selected_fit (by_pool pool.keys (token_in pool) n named) pool.keys small judged.world o.class o.method
+        o.tree o.code.insns (rows_by (flags m o)) (up m o) (said m o) k i (in_code m o k i e) in
         all_said n (r m o) (place_in (r m o) (kept m o)) (kept m o) (fits m o short) k i (in_code m o k i e)
         (numbers_fit pool.keys (token_in pool) n named i (names k i e) fit)
 

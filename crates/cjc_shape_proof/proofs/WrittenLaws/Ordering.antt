@@ -25,11 +25,13 @@ use Rattle.cjc_components.specs.Layout.Refusals.{least, overtaking}
 use Rattle.cjc_ncode.specs.Lowering.Agreement.{Cells, IsKnownCall, everything, known_by}
 use Rattle.cjc_ncode.proofs.LoweringLaws.ByCode.{kind_stays, operation_known, operation_stays, option_stays}
 use Rattle.cjc_ncode.proofs.LoweringLaws.ByCode.{shape_stays}
-use Rattle.cjc_components.specs.Narrow.Rows.Package.{code_of, first_memory, named, named_by, on_class, reached}
+use Rattle.cjc_components.specs.Narrow.Rows.Package.{code_of, flags_of, first_memory, read_of, named, named_by}
+use Rattle.cjc_components.specs.Narrow.Rows.Package.{on_class, reached}
 use Rattle.cjc_components.specs.Narrow.Rows.Package.{reached_by}
 use Rattle.cjc_components.specs.Narrow.Rows.Package.{selected_on, start_of}
 use Rattle.cjc_components.specs.Narrow.Rows.Package as narrow
-use Rattle.cjc_components.specs.Narrow.Rows.Resolved.{resolution}
+use Rattle.cjc_components.specs.Narrow.Rows.Resolved.{method_found, resolution}
+use Rattle.cjc_components.specs.Narrow.Pairs.Roles.{with_pairs}
 use Rattle.cjc_components.specs.Narrow.Rows.Selected.{near_fields}
 use Rattle.cjc_ncode.specs.ByLabel.{Callee, Named, by_label, classes, handler}
 use Rattle.cjc_ncode.specs.ByLabel
@@ -99,8 +101,8 @@ none_reached (i ∷ insns) = refl
 bare_ordered : (files : Files) (near : List MemberId) (x : Method) → IsOrdered (code_of files near no_rows x)
 bare_ordered files near x =
     let id = x.id in
-    let r = resolution files near id.class in
-    ap (λ kept. overtaking [] (catches_at (place_in r kept) x.catches)) (none_reached x.insns)
+    let r = with_pairs (resolution files near id.class) (read_of x (flags_of (method_found (all_classes files) id))) []
+    in ap (λ kept. overtaking [] (catches_at (place_in r kept) x.catches)) (none_reached x.insns)
     ∙ ap (overtaking []) (none_caught (place_in r []) (λ at. refl) x.catches)
 
 laid_ordered : (files : Files) (near : List MemberId) (ms : List LaidMethod) (x : Method) → ((k : ℕ) (m : LaidMethod)

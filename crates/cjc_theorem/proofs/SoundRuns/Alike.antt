@@ -25,7 +25,9 @@ use Rattle.cjc_judge.specs.Spelt.{IsRead}
 use Rattle.cjc_judge.specs.declared.judged.Judged.{Judged}
 use Rattle.cjc_components.specs.List.Listed.{ListTree}
 use Rattle.cjc_shape_proof.specs.Methods.Ready.{AreReady}
-use Rattle.cjc_narrow.specs.Rows.Package.{code_of, flags_of, run as narrow_run, tree_of}
+use Rattle.cjc_narrow.specs.Rows.Package.{code_of, flags_of, read_of as body_read, run as narrow_run, tree_of}
+use Rattle.cjc_narrow.specs.Pairs.Roles.{with_pairs}
+use Rattle.cjc_narrow.specs.Written.Rows.{has_rows}
 use Rattle.cjc_narrow.specs.Rows.Resolved.{argument_words, method_found, resolution}
 use Rattle.cjc_narrow.specs.Rows.Selected.{near_fields}
 use Rattle.cjc_shape_proof.proofs.FindsLaws.Descs.{read_of}
@@ -130,8 +132,9 @@ module _ (list : ListTree) (files : List (List ℕ)) (judged : Judged) (is : IsS
           → narrow_codes judged.world near own_tables x ≡ code_of judged.world near (λ y. rows) x
       by_rows x rows e =
           let id = x.id in
-          ap (λ rs. narrow_method (resolution judged.world near id.class) (tree_of x)
-          (argument_words (flags_of (method_found (all_classes judged.world) id)) id.desc) x.insns rs) e
+          let flags = flags_of (method_found (all_classes judged.world) id) in
+          ap (λ rs. narrow_method (with_pairs (resolution judged.world near id.class) (body_read x flags) (has_rows rs))
+          (tree_of x) (argument_words flags id.desc) x.insns rs) e
 
       abbrev laid_in : Files → Method → NMethod
       laid_in w x = laid_from w near p.methods x

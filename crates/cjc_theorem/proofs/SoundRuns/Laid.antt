@@ -18,7 +18,8 @@ use Rattle.cjc_code.specs.declared.insn.JInsn.{JInsn}
 use Rattle.cjc_components.specs.Package.{LaidMethod}
 use Rattle.cjc_components.specs.Written.{code_by}
 use Rattle.cjc_narrow.specs.Keys.Working.Same.{same_member-Decides}
-use Rattle.cjc_narrow.specs.Rows.Package.{code_of, flags_of, tree_of}
+use Rattle.cjc_narrow.specs.Rows.Package.{code_of, flags_of, read_of, tree_of}
+use Rattle.cjc_narrow.specs.Pairs.Roles.{with_pairs}
 use Rattle.cjc_narrow.specs.Rows.Resolved.{argument_words, method_found, resolution}
 use Rattle.cjc_narrow_proof.proofs.LawsLaws.Own.{class_by_name, first_here, own_kept}
 use Rattle.cjc_ncode.specs.PoolOrder.{same_member}
@@ -201,5 +202,7 @@ pub bare_code : (files : Files) (near : List MemberId) (x : Method) → code_of 
     ≡ code_of files near no_rows x
 bare_code files near x =
     let id = x.id in
-    bare_same (resolution files near id.class) (tree_of x)
-    (argument_words (flags_of (method_found (all_classes files) id)) id.desc) x.insns
+    let flags = flags_of (method_found (all_classes files) id) in
+    bare_same (with_pairs (resolution files near id.class) (read_of x flags) []) (tree_of x)
+    (argument_words flags id.desc)
+    x.insns

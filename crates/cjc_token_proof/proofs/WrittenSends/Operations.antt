@@ -29,7 +29,8 @@ use Rattle.cjc_components.specs.Written.{IsPackage, code_by}
 use Rattle.cjc_components.specs.List.Listed.{ListTree}
 use Rattle.cjc_ncode.specs.Lowering.Agreement.{IsAmong, IsKnownCall}
 use Rattle.cjc_ncode.specs.Lowering.Placed.{Placed}
-use Rattle.cjc_components.specs.Narrow.Rows.Resolved.{by_owner, constant_named, field_found, resolution, resolved_field}
+use Rattle.cjc_components.specs.Narrow.Rows.Resolved.{by_owner, constant_named, field_found, method_found, resolution}
+use Rattle.cjc_components.specs.Narrow.Rows.Resolved.{resolved_field}
 use Rattle.cjc_components.specs.Narrow.Rows.Resolved.{special_by}
 use Rattle.cjc_components.specs.Narrow.Rows.Selected.{near_fields}
 use Rattle.cjc_ncode.specs.ByLabel.{Callee, Fixed, OnInterface, OnObject, OnSuper, Resolved, jumping, making, operation}
@@ -38,7 +39,14 @@ use Rattle.cjc_ncode.specs.ByLabel as label
 use Rattle.cjc_ncode.specs.PoolOrder.{same_member}
 use Rattle.cjc_ncode.specs.Written.{Resolution, call_by, field_access, local, low_of, nargs_of, on_stack, pair_cases}
 use Rattle.cjc_ncode.specs.Written.{place_in, pushed, pushed_word, reached, static_access, static_by, switched}
-use Rattle.cjc_ncode.specs.Written.{table_cases, type_test, written}
+use Rattle.cjc_ncode.specs.Written.{Access, accessed as access_of, on_this, table_cases, this_access, type_test}
+use Rattle.cjc_ncode.specs.Written.{written, written_as}
+use Rattle.cjc_ncode.specs.declared.narrow.PairRole.{PairRole}
+use Rattle.cjc_ncode.proofs.WrittenCases.{written_cases}
+use Rattle.cjc_components.proofs.NarrowRoles.{written_as_same}
+use Rattle.cjc_components.specs.Narrow.Pairs.Roles.{role_in, roles_of, with_pairs}
+use Rattle.cjc_components.specs.Narrow.Rows.Package.{flags_of, read_of}
+use Rattle.cjc_components.specs.Narrow.Written.Rows.{has_rows}
 use Rattle.cjc_ncode.specs.declared.narrow.NCase.{NCase}
 use Rattle.cjc_ncode.specs.declared.narrow.NInsn.{NInsn}
 use Rattle.cjc_ncode.specs.declared.narrow.NInsn.TheVariants.{Op, Push, Local, Inc, Words, Jump, Switch, Named}
@@ -273,6 +281,22 @@ module _ (p : Package) where
   field_known false false (Reference shape) f h = h
   field_known false false NoValue f h = h
 
+  this_known : (put : Bool) (sort : Sort) (f : MemberId) → may_name w f ≡ true
+      → Known (label.naming (meaning (this_access put sort)) (keys.Field f))
+  unfolding meaning
+  this_known true Boolean f h = h
+  this_known true Byte f h = h
+  this_known true Short f h = h
+  this_known true Int f h = h
+  this_known true (Reference shape) f h = h
+  this_known true NoValue f h = h
+  this_known false Boolean f h = h
+  this_known false Byte f h = h
+  this_known false Short f h = h
+  this_known false Int f h = h
+  this_known false (Reference shape) f h = h
+  this_known false NoValue f h = h
+
   -- the descriptor of a field is that of the one that is found
   owner_desc : (f : MemberId) (o : Option ResolvedMember) → (by_owner f o).desc ≡ f.desc
   owner_desc f None = refl
@@ -477,11 +501,33 @@ module _ (p : Package) where
     written_known to (jop.CheckCast class) h = type_known 0x94 (shape_named class) h
     written_known to (jop.InstanceOf class) h = type_known 0x95 (shape_named class) h
 
-    code_known : (to : ℕ → ℕ) (kept : List JInsn) → ((j : ℕ) (i : JInsn) → slice_get kept j ≡ Some i
-        → NamesWhatIsThere p.files (order_of p.image) i.op) → AllKnown (flat_map (λ i. written r to i.op) kept)
-    code_known to [] h = none_known
-    code_known to (i ∷ kept) h = append (written r to i.op) (flat_map (λ j. written r to j.op) kept)
-        (written_known to i.op (h 0 i refl)) (code_known to kept (λ j o e. h (suc j) o e))
+    own_is : (put : Bool) (f : MemberId) → may_name w (resolved_field w f) ≡ true
+        → IsKnown (operation (Named (this_access put (field_sort f.desc)) (keys.Field (r.field f))))
+    unfolding resolution
+    own_is put f h calls = this_known put (field_sort f.desc) (resolved_field w f) h
+
+    -- in any roles
+    module _ (role_at : ℕ → PairRole) where
+      role_known : (to : ℕ → ℕ) (i : JInsn) → NamesWhatIsThere p.files (order_of p.image) i.op
+          → AllKnown (written_as (role_at i.at) r to i.op)
+      role_known to i h = written_cases AllKnown (role_at i.at) r to i.op (λ e. none_known) (written_known to i.op h)
+          (λ a e. access i.op a e h)
+        where
+          access : (op : JOp) (a : Access) → access_of op ≡ Some a → NamesWhatIsThere p.files (order_of p.image) op
+              → AllKnown (on_this r to op (Some a))
+          access (jop.Field put f) a e h =
+              subst (λ a. AllKnown (on_this r to (jop.Field put f) (Some a)))
+              (let same : record { put = put; field = f } ≡ a = cc in same)
+              (one (Named _ (keys.Field (r.field f))) (own_is put f h))
+          access op a e h = cc
+
+      code_known : (to : ℕ → ℕ) (kept : List JInsn) → ((j : ℕ) (i : JInsn) → slice_get kept j ≡ Some i
+          → NamesWhatIsThere p.files (order_of p.image) i.op)
+          → AllKnown (flat_map (λ i. written_as (role_at i.at) r to i.op) kept)
+      code_known to [] h = none_known
+      code_known to (i ∷ kept) h = append (written_as (role_at i.at) r to i.op)
+          (flat_map (λ j. written_as (role_at j.at) r to j.op) kept) (role_known to i (h 0 i refl))
+          (code_known to kept (λ j o e. h (suc j) o e))
 
   -- ---- methods
 
@@ -506,6 +552,7 @@ module _ (p : Package) where
       → IsPackage list p.files codes rows p → InstructionsNameWhatIsThere p
       → (q : Placed) (k : ℕ) (i : NInsn) → IsAmong (placed_methods p) q → slice_get q.method.insns k ≡ Some i
       → Known (operation i)
+  unfolding with_pairs
   operations_known {A = A} list codes rows is there q k i among e =
       let r = placed_of (first_method p.methods) p.methods among.place q among.there in
       let m = r.0 in
@@ -526,10 +573,16 @@ module _ (p : Package) where
           let near = near_fields (pool p) in
           let r = resolution p.files near from.id.class in
           let kept = reached from.insns (rows from) in
-          let code : m.code.insns ≡ flat_map (λ (j : JInsn). written r (place_in r kept) j.op) kept =
+          let b = read_of from (flags_of (method_found w from.id)) in
+          let fs = has_rows (rows from) in
+          let role_at = role_in from.insns (roles_of r b fs) in
+          let place = place_in (with_pairs r b fs) kept in
+          let code : m.code.insns ≡ flat_map (λ (j : JInsn). written_as (role_at j.at) r place j.op) kept =
           ap (λ (x : Rattle.cjc_ncode.specs.declared.narrow.NMethod.NMethod). x.insns) (written_so.code
-          ∙ ap (code_by p.files near rows m.member) some) in
-          at (flat_map (λ (j : JInsn). written r (place_in r kept) j.op) kept) k i
-          (code_known near from.id.class (place_in r kept) kept (λ j o h. let n = reached_of from.insns (rows from) j o
+          ∙ ap (code_by p.files near rows m.member) some)
+          ∙ ap (λ (f : JInsn → List NInsn). flat_map f kept) (λ t j. written_as_same r role_at (role_at j.at) place j.op
+          t) in
+          at (flat_map (λ (j : JInsn). written_as (role_at j.at) r place j.op) kept) k i
+          (code_known near from.id.class role_at place kept (λ j o h. let n = reached_of from.insns (rows from) j o
           h in there among.place m at_m from some n.0 o n.1))
           (ap (λ xs. slice_get xs k) (sym code) ∙ here) calls

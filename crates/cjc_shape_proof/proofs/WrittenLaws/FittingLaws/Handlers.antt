@@ -19,7 +19,10 @@ use Rattle.cjc_components.specs.Methods.{handler_count}
 use Rattle.cjc_components.specs.Package.{LaidMethod}
 use Rattle.cjc_components.specs.Written.{code_at, code_by}
 use Rattle.cjc_components.specs.Layout.Handlers.{by_target, has_range, inserted, table_order}
-use Rattle.cjc_components.specs.Narrow.Rows.Resolved.{resolution}
+use Rattle.cjc_components.specs.Narrow.Rows.Resolved.{method_found, resolution}
+use Rattle.cjc_components.specs.Narrow.Rows.Package.{flags_of, read_of}
+use Rattle.cjc_components.specs.Narrow.Pairs.Roles.{with_pairs}
+use Rattle.cjc_components.specs.Narrow.Written.Rows.{has_rows}
 use Rattle.cjc_ncode.specs.Written.{catch_at, catches_at, place_in, reached}
 use Rattle.cjc_ncode.specs.declared.narrow.NCatch.{NCatch}
 use Rattle.cjc_ncode.specs.declared.narrow.NMethod.{NMethod}
@@ -78,7 +81,8 @@ module _ (files : Files) (near : List MemberId) (rows : Method → List (Option 
   code_few : (f : Found) (o : Option Method) → length (let c = code_by files near rows f o in c.catches) ≤ entries o
   code_few f None = let z : 0 ≤ 0 = omega arith in z
   code_few f (Some m) = let id = m.id
-      in catches_few (place_in (resolution files near id.class) (reached m.insns (rows m))) m.catches
+      in catches_few (place_in (with_pairs (resolution files near id.class) (read_of m (flags_of (method_found
+      (all_classes files) id))) (has_rows (rows m))) (reached m.insns (rows m))) m.catches
 
   pub handlers_few : (m : LaidMethod) → code_at files near rows m.member ≡ m.code
       → handler_count m ≤ entries (method_at files m.member)

@@ -26,8 +26,7 @@ use Rattle.cjc_components.specs.List.Listed.{ListTree}
 use Rattle.cjc_shape.proofs.MethodsAlike.{IsFromCode, one_selected}
 use Rattle.cjc_shape.specs.Methods.Ready.{IsOwn}
 use Rattle.cjc_shape.specs.Methods.Ready as Ready
-use Rattle.cjc_components.specs.Narrow.Rows.Resolved.{resolution}
-use Rattle.cjc_components.specs.Narrow.Rows.Selected.{near_fields}
+use Rattle.cjc_components.specs.Narrow.Rows.Selected.{near_fields, paired}
 use Rattle.cjc_ncode.specs.PoolOrder.{pool_order}
 use Rattle.cjc_ncode.specs.Written.{place_in, reached}
 use Rattle.cjc_ncode.specs.declared.narrow.NInsn.{NInsn}
@@ -126,9 +125,9 @@ module _ (list : ListTree) (files : List (List ℕ)) (judged : Judged) (is : IsS
     forms place insn e =
         let from = selected place insn e in
         let c = from.code in
-        let r = resolution v near (let t = from.class in t.name) in
-        let kept = reached c.insns (rows_by (has_rows (Ready.states from.code from.class from.method from.tree
-        from.table))) in
+        let flags = has_rows (Ready.states from.code from.class from.method from.tree from.table) in
+        let r = paired v near from.class from.method from.tree c.insns (has_rows (rows_by flags)) in
+        let kept = reached c.insns (rows_by flags) in
         all_have_forms r (place_in r kept) kept place insn (ap (λ (n : NMethod). slice_get n.insns place) (sym from.is
         ∙ own_code) ∙ e)
 

@@ -145,6 +145,8 @@ module _ (list : ListTree) (files : List (List ℕ)) (judged : Judged) (p : Pack
         only (IsMet p.files codes) (keys.StaticField (resolved_field w id)) key (of_static class put id of none) h
     source_met near n class named plain op i of (sources.of_field {put = put} {f = id}) key h =
         only (IsMet p.files codes) (keys.Field (resolved_field w id)) key (of_field class put id of) h
+    source_met near n class named plain op i of (sources.of_own_field {put = put} {f = id}) key h =
+        only (IsMet p.files codes) (keys.Field (resolved_field w id)) key (of_field class put id of) h
     source_met near n class named plain op i of (sources.virtual_call {op = opcode} {m = id} same) key h =
         only (IsMet p.files codes) (keys.Virtual (virtual_by w id (class_named w id.class))) key
         (of_virtual class id (subst (λ o. IsInsnOf p.files codes class (jop.Call o id)) same of)) h

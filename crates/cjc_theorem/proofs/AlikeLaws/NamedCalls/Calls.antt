@@ -121,6 +121,7 @@ module _ (list : ListTree) (files : List (List ℕ)) (judged : Judged) (p : Pack
     by_source near op i of (sources.plain none) m e = absurd (no_call i m none e)
     by_source near op i of (sources.of_static none) m e = absurd (no_static _ _ m e)
     by_source near op i of sources.of_field m e = absurd (no_field _ _ m e)
+    by_source near op i of sources.of_own_field m e = absurd (no_field _ _ m e)
     by_source near op i of (sources.virtual_call {op = opcode} {m = id} is_virtual) m e =
         let at = subst (λ o. IsInsnOf p.files judged.codes class (jop.Call o id)) is_virtual of in
         fine m (OnObject (virtual_by w id (class_named w id.class))) _ e (virtual_is _) (

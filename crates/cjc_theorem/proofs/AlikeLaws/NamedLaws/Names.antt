@@ -401,6 +401,12 @@ module _ (list : ListTree) (files : List (List ℕ)) (judged : Judged) (p : Pack
           named _ (keys.Field (resolved_field w id)) same
           (subst (λ q. (how : Use) → is_for how (keys.Field q) ≡ true → Fit (naming p) how (keys.Field q))
           (sym n.resolved) (field_fits (naming p) f (classes (let d = n.owner in d.name) n.owner n.named)))
+      by_source near opcodes op i of (sources.of_own_field {put = put} {f = id}) same =
+          let n = field_named list.name p.files codes (settings_of list) u solid class put id of in
+          let f = of_class (let d = n.owner in d.name) id in
+          named _ (keys.Field (resolved_field w id)) same
+          (subst (λ q. (how : Use) → is_for how (keys.Field q) ≡ true → Fit (naming p) how (keys.Field q))
+          (sym n.resolved) (field_fits (naming p) f (classes (let d = n.owner in d.name) n.owner n.named)))
       by_source near opcodes op i of (sources.virtual_call {op = opcode} {m = id} is_virtual) same =
           let of_virtual = subst (λ o. IsInsnOf p.files codes class (jop.Call o id)) is_virtual of in
           named 0x8B _ same (virtual_key id (called class 0xB6 id of_virtual))

@@ -25,8 +25,10 @@ use Rattle.cjc_components.specs.Package.{LaidMethod, Package, pool, world}
 use Rattle.cjc_components.specs.Written.{code_at, code_by}
 use Rattle.cjc_judge.specs.declared.judged.Judged.{Judged}
 use Rattle.cjc_components.specs.List.Listed.{ListTree}
-use Rattle.cjc_narrow.specs.Rows.Package.{code_of}
-use Rattle.cjc_narrow.specs.Rows.Resolved.{resolution}
+use Rattle.cjc_narrow.specs.Rows.Package.{code_of, flags_of, read_of}
+use Rattle.cjc_narrow.specs.Rows.Resolved.{method_found, resolution}
+use Rattle.cjc_narrow.specs.Pairs.Roles.{role_in, roles_of, with_pairs}
+use Rattle.cjc_narrow.specs.Written.Rows.{has_rows}
 use Rattle.cjc_narrow.specs.Rows.Selected.{near_fields}
 use Rattle.cjc_narrow_proof.specs.Laws.Unbroken.{IsInsnOf}
 use Rattle.cjc_narrow_proof.proofs.LawsLaws.Own.{class_by_name}
@@ -266,6 +268,7 @@ module _ (list : ListTree) (files : List (List ℕ)) (judged : Judged) (p : Pack
   pub has_source : (k : ℕ) (m : LaidMethod) (e : slice_get p.methods k ≡ Some m) (j : ℕ) (insn : NInsn)
       → (let code = m.code in slice_get code.insns j ≡ Some insn) → HasSource p.files codes near (let h = holder k m e
       in h.class) insn
+  unfolding with_pairs
   has_source k m e j insn f = by_code (HasSource p.files codes near (let h = holder k m e in h.class) insn) k m e
       (λ none none_caught. absurd (nothing (sym (ap (λ is. slice_get is j) none) ∙ f)))
       (λ (c : IsCoded m (let h = holder k m e in h.class)).
@@ -275,7 +278,9 @@ module _ (list : ListTree) (files : List (List ℕ)) (judged : Judged) (p : Pack
       let kept = reached x.insns (rows x) in
       let here : slice_get (let n = code_of p.files near rows x in n.insns) j ≡ Some insn =
       ap (λ (n : NMethod). slice_get n.insns j) (sym c.same_code) ∙ f in
-      let s = source_at r (place_in r kept) kept j insn here in
+      let b = read_of x (flags_of (method_found (world p) x.id)) in
+      let fs = has_rows (rows x) in
+      let s = source_at r (place_in (with_pairs r b fs) kept) (role_in x.insns (roles_of r b fs)) kept j insn here in
       let at = reached_from x.insns (rows x) s.0 s.1 s.2 in
       record {
         op = (let i = s.1 in i.op);
@@ -305,7 +310,8 @@ module _ (list : ListTree) (files : List (List ℕ)) (judged : Judged) (p : Pack
       (λ (d : IsCoded m (let h = holder k m e in h.class)).
       let class = (let h = holder k m e in h.class) in
       let x = method_by class d.method (Some d.tree) in
-      let r = resolution p.files near class.name in
+      let r = with_pairs (resolution p.files near class.name) (read_of x (flags_of (method_found (world p) x.id)))
+      (has_rows (rows x)) in
       let kept = reached x.insns (rows x) in
       let tree = d.tree in
       let here : slice_get (catches_at (place_in r kept) tree.catches) j ≡ Some c =

@@ -17,14 +17,12 @@ use Rattle.cjc_tokens.proofs.class.class_tokens.Goals as goal
 
 pub put_method_tokens-requires-clause-low : goal.put_method_tokens-requires-clause-low
 put_method_tokens-requires-clause-low c =
-    let T : Signature → Option ℕ = λ s. token_among (token_under c.in_ok-told.told s) (signs c.deref-2.result.now)
+    let T : Signature → Option ℕ = λ s. token_among (token_under c.in_ok-told.told s) (signs c.in_ok-slots.slots)
     c.items.result.now s in
     let ex = c.is_exported-exported.result in
     let K = c.args.class.now in
-    let H = signs c.deref-3.result.now in
-    ap (λ q. list_any (λ m. is_above 127 (virtual_token T (signs q) (method_of_class m))) c.items-3.result.now)
-    (c.deref-4.ensures.value ∙ sym c.deref-3.ensures.value)
-    ∙ ap (list_any (λ m. is_above 127 (virtual_token T H (method_of_class m)))) c.items-3.ensures
+    let H = signs c.in_ok-hidden.hidden in
+    ap (list_any (λ m. is_above 127 (virtual_token T H (method_of_class m)))) c.items-3.ensures
     ∙ high-first (list_any (λ m. is_above 127 (virtual_token T H (method_of_class m))) K.methods)
     (list_any (λ m. is_above 127 (T (signature_of (member_of m)))) c.args.ids.now)
     (ex && nat_lt 255 (count_by is_open_bound (map method_of_class K.methods)))
@@ -35,17 +33,17 @@ returns-then-is_high_class c =
     let w = all_classes c.args.world.now in
     let n = c.args.number in
     let K = c.args.class.now in
-    let T : Signature → Option ℕ = λ s. token_among (token_under c.in_ok-told.told s) (signs c.deref-2.result.now)
+    let T : Signature → Option ℕ = λ s. token_among (token_under c.in_ok-told.told s) (signs c.in_ok-slots.slots)
     c.items.result.now s in
-    let tokens_are = slot_token-is (line_at w (declared n K)) c.in_ok-told.told c.deref-2.result.now c.items.result.now
-    c.in_ok-told.ensures (ap signs c.deref-2.ensures.value ∙ c.requires.rows.shown_slots) (c.items.ensures
+    let tokens_are = slot_token-is (line_at w (declared n K)) c.in_ok-told.told c.in_ok-slots.slots c.items.result.now
+    c.in_ok-told.ensures (ap signs (c.in_ok-slots.ensures ∙ c.deref-3.ensures.value) ∙ c.requires.rows.shown_slots) (c.items.ensures
     ∙ c.in_ok-public_methods.ensures ∙ ap methods_in c.deref.ensures.value ∙ c.requires.rows.shown_methods) in
     let E = is_exported w c.args.applets (declared n K) in
     sym (high-class w n K T tokens_are c.args.rows.now c.requires.rows c.args.ids.now c.requires.added E
     c.requires.plain)
     ∙ ap (λ b. is_high_class b T (signs c.args.rows.now.hidden.items) K c.args.ids.now)
     (sym c.is_exported-exported.ensures)
-    ∙ ap (λ q. is_high_class c.is_exported-exported.result T (signs q) K c.args.ids.now) (sym c.deref-3.ensures.value)
+    ∙ ap (λ q. is_high_class c.is_exported-exported.result T (signs q) K c.args.ids.now) (sym (c.in_ok-hidden.ensures ∙ c.deref-2.ensures.value))
     ∙ sym c.is_high_class.ensures ∙ c.if-is_high_class.true
 
 pub invariant_of-result : goal.invariant_of-result
@@ -61,21 +59,22 @@ returns c =
     let ex = c.is_exported-exported.result in
     let fs = K.fields in
     let ms = map method_of_class K.methods in
-    let T : Signature → Option ℕ = λ s. token_among (token_under c.in_ok-told.told s) (signs c.deref-2.result.now)
+    let T : Signature → Option ℕ = λ s. token_among (token_under c.in_ok-told.told s) (signs c.in_ok-slots.slots)
     c.items.result.now s in
     let H = signs c.args.rows.now.hidden.items in
     let A = map (λ m. T (signature_of (member_of m))) c.args.ids.now in
-    let tokens_are = slot_token-is (line_at w (declared n K)) c.in_ok-told.told c.deref-2.result.now c.items.result.now
-    c.in_ok-told.ensures (ap signs c.deref-2.ensures.value ∙ c.requires.rows.shown_slots) (c.items.ensures
+    let tokens_are = slot_token-is (line_at w (declared n K)) c.in_ok-told.told c.in_ok-slots.slots c.items.result.now
+    c.in_ok-told.ensures (ap signs (c.in_ok-slots.ensures ∙ c.deref-3.ensures.value) ∙ c.requires.rows.shown_slots) (c.items.ensures
     ∙ c.in_ok-public_methods.ensures ∙ ap methods_in c.deref.ensures.value ∙ c.requires.rows.shown_methods) in
     let one : c.in_ok-members.members ≡ field_tokens ex fs 0 fs = c.in_ok-members.ensures
     ∙ ap (λ q. field_tokens ex q 0 q) c.items-2.ensures in
     let two : c.put_method_tokens.new.tokens ≡ field_tokens ex fs 0 fs ++ class_method_tokens ex T H ms 0 ms =
     c.in_ok-put_method_tokens.ensures
-    ∙ ap (λ q. q ++ class_method_tokens ex T (signs c.deref-4.result.now) (map method_of_class c.items-3.result.now) 0
+    ∙ ap (λ q. q ++ class_method_tokens ex T (signs c.in_ok-hidden.hidden) (map method_of_class c.items-3.result.now) 0
     (map method_of_class c.items-3.result.now)) one
     ∙ ap (λ q. field_tokens ex fs 0 fs ++ class_method_tokens ex T (signs q) (map method_of_class c.items-3.result.now)
-    0 (map method_of_class c.items-3.result.now)) c.deref-4.ensures.value
+    0 (map method_of_class c.items-3.result.now)) (c.in_ok-hidden.ensures
+    ∙ c.deref-2.ensures.value)
     ∙ ap (λ q. field_tokens ex fs 0 fs ++ class_method_tokens ex T H (map method_of_class q) 0 (map method_of_class q))
     c.items-3.ensures in
     let three = c.in_ok-put_added_tokens.ensures ∙ ap (λ q. q ++ A) two ∙ ap (λ b. field_tokens b fs 0 fs
@@ -83,7 +82,7 @@ returns c =
       sym (high-class w n K T tokens_are c.args.rows.now c.requires.rows c.args.ids.now c.requires.added E
           c.requires.plain)
           ∙ ap (λ b. is_high_class b T H K c.args.ids.now) (sym c.is_exported-exported.ensures)
-          ∙ ap (λ q. is_high_class ex T (signs q) K c.args.ids.now) (sym c.deref-3.ensures.value)
+          ∙ ap (λ q. is_high_class ex T (signs q) K c.args.ids.now) (sym (c.in_ok-hidden.ensures ∙ c.deref-2.ensures.value))
           ∙ sym c.is_high_class.ensures ∙ c.if-is_high_class.false,
       tokens-class w n K T tokens_are c.args.rows.now c.requires.rows c.args.ids.now c.requires.added c.args.applets
           c.args.before c.own_token.result c.put_added_tokens.new.tokens c.in_ok-instances.instances
@@ -92,5 +91,5 @@ returns c =
           three
           (c.in_ok-instances.ensures ∙ ap (λ q. instance_tokens q 0 q) c.items-4.ensures)
           (c.in_ok-public_methods.ensures ∙ ap methods_in c.deref.ensures.value)
-          (c.in_ok-package_methods.ensures ∙ ap methods_in c.deref-5.ensures.value),
+          (c.in_ok-package_methods.ensures ∙ ap methods_in c.deref-4.ensures.value),
     )

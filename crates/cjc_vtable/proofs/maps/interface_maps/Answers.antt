@@ -21,12 +21,12 @@ returns c =
     let t = c.requires.tokens in
     let plain : is_interface k.1.flags ≡ false = ap (λ (q : Class). is_interface q.flags) (sym k.3)
     ∙ c.requires.plain in
-    let methods = c.public_methods.ensures ∙ public-row c.args.world.now t.0 c.args.number k.1 k.2 plain
+    let methods = c.public_methods-methods.ensures ∙ public-row c.args.world.now t.0 c.args.number k.1 k.2 plain
     c.args.tokens.now t.1 ∙ ap (λ q. row (line_at w q)) (sym k.3) in
-    let shown = slot_token-is (line_at w d) c.in_ok-told.told c.deref.result.now c.public_methods.result.now
+    let shown = slot_token-is (line_at w d) c.in_ok-told.told c.deref.result.now c.public_methods-methods.result.now
     c.in_ok-told.ensures (ap signs c.deref.ensures.value ∙ c.in_ok-row.ensures) methods in
-    subst (λ q. IfOk c.maps_at.result (λ maps. maps ≡ q))
+    subst (λ q. IfOk c.maps_by.result (λ maps. maps ≡ q))
     (ap (λ q. map (interface_map w q) (at_places w c.items.result.now)) shown
     ∙ ap (λ q. map (interface_map w (shown_token (line_at w d))) (at_places w q)) c.items.ensures
     ∙ ap (map (interface_map w (shown_token (line_at w d)))) (c.in_ok-places.ensures ∙ interfaces-are w d))
-    c.maps_at.ensures
+    c.maps_by.ensures
