@@ -22,6 +22,7 @@ use Rattle.cjc_card_acts.specs.Rows.{LoadsItem, StoresItem, CountsItems, Throws,
 use Rattle.cjc_card_acts.specs.Rows.{CallsInterface, MakesNumbers, Casts, Asks, Forbidden}
 use Rattle.cjc_card_acts.specs.Rows.{copying, copying_below, increasing, loading, storing, swapping, swapping_by, unknown}
 use Rattle.cjc_card_acts.specs.Rows.{with_local, with_number}
+use Rattle.cjc_verify.specs.ClassTypes.{class_type}
 use Rattle.cjc_verify.specs.Instructions.{act_by, asking, by_interface, calling_interface, calling_through, casting}
 use Rattle.cjc_verify.specs.Instructions.{class_in, making_numbers, tested_type, testing, using, using_entry, using_some}
 use Rattle.cjc_verify.specs.Named.{entry_of, entry_type, interface_type}
@@ -143,7 +144,7 @@ calm_through : (p : Pair) (nargs token : ℕ) (o : Option ClassRef) → IsCalm (
 calm_through p nargs token None = (refl, λ e. refl, refl)
 calm_through p nargs token (Some class) = by (interface_type p class token)
   where
-    by : (o : Option MemberType) → IsCalm (calling_interface _ nargs o)
+    by : (o : Option MemberType) → IsCalm (calling_interface (class_type class) nargs o)
     by None = (refl, λ e. refl, refl)
     by (Some t) = (refl, λ e. cc, refl)
 

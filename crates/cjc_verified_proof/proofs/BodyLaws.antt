@@ -72,10 +72,11 @@ abbrev bodies_as : Complete → List Under → List Cut → List Body
 bodies_as c (x ∷ xs) (code ∷ codes) = body_as x (header_at c (let m = x.method in m.offset)) code ++ bodies_as c xs codes
 bodies_as c xs codes = []
 
-same_by : (f g : Option MethodHeader → List Body) → f None ≡ g None → ((h : MethodHeader) → f (Some h) ≡ g (Some h))
-    → (o : Option MethodHeader) → f o ≡ g o
-same_by f g none some None = none
-same_by f g none some (Some h) = some h
+same_with : {L : Type 0} (with : L → Option MethodHeader → Cut → List Body) (x : L) (y : Under) (code : Cut)
+    → with x None code ≡ [] → ((h : MethodHeader) → with x (Some h) code ≡ body_as y (Some h) code)
+    → (o : Option MethodHeader) → with x o code ≡ body_as y o code
+same_with with x y code none some None = none
+same_with with x y code none some (Some h) = some h
 
 one_class : {L : Type 0} (c : Complete) (B : List L → List Cut → List Body) → ((x : L) (xs : List L) → B (x ∷ xs) []
     ≡ []) → (holder : ClassRef) (f : MethodDescriptor → L) → ((m : MethodDescriptor) (xs : List L) (code : Cut)
@@ -95,8 +96,8 @@ all_classes c [] cs = refl
 all_classes c (d ∷ ds) cs =
     ap (λ xs. bodies_of c xs cs) (flat_map-cons listed_in d ds)
     ∙ one_class c (bodies_of c) (λ x xs. refl) d.this_class _ (λ m xs code rest. ap (λ bs. bs ++ bodies_of c xs rest)
-    (same_by (λ o. body_with _ o code) (λ o. body_as (record { holder = d.this_class; method = m }) o code) refl
-    (λ h. refl) (header_at c m.offset))) d.methods (flat_map listed_in ds) (flat_map under_in ds) (all_classes c ds) cs
+    (same_with body_with _ (record { holder = d.this_class; method = m }) code refl (λ h. refl)
+    (header_at c m.offset))) d.methods (flat_map listed_in ds) (flat_map under_in ds) (all_classes c ds) cs
     ∙ sym (ap (λ xs. bodies_as c xs cs) (flat_map-cons under_in d ds))
 
 -- a method with its header and its instructions

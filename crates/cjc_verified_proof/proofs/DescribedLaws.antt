@@ -63,7 +63,7 @@ filter_both {A} f (x ∷ xs) ys = by (f x) (filter_both f xs ys)
     by false e = e
 
 -- what is left stood in the list
-filter_got : {A : Type 0} (f : A → Bool) (xs : List A) (k : ℕ) (x : A) → slice_get (filter f xs) k ≡ Some x
+pub filter_got : {A : Type 0} (f : A → Bool) (xs : List A) (k : ℕ) (x : A) → slice_get (filter f xs) k ≡ Some x
     → (j : ℕ) × (slice_get xs j ≡ Some x)
 filter_got f [] k x e = absurd cc
 filter_got {A} f (y ∷ xs) k x e = by (f y) k e (filter_got f xs)
@@ -210,7 +210,7 @@ module _ (applets : Bool) (files : Files) (image : StaticImage) (c : Complete) (
   pub record Fits (k : ℕ) (d : ClassDescriptor) : Type 0 where
     pub class : Class
     pub offset : ℕ
-    pub ordered : slice_get (class_order w) k ≡ Some class
+    pub in_order : slice_get (class_order w) k ≡ Some class
     pub starts : slice_get (all_starts c.class) k ≡ Some offset
     pub holder : d.this_class ≡ Inside offset
     pub own : is_own_class c.class d.this_class ≡ not (is_interface class.flags)
@@ -241,7 +241,7 @@ module _ (applets : Bool) (files : Files) (image : StaticImage) (c : Complete) (
       record {
         class = cl.0;
         offset = h.0;
-        ordered = cl.1;
+        in_order = cl.1;
         starts = h.1;
         holder = h.2;
         own = ap (is_own_class c.class) h.2
@@ -306,7 +306,7 @@ module _ (applets : Bool) (files : Files) (image : StaticImage) (c : Complete) (
   plain_ones = filter is_plain (described p)
 
   listed_so : map as_listed plain_ones ≡ under c
-  listed_so = all_flat (class_order w) ds (λ k d e. (let f = fits k d e in (f.class, f.ordered, f.own, f.count)))
+  listed_so = all_flat (class_order w) ds (λ k d e. (let f = fits k d e in (f.class, f.in_order, f.own, f.count)))
 
   -- what the package says of a method
   pub record IsSaid (d : Described) : Type 0 where
@@ -395,7 +395,7 @@ module _ (applets : Bool) (files : Files) (image : StaticImage) (c : Complete) (
         holder = is_holder;
         method = is_method;
         said = all_said (class_order w) ds (λ j cl x h i. (let y = fits j x i in (y.place, ap (class_spots p y.place x)
-            (same_some (sym h ∙ y.ordered)) ∙ y.clean))) there.0 r.0 there.1;
+            (same_some (sym h ∙ y.in_order)) ∙ y.clean))) there.0 r.0 there.1;
       }
     where
       twice : (xs : List Described) (j : ℕ) (x : Described) → slice_get xs j ≡ Some x

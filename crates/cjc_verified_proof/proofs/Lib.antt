@@ -26,3 +26,4 @@ pub mod StandingLaws
 pub mod PlaceLaws
 pub mod FieldSuits
 pub mod ProgramLaws
+pub mod CodedLaws

@@ -131,8 +131,7 @@ module _ (applets : Bool) (list : List ℕ) (files : Files) (image : StaticImage
     (counts : (let d = c.descriptor in let q = c.pool in length d.pool_types ≡ length q.entries)) (refs : AreRefs c)
     (whole : whole_spots c ≡ []) (jump : jump_spots c ≡ []) (handled : handler_spots c ≡ [])
     (indexed : index_spots c ≡ []) (class_refs : class_ref_spots c files.exports ≡ []) (program : Program)
-    (of : IsProgramOf (pair_of applets files image c) program) (fit : CallsSuit (pair_of applets files image c) program)
-    where
+    (of : IsProgramOf (pair_of applets files image c) program) where
   abbrev p : Pair
   p = pair_of applets files image c
 
@@ -149,116 +148,6 @@ module _ (applets : Bool) (list : List ℕ) (files : Files) (image : StaticImage
       let r = of.each t among in
       subst (IsMethod l program.exceptions) (typing_is p r.1 t r.4) (typed_method applets files image c whole jump handled
       refs verified program.exceptions of.exceptions r.0 r.1 r.2 t.rows (let x = r.4 in x.least))
-
-  -- ---- entries of the constant pool
-
-  arrays_suit : (result : ValueType) (r : ClassRef) (k : ℕ) → entry_of p k ≡ Some (Classref r)
-      → Suits l program result (using p MakesReferences (entry_type p k) (Classref r)) (or_undone (machine.using l 0
-      MakesReferences (Classref r)))
-  arrays_suit result r k is =
-      let n = class_named applets files image c program of refs class_refs k r is in
-      subst (λ (o : Option Class). Suits l program result (using p MakesReferences (entry_type p k) (Classref r))
-      (or_undone (option_map (λ (x : Class). NewReferences x) o))) (sym n.meant) (suits.anewarray n.class _ n.array)
-
-  use_suits : (result : ValueType) (how : Use) (k : ℕ) (item : PoolEntry) → entry_of p k ≡ Some item
-      → is_used_by how item ≡ true → IsRight (using p how (entry_type p k) item)
-      → Suits l program result (using p how (entry_type p k) item) (or_undone (machine.using l 0 how item))
-  use_suits result (Gets this letter) k (Classref class) is kind right = absurd cc
-  use_suits result (Gets this letter) k (InstanceFieldref class token) is kind right = field_suits applets list files image c sound typed descs static_ones verified counts refs program of result this letter class token k is right
-  use_suits result (Gets this letter) k (VirtualMethodref class token) is kind right = absurd cc
-  use_suits result (Gets this letter) k (SuperMethodref class token) is kind right = absurd cc
-  use_suits result (Gets this letter) k (StaticFieldref field) is kind right = absurd cc
-  use_suits result (Gets this letter) k (StaticMethodref method) is kind right = absurd cc
-  use_suits result (Puts this letter) k (Classref class) is kind right = absurd cc
-  use_suits result (Puts this letter) k (InstanceFieldref class token) is kind right = field_put_suits applets list files image c sound typed descs static_ones verified counts refs program of result this letter class token k is right
-  use_suits result (Puts this letter) k (VirtualMethodref class token) is kind right = absurd cc
-  use_suits result (Puts this letter) k (SuperMethodref class token) is kind right = absurd cc
-  use_suits result (Puts this letter) k (StaticFieldref field) is kind right = absurd cc
-  use_suits result (Puts this letter) k (StaticMethodref method) is kind right = absurd cc
-  use_suits result (GetsStatic letter) k (Classref class) is kind right = absurd cc
-  use_suits result (GetsStatic letter) k (InstanceFieldref class token) is kind right = absurd cc
-  use_suits result (GetsStatic letter) k (VirtualMethodref class token) is kind right = absurd cc
-  use_suits result (GetsStatic letter) k (SuperMethodref class token) is kind right = absurd cc
-  use_suits result (GetsStatic letter) k (StaticFieldref field) is kind right = cell_suits applets list files image c sound typed descs static_ones verified counts refs program of result letter field k is right
-  use_suits result (GetsStatic letter) k (StaticMethodref method) is kind right = absurd cc
-  use_suits result (PutsStatic letter) k (Classref class) is kind right = absurd cc
-  use_suits result (PutsStatic letter) k (InstanceFieldref class token) is kind right = absurd cc
-  use_suits result (PutsStatic letter) k (VirtualMethodref class token) is kind right = absurd cc
-  use_suits result (PutsStatic letter) k (SuperMethodref class token) is kind right = absurd cc
-  use_suits result (PutsStatic letter) k (StaticFieldref field) is kind right = cell_put_suits applets list files image c sound typed descs static_ones verified counts refs program of result letter field k is right
-  use_suits result (PutsStatic letter) k (StaticMethodref method) is kind right = absurd cc
-  use_suits result (Calls mode) k item is kind right = fit.calls result mode k item is kind right
-  use_suits result Makes k (Classref class) is kind right = new_suits applets list files image c sound typed descs static_ones verified counts refs program of result class k is right
-  use_suits result Makes k (InstanceFieldref class token) is kind right = absurd cc
-  use_suits result Makes k (VirtualMethodref class token) is kind right = absurd cc
-  use_suits result Makes k (SuperMethodref class token) is kind right = absurd cc
-  use_suits result Makes k (StaticFieldref field) is kind right = absurd cc
-  use_suits result Makes k (StaticMethodref method) is kind right = absurd cc
-  use_suits result MakesReferences k (Classref class) is kind right = arrays_suit result class k is
-  use_suits result MakesReferences k (InstanceFieldref class token) is kind right = absurd cc
-  use_suits result MakesReferences k (VirtualMethodref class token) is kind right = absurd cc
-  use_suits result MakesReferences k (SuperMethodref class token) is kind right = absurd cc
-  use_suits result MakesReferences k (StaticFieldref field) is kind right = absurd cc
-  use_suits result MakesReferences k (StaticMethodref method) is kind right = absurd cc
-
-  -- ---- instructions
-
-  module _ (k : ℕ) (b : Body) (e : slice_get (bodies c) k ≡ Some b) where
-    stands : StandsIn c k b
-    stands = body_stands c whole k b e
-
-    abbrev result : ValueType
-    result = let t = type_of_body c b in t.result
-
-    step_suits : (place : ℕ) (s : Step) (x : IsStep applets files image c whole jump b place s) → IsRight s.act
-        → Suits l program result s.act (operation l 0 pool (let q = x.item in q.at) (meanings.meaning (let q = x.item
-        in let i = q.item in i.opcode)) (let q = x.item in let i = q.item in i.operands) (let q = x.item in let i = q.item
-        in i.table))
-    step_suits place s x right =
-        let q = x.item in
-        let got = ap (λ is. slice_get is place) (sym stands.instructions) ∙ x.is_item in
-        let read : (f : Form) → (let i = q.item in form i.opcode) ≡ Some f → AreRead (before_table f) (let i = q.item
-        in i.operands) = all_read_so x.bytes q.item x.decoded in
-        let here : IsRight (act p result q) = subst (λ (y : Step). IsRight y.act) (sym x.is) right in
-        let in_pool : SuitPool applets files image c program of refs class_refs result q = record {
-          uses = λ how is_row fine. (
-              let u = uses_indexed c indexed k stands.code stands.among place q got how is_row read in
-              by q.at (let i = q.item in i.table) how (let i = q.item in i.operands) u.index u.is u.entry u.there u.kind fine
-              );
-          interface = λ are fine. fit.interface result q.at (let i = q.item in i.operands) (let i = q.item in i.table) are
-              fine;
-        } in
-        subst (λ (y : Step). Suits l program result y.act (operation l 0 pool q.at (meanings.meaning (let i = q.item
-        in i.opcode)) (let i = q.item in i.operands) (let i = q.item in i.table))) x.is (suits_of applets files image c
-        program of refs class_refs result q read in_pool here)
-      where
-        by : (at : ℕ) (table : List ℤ) (how : Use) (zs : List ℤ) (n : ℕ) → zs ≡ pos n ∷ [] → (item : PoolEntry)
-            → slice_get pool n ≡ Some item → is_used_by how item ≡ true → IsRight (using_entry p how zs)
-            → Suits l program result (using_entry p how zs) (operation l 0 pool at (meanings.Uses how) zs table)
-        by at table how zs n is item there kind fine = subst (λ (ys : List ℤ). IsRight (using_entry p how ys)
-            → Suits l program result (using_entry p how ys) (operation l 0 pool at (meanings.Uses how) ys table)) (sym is)
-            (subst (λ (o : Option PoolEntry). IsRight (using_some p how (entry_type p n) o) → Suits l program result
-            (using_some p how (entry_type p n) o) (or_undone (option_and_then (machine.using l 0 how) o))) (sym there)
-            (λ good. use_suits result how n item there kind good)) fine
-
-  pub are_suited : (t : Typing) → Contains program.methods t → AreSuited l program t
-  are_suited t among =
-      let r = of.each t among in
-      let m = are_methods t among in
-      let h = r.4 in
-      subst (AreSuited l program) (typing_is p r.1 t h) (λ place s is x reached. (
-        let d = step_there applets files image c whole jump r.0 r.1 r.2 place s is in
-        let q = d.item in
-        let right = is_right (is_type_of l) (frames_of p r.1) t.rows (λ n rule breach. m.unbroken n rule (subst
-        (λ (y : flow.Body). Breach (is_type_of l) y t.rows n rule) (sym h.body) breach)) place s is x reached in
-        (
-          fetched_as l 0 pool q.at q.item,
-          (
-            ap (λ (y : Step). fetch l (code_of r.1) y.at) (sym d.is) ∙ d.fetched,
-            step_suits r.0 r.1 r.2 place s d right,
-          ),
-        )
-      ))
 
   -- ---- the first memory
 
@@ -278,3 +167,114 @@ module _ (applets : Bool) (list : List ℕ) (files : Files) (image : StaticImage
           let r = mapped_at first_array inits k thing (ap (λ xs. slice_get xs k) (sym (append-nil (map first_array inits)))
           ∙ f) in
           of_numbers r.0 (ap (λ x. Some (shape x)) r.2 ∙ g)
+
+  -- ---- entries of the constant pool
+
+  arrays_suit : (result : ValueType) (r : ClassRef) (k : ℕ) → entry_of p k ≡ Some (Classref r)
+      → Suits l program result (using p MakesReferences (entry_type p k) (Classref r)) (or_undone (machine.using l 0
+      MakesReferences (Classref r)))
+  arrays_suit result r k is =
+      let n = class_named applets files image c program of refs class_refs k r is in
+      subst (λ (o : Option Class). Suits l program result (using p MakesReferences (entry_type p k) (Classref r))
+      (or_undone (option_map (λ (x : Class). NewReferences x) o))) (sym n.meant) (suits.anewarray n.class _ n.array)
+
+  module _ (fit : CallsSuit p program) where
+    use_suits : (result : ValueType) (how : Use) (k : ℕ) (item : PoolEntry) → entry_of p k ≡ Some item
+        → is_used_by how item ≡ true → IsRight (using p how (entry_type p k) item)
+        → Suits l program result (using p how (entry_type p k) item) (or_undone (machine.using l 0 how item))
+    use_suits result (Gets this letter) k (Classref class) is kind right = absurd cc
+    use_suits result (Gets this letter) k (InstanceFieldref class token) is kind right = field_suits applets list files image c sound typed descs static_ones verified counts refs program of result this letter class token k is right
+    use_suits result (Gets this letter) k (VirtualMethodref class token) is kind right = absurd cc
+    use_suits result (Gets this letter) k (SuperMethodref class token) is kind right = absurd cc
+    use_suits result (Gets this letter) k (StaticFieldref field) is kind right = absurd cc
+    use_suits result (Gets this letter) k (StaticMethodref method) is kind right = absurd cc
+    use_suits result (Puts this letter) k (Classref class) is kind right = absurd cc
+    use_suits result (Puts this letter) k (InstanceFieldref class token) is kind right = field_put_suits applets list files image c sound typed descs static_ones verified counts refs program of result this letter class token k is right
+    use_suits result (Puts this letter) k (VirtualMethodref class token) is kind right = absurd cc
+    use_suits result (Puts this letter) k (SuperMethodref class token) is kind right = absurd cc
+    use_suits result (Puts this letter) k (StaticFieldref field) is kind right = absurd cc
+    use_suits result (Puts this letter) k (StaticMethodref method) is kind right = absurd cc
+    use_suits result (GetsStatic letter) k (Classref class) is kind right = absurd cc
+    use_suits result (GetsStatic letter) k (InstanceFieldref class token) is kind right = absurd cc
+    use_suits result (GetsStatic letter) k (VirtualMethodref class token) is kind right = absurd cc
+    use_suits result (GetsStatic letter) k (SuperMethodref class token) is kind right = absurd cc
+    use_suits result (GetsStatic letter) k (StaticFieldref field) is kind right = cell_suits applets list files image c sound typed descs static_ones verified counts refs program of result letter field k is right
+    use_suits result (GetsStatic letter) k (StaticMethodref method) is kind right = absurd cc
+    use_suits result (PutsStatic letter) k (Classref class) is kind right = absurd cc
+    use_suits result (PutsStatic letter) k (InstanceFieldref class token) is kind right = absurd cc
+    use_suits result (PutsStatic letter) k (VirtualMethodref class token) is kind right = absurd cc
+    use_suits result (PutsStatic letter) k (SuperMethodref class token) is kind right = absurd cc
+    use_suits result (PutsStatic letter) k (StaticFieldref field) is kind right = cell_put_suits applets list files image c sound typed descs static_ones verified counts refs program of result letter field k is right
+    use_suits result (PutsStatic letter) k (StaticMethodref method) is kind right = absurd cc
+    use_suits result (Calls mode) k item is kind right = fit.calls result mode k item is kind right
+    use_suits result Makes k (Classref class) is kind right = new_suits applets list files image c sound typed descs static_ones verified counts refs program of result class k is right
+    use_suits result Makes k (InstanceFieldref class token) is kind right = absurd cc
+    use_suits result Makes k (VirtualMethodref class token) is kind right = absurd cc
+    use_suits result Makes k (SuperMethodref class token) is kind right = absurd cc
+    use_suits result Makes k (StaticFieldref field) is kind right = absurd cc
+    use_suits result Makes k (StaticMethodref method) is kind right = absurd cc
+    use_suits result MakesReferences k (Classref class) is kind right = arrays_suit result class k is
+    use_suits result MakesReferences k (InstanceFieldref class token) is kind right = absurd cc
+    use_suits result MakesReferences k (VirtualMethodref class token) is kind right = absurd cc
+    use_suits result MakesReferences k (SuperMethodref class token) is kind right = absurd cc
+    use_suits result MakesReferences k (StaticFieldref field) is kind right = absurd cc
+    use_suits result MakesReferences k (StaticMethodref method) is kind right = absurd cc
+
+    -- ---- instructions
+
+    module _ (k : ℕ) (b : Body) (e : slice_get (bodies c) k ≡ Some b) where
+      stands : StandsIn c k b
+      stands = body_stands c whole k b e
+
+      abbrev result : ValueType
+      result = let t = type_of_body c b in t.result
+
+      step_suits : (place : ℕ) (s : Step) (x : IsStep applets files image c whole jump b place s) → IsRight s.act
+          → Suits l program result s.act (operation l 0 pool (let q = x.item in q.at) (meanings.meaning (let q = x.item
+          in let i = q.item in i.opcode)) (let q = x.item in let i = q.item in i.operands) (let q = x.item in let i = q.item
+          in i.table))
+      step_suits place s x right =
+          let q = x.item in
+          let got = ap (λ is. slice_get is place) (sym stands.instructions) ∙ x.is_item in
+          let read : (f : Form) → (let i = q.item in form i.opcode) ≡ Some f → AreRead (before_table f) (let i = q.item
+          in i.operands) = all_read_so x.bytes q.item x.decoded in
+          let here : IsRight (act p result q) = subst (λ (y : Step). IsRight y.act) (sym x.is) right in
+          let in_pool : SuitPool applets files image c program of refs class_refs result q = record {
+            uses = λ how is_row fine. (
+                let u = uses_indexed c indexed k stands.code stands.among place q got how is_row read in
+                by q.at (let i = q.item in i.table) how (let i = q.item in i.operands) u.index u.is u.entry u.there u.kind fine
+                );
+            interface = λ are fine. fit.interface result q.at (let i = q.item in i.operands) (let i = q.item in i.table) are
+                fine;
+          } in
+          subst (λ (y : Step). Suits l program result y.act (operation l 0 pool q.at (meanings.meaning (let i = q.item
+          in i.opcode)) (let i = q.item in i.operands) (let i = q.item in i.table))) x.is (suits_of applets files image c
+          program of refs class_refs result q read in_pool here)
+        where
+          by : (at : ℕ) (table : List ℤ) (how : Use) (zs : List ℤ) (n : ℕ) → zs ≡ pos n ∷ [] → (item : PoolEntry)
+              → slice_get pool n ≡ Some item → is_used_by how item ≡ true → IsRight (using_entry p how zs)
+              → Suits l program result (using_entry p how zs) (operation l 0 pool at (meanings.Uses how) zs table)
+          by at table how zs n is item there kind fine = subst (λ (ys : List ℤ). IsRight (using_entry p how ys)
+              → Suits l program result (using_entry p how ys) (operation l 0 pool at (meanings.Uses how) ys table)) (sym is)
+              (subst (λ (o : Option PoolEntry). IsRight (using_some p how (entry_type p n) o) → Suits l program result
+              (using_some p how (entry_type p n) o) (or_undone (option_and_then (machine.using l 0 how) o))) (sym there)
+              (λ good. use_suits result how n item there kind good)) fine
+
+    pub are_suited : (t : Typing) → Contains program.methods t → AreSuited l program t
+    are_suited t among =
+        let r = of.each t among in
+        let m = are_methods t among in
+        let h = r.4 in
+        subst (AreSuited l program) (typing_is p r.1 t h) (λ place s is x reached. (
+          let d = step_there applets files image c whole jump r.0 r.1 r.2 place s is in
+          let q = d.item in
+          let right = is_right (is_type_of l) (frames_of p r.1) t.rows (λ n rule breach. m.unbroken n rule (subst
+          (λ (y : flow.Body). Breach (is_type_of l) y t.rows n rule) (sym h.body) breach)) place s is x reached in
+          (
+            fetched_as l 0 pool q.at q.item,
+            (
+              ap (λ (y : Step). fetch l (code_of r.1) y.at) (sym d.is) ∙ d.fetched,
+              step_suits r.0 r.1 r.2 place s d right,
+            ),
+          )
+        ))

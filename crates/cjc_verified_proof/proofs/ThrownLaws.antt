@@ -155,6 +155,13 @@ module _ (name : List ℕ) (list : ListTree) (files : Files) (image : StaticImag
   file_of : (x : List ℕ) → (i : IsImport (world q) x) → SaysFileName (naming q) (part q) x i.class
   file_of x i = (let s = says_names name q sound in s.file) x i.class i.there i.imported
 
+  -- there is a class of all exceptions
+  pub throwable_there : (exceptions : List ℕ) × (throwable p ≡ Some exceptions)
+  throwable_there =
+      let t = (let lang = has_lang name q sound in lang.throwable) in
+      let f = file_of (codes "java/lang/Throwable") t in
+      (class_type (ref_to (External f.tree f.token)), ap (option_map (λ class. class_type (ref_to class))) f.found)
+
   -- no class of the package is java/lang/Object
   pub no_object : HasNoObject l
   no_object zero x e = let o = has_object name q sound in let f = file_of object o in subst (λ (y : Part).

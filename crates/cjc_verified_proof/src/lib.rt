@@ -2,8 +2,10 @@
 #![tactic(auto)]
 
 pub mod checked;
+pub mod coded;
 pub mod declared;
 pub mod entries;
+pub mod flags;
 pub mod images;
 pub mod plain;
 pub mod supers;
