@@ -128,8 +128,7 @@ beside c (y ∷ xs) [] all k x code e f = absurd cc
 beside c (y ∷ xs) (z ∷ codes) all zero x code e f =
     let h = all 0 y z refl refl in
     let first : y ≡ x = same_some e in
-    let second : z ≡ code = same_some f in
-    (
+    let second : z ≡ code = same_some f in (
       record { holder = y.holder; method = y.method; header = h.0; instructions = z.instructions },
       ap (λ bs. slice_get bs 0) (put_together c y z (bodies_as c xs codes) h.0 h.1),
       (

@@ -351,13 +351,13 @@ module _ (applets : Bool) (files : Files) (image : StaticImage) (c : Complete) (
   all_said (cl ∷ order) [] all k d e = absurd cc
   all_said (cl ∷ order) (x ∷ xs) all k d e = ⊎_elim
       (λ a. (
-        let g = in_got cl x.this_class (methods_of_class w cl) x.methods k d a in
-        let s = all 0 cl x refl refl in
-        let b = beside (λ (m : MethodDescriptor). 12) (method_spots p cl) (methods_begin s.0 x) x.methods
-        (methods_of_class (world p) cl) in
-        let r = beside_none (λ (m : MethodDescriptor). 12) (method_spots p cl) (methods_begin s.0 x) x.methods
-        (methods_of_class w cl) k g.1 g.0 (none_right _ b s.1) g.3 g.2 in
-        subst IsSaid g.4 (clean_method cl x.this_class r.0 g.0 g.1 r.1)
+      let g = in_got cl x.this_class (methods_of_class w cl) x.methods k d a in
+      let s = all 0 cl x refl refl in
+      let b = beside (λ (m : MethodDescriptor). 12) (method_spots p cl) (methods_begin s.0 x) x.methods
+      (methods_of_class (world p) cl) in
+      let r = beside_none (λ (m : MethodDescriptor). 12) (method_spots p cl) (methods_begin s.0 x) x.methods
+      (methods_of_class w cl) k g.1 g.0 (none_right _ b s.1) g.3 g.2 in
+      subst IsSaid g.4 (clean_method cl x.this_class r.0 g.0 g.1 r.1)
       ))
       (λ b. all_said order xs (λ j q y f g. all (suc j) q y f g) b.0 d b.1)
       (either_part (described_in cl x.this_class (methods_of_class w cl) x.methods) (described_among w order xs) k d e)
@@ -394,8 +394,11 @@ module _ (applets : Bool) (files : Files) (image : StaticImage) (c : Complete) (
             ∙ ap (λ x. Some x) one;
         holder = is_holder;
         method = is_method;
-        said = all_said (class_order w) ds (λ j cl x h i. (let y = fits j x i in (y.place, ap (class_spots p y.place x)
-            (same_some (sym h ∙ y.in_order)) ∙ y.clean))) there.0 r.0 there.1;
+        said = all_said (class_order w) ds (λ j cl x h i. (let y = fits j x i in (
+          y.place,
+          ap (class_spots p y.place x)
+              (same_some (sym h ∙ y.in_order)) ∙ y.clean,
+        ))) there.0 r.0 there.1;
       }
     where
       twice : (xs : List Described) (j : ℕ) (x : Described) → slice_get xs j ≡ Some x

@@ -25,8 +25,11 @@ each_none : {A : Type 0} (broken : ℕ → A → List Break) (i : ℕ) (xs : Lis
     (x : A) → slice_get xs k ≡ Some x → (n : ℕ) × (broken n x ≡ [])
 unfolding each_from
 each_none {A} broken i [] e k x f = absurd cc
-each_none {A} broken i (y ∷ xs) e zero x f = (i, ap (broken i) (sym (same_some f)) ∙ none_left (broken i y)
-    (each_from broken (i + 1) xs) e)
+each_none {A} broken i (y ∷ xs) e zero x f = (
+  i,
+  ap (broken i) (sym (same_some f)) ∙ none_left (broken i y)
+      (each_from broken (i + 1) xs) e,
+)
 each_none {A} broken i (y ∷ xs) e (suc k) x f = each_none broken (i + 1) xs (none_right (broken i y)
     (each_from broken (i + 1) xs) e) k x f
 

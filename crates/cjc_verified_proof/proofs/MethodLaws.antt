@@ -142,10 +142,20 @@ typing p b rows = record {
 
 pub typing_is : (p : Pair) (b : Body) (t : Typing) → IsTypingOf p b t → typing p b t.rows ≡ t
 typing_is p b t is =
-    ap (λ (x : Code). record { code = x; body = frames_of p b; rows = t.rows; result = (let m = type_of_body p.components
-    b in m.result) }) (sym is.code)
-    ∙ ap (λ (x : _). record { code = t.code; body = x; rows = t.rows; result = (let m = type_of_body p.components
-    b in m.result) }) (sym is.body)
+    ap (λ (x : Code). record {
+      code = x;
+      body = frames_of p b;
+      rows = t.rows;
+      result = (let m = type_of_body p.components
+          b in m.result);
+    }) (sym is.code)
+    ∙ ap (λ (x : _). record {
+      code = t.code;
+      body = x;
+      rows = t.rows;
+      result = (let m = type_of_body p.components
+          b in m.result);
+    }) (sym is.body)
     ∙ ap (λ (x : ValueType). record { code = t.code; body = t.body; rows = t.rows; result = x }) (sym is.result)
 
 module _ (applets : Bool) (files : Files) (image : StaticImage) (c : Complete) (whole : whole_spots c ≡ [])
@@ -186,8 +196,7 @@ module _ (applets : Bool) (files : Files) (image : StaticImage) (c : Complete) (
   begins_body offset m e =
       let r = starts_there c whole part of 0 offset m e in
       let b = method_has_body c whole r.0 r.1 r.2 in
-      let at : (let x = (b.0).method in x.offset) ≡ offset = ap (λ x. x.offset) b.2 ∙ r.3 in
-      (
+      let at : (let x = (b.0).method in x.offset) ≡ offset = ap (λ x. x.offset) b.2 ∙ r.3 in (
         r.0,
         b.0,
         b.1,
@@ -379,8 +388,7 @@ module _ (applets : Bool) (files : Files) (image : StaticImage) (c : Complete) (
               let at = standing.at in
               let is = at.is_cut in
               let m = b.method in
-              let one : place + 1 ≡ suc place = omega arith in
-              (
+              let one : place + 1 ≡ suc place = omega arith in (
                 step p result z,
                 (
                   ap (slice_get (let f = frames_of p b in f.steps)) one ∙ get_mapped (step p result) b.instructions

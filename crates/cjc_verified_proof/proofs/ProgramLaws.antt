@@ -151,12 +151,12 @@ module _ (applets : Bool) (list : List ℕ) (files : Files) (image : StaticImage
 
   -- ---- the first memory
 
+  abbrev inits : List ArrayInit
+  inits = let s = c.statics in s.array_inits
+
   pub first_made : (let m = first_memory l in AreMade program m.heap)
   first_made k kind e = by (slice_get (map first_array inits ++ []) k) refl e
     where
-      abbrev inits : List ArrayInit
-      inits = let s = c.statics in s.array_inits
-
       of_numbers : (a : ArrayInit) → Some (shape (first_array a)) ≡ Some kind → IsMade program kind
       of_numbers a f = subst (IsMade program) (same_some f) tt
 
@@ -266,15 +266,14 @@ module _ (applets : Bool) (list : List ℕ) (files : Files) (image : StaticImage
         let m = are_methods t among in
         let h = r.4 in
         subst (AreSuited l program) (typing_is p r.1 t h) (λ place s is x reached. (
-          let d = step_there applets files image c whole jump r.0 r.1 r.2 place s is in
-          let q = d.item in
-          let right = is_right (is_type_of l) (frames_of p r.1) t.rows (λ n rule breach. m.unbroken n rule (subst
-          (λ (y : flow.Body). Breach (is_type_of l) y t.rows n rule) (sym h.body) breach)) place s is x reached in
+        let d = step_there applets files image c whole jump r.0 r.1 r.2 place s is in
+        let q = d.item in
+        let right = is_right (is_type_of l) (frames_of p r.1) t.rows (λ n rule breach. m.unbroken n rule (subst
+        (λ (y : flow.Body). Breach (is_type_of l) y t.rows n rule) (sym h.body) breach)) place s is x reached in (
+          fetched_as l 0 pool q.at q.item,
           (
-            fetched_as l 0 pool q.at q.item,
-            (
-              ap (λ (y : Step). fetch l (code_of r.1) y.at) (sym d.is) ∙ d.fetched,
-              step_suits r.0 r.1 r.2 place s d right,
-            ),
-          )
+            ap (λ (y : Step). fetch l (code_of r.1) y.at) (sym d.is) ∙ d.fetched,
+            step_suits r.0 r.1 r.2 place s d right,
+          ),
+        )
         ))

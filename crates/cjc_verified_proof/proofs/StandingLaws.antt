@@ -112,8 +112,7 @@ program_is p exceptions thrown = record {
       let all = filter is_concrete (bodies p.components) in
       let r = contains_at (map (λ (b : Body). typing p b (least_rows (frames_of p b))) all) t among in
       let m = mapped_at (λ (b : Body). typing p b (least_rows (frames_of p b))) all r.0 t r.1 in
-      let g = filter_got is_concrete (bodies p.components) r.0 m.0 m.1 in
-      (
+      let g = filter_got is_concrete (bodies p.components) r.0 m.0 m.1 in (
         g.0,
         m.0,
         g.1,
@@ -129,8 +128,7 @@ program_is p exceptions thrown = record {
   all = λ k b e concrete. (
       let all = filter is_concrete (bodies p.components) in
       let h = filter_has is_concrete (bodies p.components) k b e concrete in
-      let t = item_there (λ (b : Body). typing p b (least_rows (frames_of p b))) all h.0 b h.1 in
-      (
+      let t = item_there (λ (b : Body). typing p b (least_rows (frames_of p b))) all h.0 b h.1 in (
         typing p b (least_rows (frames_of p b)),
         contained (map (λ (b : Body). typing p b (least_rows (frames_of p b))) all) h.0 (typing p b
             (least_rows (frames_of p b))) t,
@@ -213,8 +211,7 @@ module _ (applets : Bool) (files : Files) (image : StaticImage) (c : Complete) (
           words = header_counts p verified k b e;
           typed = λ concrete. (
               let t = of.all k b e (ap not concrete) in
-              let is = t.2 in
-              (
+              let is = t.2 in (
                 t.0,
                 t.1,
                 subst (λ (x : Typing). Begins x (start_at 0 m.offset b.header b.method)) (typing_is p b t.0 is)

@@ -164,11 +164,10 @@ module _ (name : List ℕ) (list : ListTree) (files : Files) (image : StaticImag
 
   -- no class of the package is java/lang/Object
   pub no_object : HasNoObject l
-  no_object zero x e = let o = has_object name q sound in let f = file_of object o in subst (λ (y : Part).
-      number_is y) (same_some e) f.has_no_info
-    where
-      abbrev number_is : Part → Type 0
-      number_is y = number_named y.classes (codes "java/lang/Object") ≡ None
+  no_object zero x e =
+      let o = has_object name q sound in
+      let f = file_of object o in
+      subst (λ (y : Part). number_named y.classes (codes "java/lang/Object") ≡ None) (same_some e) f.has_no_info
   no_object (suc k) x e = absurd cc
 
   module _ (stand : SupersStand l) (plain : FaultsAreClasses (world q))
@@ -213,8 +212,7 @@ module _ (name : List ℕ) (list : ListTree) (files : Files) (image : StaticImag
               (ap is_some i.there) (ap is_some t.there) ∙ sub in
               let there : is_kind_of (loaded q) (External g.tree g.token) (External f.tree f.token) ≡ true =
               ap (λ x. is_kind_of (loaded q) x (External f.tree f.token)) (sym g.on_card)
-              ∙ ap (is_kind_of (loaded q) ((naming q).class (fault_name fault))) (sym f.on_card) ∙ kind in
-              (
+              ∙ ap (is_kind_of (loaded q) ((naming q).class (fault_name fault))) (sym f.on_card) ∙ kind in (
                 External g.tree g.token,
                 (
                   g.found,
