@@ -5,8 +5,12 @@ use Rattle.cjc_check_rules.specs.Spots.{along, in_info, unless}
 use Rattle.cjc_check_rules.specs.ClassRefs.{pool_count_at}
 use Rattle.cjc_check_rules.specs.Complete.{described_size}
 use Rattle.cjc_check_rules.specs.Described.{all_ascend, all_starts, classes_in_order, types_in_class, types_in_pool}
-use Rattle.cjc_card_semantics.specs.Machine.Classes.{Class, External}
+use Rattle.cjc_bytes.specs.declared.fault.MemberId.{MemberId}
+use Rattle.cjc_card_semantics.specs.Bytecode.Machine.{Start}
+use Rattle.cjc_card_semantics.specs.Machine.Calls.{called}
+use Rattle.cjc_card_semantics.specs.Machine.Classes.{External}
 use Rattle.cjc_card_semantics.specs.Machine.Loaded.{Loaded}
+use Rattle.cjc_card_semantics.specs.Machine.Methods.{Code}
 use Rattle.cjc_card_semantics.specs.Machine.Statics.{first_memory}
 use Rattle.cjc_components.specs.Package.{Package, world}
 use Rattle.cjc_token_proof.specs.WrittenSends.Named.{FaultsAreClasses}
@@ -14,15 +18,16 @@ use Rattle.cjc_verify.specs.Instructions.{throwable}
 use Rattle.cjc_verify.specs.Pairs.{Pair}
 use Rattle.cjc_verify_proof.specs.Frames.{AreMethods, Program, Typing}
 use Rattle.cjc_verify_proof.specs.Memories.{AreDeclared, IsMemory}
-use Rattle.cjc_verify_proof.specs.Runs.{AreSuited, IsProgram}
+use Rattle.cjc_verify_proof.specs.Runs.{AreSuited, IsEntry, IsProgram}
 use Rattle.cjc_verify_proof.specs.Scripts.{HasExceptions}
 use Rattle.cjc_verify_proof.specs.Turns.{AreMade}
 use Rattle.cjc_verified_proof.specs.Checked.{Checked, HasCode, IsChecked, pair}
 use Rattle.cjc_verified_proof.specs.Programs.{CallsReach, CallsSuit, IsProgramOf}
-use Rattle.cjc_verified_proof.specs.Suited.{AreStanding, HaveSorts}
+use Rattle.cjc_verified_proof.specs.Suited.{AreStanding, HaveCode, HaveSorts}
 use Rattle.cjc_bytes.proofs.Lists.{none_left}
 use Rattle.cjc_verified_proof.proofs.CheckedLaws as checked
 use Rattle.cjc_verified_proof.proofs.ProgramLaws as programs
+use Rattle.cjc_verified_proof.proofs.ReachLaws as reaches
 use Rattle.cjc_verified_proof.proofs.StandingLaws as standing
 use Rattle.cjc_verified_proof.proofs.ThrownLaws as thrown
 
@@ -83,6 +88,11 @@ module _ (c : Checked) (ok : IsChecked c) (has : HasCode c) where
     pub exceptions : FaultsAreClasses (world q) → HasExceptions l program.exceptions
     exceptions plain = thrown.exceptions_there c.name c.list c.files c.image c.components ok.sound (checked.supers c ok)
         plain ordered has.refs has.counted program.exceptions of.exceptions
+
+    -- entries of scripts that name a static method
+    pub calls : HaveCode p → (id : MemberId) (m : Start Code) → called l id ≡ Some m → IsEntry l program None id.desc m
+    calls codes = reaches.calls applets c.files c.image c.components has.whole has.jumps ordered ok.paired ok.verified
+        has.refs has.counted program of codes
 
     -- the program of a package whose calls reach its methods
     pub is_program : FaultsAreClasses (world q) → CallsReach p program → IsProgram l program

@@ -39,12 +39,12 @@ use Rattle.cjc_verify.specs.Infos.{all_info_spots, class_spots as info_class_spo
 use Rattle.cjc_verify.specs.Pairs.{Described, Pair, described, described_among, described_in, is_method_at, member_of}
 use Rattle.cjc_verify.specs.Pairs.{method_at, nibbles_of, pair_of, world}
 use Rattle.cjc_verify.specs.Verified.{IsVerified}
-use Rattle.cjc_bytes.proofs.Gets.{find_got, get_below, get_inside, mapped_at}
+use Rattle.cjc_bytes.proofs.Gets.{find_got, get_below, get_inside, item_there, mapped_at}
 use Rattle.cjc_bytes.proofs.Lists.{length_mapped, map_append, none_left, none_right}
 use Rattle.cjc_bytes.proofs.Numbers.{number_same, number_same_number}
 use Rattle.cjc_bytes.proofs.Plain.{same_some}
 use Rattle.cjc_card_link.proofs.InfoPlaces.{all_starts as starts_of_infos}
-use Rattle.cjc_verified_proof.proofs.BodyLaws.{Under, body_stands, under, under_in, under_methods}
+use Rattle.cjc_verified_proof.proofs.BodyLaws.{Under, body_stands, method_has_body, under, under_in, under_methods}
 use Rattle.cjc_cut_proof.proofs.CardLaws.{all_cut, class_refs_agree}
 use Rattle.cjc_cut_proof.proofs.CutLaws.{AreCut, code_beside}
 use Rattle.cjc_verified_proof.proofs.EntryLaws.{Says, beside_none, described_none, infos_none, said, unless_holds}
@@ -74,6 +74,20 @@ filter_got {A} f (y ∷ xs) k x e = by (f y) k e (filter_got f xs)
     by true zero e more = (0, e)
     by true (suc k) e more = let r = more k x e in (suc r.0, r.1)
     by false k e more = let r = more k x e in (suc r.0, r.1)
+
+-- and what passes is left
+pub filter_has : {A : Type 0} (f : A → Bool) (xs : List A) (k : ℕ) (x : A) → slice_get xs k ≡ Some x → f x ≡ true
+    → (j : ℕ) × (slice_get (filter f xs) j ≡ Some x)
+filter_has f [] k x e g = absurd cc
+filter_has {A} f (y ∷ xs) zero x e g =
+    let same = same_some e in
+    (0, ap (λ b. slice_get (cond b (y ∷ filter f xs) (filter f xs)) 0) (ap f same ∙ g) ∙ e)
+filter_has {A} f (y ∷ xs) (suc k) x e g = by (f y) (filter_has f xs k x e g)
+  where
+    by : (b : Bool) → (j : ℕ) × (slice_get (filter f xs) j ≡ Some x)
+        → (j : ℕ) × (slice_get (cond b (y ∷ filter f xs) (filter f xs)) j ≡ Some x)
+    by true r = (suc r.0, r.1)
+    by false r = r
 
 -- the first that passes two tests is the first of those that pass one that passes the other
 find_filter : {A : Type 0} (f g : A → Bool) (xs : List A) → find (λ x. f x && g x) xs ≡ find g (filter f xs)
@@ -137,11 +151,11 @@ same_place at bytes (x ∷ ms) (y ∷ cs) h (suc i) (suc k) m n e f g = ap suc (
 
 -- ---- methods of one class
 
-abbrev as_listed : Described → Under
+abbrev pub as_listed : Described → Under
 as_listed d = record { holder = d.holder; method = d.method }
 
 -- of a class that is no interface
-abbrev is_plain : Described → Bool
+abbrev pub is_plain : Described → Bool
 is_plain d = let c = d.class in not (is_interface c.flags)
 
 in_class : (cl : Class) (h : ClassRef) (fs : List Found) (ms : List MethodDescriptor) → length ms ≡ length fs → (b : Bool)
@@ -302,7 +316,7 @@ module _ (applets : Bool) (files : Files) (image : StaticImage) (c : Complete) (
           is_own_class c.class d.this_class) xs))
       by false e = e
 
-  abbrev plain_ones : List Described
+  abbrev pub plain_ones : List Described
   plain_ones = filter is_plain (described p)
 
   listed_so : map as_listed plain_ones ≡ under c
@@ -363,14 +377,15 @@ module _ (applets : Bool) (files : Files) (image : StaticImage) (c : Complete) (
       (either_part (described_in cl x.this_class (methods_of_class w cl) x.methods) (described_among w order xs) k d e)
 
   -- a method of Method is one of the package
-  pub record IsOwn (b : Body) : Type 0 where
+  pub record IsOwn (k : ℕ) (b : Body) : Type 0 where
     pub described : Described
     pub found : method_at p (let m = b.method in m.offset) ≡ Some described
     pub holder : described.holder ≡ b.holder
     pub method : described.method ≡ b.method
     pub said : IsSaid described
+    pub there : slice_get plain_ones k ≡ Some described
 
-  pub body_own : (k : ℕ) (b : Body) → slice_get (bodies c) k ≡ Some b → IsOwn b
+  pub body_own : (k : ℕ) (b : Body) → slice_get (bodies c) k ≡ Some b → IsOwn k b
   body_own k b e =
       let s = body_stands c whole k b e in
       let r = mapped_at as_listed plain_ones k (record { holder = b.holder; method = b.method }) (ap (λ xs. slice_get xs k)
@@ -399,6 +414,7 @@ module _ (applets : Bool) (files : Files) (image : StaticImage) (c : Complete) (
           ap (class_spots p y.place x)
               (same_some (sym h ∙ y.in_order)) ∙ y.clean,
         ))) there.0 r.0 there.1;
+        there = r.1;
       }
     where
       twice : (xs : List Described) (j : ℕ) (x : Described) → slice_get xs j ≡ Some x
@@ -416,3 +432,23 @@ module _ (applets : Bool) (files : Files) (image : StaticImage) (c : Complete) (
       said p (let m = b.method in m.type_offset) (let m = member_of p o.described in m.desc)
       (ap (λ (m : MethodDescriptor). says p m.type_offset (let x = member_of p o.described in x.desc)) (sym o.method)
       ∙ s.type)
+
+  -- a method of a class among all is that of Method which has its place
+  pub own_found : (j : ℕ) (d : Described) → slice_get (described p) j ≡ Some d → is_plain d ≡ true
+      → (i : ℕ) × (b : Body) × (slice_get (bodies c) i ≡ Some b) × (b.method ≡ d.method)
+      × (method_at p (let m = d.method in m.offset) ≡ Some d)
+  own_found j d e plain =
+      let h = filter_has is_plain (described p) j d e plain in
+      let at : slice_get (under c) h.0 ≡ Some (as_listed d) = ap (λ xs. slice_get xs h.0) (sym listed_so)
+      ∙ item_there as_listed plain_ones h.0 d h.1 in
+      let has : slice_get (class_methods c) h.0 ≡ Some d.method = ap (λ ms. slice_get ms h.0) (sym (under_methods c))
+      ∙ item_there (λ (x : Under). x.method) (under c) h.0 (as_listed d) at in
+      let b = method_has_body c whole h.0 d.method has in
+      let o = body_own h.0 b.0 b.1 in (
+        h.0,
+        b.0,
+        b.1,
+        b.2,
+        ap (λ (m : MethodDescriptor). method_at p m.offset) (sym b.2) ∙ o.found
+            ∙ ap (λ (x : Described). Some x) (same_some (sym o.there ∙ h.1)),
+      )

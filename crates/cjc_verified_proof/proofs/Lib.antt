@@ -27,3 +27,4 @@ pub mod PlaceLaws
 pub mod FieldSuits
 pub mod ProgramLaws
 pub mod CodedLaws
+pub mod ReachLaws

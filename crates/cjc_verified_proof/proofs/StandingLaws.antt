@@ -49,7 +49,7 @@ use Rattle.cjc_bytes.proofs.Plain.{same_some}
 use Rattle.cjc_card_acts.specs.Frames.Working.FlowLaws.{frame_flow_stays, frame_laws}
 use Rattle.cjc_intervals.proofs.RangeLaws.Least.{least_exists}
 use Rattle.cjc_verified_proof.proofs.BodyLaws.{method_has_body}
-use Rattle.cjc_verified_proof.proofs.DescribedLaws.{body_own, body_says, filter_got}
+use Rattle.cjc_verified_proof.proofs.DescribedLaws.{body_own, body_says, filter_got, filter_has}
 use Rattle.cjc_verified_proof.proofs.EntryLaws.{no_spots, unless_holds}
 use Rattle.cjc_verified_proof.proofs.MethodLaws.{begins_there_typed, body_starts, typing, typing_is}
 use Rattle.cjc_verified_proof.proofs.NameLaws.{names_meant}
@@ -77,19 +77,6 @@ filter_passes {A} f (y ∷ xs) k x e = by (f y) refl k e (filter_passes f xs)
     by true g zero e more = ap f (sym (same_some e)) ∙ g
     by true g (suc k) e more = more k x e
     by false g k e more = more k x e
-
-filter_has : {A : Type 0} (f : A → Bool) (xs : List A) (k : ℕ) (x : A) → slice_get xs k ≡ Some x → f x ≡ true
-    → (j : ℕ) × (slice_get (filter f xs) j ≡ Some x)
-filter_has f [] k x e g = absurd cc
-filter_has {A} f (y ∷ xs) zero x e g =
-    let same = same_some e in
-    (0, ap (λ b. slice_get (cond b (y ∷ filter f xs) (filter f xs)) 0) (ap f same ∙ g) ∙ e)
-filter_has {A} f (y ∷ xs) (suc k) x e g = by (f y) (filter_has f xs k x e g)
-  where
-    by : (b : Bool) → (j : ℕ) × (slice_get (filter f xs) j ≡ Some x)
-        → (j : ℕ) × (slice_get (cond b (y ∷ filter f xs) (filter f xs)) j ≡ Some x)
-    by true r = (suc r.0, r.1)
-    by false r = r
 
 both : (a b : Bool) → (a && b) ≡ true → (a ≡ true) × (b ≡ true)
 both true b e = (refl, e)
@@ -158,6 +145,21 @@ header_counts p verified k b e =
     (headers_none p verified) e) in
     number_same h.nargs (argument_words p b) (both (h.nargs == argument_words p b) (not (h.is_abstract
     && holds (has_code p) (method_at p m.offset))) fit).0
+
+-- and is not abstract where the package's method has code
+pub header_codes : (p : Pair) → IsVerified p → (k : ℕ) (b : Body) → slice_get (bodies p.components) k ≡ Some b
+    → (let h = b.header in let m = b.method in h.is_abstract && holds (has_code p) (method_at p m.offset)) ≡ false
+header_codes p verified k b e =
+    let h = b.header in
+    let m = b.method in
+    let fit = unless_holds (is_fit_header p b) (in_info 7 m.offset) (none_each (header_spots p) (bodies p.components) k b
+    (headers_none p verified) e) in
+    unturned (h.is_abstract && holds (has_code p) (method_at p m.offset)) (both (h.nargs == argument_words p b)
+    (not (h.is_abstract && holds (has_code p) (method_at p m.offset))) fit).1
+  where
+    unturned : (a : Bool) → not a ≡ true → a ≡ false
+    unturned true f = cc
+    unturned false f = refl
 
 -- ---- arguments
 

@@ -1,7 +1,7 @@
 -- What instructions that use the constant pool ask of its entries.
 use Rattle.std.specs.Prelude.{◌≡◌, ℕ, true, false, List, [], map, slice_get, Option, Some, None, Contains}
 use Rattle.std.specs.Prelude.{if◌then◌else◌}
-use Rattle.cjc_capread.specs.Bytes.AccessFlags.{is_static}
+use Rattle.cjc_capread.specs.Bytes.AccessFlags.{is_interface, is_static}
 use Rattle.cjc_capread.specs.declared.tree.ClassRef.TheVariants as refs
 use Rattle.cjc_capread.specs.declared.tree.StaticRef.{StaticRef}
 use Rattle.cjc_capread.specs.declared.tree.StaticRef.TheVariants.{Inside, Outside}
@@ -19,8 +19,8 @@ use Rattle.cjc_card_acts.specs.Frames.Acts.{given}
 use Rattle.cjc_card_acts.specs.CardTypes.{type_by, types_in}
 use Rattle.cjc_verify.specs.Bodies.{Body, type_of_body}
 use Rattle.cjc_verify.specs.ClassTypes.{class_type}
-use Rattle.cjc_verify.specs.Headers.{argument_words}
-use Rattle.cjc_verify.specs.Pairs.{Pair, Described, member_of, method_at, nibbles_of}
+use Rattle.cjc_verify.specs.Headers.{argument_words, has_code}
+use Rattle.cjc_verify.specs.Pairs.{Pair, Described, described, member_of, method_at, nibbles_of}
 use Rattle.cjc_verify_proof.specs.Calls.{argument_cells, AreSorts, IsResult}
 use Rattle.cjc_verify_proof.specs.Frames.{Typing, Program, Begins}
 use Rattle.cjc_verified_proof.specs.Entries.{IsRef}
@@ -64,3 +64,12 @@ pub record IsRight (a : Act) : Type 0 where
   pub known : a.is_unknown ≡ false
   pub named : a.misnames ≡ false
   pub fit : a.misfits ≡ false
+
+-- Methods have descriptors of methods, and static ones stand in classes and have code.
+pub record HaveCode (p : Pair) : Type 0 where
+  pub signed : (k : ℕ) (d : Described) → slice_get (described p) k ≡ Some d
+      → (s : Signature) × (signature_of (let m = member_of p d in m.desc) ≡ Some s)
+  pub in_classes : (k : ℕ) (d : Described) → slice_get (described p) k ≡ Some d
+      → is_static (let m = d.method in m.flags) ≡ true → (let c = d.class in is_interface c.flags ≡ false)
+  pub coded : (k : ℕ) (d : Described) → slice_get (described p) k ≡ Some d
+      → is_static (let m = d.method in m.flags) ≡ true → has_code p d ≡ true

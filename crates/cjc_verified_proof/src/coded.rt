@@ -1,14 +1,18 @@
 //! The program of a package whose components the type checker passes: its methods are typed, and what is open of it is that
 //! its calls reach its methods. It has laws alone, for whoever proves that such components are never stuck.
-ghost use Rattle.std.specs.Prelude.{◌≡◌, List, [], Contains};
+ghost use Rattle.std.specs.Prelude.{◌≡◌, List, [], Some, None, Contains};
+ghost use Rattle.cjc_card_semantics.specs.Bytes.declared.fault.MemberId.{MemberId};
+ghost use Rattle.cjc_card_semantics.specs.Bytecode.Machine.{Start};
+ghost use Rattle.cjc_card_semantics.specs.Machine.Calls.{called};
+ghost use Rattle.cjc_card_semantics.specs.Machine.Methods.{Code};
 ghost use Rattle.cjc_components.specs.Package.{world};
 ghost use Rattle.cjc_token_proof.specs.WrittenSends.Named.{FaultsAreClasses};
 ghost use Rattle.cjc_verify_proof.specs.Frames.{AreMethods, Program, Typing};
-ghost use Rattle.cjc_verify_proof.specs.Runs.{AreSuited, IsProgram};
+ghost use Rattle.cjc_verify_proof.specs.Runs.{AreSuited, IsEntry, IsProgram};
 ghost use Rattle.cjc_verify_proof.specs.Scripts.{HasExceptions};
 ghost use Rattle.cjc_verified_proof.specs.Checked.{Checked, HasCode, IsChecked, pair};
 ghost use Rattle.cjc_verified_proof.specs.Programs.{CallsReach, CallsSuit, IsProgramOf};
-ghost use Rattle.cjc_verified_proof.specs.Suited.{AreStanding, HaveSorts};
+ghost use Rattle.cjc_verified_proof.specs.Suited.{AreStanding, HaveCode, HaveSorts};
 
 /// A package that is checked has a program: its methods with their least tables.
 pub fn programs_are_there()
@@ -45,6 +49,14 @@ pub fn exceptions_are_there()
     ensures { (c : Checked) → IsChecked c → HasCode c → (program : Program) → IsProgramOf (pair c) program
         → FaultsAreClasses (world (record { list = c.list; files = c.files; image = c.image; methods = [] }))
         → (let p = pair c in HasExceptions p.loaded program.exceptions) }
+{}
+
+/// A static method that an entry of a script names begins one of the program, where methods have descriptors of methods and
+/// static ones have code.
+pub fn static_entries_are_there()
+    ensures { (c : Checked) → IsChecked c → HasCode c → (program : Program) → IsProgramOf (pair c) program
+        → HaveCode (pair c) → (let p = pair c in (id : MemberId) (m : Start Code) → called p.loaded id ≡ Some m
+        → IsEntry p.loaded program None id.desc m) }
 {}
 
 /// Where calls are what their acts say and entries of scripts begin methods of the program, it is one whose runs are never
