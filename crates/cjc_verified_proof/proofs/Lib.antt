@@ -14,3 +14,4 @@ pub mod InfoLaws
 pub mod NamingLaws
 pub mod TowerLaws
 pub mod PlaceLaws
+pub mod DispatchSuits

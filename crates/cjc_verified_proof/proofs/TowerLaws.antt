@@ -11,8 +11,15 @@ use Rattle.cjc_world.specs.declared.image.StaticImage.{StaticImage}
 use Rattle.cjc_world.specs.Classes.{Class, all_classes, class_named}
 use Rattle.cjc_world.specs.Files.{Files}
 use Rattle.cjc_world.proofs.Cycles.{class_named-name}
+use Rattle.cjc_tokens.specs.Lines.{line_of}
+use Rattle.cjc_tokens.specs.Members.{Signature}
+use Rattle.cjc_tokens.specs.Slots.{hidden_slots, implementing, implementing_hidden, slots, token}
+use Rattle.cjc_vtable.specs.Laws.{Under}
+use Rattle.cjc_vtable.specs.Meant.{PackageTokensMean, TokensMean}
+use Rattle.cjc_vtable.specs.Naming.{named}
 use Rattle.cjc_vtable.specs.Tables.{table_of}
 use Rattle.cjc_card_semantics.specs.Machine.Classes.{IsInterface, IsClass, class_of}
+use Rattle.cjc_card_semantics.specs.Machine.Dispatch.{At, Outward, dispatched_hidden, dispatched_open, tower}
 use Rattle.cjc_components.specs.Class.{implemented, interface_entry}
 use Rattle.cjc_components.specs.Methods.{method_offset as written_offset}
 use Rattle.cjc_components.specs.Names.{class_at}
@@ -21,7 +28,7 @@ use Rattle.cjc_components.specs.Package.{Package}
 use Rattle.cjc_components.specs.Paired.Pairs.{ArePaired}
 use Rattle.cjc_components.specs.VTable.declared.table.InterfaceMap.{InterfaceMap}
 use Rattle.cjc_token_proof.specs.Calls.Dispatching.{DispatchAgrees, SaysTables, SaysTower, of_file, of_package}
-use Rattle.cjc_token_proof.specs.Calls.Dispatching.{table_entry}
+use Rattle.cjc_token_proof.specs.Calls.Dispatching.{event, selection_of, table_entry}
 use Rattle.cjc_token_proof.specs.Tables.Loading.{naming}
 use Rattle.cjc_token_proof.specs.Tables.Sound.{IsSound}
 use Rattle.cjc_verify.specs.Infos.{public_entry}
@@ -149,3 +156,51 @@ module _ (name : List ℕ) (list : ListTree) (files : Files) (image : StaticImag
         (method_offset p f)) (kinds name list files image c sound paired verified) s.height x s.foot (tower_here s.height x
         s.foot s.tower k e class_here) (subst (λ d. s.height ≤ d) (depth_alike name list files image c sound paired verified)
         (height_fits q facts x k e s))
+
+    -- ---- calls by a token of a class at or above the receiver's
+
+    -- what a public or protected token reaches: a method of the same name and descriptor
+    pub record IsReachedBy (x : List ℕ) (t : ℕ) (s : Signature) : Type 0 where
+      pub foot : List ℕ
+      pub method : Found
+      pub name : named w method ≡ Some s
+      pub nearest : implementing (line_of w x) s ≡ Some method
+      pub reached : dispatched_open (tower n.loaded (n.class x)) t ≡ selection_of n (offset_in p) foot s method
+
+    pub open_reached : TokensMean w → (x y : List ℕ) (k d : Class) → class_named w x ≡ Some k → is_interface k.flags
+        ≡ false → class_named w y ≡ Some d → Under w x y → (s : Signature) (t : ℕ) → token (slots (line_of w y)) s
+        ≡ Some t → IsReachedBy x t s
+    open_reached mean x y k d e class_here named_y under s t h =
+        let once = facts.tokens_once x y k d e class_here named_y under in
+        let r = mean x k e class_here s t (once.inherited s t h) in
+        let dispatch_is = agrees x k e class_here in
+        record {
+          foot = (let stands = class_stands q facts x k e class_here in stands.foot);
+          method = r.method;
+          name = r.name;
+          nearest = r.nearest;
+          reached = dispatch_is.open_method t r.method s r.by_token r.name;
+        }
+
+    -- what a package-visible token reaches: a method of the package
+    pub record IsHiddenBy (x : List ℕ) (t : ℕ) (s : Signature) : Type 0 where
+      pub method : Found
+      pub own : method.imported ≡ false
+      pub nearest : implementing_hidden (line_of w x) s ≡ Some method
+      pub reached : dispatched_hidden (tower n.loaded (n.class x)) 0 t ≡ At 0 (offset_in p method)
+
+    pub hidden_reached : PackageTokensMean w → (x y : List ℕ) (k d : Class) → class_named w x ≡ Some k → is_interface
+        k.flags ≡ false → class_named w y ≡ Some d → Under w x y → (s : Signature) (t : ℕ) → token (hidden_slots (line_of w
+        y)) s ≡ Some t → IsHiddenBy x t s
+    hidden_reached mean x y k d e class_here named_y under s t h =
+        let once = facts.tokens_once x y k d e class_here named_y under in
+        let r = mean x k e s t (once.hidden_inherited s t h) in
+        let stands = class_stands q facts x k e class_here in
+        let dispatch_is = agrees x k e class_here in
+        record {
+          method = r.method;
+          own = r.own;
+          nearest = r.nearest;
+          reached = dispatch_is.package_method t r.method s r.by_token ∙ ap (λ b. if b then Outward (event stands.foot s)
+              else At 0 (offset_in p r.method)) r.own;
+        }

@@ -3,3 +3,4 @@ pub mod Entries
 pub mod Checked
 pub mod Programs
 pub mod Suited
+pub mod Selecting

@@ -1,14 +1,24 @@
 -- The program of components that the type checker passes.
-use Rattle.std.specs.Prelude.{◌≡◌, ℕ, ◌+◌, ◌==◌, ◌&&◌, not, Bool, true, false, List, slice_get, Some, Contains}
+use Rattle.std.specs.Prelude.{◌≡◌, ℕ, ◌+◌, ◌==◌, ◌&&◌, not, Bool, true, false, List, [], ◌∷◌, slice_get, Some, Contains, ℤ}
+use Rattle.cjc_capread.specs.Opcodes.{Byte, Index2}
+use Rattle.cjc_capread.specs.declared.tree.PoolEntry.{PoolEntry}
+use Rattle.cjc_card_semantics.specs.Bytecode.Meanings.{Calls, CallsInterface, Mode}
 use Rattle.cjc_card_semantics.specs.Machine.Classes.{Class, Own, External, is_interface}
 use Rattle.cjc_card_semantics.specs.Machine.Methods.{Code}
+use Rattle.cjc_card_semantics.specs.Machine.Operations.{operation, or_undone}
+use Rattle.cjc_card_semantics.specs.Machine.Operations as machine
+use Rattle.cjc_card_acts.specs.CardTypes.{ValueType}
 use Rattle.cjc_card_acts.specs.Frames.Tables.{IsLeastTable}
 use Rattle.cjc_verify.specs.Bodies.{Body, bodies, frames_of, type_of_body}
-use Rattle.cjc_verify.specs.Instructions.{throwable}
-use Rattle.cjc_verify.specs.Named.{is_unmade_class}
+use Rattle.cjc_verify.specs.Instructions.{by_interface, throwable, using}
+use Rattle.cjc_verify.specs.Named.{entry_of, entry_type, is_unmade_class}
 use Rattle.cjc_verify.specs.Pairs.{Pair, class_at}
+use Rattle.cjc_verify_proof.specs.Beside.{AreRead}
 use Rattle.cjc_verify_proof.specs.Frames.{Typing, Program}
+use Rattle.cjc_verify_proof.specs.Instructions.{Suits}
+use Rattle.cjc_verify_proof.specs.Uses.{is_used_by}
 use Rattle.cjc_verified_proof.specs.PackageTypes.{field_types}
+use Rattle.cjc_verified_proof.specs.Suited.{IsRight}
 
 -- the code of a method, behind its header
 abbrev pub code_of : Body → Code
@@ -46,3 +56,13 @@ pub record IsProgramOf (p : Pair) (program : Program) : Type 0 where
   pub exceptions : throwable p ≡ Some program.exceptions
   pub fields : program.fields ≡ field_types p
   pub made : program.made ≡ is_made p
+
+-- Calls of a program are what their acts say: by the entry that they name, and calls of interfaces by their operands.
+pub record CallsSuit (p : Pair) (program : Program) : Type 0 where
+  pub calls : (result : ValueType) (mode : Mode) (k : ℕ) (item : PoolEntry) → entry_of p k ≡ Some item
+      → is_used_by (Calls mode) item ≡ true → IsRight (using p (Calls mode) (entry_type p k) item)
+      → Suits p.loaded program result (using p (Calls mode) (entry_type p k) item)
+      (or_undone (machine.using p.loaded 0 (Calls mode) item))
+  pub interface : (result : ValueType) (at : ℕ) (operands table : List ℤ) → AreRead (Byte ∷ Index2 ∷ Byte ∷ []) operands
+      → IsRight (by_interface p operands) → Suits p.loaded program result (by_interface p operands) (operation p.loaded 0
+      (let c = p.components in let q = c.pool in q.entries) at CallsInterface operands table)
