@@ -221,6 +221,9 @@ module _ (applets : Bool) (files : Files) (image : StaticImage) (c : Complete) (
         by false f h = cc
 
     module _ (nargs token k : ℕ) (class : ClassRef) (is : entry_of p k ≡ Some (Classref class)) where
+      abbrev type : List ℕ
+      type = class_type class
+
       -- what the act says, by the class that the entry means
       abbrev through : Option Class → Option MemberType
       through o = option_map (λ nibbles. type_by (types_in nibbles)) (option_and_then (nibbles_of p) (interface_desc l token
@@ -231,9 +234,6 @@ module _ (applets : Bool) (files : Files) (image : StaticImage) (c : Complete) (
           (option_map (λ (x : Class). Call (OnInterface nargs x token)) (class_of l 0 class)))
       interface_suits right = by_class (class_of l 0 class) refl right
         where
-          abbrev type : List ℕ
-          type = class_type class
-
           by_nibbles : (x : Class) → class_of l 0 class ≡ Some x → (desc : List ℕ) → interface_desc l token (Some x)
               ≡ Some desc → (n : Option (List ℕ)) → nibbles_of p desc ≡ n → IsRight (calling_interface type nargs
               (option_map (λ nibbles. type_by (types_in nibbles)) n)) → Suits l program result (calling_interface type
@@ -245,8 +245,11 @@ module _ (applets : Bool) (files : Files) (image : StaticImage) (c : Complete) (
               (Classref class) is) ∙ f) in
               let count = taken_counted (Some type) t.params in
               let words = number_so nargs (1 + widths t.params) r.named in
-              let total : nargs ≡ length (needs_of_all t.params ++ receiver_needs (Some type)) = omega (arith, count,
-              words) in
+              let total : nargs ≡ length (needs_of_all t.params ++ receiver_needs (Some type)) = omega (
+                arith,
+                count,
+                words,
+              ) in
               call (record {
                 receiver = Some type;
                 params = t.params;
@@ -308,8 +311,8 @@ module _ (applets : Bool) (files : Files) (image : StaticImage) (c : Complete) (
   all_calls = record {
     calls = λ result mode k item is kind right. calls_suit applets files image c program verified counts written clean
         stands sorts result (record {
-      virtual_suits = λ n class token e. virtual_suits result n class token e;
-      super_suits = λ n class token e named. super_suits result n class token e named;
-    }) mode k item is kind right.named;
+          virtual_suits = λ n class token e. virtual_suits result n class token e;
+          super_suits = λ n class token e named. super_suits result n class token e named;
+        }) mode k item is kind right.named;
     interface = λ result at operands table r right. interface_calls result at operands table r right;
   }

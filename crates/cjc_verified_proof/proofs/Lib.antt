@@ -15,3 +15,4 @@ pub mod NamingLaws
 pub mod TowerLaws
 pub mod PlaceLaws
 pub mod DispatchSuits
+pub mod TokenLaws

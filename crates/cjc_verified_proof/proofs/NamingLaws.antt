@@ -51,11 +51,12 @@ use Rattle.cjc_verify.specs.Infos.{infos, public_entry}
 use Rattle.cjc_verify.specs.Pairs.{Pair, class_named as class_on_card, class_ref, pair_of, world}
 use Rattle.cjc_verify.specs.Pairs as pairs
 use Rattle.cjc_verify.specs.Verified.{IsVerified}
+use Rattle.cjc_verified_proof.specs.ClassInfos.{wanted_class, wanted_info, wanted_infos}
+use Rattle.cjc_verified_proof.specs.Dispatching.{naming_of, package_of}
 use Rattle.cjc_card_link.proofs.InfoPlaces as places
 use Rattle.cjc_token_proof.proofs.ComponentsLaws.Starts.{infos_stand_alike}
 use Rattle.cjc_token_proof.proofs.TablesLaws.Above.{says_kinds}
-use Rattle.cjc_verified_proof.proofs.InfoLaws.{class_is, infos_are, infos_by_order, map_twice, wanted_class, wanted_info}
-use Rattle.cjc_verified_proof.proofs.InfoLaws.{wanted_infos}
+use Rattle.cjc_verified_proof.proofs.InfoLaws.{class_is, infos_are, infos_by_order, map_twice}
 use Rattle.cjc_verified_proof.proofs.PlaceLaws.{import_is}
 
 -- ---- lists
@@ -95,7 +96,7 @@ module _ (name : List ℕ) (list : ListTree) (files : Files) (image : StaticImag
 
   -- the package, as if it had no methods: what is written for it has the same classes
   abbrev pub q : Package
-  q = record { list = list; files = files; image = image; methods = [] }
+  q = package_of list files image
 
   abbrev m : Loaded
   m = written_loaded q
@@ -278,7 +279,7 @@ module _ (name : List ℕ) (list : ListTree) (files : Files) (image : StaticImag
 
   -- what the components name
   abbrev pub n : Naming
-  n = record (naming q) { loaded = l }
+  n = naming_of p q
 
   written_kinds : SaysKinds w (naming q)
   written_kinds = says_kinds name q sound

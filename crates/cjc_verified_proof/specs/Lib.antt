@@ -4,3 +4,5 @@ pub mod Checked
 pub mod Programs
 pub mod Suited
 pub mod Selecting
+pub mod ClassInfos
+pub mod Dispatching

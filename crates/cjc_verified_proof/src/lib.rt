@@ -3,7 +3,9 @@
 
 pub mod checked;
 pub mod declared;
+pub mod dispatch;
 pub mod entries;
 pub mod images;
+pub mod infos;
 pub mod plain;
 pub mod supers;
