@@ -13,11 +13,11 @@ use Rattle.cjc_world.specs.Files.{Files}
 use Rattle.cjc_world.proofs.Cycles.{class_named-name}
 use Rattle.cjc_tokens.specs.Lines.{line_of}
 use Rattle.cjc_tokens.specs.Members.{Signature}
-use Rattle.cjc_tokens.specs.Slots.{hidden_slots, implementing, implementing_hidden, slots, token}
+use Rattle.cjc_tokens.specs.Slots.{hidden_slots, slots, token}
 use Rattle.cjc_vtable.specs.Laws.{Under}
 use Rattle.cjc_vtable.specs.Tables.{table_of}
 use Rattle.cjc_card_semantics.specs.Machine.Classes.{IsInterface, IsClass, class_of}
-use Rattle.cjc_card_semantics.specs.Machine.Dispatch.{At, Outward, dispatched_hidden, dispatched_open, tower}
+use Rattle.cjc_card_semantics.specs.Machine.Dispatch.{At, Outward, tower}
 use Rattle.cjc_components.specs.Class.{implemented, interface_entry}
 use Rattle.cjc_components.specs.Methods.{method_offset as written_offset}
 use Rattle.cjc_components.specs.Names.{class_at}
@@ -26,7 +26,7 @@ use Rattle.cjc_components.specs.Package.{Package}
 use Rattle.cjc_components.specs.Paired.Pairs.{ArePaired}
 use Rattle.cjc_components.specs.VTable.declared.table.InterfaceMap.{InterfaceMap}
 use Rattle.cjc_token_proof.specs.Calls.Dispatching.{DispatchAgrees, SaysTables, SaysTower, of_file, of_package}
-use Rattle.cjc_token_proof.specs.Calls.Dispatching.{event, selection_of, table_entry}
+use Rattle.cjc_token_proof.specs.Calls.Dispatching.{event, table_entry}
 use Rattle.cjc_token_proof.specs.Tables.Loading.{naming}
 use Rattle.cjc_token_proof.specs.Tables.Sound.{IsSound}
 use Rattle.cjc_verify.specs.Infos.{public_entry}

@@ -1,5 +1,5 @@
 -- The class infos that a package's class files and Descriptor ask for.
-use Rattle.std.specs.Prelude.{map, if◌then◌else◌}
+use Rattle.std.specs.Prelude.{true, false, map, if◌then◌else◌}
 use Rattle.cjc_capread.specs.Bytes.AccessFlags.{is_interface}
 use Rattle.cjc_capread.specs.declared.tree.ClassEntry.{ClassEntry}
 use Rattle.cjc_capread.specs.declared.tree.ClassInfo.{ClassInfo}
