@@ -253,7 +253,7 @@ module _ (applets : Bool) (files : Files) (image : StaticImage) (c : Complete) (
         pub meant : (on : Bool) → machine.static_method l 0 on (Outside import class token) ≡ Some (outer on holder.name
             method)
 
-      imported_method : IsImportedMethod
+      pub imported_method : IsImportedMethod
       imported_method = by (exported p import class) refl (e.named)
         where
           e : IsTyped p k (StaticMethodref (Outside import class token))

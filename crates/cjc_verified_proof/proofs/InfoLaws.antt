@@ -1,11 +1,10 @@
 -- Class infos are those of the package's classes, by the rules of tables and of the other items.
-use Rattle.std.proofs.Common.{◌≡◌, ◌+◌, ◌*◌, ◌==◌, ◌&&◌, ℕ, zero, suc, Bool, true, false, not, List, [], ◌∷◌, ◌++◌, length}
-use Rattle.std.proofs.Common.{map, slice_get, Option, Some, None, refl, sym, ap, subst, ◌∙◌, arith, inl, inr, length-append}
+use Rattle.std.proofs.Common.{◌≡◌, ◌+◌, ◌*◌, ◌==◌, ◌&&◌, ℕ, suc, Bool, true, false, not, List, [], ◌∷◌, ◌++◌, length}
+use Rattle.std.proofs.Common.{map, slice_get, Some, refl, sym, ap, subst, ◌∙◌, arith, length-append}
 use Rattle.std.specs.Prelude.{if◌then◌else◌}
 use Rattle.std.proofs.lemmas.List.{length-map, map-append, map-id}
 use Rattle.cjc_capread.specs.Bytes.AccessFlags.{is_interface}
 use Rattle.cjc_capread.specs.declared.tree.ClassEntry.{ClassEntry}
-use Rattle.cjc_capread.specs.declared.tree.ClassInfo.{ClassInfo}
 use Rattle.cjc_capread.specs.declared.tree.ClassRef.{ClassRef}
 use Rattle.cjc_capread.specs.declared.tree.ClassRef.TheVariants.{Inside, Outside}
 use Rattle.cjc_capread.specs.declared.tree.ImplementedInterface.{ImplementedInterface}
@@ -37,6 +36,7 @@ use Rattle.cjc_verify.specs.Infos.{head_of, info_spots, infos, interface_refs, i
 use Rattle.cjc_verify.specs.Infos.{public_entry, refs_differ, table_items, table_spots}
 use Rattle.cjc_verify.specs.Pairs.{Pair, class_ref, method_offset, pair_of, world}
 use Rattle.cjc_verify.specs.Verified.{IsVerified, class_breaks, header_breaks, listed}
+use Rattle.cjc_verified_proof.specs.ClassInfos.{wanted_class, wanted_info, wanted_infos}
 use Rattle.cjc_bytes.proofs.BrokenRules.{among_left, among_right}
 use Rattle.cjc_bytes.proofs.Bools.{and_true}
 use Rattle.cjc_bytes.proofs.Lists.{none_left, none_right}
@@ -184,36 +184,6 @@ no_head [] e = refl
 no_head (s ∷ ss) e = cc
 
 -- ---- what is wanted of a package
-
--- a class with the offsets that Descriptor gives its methods
-abbrev pub wanted_class : Pair → Class → ClassEntry
-wanted_class p c =
-    let fields = fields_of p.files c in
-    let table = table_of (world p) c in
-    record {
-      flags = info_flags (world p) c;
-      superclass = class_ref p (superclass c);
-      declared_instance_size = instance_cells fields;
-      first_reference_token = first_reference_token fields;
-      reference_count = reference_count fields;
-      public_base = table.public_base;
-      package_base = table.package_base;
-      public_methods = map (public_entry p) table.public;
-      package_methods = map (method_offset p) table.«package»;
-      interfaces = map (implemented (class_ref p)) table.maps;
-    }
-
--- an info
-abbrev pub wanted_info : Pair → Class → Info
-wanted_info p c = if is_interface c.flags then IsInterface (interface_entry (class_ref p) (world p) c)
-    else IsClass (wanted_class p c)
-
--- all of them
-abbrev pub wanted_infos : Pair → ClassInfo
-wanted_infos p = record {
-  interfaces = map (interface_entry (class_ref p) (world p)) (in_order (world p) true);
-  classes = map (wanted_class p) (in_order (world p) false);
-}
 
 module _ (p : Pair) where
   interface_same : (at : ℕ) (i : InterfaceEntry) (c : Class) → interface_spots p at i c ≡ [] → i

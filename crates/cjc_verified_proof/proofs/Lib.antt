@@ -28,3 +28,5 @@ pub mod FieldSuits
 pub mod ProgramLaws
 pub mod CodedLaws
 pub mod ReachLaws
+pub mod DispatchSuits
+pub mod TokenLaws

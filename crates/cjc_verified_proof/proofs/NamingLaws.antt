@@ -1,11 +1,10 @@
 -- What the components of a package name: classes are told, and stand below one another, as the class files and export
 -- files say.
-use Rattle.std.proofs.Common.{◌≡◌, ◌+◌, ◌*◌, ◌==◌, ◌<◌, ℕ, zero, suc, Bool, true, false, List, [], ◌∷◌, ◌++◌, length}
-use Rattle.std.proofs.Common.{map, slice_get, Option, Some, None, refl, sym, ap, subst, ◌∙◌, arith, nat_lt}
+use Rattle.std.proofs.Common.{◌≡◌, ◌+◌, ◌*◌, ◌==◌, ℕ, zero, suc, Bool, true, false, List, [], ◌∷◌, ◌++◌, length}
+use Rattle.std.proofs.Common.{map, slice_get, Option, Some, None, refl, sym, ap, subst, ◌∙◌, nat_lt}
 use Rattle.std.specs.Prelude.{codes, if◌then◌else◌, is_some, option_and_then, option_map, option_to_list, position}
 use Rattle.std.specs.Prelude.{sum_by, unwrap_or}
 use Rattle.std.specs.Str.{bytes_eq}
-use Rattle.std.proofs.lemmas.Bool.Decides.{nat_tests}
 use Rattle.std.proofs.lemmas.List.{length-map}
 use Rattle.std.proofs.lemmas.Option.{slice_get-map}
 use Rattle.cjc_bytes.proofs.Gets.{mapped_at}
@@ -19,14 +18,12 @@ use Rattle.cjc_check_rules.specs.Classes.{first_class, first_interface}
 use Rattle.cjc_check_rules.specs.Complete.{Complete, class_size, interface_size, map_size}
 use Rattle.cjc_check_rules.specs.Described.{all_starts}
 use Rattle.cjc_list.specs.Listed.{ListTree}
-use Rattle.cjc_world.specs.declared.found.Found.{Found}
 use Rattle.cjc_world.specs.declared.image.StaticImage.{StaticImage}
-use Rattle.cjc_world.specs.Classes.{Class, all_classes, class_named}
+use Rattle.cjc_world.specs.Classes.{Class, all_classes}
 use Rattle.cjc_world.specs.Files.{Files}
 use Rattle.cjc_world.specs.Order.{class_order, in_order}
-use Rattle.cjc_world.specs.Supertypes.{Lists}
-use Rattle.cjc_card_semantics.specs.Machine.Loaded.{Import, Loaded, OfFile}
-use Rattle.cjc_card_semantics.specs.Machine.Classes.{Own, External, Info, IsInterface, IsClass, class_of, external_from}
+use Rattle.cjc_card_semantics.specs.Machine.Loaded.{Import, Loaded}
+use Rattle.cjc_card_semantics.specs.Machine.Classes.{Own, Info, IsInterface, IsClass, class_of, external_from}
 use Rattle.cjc_card_semantics.specs.Machine.Classes.{external_named, imported_class, info_of, info_size, info_supers}
 use Rattle.cjc_card_semantics.specs.Machine.Classes.{number_from, number_named, object_above, object_class, offset_from}
 use Rattle.cjc_card_semantics.specs.Machine.Classes.{or_else}
@@ -43,19 +40,20 @@ use Rattle.cjc_components.specs.Paired.Pairs.{ArePaired}
 use Rattle.cjc_components.specs.VTable.Tables.{table_of}
 use Rattle.cjc_components.specs.VTable.declared.table.InterfaceMap.{InterfaceMap}
 use Rattle.cjc_token_proof.specs.ByToken.Supers.{IsToldOf, SaysKinds, SaysSupers, above_each, listed_there, of_file}
-use Rattle.cjc_token_proof.specs.ByToken.Supers.{has_class, of_package}
+use Rattle.cjc_token_proof.specs.ByToken.Supers.{of_package}
 use Rattle.cjc_token_proof.specs.Tables.Infos.{HasInfo}
 use Rattle.cjc_token_proof.specs.Tables.Loading.{info_for, loaded as written_loaded, naming, part as written_part}
 use Rattle.cjc_token_proof.specs.Tables.Sound.{IsSound}
 use Rattle.cjc_verify.specs.Infos.{infos, public_entry}
-use Rattle.cjc_verify.specs.Pairs.{Pair, class_named as class_on_card, class_ref, pair_of, world}
+use Rattle.cjc_verify.specs.Pairs.{Pair, class_named as class_on_card, class_ref, pair_of}
 use Rattle.cjc_verify.specs.Pairs as pairs
 use Rattle.cjc_verify.specs.Verified.{IsVerified}
+use Rattle.cjc_verified_proof.specs.ClassInfos.{wanted_class, wanted_info, wanted_infos}
+use Rattle.cjc_verified_proof.specs.Dispatching.{naming_of, package_of}
 use Rattle.cjc_card_link.proofs.InfoPlaces as places
 use Rattle.cjc_token_proof.proofs.ComponentsLaws.Starts.{infos_stand_alike}
 use Rattle.cjc_token_proof.proofs.TablesLaws.Above.{says_kinds}
-use Rattle.cjc_verified_proof.proofs.InfoLaws.{class_is, infos_are, infos_by_order, map_twice, wanted_class, wanted_info}
-use Rattle.cjc_verified_proof.proofs.InfoLaws.{wanted_infos}
+use Rattle.cjc_verified_proof.proofs.InfoLaws.{class_is, infos_are, infos_by_order, map_twice}
 use Rattle.cjc_verified_proof.proofs.PlaceLaws.{import_is}
 
 -- ---- lists
@@ -95,7 +93,7 @@ module _ (name : List ℕ) (list : ListTree) (files : Files) (image : StaticImag
 
   -- the package, as if it had no methods: what is written for it has the same classes
   abbrev pub q : Package
-  q = record { list = list; files = files; image = image; methods = [] }
+  q = package_of list files image
 
   abbrev m : Loaded
   m = written_loaded q
@@ -278,7 +276,7 @@ module _ (name : List ℕ) (list : ListTree) (files : Files) (image : StaticImag
 
   -- what the components name
   abbrev pub n : Naming
-  n = record (naming q) { loaded = l }
+  n = naming_of p q
 
   written_kinds : SaysKinds w (naming q)
   written_kinds = says_kinds name q sound

@@ -11,8 +11,13 @@ use Rattle.cjc_world.specs.declared.image.StaticImage.{StaticImage}
 use Rattle.cjc_world.specs.Classes.{Class, all_classes, class_named}
 use Rattle.cjc_world.specs.Files.{Files}
 use Rattle.cjc_world.proofs.Cycles.{class_named-name}
+use Rattle.cjc_tokens.specs.Lines.{line_of}
+use Rattle.cjc_tokens.specs.Members.{Signature}
+use Rattle.cjc_tokens.specs.Slots.{hidden_slots, slots, token}
+use Rattle.cjc_vtable.specs.Laws.{Under}
 use Rattle.cjc_vtable.specs.Tables.{table_of}
 use Rattle.cjc_card_semantics.specs.Machine.Classes.{IsInterface, IsClass, class_of}
+use Rattle.cjc_card_semantics.specs.Machine.Dispatch.{At, Outward, tower}
 use Rattle.cjc_components.specs.Class.{implemented, interface_entry}
 use Rattle.cjc_components.specs.Methods.{method_offset as written_offset}
 use Rattle.cjc_components.specs.Names.{class_at}
@@ -21,24 +26,22 @@ use Rattle.cjc_components.specs.Package.{Package}
 use Rattle.cjc_components.specs.Paired.Pairs.{ArePaired}
 use Rattle.cjc_components.specs.VTable.declared.table.InterfaceMap.{InterfaceMap}
 use Rattle.cjc_token_proof.specs.Calls.Dispatching.{DispatchAgrees, SaysTables, SaysTower, of_file, of_package}
-use Rattle.cjc_token_proof.specs.Calls.Dispatching.{table_entry}
+use Rattle.cjc_token_proof.specs.Calls.Dispatching.{event, table_entry}
 use Rattle.cjc_token_proof.specs.Tables.Loading.{naming}
 use Rattle.cjc_token_proof.specs.Tables.Sound.{IsSound}
 use Rattle.cjc_verify.specs.Infos.{public_entry}
 use Rattle.cjc_verify.specs.Pairs.{Pair, class_ref, method_offset, pair_of}
 use Rattle.cjc_verify.specs.Verified.{IsVerified}
+use Rattle.cjc_verified_proof.specs.ClassInfos.{wanted_class}
+use Rattle.cjc_verified_proof.specs.Dispatching.{FilesAgree, IsReachedBy, IsHiddenBy, TablesFit, offset_in}
 use Rattle.cjc_token_proof.proofs.CallsLaws.Dispatch as dispatch
 use Rattle.cjc_token_proof.proofs.TablesLaws.Above.{info_of_name}
 use Rattle.cjc_token_proof.proofs.WrittenCalls.Facts.{Facts}
+use Rattle.cjc_token_proof.proofs.WrittenCalls.Known.{facts as known}
 use Rattle.cjc_token_proof.proofs.WrittenCalls.Tables.{tables as written_tables}
 use Rattle.cjc_token_proof.proofs.WrittenCalls.Towers.{class_stands, height_fits}
-use Rattle.cjc_verified_proof.proofs.InfoLaws.{wanted_class}
-use Rattle.cjc_verified_proof.proofs.NamingLaws.{depth_alike, kinds, mapped_same, n as naming_of, own_info, q as written}
+use Rattle.cjc_verified_proof.proofs.NamingLaws.{depth_alike, kinds, mapped_same, n as names, own_info, q as written}
 use Rattle.cjc_verified_proof.proofs.NamingLaws.{ref_same}
-
--- the offset of a method, where two bytes say it and it is no mark of an imported one
-abbrev pub offset_in : Pair → Found → ℕ
-offset_in p f = if nat_lt (method_offset p f) 0xFFFF then method_offset p f else 0
 
 offset_low : (n : ℕ) → (if nat_lt n 0xFFFF then n else 0) < 0xFFFF
 offset_low n = by (nat_lt n 0xFFFF) refl
@@ -72,17 +75,17 @@ module _ (name : List ℕ) (list : ListTree) (files : Files) (image : StaticImag
   q = written name list files image c sound paired verified
 
   abbrev n : Naming
-  n = naming_of name list files image c sound paired verified
+  n = names name list files image c sound paired verified
 
-  -- the methods of the tables of a class have offsets that two bytes say
-  pub record TablesFit (k : Class) : Type 0 where
-    pub public : (j : ℕ) (f : Found) → slice_get (let t = table_of w k in t.public) j ≡ Some (Some f)
-        → method_offset p f < 0xFFFF
-    pub «package» : (j : ℕ) (f : Found) → slice_get (let t = table_of w k in t.«package») j ≡ Some f
-        → method_offset p f < 0xFFFF
+  module _ (agree : FilesAgree q) (fits : (k : Class) → class_named w k.name ≡ Some k → k.is_imported ≡ false
+      → is_interface k.flags ≡ false → TablesFit p w k) where
+    pub facts : Facts q
+    facts =
+        let k = agree.keeps in
+        let a = agree.calls in
+        known name q sound (λ f. omega arith) agree.exports k agree.are_supertypes agree.one_supertypes a.virtual_calls
+        a.interface_calls a.tokens
 
-  module _ (facts : Facts q) (fits : (k : Class) → class_named w k.name ≡ Some k → k.is_imported ≡ false
-      → is_interface k.flags ≡ false → TablesFit k) where
     tables_here : (x s : List ℕ) (k : Class) → class_named w x ≡ Some k → k.is_imported ≡ false
         → is_interface k.flags ≡ false → k.supers ≡ s ∷ [] → SaysTables w n (offset_in p) x k s
     tables_here x s k e own class_here supers =
@@ -115,7 +118,7 @@ module _ (name : List ℕ) (list : ListTree) (files : Files) (image : StaticImag
           mapped = there.mapped;
         }
       where
-        entry_kept : TablesFit k → (j : ℕ) (o : Option Found) → slice_get (let t = table_of w k in t.public) j ≡ Some o
+        entry_kept : TablesFit p w k → (j : ℕ) (o : Option Found) → slice_get (let t = table_of w k in t.public) j ≡ Some o
             → public_entry p o ≡ table_entry (offset_in p) o
         entry_kept fit j None at = refl
         entry_kept fit j (Some f) at = offset_kept (method_offset p f) (fit.public j f at)
@@ -149,3 +152,44 @@ module _ (name : List ℕ) (list : ListTree) (files : Files) (image : StaticImag
         (method_offset p f)) (kinds name list files image c sound paired verified) s.height x s.foot (tower_here s.height x
         s.foot s.tower k e class_here) (subst (λ d. s.height ≤ d) (depth_alike name list files image c sound paired verified)
         (height_fits q facts x k e s))
+
+    -- for some imported class at the foot of its superclasses
+    pub dispatches : (x : List ℕ) (k : Class) → class_named w x ≡ Some k → is_interface k.flags ≡ false
+        → (z : List ℕ) × DispatchAgrees w n (offset_in p) x z
+    dispatches x k e class_here = (
+      (let s = class_stands q facts x k e class_here in s.foot),
+      agrees x k e class_here,
+    )
+
+    -- ---- calls by a token of a class at or above the receiver's
+
+    pub open_reached : (x y : List ℕ) (k d : Class) → class_named w x ≡ Some k → is_interface k.flags
+        ≡ false → class_named w y ≡ Some d → Under w x y → (s : Signature) (t : ℕ) → token (slots (line_of w y)) s
+        ≡ Some t → IsReachedBy p q x t s
+    open_reached x y k d e class_here named_y under s t h =
+        let once = facts.tokens_once x y k d e class_here named_y under in
+        let r = agree.open_tokens x k e class_here s t (once.inherited s t h) in
+        let dispatch_is = agrees x k e class_here in
+        record {
+          foot = (let stands = class_stands q facts x k e class_here in stands.foot);
+          method = r.method;
+          name = r.name;
+          nearest = r.nearest;
+          reached = dispatch_is.open_method t r.method s r.by_token r.name;
+        }
+
+    pub hidden_reached : (x y : List ℕ) (k d : Class) → class_named w x ≡ Some k → is_interface
+        k.flags ≡ false → class_named w y ≡ Some d → Under w x y → (s : Signature) (t : ℕ) → token (hidden_slots (line_of w
+        y)) s ≡ Some t → IsHiddenBy p q x t s
+    hidden_reached x y k d e class_here named_y under s t h =
+        let once = facts.tokens_once x y k d e class_here named_y under in
+        let r = agree.hidden_tokens x k e s t (once.hidden_inherited s t h) in
+        let stands = class_stands q facts x k e class_here in
+        let dispatch_is = agrees x k e class_here in
+        record {
+          method = r.method;
+          own = r.own;
+          nearest = r.nearest;
+          reached = dispatch_is.package_method t r.method s r.by_token ∙ ap (λ b. if b then Outward (event stands.foot s)
+              else At 0 (offset_in p r.method)) r.own;
+        }

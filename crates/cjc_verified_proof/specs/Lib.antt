@@ -3,3 +3,6 @@ pub mod Entries
 pub mod Checked
 pub mod Programs
 pub mod Suited
+pub mod Selecting
+pub mod ClassInfos
+pub mod Dispatching

@@ -4,8 +4,10 @@
 pub mod checked;
 pub mod coded;
 pub mod declared;
+pub mod dispatch;
 pub mod entries;
 pub mod flags;
 pub mod images;
+pub mod infos;
 pub mod plain;
 pub mod supers;

@@ -63,7 +63,7 @@ taken_counted receiver params =
     let one = needs_counted params in
     omega (arith, both, one)
 
-argument_counted : (l : Loaded) (receiver : Option (List ℕ)) (sig : Signature) (params : List ValueType)
+pub argument_counted : (l : Loaded) (receiver : Option (List ℕ)) (sig : Signature) (params : List ValueType)
     → AreSorts l sig.params params → argument_words (has_receiver receiver) sig ≡ length (needs_of_all params
     ++ receiver_needs receiver)
 argument_counted l None sig params are =
@@ -89,7 +89,7 @@ module _ (l : Loaded) (program : Program) (a : Act) (receiver : Option (List ℕ
         → Reaches l program (Fixed (has_receiver receiver) part offset) o params result
     reaches_within None args = subst (λ (x : Option (Start Code)). IsReached l program None params result (with_code x))
         (sym starts) (within m t None among begins tt args results)
-    reaches_within (Some type) args kind made is_of = subst (λ (x : Option (Start Code)). IsReached l program (Some kind)
+    reaches_within (Some type) args = λ kind made is_of. subst (λ (x : Option (Start Code)). IsReached l program (Some kind)
         params result (with_code x)) (sym starts) (within m t (Some type) among begins is_of args results)
 
     pub fixed_calls : Calls l program a (Fixed (has_receiver receiver) part offset)
@@ -111,7 +111,7 @@ module _ (l : Loaded) (program : Program) (a : Act) (receiver : Option (List ℕ
       (sorted : AreSorts l sig.params params) (results : IsResult l sig.result result) where
     reaches_abroad : (o : Option (List ℕ)) → Reaches l program (Outer (has_receiver receiver) id) o params result
     reaches_abroad None = abroad id sig is sorted results
-    reaches_abroad (Some type) kind made is_of = abroad id sig is sorted results
+    reaches_abroad (Some type) = λ kind made is_of. abroad id sig is sorted results
 
     pub outer_calls : Calls l program a (Outer (has_receiver receiver) id)
     outer_calls = record {
