@@ -6,7 +6,10 @@ use Rattle.cjc_check_rules.specs.ClassRefs.{pool_count_at}
 use Rattle.cjc_check_rules.specs.Complete.{described_size}
 use Rattle.cjc_check_rules.specs.Described.{all_ascend, all_starts, classes_in_order, types_in_class, types_in_pool}
 use Rattle.cjc_bytes.specs.declared.fault.MemberId.{MemberId}
+use Rattle.cjc_card_semantics.specs.Script.declared.script.Script.{Script}
+use Rattle.cjc_card_semantics.specs.Script.declared.report.Outcome.TheVariants.{Stuck}
 use Rattle.cjc_card_semantics.specs.Bytecode.Machine.{Start}
+use Rattle.cjc_card_semantics.specs.Machine.ByToken.{run}
 use Rattle.cjc_card_semantics.specs.Machine.Calls.{called}
 use Rattle.cjc_card_semantics.specs.Machine.Classes.{External}
 use Rattle.cjc_card_semantics.specs.Machine.Loaded.{Loaded}
@@ -22,10 +25,13 @@ use Rattle.cjc_verify_proof.specs.Runs.{AreSuited, IsEntry, IsProgram}
 use Rattle.cjc_verify_proof.specs.Scripts.{HasExceptions}
 use Rattle.cjc_verify_proof.specs.Turns.{AreMade}
 use Rattle.cjc_verified_proof.specs.Checked.{Checked, HasCode, IsChecked, pair}
-use Rattle.cjc_verified_proof.specs.Programs.{CallsReach, CallsSuit, IsProgramOf}
+use Rattle.cjc_verified_proof.specs.Programs.{CallsReach, IsProgramOf}
+use Rattle.cjc_verified_proof.specs.Selecting.{DispatchFits}
 use Rattle.cjc_verified_proof.specs.Suited.{AreStanding, HaveCode, HaveSorts}
 use Rattle.cjc_bytes.proofs.Lists.{none_left}
+use Rattle.cjc_verify_proof.proofs.RunLaws.{never_stuck}
 use Rattle.cjc_verified_proof.proofs.CheckedLaws as checked
+use Rattle.cjc_verified_proof.proofs.DispatchSuits.{all_calls}
 use Rattle.cjc_verified_proof.proofs.ProgramLaws as programs
 use Rattle.cjc_verified_proof.proofs.ReachLaws as reaches
 use Rattle.cjc_verified_proof.proofs.StandingLaws as standing
@@ -81,9 +87,11 @@ module _ (c : Checked) (ok : IsChecked c) (has : HasCode c) where
     first_made = programs.first_made applets c.name c.files c.image c.components ok.sound ok.typed ok.descs ok.static_ones
         ok.verified (checked.counts c ok) has.refs has.whole has.jumps has.handlers has.indices has.class_refs program of
 
-    pub suited : CallsSuit p program → (t : Typing) → Contains program.methods t → AreSuited l program t
-    suited = programs.are_suited applets c.name c.files c.image c.components ok.sound ok.typed ok.descs ok.static_ones
-        ok.verified (checked.counts c ok) has.refs has.whole has.jumps has.handlers has.indices has.class_refs program of
+    pub suited : DispatchFits p program → (t : Typing) → Contains program.methods t → AreSuited l program t
+    suited fits = programs.are_suited applets c.name c.files c.image c.components ok.sound ok.typed ok.descs
+        ok.static_ones ok.verified (checked.counts c ok) has.refs has.whole has.jumps has.handlers has.indices
+        has.class_refs program of (all_calls applets c.files c.image c.components program ok.verified
+        (checked.counts c ok) has.written has.pool stand sorts has.refs fits)
 
     pub exceptions : FaultsAreClasses (world q) → HasExceptions l program.exceptions
     exceptions plain = thrown.exceptions_there c.name c.list c.files c.image c.components ok.sound (checked.supers c ok)
@@ -95,12 +103,12 @@ module _ (c : Checked) (ok : IsChecked c) (has : HasCode c) where
         has.refs has.counted program of codes
 
     -- the program of a package whose calls reach its methods
-    pub is_program : FaultsAreClasses (world q) → CallsReach p program → IsProgram l program
-    is_program plain reach = record {
+    pub is_program : FaultsAreClasses (world q) → HaveCode p → CallsReach p program → IsProgram l program
+    is_program plain codes reach = record {
       methods = typed;
-      suited = suited reach.suit;
+      suited = suited reach.fits;
       has = exceptions plain;
-      calls = reach.calls;
+      calls = calls codes;
       sends = reach.sends;
       supers = checked.supers c ok;
       declared = subst (AreDeclared l) (sym of.fields) (checked.declared c ok);
@@ -108,3 +116,8 @@ module _ (c : Checked) (ok : IsChecked c) (has : HasCode c) where
       imported = λ tree token plain. (ap (λ made. made (External tree token)) of.made ∙ ap not plain);
       made = first_made;
     }
+
+    -- no run of it is stuck
+    pub goes : FaultsAreClasses (world q) → HaveCode p → CallsReach p program → (script : Script) (n at : ℕ)
+        → (let r = run l script n in r.outcome) ≡ Stuck at → ⊥
+    goes plain codes reach = never_stuck l program (is_program plain codes reach)

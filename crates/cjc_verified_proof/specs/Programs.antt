@@ -1,5 +1,5 @@
 -- The program of components that the type checker passes.
-use Rattle.std.specs.Prelude.{◌≡◌, ℕ, ◌+◌, ◌==◌, ◌&&◌, not, Bool, true, false, List, [], ◌∷◌, slice_get, Option, Some, None}
+use Rattle.std.specs.Prelude.{◌≡◌, ℕ, ◌+◌, ◌==◌, ◌&&◌, not, Bool, true, false, List, [], ◌∷◌, slice_get, Some}
 use Rattle.std.specs.Prelude.{Contains, ℤ}
 use Rattle.cjc_capread.specs.Opcodes.{Byte, Index2}
 use Rattle.cjc_capread.specs.declared.tree.PoolEntry.{PoolEntry}
@@ -7,7 +7,7 @@ use Rattle.cjc_card_semantics.specs.Bytes.declared.fault.MemberId.{MemberId}
 use Rattle.cjc_card_semantics.specs.Script.Sorts.{Shape}
 use Rattle.cjc_card_semantics.specs.Bytecode.Machine.{Start}
 use Rattle.cjc_card_semantics.specs.Bytecode.Meanings.{Calls, CallsInterface, Mode}
-use Rattle.cjc_card_semantics.specs.Machine.Calls.{called, sent}
+use Rattle.cjc_card_semantics.specs.Machine.Calls.{sent}
 use Rattle.cjc_card_semantics.specs.Machine.Classes.{Class, Own, External, is_interface}
 use Rattle.cjc_card_semantics.specs.Machine.Methods.{Code}
 use Rattle.cjc_card_semantics.specs.Machine.Operations.{operation, or_undone}
@@ -25,6 +25,7 @@ use Rattle.cjc_verify_proof.specs.Runs.{IsEntry}
 use Rattle.cjc_verify_proof.specs.Turns.{IsMade}
 use Rattle.cjc_verify_proof.specs.Uses.{is_used_by}
 use Rattle.cjc_verified_proof.specs.PackageTypes.{field_types}
+use Rattle.cjc_verified_proof.specs.Selecting.{DispatchFits}
 use Rattle.cjc_verified_proof.specs.Suited.{IsRight}
 
 -- the code of a method, behind its header
@@ -74,9 +75,8 @@ pub record CallsSuit (p : Pair) (program : Program) : Type 0 where
       → IsRight (by_interface p operands) → Suits p.loaded program result (by_interface p operands) (operation p.loaded 0
       (let c = p.components in let q = c.pool in q.entries) at CallsInterface operands table)
 
--- Calls are what their acts say, and entries of scripts begin methods of the program.
+-- Calls by dispatch and entries on receivers reach methods of the program.
 pub record CallsReach (p : Pair) (program : Program) : Type 0 where
-  pub suit : CallsSuit p program
-  pub calls : (id : MemberId) (m : Start Code) → called p.loaded id ≡ Some m → IsEntry p.loaded program None id.desc m
+  pub fits : DispatchFits p program
   pub sends : (kind : Shape Class) → IsMade program kind → (id : MemberId) (m : Start Code)
       → sent p.loaded kind id ≡ Some m → IsEntry p.loaded program (Some kind) id.desc m

@@ -1,8 +1,11 @@
 //! The program of a package whose components the type checker passes: its methods are typed, and what is open of it is that
 //! its calls reach its methods. It has laws alone, for whoever proves that such components are never stuck.
-ghost use Rattle.std.specs.Prelude.{◌≡◌, List, [], Some, None, Contains};
+ghost use Rattle.std.specs.Prelude.{◌≡◌, ℕ, [], Some, None, Contains};
 ghost use Rattle.cjc_card_semantics.specs.Bytes.declared.fault.MemberId.{MemberId};
+ghost use Rattle.cjc_card_semantics.specs.Script.declared.script.Script.{Script};
+ghost use Rattle.cjc_card_semantics.specs.Script.declared.report.Outcome.TheVariants.{Stuck};
 ghost use Rattle.cjc_card_semantics.specs.Bytecode.Machine.{Start};
+ghost use Rattle.cjc_card_semantics.specs.Machine.ByToken.{run};
 ghost use Rattle.cjc_card_semantics.specs.Machine.Calls.{called};
 ghost use Rattle.cjc_card_semantics.specs.Machine.Methods.{Code};
 ghost use Rattle.cjc_components.specs.Package.{world};
@@ -11,7 +14,8 @@ ghost use Rattle.cjc_verify_proof.specs.Frames.{AreMethods, Program, Typing};
 ghost use Rattle.cjc_verify_proof.specs.Runs.{AreSuited, IsEntry, IsProgram};
 ghost use Rattle.cjc_verify_proof.specs.Scripts.{HasExceptions};
 ghost use Rattle.cjc_verified_proof.specs.Checked.{Checked, HasCode, IsChecked, pair};
-ghost use Rattle.cjc_verified_proof.specs.Programs.{CallsReach, CallsSuit, IsProgramOf};
+ghost use Rattle.cjc_verified_proof.specs.Programs.{CallsReach, IsProgramOf};
+ghost use Rattle.cjc_verified_proof.specs.Selecting.{DispatchFits};
 ghost use Rattle.cjc_verified_proof.specs.Suited.{AreStanding, HaveCode, HaveSorts};
 
 /// A package that is checked has a program: its methods with their least tables.
@@ -37,10 +41,10 @@ pub fn methods_are_typed()
         → (let p = pair c in AreMethods p.loaded program) }
 {}
 
-/// Each instruction that is reached is what its act says, where calls are.
+/// Each instruction that is reached is what its act says, where dispatch keeps the descriptors that entries name.
 pub fn instructions_suit()
     ensures { (c : Checked) → IsChecked c → HasCode c → (program : Program) → IsProgramOf (pair c) program
-        → CallsSuit (pair c) program → (t : Typing) → Contains program.methods t
+        → DispatchFits (pair c) program → (t : Typing) → Contains program.methods t
         → (let p = pair c in AreSuited p.loaded program t) }
 {}
 
@@ -59,10 +63,17 @@ pub fn static_entries_are_there()
         → IsEntry p.loaded program None id.desc m) }
 {}
 
-/// Where calls are what their acts say and entries of scripts begin methods of the program, it is one whose runs are never
-/// stuck.
+/// Where calls by dispatch and entries on receivers reach methods of it, it is a program whose runs are never stuck.
 pub fn programs_are_lawful()
     ensures { (c : Checked) → IsChecked c → HasCode c → (program : Program) → IsProgramOf (pair c) program
         → FaultsAreClasses (world (record { list = c.list; files = c.files; image = c.image; methods = [] }))
-        → CallsReach (pair c) program → (let p = pair c in IsProgram p.loaded program) }
+        → HaveCode (pair c) → CallsReach (pair c) program → (let p = pair c in IsProgram p.loaded program) }
+{}
+
+/// So no run of it by token is stuck, for any script and any length.
+pub fn checked_packages_are_never_stuck()
+    ensures { (c : Checked) → IsChecked c → HasCode c → (program : Program) → IsProgramOf (pair c) program
+        → FaultsAreClasses (world (record { list = c.list; files = c.files; image = c.image; methods = [] }))
+        → HaveCode (pair c) → CallsReach (pair c) program → (script : Script) (n at : ℕ)
+        → (let p = pair c in let r = run p.loaded script n in r.outcome) ≡ Stuck at → ⊥ }
 {}
