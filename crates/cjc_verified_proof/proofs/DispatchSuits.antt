@@ -1,5 +1,5 @@
 -- Calls that are dispatched are what their acts say, where dispatch keeps descriptors.
-use Rattle.std.proofs.Common.{◌≡◌, ◌+◌, ◌*◌, ◌==◌, ◌||◌, ℕ, zero, suc, Bool, true, false, not, List, [], ◌∷◌, ◌++◌, length}
+use Rattle.std.proofs.Common.{◌≡◌, ◌+◌, ◌==◌, ℕ, Bool, true, false, not, List, [], ◌∷◌, ◌++◌, length}
 use Rattle.std.proofs.Common.{slice_get, Option, Some, None, refl, sym, ap, subst, ◌∙◌, arith, ℤ, pos, negsuc}
 use Rattle.std.specs.Prelude.{if◌then◌else◌, option_and_then, option_map}
 use Rattle.std.proofs.lemmas.Bool.Decides.{nat_tests}
@@ -18,7 +18,7 @@ use Rattle.cjc_check_rules.specs.Complete.{Complete}
 use Rattle.cjc_check_rules.specs.PoolEntries.{pool_spots}
 use Rattle.cjc_world.specs.declared.image.StaticImage.{StaticImage}
 use Rattle.cjc_world.specs.Files.{Files}
-use Rattle.cjc_card_semantics.specs.Script.Sorts.{Shape, OfClass, Signature, signature_of}
+use Rattle.cjc_card_semantics.specs.Script.Sorts.{Shape, OfClass, signature_of}
 use Rattle.cjc_card_semantics.specs.Bytecode.Effects.{Call}
 use Rattle.cjc_card_semantics.specs.Bytecode.Machine.{Start}
 use Rattle.cjc_card_semantics.specs.Bytecode.Meanings.{CallsInterface, Special, Virtual}
@@ -51,7 +51,7 @@ use Rattle.cjc_verified_proof.specs.Programs.{CallsSuit}
 use Rattle.cjc_verified_proof.specs.Selecting.{DispatchFits, HasDesc, of_package, of_file, IsOf, IsConcrete}
 use Rattle.cjc_verified_proof.specs.Suited.{AreStanding, HaveSorts, IsRight, StandsAt, holder_type}
 use Rattle.cjc_verify_proof.proofs.CalleeLaws.{argument_counted, taken_counted}
-use Rattle.cjc_verified_proof.proofs.EntryLaws.{IsTyped, entry_typed, unless_holds}
+use Rattle.cjc_verified_proof.proofs.EntryLaws.{entry_typed, unless_holds}
 use Rattle.cjc_verified_proof.proofs.FixedLaws.{calls_suit}
 use Rattle.cjc_verified_proof.proofs.PlaceLaws.{all_read}
 

@@ -6,7 +6,6 @@ use Rattle.std.specs.List.{find}
 use Rattle.cjc_bytes.specs.Descriptor.{Parts}
 use Rattle.cjc_bytes.specs.Spots.{desc_of}
 use Rattle.cjc_capread.specs.Bytes.AccessFlags.{is_interface, is_static}
-use Rattle.cjc_capread.specs.Bytes.declared.fault.MemberId.{MemberId}
 use Rattle.cjc_capread.specs.declared.tree.ClassRef.TheVariants as refs
 use Rattle.cjc_capread.specs.declared.tree.MethodDescriptor.{MethodDescriptor}
 use Rattle.cjc_capread.specs.declared.tree.PoolEntry.{PoolEntry}
@@ -21,35 +20,31 @@ use Rattle.cjc_check_rules.specs.ExportFile.Writable.{ClassFits, EachAfter, IsWr
 use Rattle.cjc_check_rules.specs.ExportFile.declared.tree.ExportClass.{ExportClass}
 use Rattle.cjc_check_rules.specs.ExportFile.declared.tree.ExportMethod.{ExportMethod}
 use Rattle.cjc_check_rules.specs.ExportFile.declared.tree.ExportTree.{ExportTree}
-use Rattle.cjc_check_rules.specs.Spots.{along, in_info, unless}
+use Rattle.cjc_check_rules.specs.Spots.{in_info, unless}
 use Rattle.cjc_check_rules.specs.Classes.{class_with, imported}
 use Rattle.cjc_check_rules.specs.Complete.{Complete}
-use Rattle.cjc_check_rules.specs.Members.{is_method_start}
 use Rattle.cjc_check_rules.specs.PoolEntries.{names_member, pool_spots}
 use Rattle.cjc_world.specs.declared.image.StaticImage.{StaticImage}
 use Rattle.cjc_world.specs.Files.{Files}
 use Rattle.cjc_card_semantics.specs.Script.Sorts.{Signature, result_by, signature_by, signature_of, sort_of}
 use Rattle.cjc_card_semantics.specs.Bytecode.Effects.{Call}
-use Rattle.cjc_card_semantics.specs.Bytecode.Machine.{Start}
 use Rattle.cjc_card_semantics.specs.Bytecode.Meanings.{Mode, Special, Static, Virtual}
 use Rattle.cjc_card_semantics.specs.Bytecode.Meanings as meanings
 use Rattle.cjc_card_semantics.specs.Machine.Loaded.{Loaded}
-use Rattle.cjc_card_semantics.specs.Machine.Classes.{external, import_of}
-use Rattle.cjc_card_semantics.specs.Machine.Methods.{Code, start_of}
-use Rattle.cjc_card_semantics.specs.Machine.Operations.{Callee, Outer, method_through, outer, unbound_of}
+use Rattle.cjc_card_semantics.specs.Machine.Operations.{Callee, method_through, outer, unbound_of}
 use Rattle.cjc_card_semantics.specs.Machine.Operations as machine
-use Rattle.cjc_card_acts.specs.CardTypes.{MemberType, ValueType, needs_of_all, type_by, types_in, widths}
-use Rattle.cjc_verify.specs.Bodies.{Body, type_of_body}
+use Rattle.cjc_card_acts.specs.CardTypes.{MemberType, ValueType, type_by, types_in, widths}
+use Rattle.cjc_verify.specs.Bodies.{type_of_body}
 use Rattle.cjc_verify.specs.ClassTypes.{class_type}
-use Rattle.cjc_verify.specs.Described.{entry_spots, is_entry_type}
+use Rattle.cjc_verify.specs.Described.{is_entry_type}
 use Rattle.cjc_verify.specs.Instructions.{calling, using}
 use Rattle.cjc_verify.specs.Named.{entry_of, entry_type, exported, holder_in, holder_of, holds, is_abstract_start}
 use Rattle.cjc_verify.specs.Named.{is_static_described, method_desc, names_abstract, names_static, named_desc}
 use Rattle.cjc_verify.specs.Named.{static_method}
-use Rattle.cjc_verify.specs.Pairs.{Pair, Described, member_of, method_at, nibbles_of, pair_of}
+use Rattle.cjc_verify.specs.Pairs.{Pair, Described, member_of, nibbles_of, pair_of}
 use Rattle.cjc_verify.specs.Verified.{IsVerified}
 use Rattle.cjc_verify_proof.specs.Calls.{argument_cells, has_receiver, receiver_needs, AreSorts, IsResult}
-use Rattle.cjc_verify_proof.specs.Frames.{Program, Typing}
+use Rattle.cjc_verify_proof.specs.Frames.{Program}
 use Rattle.cjc_verify_proof.specs.Instructions.{Suits, call}
 use Rattle.cjc_verify_proof.specs.Uses.{is_used_by}
 use Rattle.cjc_verified_proof.specs.Suited.{AreStanding, HaveSorts, StandsAt, holder_type}

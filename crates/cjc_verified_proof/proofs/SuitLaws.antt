@@ -1,5 +1,5 @@
 -- Instructions of a package are what their acts say.
-use Rattle.std.proofs.Common.{◌≡◌, ◌==◌, ◌&&◌, ◌+◌, ℕ, zero, suc, Bool, true, false, not, List, [], ◌∷◌, ◌++◌, map, slice_get, Option, Some}
+use Rattle.std.proofs.Common.{◌≡◌, ◌==◌, ◌&&◌, ◌+◌, ℕ, zero, suc, Bool, true, false, List, [], ◌∷◌, map, slice_get, Option, Some}
 use Rattle.std.proofs.Common.{None, refl, sym, ap, subst, ◌∙◌, ℤ, pos, negsuc}
 use Rattle.std.specs.Prelude.{flat_map, if◌then◌else◌, option_map}
 use Rattle.std.proofs.lemmas.List.Concat.{flat_map-append}
@@ -34,7 +34,7 @@ use Rattle.cjc_card_acts.specs.Rows.{Row, Jumps, Switches, idle, number_words, r
 use Rattle.cjc_card_acts.specs.Rows as rows
 use Rattle.cjc_card_acts.specs.CardTypes.{ValueType, numbers_type, shape_by}
 use Rattle.cjc_verify.specs.ClassTypes.{array_type, class_type}
-use Rattle.cjc_verify.specs.Instructions.{act, act_by, asking, by_interface, casting, class_in, exception_needs, jumping}
+use Rattle.cjc_verify.specs.Instructions.{act, act_by, asking, by_interface, casting, class_in, exception_needs}
 use Rattle.cjc_verify.specs.Instructions.{last, making_numbers, result_needs, tested_type, testing, throwable}
 use Rattle.cjc_verify.specs.Instructions.{using_entry}
 use Rattle.cjc_verify.specs.Named.{entry_of}

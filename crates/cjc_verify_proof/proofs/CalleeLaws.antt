@@ -1,24 +1,23 @@
 -- Calls of a fixed method, of the group or imported, are what their acts say.
-use Rattle.std.proofs.Common.{◌≡◌, ◌+◌, ℕ, true, false, List, [], ◌∷◌, ◌++◌, length, map, Option, Some, None, refl, sym, ap}
+use Rattle.std.proofs.Common.{◌≡◌, ◌+◌, ℕ, true, List, [], ◌∷◌, ◌++◌, length, map, Option, Some, None, refl, sym, ap}
 use Rattle.std.proofs.Common.{subst, ◌∙◌, arith, length-append}
 use Rattle.std.specs.Prelude.{Contains, option_map}
 use Rattle.cjc_card_semantics.specs.Bytes.declared.fault.MemberId.{MemberId}
-use Rattle.cjc_card_semantics.specs.Script.Sorts.{Shape, Sort, Boolean, Byte, Short, Int, Reference, NoValue, Signature}
+use Rattle.cjc_card_semantics.specs.Script.Sorts.{Sort, Boolean, Byte, Short, Int, Reference, Signature}
 use Rattle.cjc_card_semantics.specs.Script.Sorts.{signature_of}
 use Rattle.cjc_card_semantics.specs.Bytecode.Arguments as sorts
 use Rattle.cjc_card_semantics.specs.Bytecode.Machine.{Start}
 use Rattle.cjc_card_semantics.specs.Machine.Loaded.{Loaded}
-use Rattle.cjc_card_semantics.specs.Machine.Classes.{Class}
 use Rattle.cjc_card_semantics.specs.Machine.Calls.{argument_words, with_code}
 use Rattle.cjc_card_semantics.specs.Machine.Methods.{Code, start_of}
 use Rattle.cjc_card_semantics.specs.Machine.Operations.{Fixed, Outer}
 use Rattle.cjc_card_acts.specs.Frames.declared.acts.Act.{Act}
 use Rattle.cjc_card_acts.specs.Frames.Acts.{given}
-use Rattle.cjc_card_acts.specs.CardTypes.{ValueType, both_of, needs_of, needs_of_all, shape_by, width, widths}
+use Rattle.cjc_card_acts.specs.CardTypes.{ValueType, needs_of, needs_of_all, width, widths}
 use Rattle.cjc_card_acts.specs.CardTypes as types
 use Rattle.cjc_verify_proof.specs.Frames.{Typing, Program, Begins}
 use Rattle.cjc_verify_proof.specs.Calls.{receiver_needs, has_receiver, argument_cells, IsSort, AreSorts, IsResult}
-use Rattle.cjc_verify_proof.specs.Turns.{IsReached, within, abroad, Calls, IsHeld, IsMade, Reaches}
+use Rattle.cjc_verify_proof.specs.Turns.{IsReached, within, abroad, Calls, Reaches}
 
 -- ---- how many words
 

@@ -1,5 +1,5 @@
 -- Instructions that name nothing are what their acts say: jumps, switches, returns and arrays of numbers.
-use Rattle.std.proofs.Common.{◌≡◌, ◌≤◌, ◌+◌, ◌==◌, ◌&&◌, ◌⊎◌, inl, inr, ℕ, zero, suc, Bool, true, false, not, List, [], ◌∷◌}
+use Rattle.std.proofs.Common.{◌≡◌, ◌+◌, ◌==◌, ◌&&◌, ℕ, zero, suc, Bool, true, false, not, List, [], ◌∷◌}
 use Rattle.std.proofs.Common.{◌++◌, map, nat_le, slice_get, Option, Some, None, refl, sym, ap, subst, arith, ℤ, pos}
 use Rattle.std.specs.Prelude.{◌+ℤ◌, if◌then◌else◌, option_and_then}
 use Rattle.std.proofs.lemmas.Bool.Decides.{nat_tests}
@@ -18,9 +18,9 @@ use Rattle.cjc_card_semantics.specs.Bytecode.Meanings.{Use, Branches, Ranged, Pa
 use Rattle.cjc_card_semantics.specs.Machine.Loaded.{Loaded}
 use Rattle.cjc_card_semantics.specs.Machine.Operations.{element_type, moved, operation, paired, ranged}
 use Rattle.cjc_card_acts.specs.Frames.declared.acts.Need.{Need}
-use Rattle.cjc_card_acts.specs.Rows.{Row, Pushes, Loads, Stores, Increases, Pops, Copies, CopiesBelow, Swaps, Calculates}
-use Rattle.cjc_card_acts.specs.Rows.{LoadsItem, StoresItem, CountsItems, Throws, Jumps, Switches, Returns, Uses}
-use Rattle.cjc_card_acts.specs.Rows.{CallsInterface, MakesNumbers, Casts, Asks, Forbidden, idle, known_row, number_words}
+use Rattle.cjc_card_acts.specs.Rows.{Row}
+use Rattle.cjc_card_acts.specs.Rows.{Jumps, Switches, Uses}
+use Rattle.cjc_card_acts.specs.Rows.{idle, known_row, number_words}
 use Rattle.cjc_card_acts.specs.Rows.{row, rows}
 use Rattle.cjc_card_acts.specs.CardTypes.{ValueType, is_returned_by, needs_of, numbers_type, shape_by}
 use Rattle.cjc_check_rules.specs.Spots.{lies_between}

@@ -1,5 +1,5 @@
 -- Which entries of the constant pool an instruction may use.
-use Rattle.std.specs.Prelude.{Bool, true, false, Option, Some, None, []}
+use Rattle.std.specs.Prelude.{Bool, true, false, Option, Some, []}
 use Rattle.std.specs.Prelude.{◌∷◌}
 use Rattle.cjc_card_semantics.specs.CapRead.Opcodes.{Operand, Index1, Index2, Form, Fields}
 use Rattle.cjc_card_semantics.specs.CapRead.declared.tree.PoolEntry.{PoolEntry}
