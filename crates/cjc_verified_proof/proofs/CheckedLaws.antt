@@ -68,7 +68,7 @@ module _ (c : Checked) (ok : IsChecked c) where
       (in_info 8 4) (none_right size few (none_left (size ++ few) (along array_size in_array 6 s.array_inits)
       ok.cells)))
 
-  counts : (let q = c.components in let d = q.descriptor in let e = q.pool in length d.pool_types ≡ length e.entries)
+  pub counts : (let q = c.components in let d = q.descriptor in let e = q.pool in length d.pool_types ≡ length e.entries)
   counts =
       let q = c.components in
       let d = q.descriptor in
@@ -82,10 +82,10 @@ module _ (c : Checked) (ok : IsChecked c) where
       (in_info 11 (pool_count_at d)) (none_right (order ++ methods ++ types) many (none_left (order ++ methods ++ types
       ++ many) entries ok.described)))
 
-  supers : SupersStand l
+  pub supers : SupersStand l
   supers = supers_stand applets c.files c.image c.components ok.supers ok.no_object
 
-  declared : AreDeclared l (field_types p)
+  pub declared : AreDeclared l (field_types p)
   declared = all_declared applets c.name c.files c.image c.components ok.sound ok.typed ok.descs ok.static_ones
       ok.verified
 

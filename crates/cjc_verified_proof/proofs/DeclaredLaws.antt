@@ -13,7 +13,6 @@ use Rattle.cjc_check_rules.specs.Spots.{beside, in_info, placed, starts, unless}
 use Rattle.cjc_check_rules.specs.Classes.{first_interface}
 use Rattle.cjc_check_rules.specs.ClassRefs.{maps_begin}
 use Rattle.cjc_check_rules.specs.Complete.{Complete, map_size}
-use Rattle.cjc_check_rules.specs.Consistent.{break_at}
 use Rattle.cjc_world.specs.ClassFile.declared.tree.ClassTree.{ClassTree}
 use Rattle.cjc_world.specs.ClassFile.declared.tree.FieldTree.{FieldTree}
 use Rattle.cjc_world.specs.declared.image.StaticImage.{StaticImage}
@@ -37,17 +36,14 @@ use Rattle.cjc_components.specs.Types.{nibbles_by, sort_nibbles}
 use Rattle.cjc_components.specs.VTable.Tables.{table_of}
 use Rattle.cjc_token_proof.specs.ByToken.Objects.{is_reference as is_reference_sort}
 use Rattle.cjc_token_proof.specs.Tables.Sound.{IsSound, AreTyped, AreFieldDescs, IsTyped, IsFieldDesc}
-use Rattle.cjc_verify.specs.Infos.{all_abstract_spots, all_info_spots, all_table_spots, class_spots, info_spots, infos}
-use Rattle.cjc_verify.specs.Infos.{interface_spots, map_interface}
+use Rattle.cjc_verify.specs.Infos.{class_spots, info_spots, infos, interface_spots, map_interface}
 use Rattle.cjc_verify.specs.Named.{own_field_desc}
 use Rattle.cjc_verify.specs.Pairs.{Pair, class_at, class_ref, is_card_sort, is_card_type, nibbles_of, pair_of, world}
 use Rattle.cjc_verify.specs.Pairs as pairs
-use Rattle.cjc_verify.specs.Described.{all_array_spots, described_spots}
-use Rattle.cjc_verify.specs.Verified.{IsVerified, class_breaks, header_breaks, listed}
+use Rattle.cjc_verify.specs.Verified.{IsVerified}
 use Rattle.cjc_verify_proof.specs.Memories.{AreDeclared, IsDeclared, begins_as}
 use Rattle.cjc_verified_proof.specs.PackageTypes.{StaticInInterfaces, field_types, instance_desc, instance_type}
 use Rattle.cjc_verified_proof.specs.PackageTypes.{type_of_desc, type_said}
-use Rattle.cjc_bytes.proofs.BrokenRules.{among_left, among_right}
 use Rattle.cjc_bytes.proofs.Gets.{get_inside, mapped_at, position_there}
 use Rattle.cjc_bytes.proofs.Numbers.{number_same}
 use Rattle.cjc_tokens.proofs.Facts.{position-cons}
@@ -57,7 +53,7 @@ use Rattle.cjc_token_proof.proofs.TablesLaws.Filed.{own_filed}
 use Rattle.cjc_token_proof.proofs.TablesLaws.Order.{order_in}
 use Rattle.cjc_token_proof.proofs.TablesLaws.Spans.{token_below, span_is}
 use Rattle.cjc_verify_proof.proofs.FreshLaws.{number_within}
-use Rattle.cjc_verified_proof.proofs.EntryLaws.{beside_none, no_spots}
+use Rattle.cjc_verified_proof.proofs.EntryLaws.{beside_none, infos_none}
 
 -- ---- tokens
 
@@ -246,13 +242,6 @@ module _ (applets : Bool) (list : List ℕ) (files : Files) (image : StaticImage
   abbrev p : Pair
   p = pair_of applets files image c
 
-  infos_none : all_info_spots p ≡ []
-  infos_none = no_spots 729 (all_info_spots p) (λ b among. verified b (listed b (among_left b (class_breaks p
-      ++ header_breaks p ++ map (break_at 728) (all_array_spots p)) (map (break_at 721) (described_spots p))
-      (among_left b (class_breaks p ++ header_breaks p) (map (break_at 728) (all_array_spots p)) (among_left b
-      (class_breaks p) (header_breaks p) (among_right b (map (break_at 725) (all_table_spots p)
-      ++ map (break_at 727) (all_abstract_spots p)) (map (break_at 729) (all_info_spots p)) among))))))
-
   -- a class of the package has a number among the infos
   record IsNumbered (offset : ℕ) (cl : Class) : Type 0 where
     number : ℕ
@@ -284,7 +273,7 @@ module _ (applets : Bool) (list : List ℕ) (files : Files) (image : StaticImage
       let k = numbered offset cl e in
       let got = get_inside (infos c.class) k.number (number_within 2 (infos c.class) offset k.number k.from) in
       let none = beside_none info_size (info_spots p) first_interface (infos c.class) (class_order (all_classes files))
-      k.number got.0 cl infos_none got.1 k.ordered in
+      k.number got.0 cl (infos_none p verified) got.1 k.ordered in
       by got.0 (ap (option_and_then (slice_get (infos c.class))) k.from ∙ got.1) none.0 none.1
     where
       by : (i : Info) → info_of p.loaded 0 offset ≡ Some i → (at : ℕ) → info_spots p at i cl ≡ [] → HasInfo offset cl

@@ -19,11 +19,12 @@ use Rattle.cjc_card_acts.specs.CardTypes.{MemberType, type_at, type_by, type_of,
 use Rattle.cjc_card_calls.specs.World.Order.{class_order}
 use Rattle.cjc_verify.specs.Described.{are_nibbles, class_spots, described_spots, entry_spots, is_entry_type}
 use Rattle.cjc_verify.specs.Described.{says, all_array_spots}
+use Rattle.cjc_verify.specs.Infos.{all_abstract_spots, all_info_spots, all_table_spots}
 use Rattle.cjc_verify.specs.Named.{entry_of, entry_type, named_desc}
 use Rattle.cjc_verify.specs.Pairs.{Pair, nibbles_of, world}
 use Rattle.cjc_verify.specs.Verified.{IsVerified, class_breaks, header_breaks, listed}
 use Rattle.cjc_verified_proof.specs.PackageTypes.{field_types, type_of_desc, type_said}
-use Rattle.cjc_bytes.proofs.BrokenRules.{among_right}
+use Rattle.cjc_bytes.proofs.BrokenRules.{among_left, among_right}
 use Rattle.cjc_bytes.proofs.Lists.{bytes_true, none_left, none_right}
 use Rattle.cjc_bytes.proofs.Gets.{get_below, get_inside}
 
@@ -39,6 +40,14 @@ pub described_none : (p : Pair) → IsVerified p → described_spots p ≡ []
 described_none p verified = no_spots 721 (described_spots p) (λ b among. verified b (listed b (among_right b
     (class_breaks p ++ header_breaks p ++ map (break_at 728) (all_array_spots p)) (map (break_at 721)
     (described_spots p)) among)))
+
+-- no rule of infos is broken
+pub infos_none : (p : Pair) → IsVerified p → all_info_spots p ≡ []
+infos_none p verified = no_spots 729 (all_info_spots p) (λ b among. verified b (listed b (among_left b (class_breaks p
+    ++ header_breaks p ++ map (break_at 728) (all_array_spots p)) (map (break_at 721) (described_spots p))
+    (among_left b (class_breaks p ++ header_breaks p) (map (break_at 728) (all_array_spots p)) (among_left b
+    (class_breaks p) (header_breaks p) (among_right b (map (break_at 725) (all_table_spots p)
+    ++ map (break_at 727) (all_abstract_spots p)) (map (break_at 729) (all_info_spots p)) among))))))
 
 -- items beside each other of which none is broken
 pub beside_none : {A B : Type 0} (size : A → ℕ) (broken : ℕ → A → B → List ComponentPlace) (at : ℕ) (xs : List A)
@@ -88,14 +97,20 @@ said p offset desc e = by (item_at (types_at (let c = p.components in c.descript
         let same = bytes_true t.nibbles w h in
         record { nibbles = w; wanted = g; type_is = ap type_of f ∙ ap (λ ns. type_by (types_in ns)) same }
 
--- the type of an entry is what the descriptor of its member says
-pub entry_says : (p : Pair) → IsVerified p
+-- the types of an entry are what the descriptor of its member says
+pub record IsTyped (p : Pair) (k : ℕ) (item : PoolEntry) : Type 0 where
+  pub desc : List ℕ
+  pub named : named_desc p item ≡ Some desc
+  pub nibbles : List ℕ
+  pub wanted : nibbles_of p desc ≡ Some nibbles
+  pub type_is : entry_type p k ≡ type_by (types_in nibbles)
+
+pub entry_typed : (p : Pair) → IsVerified p
     → (let c = p.components in let d = c.descriptor in let q = c.pool in length d.pool_types ≡ length q.entries)
     → (k : ℕ) (item : PoolEntry) → entry_of p k ≡ Some item
     → ((at offset : ℕ) → entry_spots p at offset item ≡ [] → is_entry_type p offset (named_desc p item) ≡ true)
-    → (desc : List ℕ) × (named_desc p item ≡ Some desc)
-    × (type_of_desc p desc ≡ Some (let t = entry_type p k in t.result))
-entry_says p verified counts k item is spots =
+    → IsTyped p k item
+entry_typed p verified counts k item is spots =
     let c = p.components in
     let d = c.descriptor in
     let q = c.pool in
@@ -109,19 +124,29 @@ entry_says p verified counts k item is spots =
     by got.0 got.1 (named_desc p item) refl (spots r.0 got.0 r.1)
   where
     by : (offset : ℕ) → slice_get (let c = p.components in let d = c.descriptor in d.pool_types) k ≡ Some offset
-        → (o : Option (List ℕ)) → named_desc p item ≡ o → is_entry_type p offset o ≡ true
-        → (desc : List ℕ) × (named_desc p item ≡ Some desc)
-        × (type_of_desc p desc ≡ Some (let t = entry_type p k in t.result))
+        → (o : Option (List ℕ)) → named_desc p item ≡ o → is_entry_type p offset o ≡ true → IsTyped p k item
     by offset got None e h = cc
     by offset got (Some desc) e h =
         let s = said p offset desc h in
         let at = item_or (let c = p.components in let d = c.descriptor in d.pool_types) k offset 0xFFFF got in
-        let type_here : entry_type p k ≡ type_by (types_in s.nibbles) = ap (type_at (let c = p.components
-        in c.descriptor)) at ∙ s.type_is in (
-          desc,
-          e,
-          ap (option_map type_said) s.wanted ∙ ap (λ (t : MemberType). Some t.result) (sym type_here),
-        )
+        record {
+          desc = desc;
+          named = e;
+          nibbles = s.nibbles;
+          wanted = s.wanted;
+          type_is = ap (type_at (let c = p.components in c.descriptor)) at ∙ s.type_is;
+        }
+
+-- the type of the field of an entry is what its descriptor says
+pub entry_says : (p : Pair) → IsVerified p
+    → (let c = p.components in let d = c.descriptor in let q = c.pool in length d.pool_types ≡ length q.entries)
+    → (k : ℕ) (item : PoolEntry) → entry_of p k ≡ Some item
+    → ((at offset : ℕ) → entry_spots p at offset item ≡ [] → is_entry_type p offset (named_desc p item) ≡ true)
+    → (desc : List ℕ) × (named_desc p item ≡ Some desc)
+    × (type_of_desc p desc ≡ Some (let t = entry_type p k in t.result))
+entry_says p verified counts k item is spots =
+    let t = entry_typed p verified counts k item is spots in
+    (t.desc, t.named, ap (option_map type_said) t.wanted ∙ ap (λ (x : MemberType). Some x.result) (sym t.type_is))
 
 -- the type of an entry of an instance field of the package
 pub instance_typed : (p : Pair) → IsVerified p

@@ -47,36 +47,7 @@ use Rattle.cjc_verified_proof.specs.PackageTypes.{StaticInInterfaces, field_type
 use Rattle.cjc_bytes.proofs.Bools.{or_left}
 use Rattle.cjc_verify_proof.proofs.FieldLaws.{new_object}
 use Rattle.cjc_verified_proof.proofs.DeclaredLaws.{all_declared, has_info}
-use Rattle.cjc_verified_proof.proofs.SupersLaws.{found_token}
-use Rattle.cjc_verified_proof.proofs.UseLaws.{ref_read, spelt}
-
-import_there : (k : ℕ) (trees : List ExportTree) (i : ℕ) (t : ExportTree) → slice_get trees i ≡ Some t
-    → slice_get (files_from k trees) i ≡ Some (OfFile (k + i))
-import_there k [] i t e = cc
-import_there k (x ∷ trees) zero t e = let z : k ≡ k + 0 = omega arith in ap (λ n. Some (OfFile n)) z
-import_there k (x ∷ trees) (suc i) t e = import_there (k + 1) trees i t e ∙ (let s : k + 1 + i ≡ k + suc i = omega arith
-    in ap (λ n. Some (OfFile n)) s)
-
-outside_back : (import class : ℕ) → import < 2 ^ 7 → class < 2 ^ 8 → spelt (ref_nibbles (Outside import class))
-    ≡ 256 * (0x80 + import) + class
-outside_back import class lt less = omega (arith, lt, less)
-
-outside_ref : (import class : ℕ) → import < 2 ^ 7 → class < 2 ^ 8 → parts.class_of (256 * (0x80 + import) + class)
-    ≡ Outside import class
-outside_ref import class lt less =
-    let n = 256 * (0x80 + import) + class in
-    let high : nat_lt (256 * (0x80 + import) + class) 0x8000 ≡ false = grind (arith, nat_tests, lt) in
-    let first : (256 * (0x80 + import) + class) / 256 - 0x80 ≡ import = omega (arith, less) in
-    let second : (256 * (0x80 + import) + class) % 256 ≡ class = omega (arith, less) in
-    ap (λ b. if b then Inside (256 * (0x80 + import) + class) else Outside ((256 * (0x80 + import) + class) / 256 - 0x80)
-    ((256 * (0x80 + import) + class) % 256)) high
-    ∙ ap (λ x. Outside x ((256 * (0x80 + import) + class) % 256)) first ∙ ap (Outside import) second
-
--- nibbles of a class_ref name its class
-all_read : (l : Loaded) (r : ClassRef) → IsRef r → class_by l (ref_nibbles r) ≡ class_of l 0 r
-all_read l (Inside offset) lt = ref_read l offset lt
-all_read l (Outside import class) lt = ap (λ n. class_of l 0 (parts.class_of n)) (outside_back import class lt.0 lt.1)
-    ∙ ap (class_of l 0) (outside_ref import class lt.0 lt.1)
+use Rattle.cjc_verified_proof.proofs.PlaceLaws.{all_read, found_token, import_there}
 
 module _ (applets : Bool) (list : List ℕ) (files : Files) (image : StaticImage) (c : Complete)
     (sound : IsSound list files) (typed : AreTyped files) (descs : AreFieldDescs files)
@@ -88,12 +59,12 @@ module _ (applets : Bool) (list : List ℕ) (files : Files) (image : StaticImage
   l = p.loaded
 
   -- a class of which an object may be made
-  record IsMade (r : ClassRef) : Type 0 where
-    class : Class
-    meant : class_of l 0 r ≡ Some class
-    plain : is_interface l class ≡ false
+  pub record IsMade (r : ClassRef) : Type 0 where
+    pub class : Class
+    pub meant : class_of l 0 r ≡ Some class
+    pub plain : is_interface l class ≡ false
 
-  made_there : (r : ClassRef) → names_unmade p r ≡ false → IsMade r
+  pub made_there : (r : ClassRef) → names_unmade p r ≡ false → IsMade r
   made_there (Inside offset) e = by (class_at p offset) refl e
     where
       by : (o : Option world.Class) → class_at p offset ≡ o → is_unmade_class o ≡ false → IsMade (Inside offset)

@@ -38,26 +38,10 @@ use Rattle.cjc_bytes.proofs.Lists.{none_left, none_right}
 use Rattle.cjc_bytes.proofs.Numbers.{number_same}
 use Rattle.cjc_verify_proof.proofs.Upwards.{either_in, first_or_later}
 use Rattle.cjc_verified_proof.specs.PackageTypes.{HasNoObject}
+use Rattle.cjc_verified_proof.proofs.PlaceLaws.{along_none, class_bytes, found_token, import_is}
 use Rattle.cjc_verified_proof.proofs.EntryLaws.{unless_holds}
 
 -- ---- items one behind the other
-
-along_none : {A : Type 0} (size : A → ℕ) (broken : ℕ → A → List ComponentPlace) (at : ℕ) (xs : List A) (k : ℕ) (x : A)
-    → along size broken at xs ≡ [] → slice_get xs k ≡ Some x → (place : ℕ) × (broken place x ≡ [])
-unfolding along
-along_none size broken at [] k x e f = cc
-along_none size broken at (y ∷ xs) zero x e f =
-    let same : y ≡ x = cc in
-    (at, ap (broken at) (sym same) ∙ none_left (broken at y) (along size broken (at + size y) xs) e)
-along_none size broken at (y ∷ xs) (suc k) x e f = along_none size broken (at + size y) xs k x
-    (none_right (broken at y) (along size broken (at + size y) xs) e) f
-
-map_bytes : (maps : List ImplementedInterface) → sum_by map_size maps ≡ map_sizes maps
-map_bytes [] = refl
-map_bytes (m ∷ maps) = sum_by-cons map_size m maps ∙ ap (λ n. 3 + length m.index + n) (map_bytes maps)
-
-class_bytes : (c : ClassEntry) → class_size c ≡ info_size (IsClass c)
-class_bytes c = ap (λ n. 10 + 2 * length c.public_methods + 2 * length c.package_methods + n) (map_bytes c.interfaces)
 
 abbrev Places : Type 0
 Places = List ComponentPlace
@@ -154,25 +138,6 @@ interface_number (j ∷ is) cs zero i e = (let same : j ≡ i = cc in ap (λ x. 
 interface_number (j ∷ is) cs (suc k) i e = interface_number is cs k i e
 
 -- ---- imports
-
-import_is : (k : ℕ) (trees : List ExportTree) (i : ℕ) (x : Import) → slice_get (files_from k trees) i ≡ Some x
-    → x ≡ OfFile (k + i)
-import_is k [] i x e = cc
-import_is k (t ∷ trees) zero x e = let z : k ≡ k + 0 = omega arith in let same : OfFile k ≡ x = cc
-    in sym same ∙ ap OfFile z
-import_is k (t ∷ trees) (suc i) x e = import_is (k + 1) trees i x e ∙ (let s : k + 1 + i ≡ k + suc i = omega arith
-    in ap OfFile s)
-
-pub found_token : (classes : List ExportClass) (token : ℕ) → find (λ (c : ExportClass). c.token == token) classes
-    ≡ with_token classes token
-found_token [] token = refl
-found_token (c ∷ classes) token = by (c.token == token) (found_token classes token)
-  where
-    by : (b : Bool) → find (λ (x : ExportClass). x.token == token) classes ≡ with_token classes token
-        → cond b (Some c) (find (λ (x : ExportClass). x.token == token) classes) ≡ (if b then Some c
-        else with_token classes token)
-    by true e = refl
-    by false e = e
 
 -- a name of export files means no class of the group
 outside_named : (k : ℕ) (trees : List ExportTree) (name : List ℕ) (p offset : ℕ) → external_from k trees name

@@ -38,35 +38,18 @@ use Rattle.cjc_verify_proof.proofs.FieldLaws.{get_field, get_field_this, put_fie
 use Rattle.cjc_verified_proof.specs.PackageTypes.{field_types}
 use Rattle.cjc_verified_proof.specs.Entries.{UsesField, gets, puts, gets_static, puts_static}
 use Rattle.cjc_verified_proof.proofs.EntryLaws.{instance_typed, cell_typed}
-
--- ---- class_refs
-
--- the number that four nibbles spell
-abbrev pub spelt : List ℕ → ℕ
-spelt (a ∷ b ∷ c ∷ d ∷ []) = 4096 * a + 256 * b + 16 * c + d
-spelt nibbles = 0
-
-spelt_back : (offset : ℕ) → offset < 2 ^ 15 → spelt (ref_nibbles (Inside offset)) ≡ offset
-spelt_back offset lt = omega (arith, lt)
-
--- nibbles of a class_ref name its class
-pub ref_read : (l : Loaded) (offset : ℕ) → offset < 2 ^ 15 → class_by l (ref_nibbles (Inside offset))
-    ≡ class_of l 0 (Inside offset)
-ref_read l offset lt =
-    let low : nat_lt offset 0x8000 ≡ true = grind (arith, nat_tests, lt) in
-    ap (λ n. class_of l 0 (parts.class_of n)) (spelt_back offset lt)
-    ∙ ap (λ b. class_of l 0 (if b then Inside offset else Outside (offset / 256 - 0x80) (offset % 256))) low
+use Rattle.cjc_verified_proof.proofs.PlaceLaws.{ref_read}
 
 -- a class that is there is meant by its class_ref
 module _ (l : Loaded) (t : FieldTypes) (declared : AreDeclared l t) (offset token : ℕ) (type : ValueType)
     (typed : t.field (record { class = Own 0 offset; token = token }) ≡ Some type) where
-  class_meant : class_of l 0 (Inside offset) ≡ Some (Own 0 offset)
+  pub class_meant : class_of l 0 (Inside offset) ≡ Some (Own 0 offset)
   class_meant =
       let d = declared (record { class = Own 0 offset; token = token }) type typed in
       let there : is_there l (Own 0 offset) ≡ true = ap (is_there l) d.class ∙ ap is_some d.info in
       ap (λ b. if b then Some (Own 0 offset) else None) there
 
-  class_named : offset < 2 ^ 15 → shape_by l (class_type (Inside offset)) ≡ Some (OfClass (Own 0 offset))
+  pub class_named : offset < 2 ^ 15 → shape_by l (class_type (Inside offset)) ≡ Some (OfClass (Own 0 offset))
   class_named lt = ap (option_map OfClass) (ref_read l offset lt ∙ class_meant)
 
 -- ---- instructions

@@ -2,8 +2,12 @@
 #![tactic(auto)]
 
 pub mod checked;
+pub mod coded;
 pub mod declared;
+pub mod dispatch;
 pub mod entries;
+pub mod flags;
 pub mod images;
+pub mod infos;
 pub mod plain;
 pub mod supers;

@@ -80,7 +80,7 @@ module _ (l : Loaded) (program : Program) (all : AreMethods l program) (has : Ha
       (among : Contains program.methods t) (f : Frame Code) (st : Stands l s.memory.heap t f)
       (outer : List (Frame Code)) (o : AreOuter l program s.memory.heap t.result outer) where
     -- an object of an imported class that is an exception
-    raises : (c : Class) → IsImported c → is_kind_of l c has.thrown ≡ true
+    raises : (c : Class) → IsImported l c → is_kind_of l c has.thrown ≡ true
         → (otherwise : Turn Code Class Field (List Image))
         → GoesOnPrepared l program m (turn_after_raise (by_token l) (Some c) f outer s otherwise)
     raises c im e otherwise = goes_prepared l program m (with_exception l program all s t among f outer c)
@@ -96,31 +96,27 @@ module _ (l : Loaded) (program : Program) (all : AreMethods l program) (has : Ha
         let x = has.faults fault in
         subst (λ (y : Option Class). GoesOnPrepared l program m (turn_after_raise (by_token l) y f outer s
         (StuckAt f.at s))) (sym x.1.0)
-        (raises x.0 (is_there (external_named l (fault_name fault)) x.0 x.1.0 (named_imported l (fault_name fault)))
-        x.1.1 (StuckAt f.at s))
-      where
-        is_there : (y : Option Class) (c : Class) → y ≡ Some c → IsImportedIf y → IsImported c
-        is_there y c e i = subst IsImportedIf e i
+        (raises x.0 (named_imported l (fault_name fault) x.0 x.1.0 x.1.1.1) x.1.1.0 (StuckAt f.at s))
 
     -- an exception of a script
     throws_go : (name : List ℕ) (number : ℕ) → GoesOnPrepared l program m (turn_after_raise (by_token l)
         (throwable l name) f outer s (Ended (Unfit number) s))
     throws_go name number = go (imported l name) (imported_is l name)
       where
-        below : (c : Class) → IsImported c → (b : Bool) → is_kind_of l c has.thrown ≡ b
+        below : (c : Class) → IsImported l c → (b : Bool) → is_kind_of l c has.thrown ≡ b
             → GoesOnPrepared l program m (turn_after_raise (by_token l) (if b then Some c else None) f outer s
             (Ended (Unfit number) s))
         below c im true e = raises c im e (Ended (Unfit number) s)
         below c im false e = tt
 
-        known : (c : Class) → IsImported c → (y : Option Class) → y ≡ Some has.thrown
+        known : (c : Class) → IsImported l c → (y : Option Class) → y ≡ Some has.thrown
             → GoesOnPrepared l program m (turn_after_raise (by_token l) (option_and_then (if_below l c) y) f outer s
             (Ended (Unfit number) s))
         known c im y e = subst (λ z. GoesOnPrepared l program m (turn_after_raise (by_token l)
             (option_and_then (if_below l c) z) f outer s (Ended (Unfit number) s))) (sym e)
             (below c im (is_kind_of l c has.thrown) refl)
 
-        go : (x : Option Class) → IsImportedIf x → GoesOnPrepared l program m (turn_after_raise (by_token l)
+        go : (x : Option Class) → IsImportedIf l x → GoesOnPrepared l program m (turn_after_raise (by_token l)
             (option_and_then (λ c. option_and_then (if_below l c) (external_named l (codes "java/lang/Throwable"))) x) f
             outer s (Ended (Unfit number) s))
         go None i = tt

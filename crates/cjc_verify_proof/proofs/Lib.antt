@@ -28,3 +28,5 @@ pub mod MemoryLaws
 pub mod FieldLaws
 pub mod ArrayLaws
 pub mod MadeLaws
+pub mod RowSuits
+pub mod CalleeLaws

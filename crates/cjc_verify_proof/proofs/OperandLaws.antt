@@ -1,11 +1,12 @@
 -- Operands of a decoded instruction are read as the form of its opcode says.
-use Rattle.std.specs.Prelude.{◌≡◌, ℕ, ◌+◌, ◌*◌, List, [], ◌∷◌, Option, Some, None, pos}
+use Rattle.std.specs.Prelude.{◌≡◌, ℕ, ◌+◌, ◌*◌, Bool, true, false, List, [], ◌∷◌, Option, Some, None, pos}
+use Rattle.std.specs.Prelude.{if◌then◌else◌}
 use Rattle.std.proofs.Common.{refl, subst}
 use Rattle.cjc_card_semantics.specs.CapRead.Opcodes.{Operand, Byte, Signed1, Signed2, Signed4, Index1, Index2, Form}
-use Rattle.cjc_card_semantics.specs.CapRead.Opcodes.{Fields, form}
+use Rattle.cjc_card_semantics.specs.CapRead.Opcodes.{form}
 use Rattle.cjc_card_semantics.specs.CapRead.Decode.{Instruction, First, Front, operand, operands_of, put_first}
 use Rattle.cjc_card_semantics.specs.CapRead.Decode.{first_and}
-use Rattle.cjc_card_semantics.specs.CapRead.Decode.{with_operands}
+use Rattle.cjc_card_semantics.specs.CapRead.Decode.{before_table, in_table, is_whole, with_operands, with_table}
 use Rattle.cjc_card_semantics.specs.CapRead.Decode.{decode, decode_as}
 use Rattle.cjc_verify_proof.specs.Beside.{IsRead, AreRead}
 
@@ -44,15 +45,29 @@ read_all (k ∷ kinds) bytes front e = go (read_all kinds) (operand k bytes) ref
     go others None is e = cc
     go others (Some first) is e = more others first is (operands_of kinds first.rest) refl e
 
--- the operands of an instruction without a table
-pub operands_read : (opcode : ℕ) (bytes : List ℕ) (i : Instruction) (kinds : List Operand) → form opcode ≡ Some
-    (Fields kinds) → decode (opcode ∷ bytes) ≡ Some i → AreRead kinds i.operands
-operands_read opcode bytes i kinds f e = go (operands_of kinds bytes) refl
-    (subst (λ (o : Option Form). decode_as opcode o bytes ≡ Some i) f e)
+-- the operands of an instruction, of a switch those before its table
+pub operands_read : (opcode : ℕ) (bytes : List ℕ) (i : Instruction) (f : Form) → form opcode ≡ Some f
+    → decode (opcode ∷ bytes) ≡ Some i → AreRead (before_table f) i.operands
+operands_read opcode bytes i f is e = go (operands_of (before_table f) bytes) refl
+    (subst (λ (o : Option Form). decode_as opcode o bytes ≡ Some i) is e)
   where
-    go : (o : Option Front) → operands_of kinds bytes ≡ o → with_operands opcode (Fields kinds) o ≡ Some i
-        → AreRead kinds i.operands
+    whole : (front behind : Front) → AreRead (before_table f) front.values → (b : Bool) → (if b then Some (record {
+      opcode = opcode;
+      operands = front.values;
+      table = behind.values;
+    }) else None) ≡ Some i → AreRead (before_table f) i.operands
+    whole front behind read true e =
+        let same : record { opcode = opcode; operands = front.values; table = behind.values } ≡ i = cc in
+        subst (λ (j : Instruction). AreRead (before_table f) j.operands) same read
+    whole front behind read false e = cc
+
+    tabled : (front : Front) → AreRead (before_table f) front.values → (o : Option Front)
+        → with_table opcode f front.values o ≡ Some i → AreRead (before_table f) i.operands
+    tabled front read None e = cc
+    tabled front read (Some behind) e = whole front behind read (is_whole f front.values behind.values) e
+
+    go : (o : Option Front) → operands_of (before_table f) bytes ≡ o → with_operands opcode f o ≡ Some i
+        → AreRead (before_table f) i.operands
     go None is e = cc
-    go (Some front) is e =
-        let same : record { opcode = opcode; operands = front.values; table = [] } ≡ i = cc in
-        subst (λ (j : Instruction). AreRead kinds j.operands) same (read_all kinds bytes front is)
+    go (Some front) is e = tabled front (read_all (before_table f) bytes front is) (operands_of (in_table f front.values)
+        front.rest) e

@@ -181,12 +181,12 @@ module _ (l : Loaded) (program : Program) (is : IsProgram l program) where
       → AreMade program after
   made_prepared heap after p all k kind e = go (slice_get after k) refl e
     where
-      of_class : (c : Class) → IsImported c → program.made c ≡ true
+      of_class : (c : Class) → IsImported l c → program.made c ≡ true
       of_class (Own part offset) i = absurd i
-      of_class (External tree token) i = is.imported tree token
+      of_class (External tree token) i = is.imported tree token i
 
       object : (c : Class) (slots : List (Slot Field)) → (slice_get heap k ≡ Some (Object c slots)) ⊎ ((slots ≡ [])
-          × IsImported c) → program.made c ≡ true
+          × IsImported l c) → program.made c ≡ true
       object c slots (inl was) = all k (OfClass c) (ap shape_in was)
       object c slots (inr bare) = of_class c bare.1
 

@@ -68,10 +68,10 @@ prepared_through l a b c p q = record {
 }
 
 -- a thing that acts may add: an array of zeros or nulls, or an object of an imported class without slots
-abbrev pub IsPlain : HeapObject Class Field → Type 0
-IsPlain (Object class slots) = (slots ≡ []) × IsImported class
-IsPlain (Numbers element items) = Unit {0}
-IsPlain (References class items) = Unit {0}
+abbrev pub IsPlain : Loaded → HeapObject Class Field → Type 0
+IsPlain l (Object class slots) = (slots ≡ []) × IsImported l class
+IsPlain l (Numbers element items) = Unit {0}
+IsPlain l (References class items) = Unit {0}
 
 -- what is at the end is the last, and before it stand the others
 pushed_at : {A : Type 0} (xs : List A) (x : A) (k : ℕ) (y : A) → slice_get (xs ++ x ∷ []) k ≡ Some y
@@ -81,20 +81,20 @@ pushed_at [] x (suc k) y e = cc
 pushed_at (z ∷ xs) x zero y e = inl e
 pushed_at (z ∷ xs) x (suc k) y e = pushed_at xs x k y e
 
-plain_object : (thing : HeapObject Class Field) → IsPlain thing → (class : Class) (slots : List (Slot Field))
-    → thing ≡ Object class slots → (slots ≡ []) × IsImported class
-plain_object thing p class slots e = subst IsPlain e p
+plain_object : (l : Loaded) (thing : HeapObject Class Field) → IsPlain l thing → (class : Class)
+    (slots : List (Slot Field)) → thing ≡ Object class slots → (slots ≡ []) × IsImported l class
+plain_object l thing p class slots e = subst (IsPlain l) e p
 
 -- one plain thing more
 pub push_prepared : (l : Loaded) (heap : List (HeapObject Class Field)) (thing : HeapObject Class Field)
-    → IsFit thing → HoldsItems l (heap ++ thing ∷ []) thing → IsPlain thing → IsPrepared l heap (heap ++ thing ∷ [])
+    → IsFit thing → HoldsItems l (heap ++ thing ∷ []) thing → IsPlain l thing → IsPrepared l heap (heap ++ thing ∷ [])
 push_prepared l heap thing fit held plain = record {
   extends = pushed_extends heap thing;
   fit = λ f. fit_pushed l heap thing f fit;
   held = λ h. held_pushed l heap thing h held;
   objects = λ k class slots e. elim (pushed_at heap thing k (Object class slots) e) [
     | inl was ↦ inl was
-    | inr new ↦ inr (plain_object thing plain class slots new)
+    | inr new ↦ inr (plain_object l thing plain class slots new)
   ];
 }
 
@@ -121,7 +121,7 @@ set_prepared l heap k old new at same array fit held = record {
 
     objects : (j : ℕ) (class : Class) (slots : List (Slot Field)) → slice_get (slice_set heap k new) j
         ≡ Some (Object class slots) → (slice_get heap j ≡ Some (Object class slots)) ⊎ ((slots ≡ [])
-        × IsImported class)
+        × IsImported l class)
     objects j class slots e = elim (same_place k j) [
       | inl here ↦ (
           let found : slice_get (slice_set heap k new) j ≡ Some new =
@@ -139,35 +139,48 @@ abbrev ArePrepared : Loaded → List (HeapObject Class Field) → Option (List (
 ArePrepared l heap None = Unit {0}
 ArePrepared l heap (Some after) = IsPrepared l heap after
 
--- the class of a name in export files is imported
-abbrev pub IsImportedIf : Option Class → Type 0
-IsImportedIf None = Unit {0}
-IsImportedIf (Some class) = IsImported class
+-- of an export file
+abbrev pub IsOutside : Option Class → Type 0
+IsOutside None = Unit {0}
+IsOutside (Some (Own p offset)) = ⊥
+IsOutside (Some (External tree token)) = Unit {0}
 
-from_files : (tree : ℕ) (trees : List ExportTree) (name : List ℕ) → IsImportedIf (external_from tree trees name)
+-- a class that is there is imported
+abbrev pub IsImportedIf : Loaded → Option Class → Type 0
+IsImportedIf l None = Unit {0}
+IsImportedIf l (Some class) = IsImported l class
+
+from_files : (tree : ℕ) (trees : List ExportTree) (name : List ℕ) → IsOutside (external_from tree trees name)
 from_files tree [] name = tt
 from_files tree (t ∷ trees) name = go (token_named t.classes name) (external_from (tree + 1) trees name)
     (from_files (tree + 1) trees name)
   where
-    go : (o : Option ℕ) (later : Option Class) → IsImportedIf later → IsImportedIf (or_else (option_map (External tree)
-        o) later)
+    go : (o : Option ℕ) (later : Option Class) → IsOutside later → IsOutside (or_else (option_map (External tree) o)
+        later)
     go None later h = h
     go (Some token) later h = tt
 
 module _ (l : Loaded) where
-  pub named_imported : (name : List ℕ) → IsImportedIf (external_named l name)
-  named_imported name = from_files 0 l.trees name
+  -- one of an export file that is no interface is imported
+  outside_imported : (c : Class) → IsOutside (Some c) → is_interface l c ≡ false → IsImported l c
+  outside_imported (Own p offset) h e = absurd h
+  outside_imported (External tree token) h e = e
 
-  pub imported_is : (name : List ℕ) → IsImportedIf (imported l name)
-  imported_is name = go (external_named l name) (named_imported name)
+  -- what export files name so, where it is no interface
+  pub named_imported : (name : List ℕ) (c : Class) → external_named l name ≡ Some c → is_interface l c ≡ false
+      → IsImported l c
+  named_imported name c is e = outside_imported c (subst IsOutside is (from_files 0 l.trees name)) e
+
+  pub imported_is : (name : List ℕ) → IsImportedIf l (imported l name)
+  imported_is name = go (external_named l name) (from_files 0 l.trees name)
     where
-      go : (o : Option Class) → IsImportedIf o → IsImportedIf (option_and_then (imported_class_of l) o)
+      go : (o : Option Class) → IsOutside o → IsImportedIf l (option_and_then (imported_class_of l) o)
       go None h = tt
-      go (Some c) h = by (is_interface l c)
+      go (Some c) h = by (is_interface l c) refl
         where
-          by : (b : Bool) → IsImportedIf (if b then None else Some c)
-          by true = tt
-          by false = h
+          by : (b : Bool) → is_interface l c ≡ b → IsImportedIf l (if b then None else Some c)
+          by true e = tt
+          by false e = outside_imported c h e
 
   module _ (heap : List (HeapObject Class Field)) where
     sized_prepared : (kind : Option (Shape Class)) (n : ℕ)
@@ -188,7 +201,7 @@ module _ (l : Loaded) where
         go true = sized_prepared kind n
         go false = tt
 
-    object_prepared : (o : Option Class) → IsImportedIf o
+    object_prepared : (o : Option Class) → IsImportedIf l o
         → ArePrepared l heap (heap_with (by_token l) heap (object_of (by_token l) o))
     object_prepared None h = tt
     object_prepared (Some c) h = push_prepared l heap (Object c []) tt tt (refl, h)
@@ -305,7 +318,7 @@ module _ (l : Loaded) where
 
 module _ (l : Loaded) (t : FieldTypes) (supers : SupersStand l) (declared : AreDeclared l t) where
   -- an object of an imported class has no fields
-  bare_slots : (is : (type : List ℕ) → (object : ℕ) → Bool) (class : Class) → IsImported class → AreSlots l t is class
+  bare_slots : (is : (type : List ℕ) → (object : ℕ) → Bool) (class : Class) → IsImported l class → AreSlots l t is class
       []
   bare_slots is class imported f type typed kind =
       let d = declared f type typed in
@@ -314,7 +327,7 @@ module _ (l : Loaded) (t : FieldTypes) (supers : SupersStand l) (declared : AreD
       let class_info : is_interface_info (info_of l d.part d.offset) ≡ false = ap is_interface_info d.info in
       absurd (both (is_interface_info (info_of l d.part d.offset)) own class_info)
     where
-      off_of : (c : Class) → IsImported c → Off l supers c
+      off_of : (c : Class) → IsImported l c → Off l supers c
       off_of (Own p offset) i = absurd i
       off_of (External tree token) i = tt
 
@@ -333,7 +346,7 @@ module _ (l : Loaded) (t : FieldTypes) (supers : SupersStand l) (declared : AreD
   }
     where
       object : (k : ℕ) (class : Class) (found : List (Slot Field))
-          → (slice_get m.heap k ≡ Some (Object class found)) ⊎ ((found ≡ []) × IsImported class)
+          → (slice_get m.heap k ≡ Some (Object class found)) ⊎ ((found ≡ []) × IsImported l class)
           → AreSlots l t (object_is l after.heap) class found
       object k class found (inl was) = slots_stay l t m.heap after.heap p.extends class found (fit.slots k
           (Object class found) was)

@@ -13,3 +13,4 @@ pub mod Instructions
 pub mod Runs
 pub mod Values
 pub mod Memories
+pub mod Uses

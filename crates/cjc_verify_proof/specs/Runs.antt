@@ -1,10 +1,10 @@
 -- Programs whose instructions are what their acts say, and what their runs come to.
-use Rattle.std.specs.Prelude.{◌≡◌, ℕ, true, List, [], map, slice_get, Option, Some, None, Contains}
+use Rattle.std.specs.Prelude.{◌≡◌, ℕ, true, false, List, [], map, slice_get, Option, Some, None, Contains}
 use Rattle.cjc_card_semantics.specs.Bytes.declared.fault.MemberId.{MemberId}
 use Rattle.cjc_card_semantics.specs.Script.Sorts.{Shape, Signature, signature_of}
 use Rattle.cjc_card_semantics.specs.Bytecode.Machine.{Start, Fetched}
 use Rattle.cjc_card_semantics.specs.Machine.Loaded.{Loaded}
-use Rattle.cjc_card_semantics.specs.Machine.Classes.{Class, External, Field}
+use Rattle.cjc_card_semantics.specs.Machine.Classes.{Class, External, Field, is_interface}
 use Rattle.cjc_card_semantics.specs.Machine.Statics.{StaticCell, first_memory}
 use Rattle.cjc_card_semantics.specs.Machine.Operations.{Callee}
 use Rattle.cjc_card_semantics.specs.Machine.Methods.{Code, fetch}
@@ -56,5 +56,6 @@ pub record IsProgram (l : Loaded) (program : Program) : Type 0 where
   pub supers : SupersStand l
   pub declared : AreDeclared l program.fields
   pub memory : IsMemory l program.fields (first_memory l)
-  pub imported : (tree token : ℕ) → program.made (External tree token) ≡ true
+  pub imported : (tree token : ℕ) → is_interface l (External tree token) ≡ false
+      → program.made (External tree token) ≡ true
   pub made : (let first = first_memory l in AreMade program first.heap)

@@ -13,4 +13,5 @@ pub mod references;
 pub mod rows;
 pub mod slots;
 pub mod statics;
+pub mod suits;
 pub mod turns;

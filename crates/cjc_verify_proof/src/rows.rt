@@ -2,8 +2,8 @@
 //! row needs, the machine is not stuck, and what it leaves is what the row gives. It has laws alone, for whoever proves
 //! that components which break no rule are never stuck. It knows no class and no constant pool.
 ghost use Rattle.std.specs.Prelude.{◌≡◌, ◌≤◌, ℕ, Bool, false, List, ◌∷◌, length, drop, Option, Some, ℤ};
-ghost use Rattle.cjc_card_semantics.specs.CapRead.Opcodes.{Operand, Fields, form};
-ghost use Rattle.cjc_card_semantics.specs.CapRead.Decode.{Instruction, decode};
+ghost use Rattle.cjc_card_semantics.specs.CapRead.Opcodes.{Form, Operand, form};
+ghost use Rattle.cjc_card_semantics.specs.CapRead.Decode.{Instruction, before_table, decode};
 ghost use Rattle.cjc_card_semantics.specs.Script.declared.value.Value.{Value};
 ghost use Rattle.cjc_card_acts.specs.Types.Cells.{IsCellBelow};
 ghost use Rattle.cjc_card_acts.specs.Types.declared.cell.Cell.{Cell};
@@ -41,11 +41,11 @@ pub fn rows_stand_beside_meanings()
     ensures { (opcode : ℕ) → Beside (row opcode) (meaning opcode) (form opcode) }
 {}
 
-/// The operands of a decoded instruction without a table are as many as the form of its opcode says, and none without a
-/// sign is below 0.
+/// The operands of a decoded instruction, of a switch those before its table, are as many as the form of its opcode says,
+/// and none without a sign is below 0.
 pub fn operands_are_read()
-    ensures { (opcode : ℕ) (bytes : List ℕ) (i : Instruction) (kinds : List Operand) → form opcode ≡ Some (Fields kinds)
-        → decode (opcode ∷ bytes) ≡ Some i → AreRead kinds i.operands }
+    ensures { (opcode : ℕ) (bytes : List ℕ) (i : Instruction) (f : Form) → form opcode ≡ Some f
+        → decode (opcode ∷ bytes) ≡ Some i → AreRead (before_table f) i.operands }
 {}
 
 /// A condition of a jump applies where the words on top are what it needs, and leaves what lies behind them.

@@ -1,0 +1,4 @@
+pub mod DecodeLaws
+pub mod CutLaws
+pub mod LandLaws
+pub mod CardLaws
