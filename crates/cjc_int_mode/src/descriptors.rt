@@ -1,6 +1,6 @@
-//! What descriptors say of words: those of a method's arguments, and the scratch pairs of a call. Called by space.rt.
-//! Nothing here takes memory; a descriptor whose length 32 bits don't count, which no class file has, is taken for want
-//! of it.
+//! What descriptors say of words: those of a method's arguments, and the scratch pairs of a call. Called by space.rt, and
+//! by whoever selects code. Nothing here takes memory; a descriptor whose length 32 bits don't count, which no class
+//! file has, is taken for want of it.
 
 ghost use Rattle.std.specs.Prelude.{◌≡◌, ◌+◌, ◌<◌, ◌≤◌, ◌^◌, ◌&&◌, ℕ, List, map, false, if◌then◌else◌, IfOk};
 ghost use Rattle.cjc_bytes.specs.Spots.{desc_of};
@@ -15,7 +15,7 @@ use cjc_bytes::{Desc, Kind, NoMemory, is_static};
 use cjc_flow::types::bytecode::JOp;
 
 /// The parts of a descriptor, or nothing where the bytes are none.
-fn parsed(desc: &[u8]) -> Result<Option<Desc<'_>>, NoMemory>
+pub fn parsed(desc: &[u8]) -> Result<Option<Desc<'_>>, NoMemory>
     ensures { IfOk result (λ parts. parts ≡ desc_of desc.now) }
 {
     if desc.len() >= 1 << 32 {
@@ -28,7 +28,7 @@ fn parsed(desc: &[u8]) -> Result<Option<Desc<'_>>, NoMemory>
 }
 
 /// The words of a value of a kind.
-fn width(kind: Kind) -> u64
+pub fn width(kind: Kind) -> u64
     ensures width { (class : List ℕ) → result ≡ width (sort_by kind class) }
     ensures few { result ≤ 2 }
 {
@@ -77,7 +77,7 @@ fn with_receiver(is_static: bool, words: u64) -> u64
 }
 
 /// How many words a method with these flags and this descriptor takes, its receiver counted.
-pub(crate) fn argument_words(flags: u16, desc: &[u8]) -> Result<u64, NoMemory>
+pub fn argument_words(flags: u16, desc: &[u8]) -> Result<u64, NoMemory>
     ensures words { (b : Body) → b.flags ≡ flags → b.desc ≡ desc.now
         → IfOk result (λ words. words ≡ argument_words b) }
     ensures few { IfOk result (λ words. words < 2 ^ 35) }
@@ -87,7 +87,7 @@ pub(crate) fn argument_words(flags: u16, desc: &[u8]) -> Result<u64, NoMemory>
 }
 
 /// Whether values of a kind are one word.
-fn is_short(kind: Kind) -> bool
+pub fn is_short(kind: Kind) -> bool
     ensures { (class : List ℕ) → result ≡ is_short (sort_by kind class) }
 {
     match kind {
@@ -98,7 +98,7 @@ fn is_short(kind: Kind) -> bool
 
 /// Whether a parameter of one word stands before the last.
 #[tactic(auto, using(crate::proofs::Words::scratch_found, crate::proofs::Words::scratch_end))]
-fn has_short_before(desc: &Desc<'_>) -> bool
+pub fn has_short_before(desc: &Desc<'_>) -> bool
     ensures { result ≡ has_short_before false (map sort_of desc.now.params) }
 {
     let mut short_before = false;
@@ -142,7 +142,7 @@ fn scratch_pairs_by(desc: &[u8]) -> Result<u32, NoMemory>
 }
 
 /// The scratch pairs of an instruction.
-pub(crate) fn scratch_pairs_of(op: &JOp) -> Result<u32, NoMemory>
+pub fn scratch_pairs_of(op: &JOp) -> Result<u32, NoMemory>
     ensures { IfOk result (λ pairs. pairs ≡ scratch_pairs_of op.now) }
 {
     match op {

@@ -12,7 +12,7 @@ pub use cjc_ncode as ncode;
 pub use cjc_subset as subset;
 
 mod choosing;
-mod descriptors;
+pub mod descriptors;
 pub mod laws;
 pub mod modes;
 mod passing;

@@ -17,7 +17,9 @@ mod method;
 mod names;
 mod pairs;
 
+pub use code::put_source;
 pub use method::{argument_words, select};
+pub use names::{Names, put_call, put_field};
 pub use pairs::{PairKind, PairStep, Wait};
 
 /// Each aload_0 that opens a pair stands before the field instruction that closes it, and execution comes from the one

@@ -55,7 +55,7 @@ slots-once (Declared c given above) told = subst IsOnce (sym (told-slots c given
     (once-new (with_new (slots above) (signatures is_shown c.methods)) (map signature_of given)
     (once-new (slots above) (signatures is_shown c.methods) (slots-once above told)))
 
-hidden_slots-once : (line : Line) → IsOnce (hidden_slots line)
+pub hidden_slots-once : (line : Line) → IsOnce (hidden_slots line)
 hidden_slots-once Nowhere = λ j k s e f. cc
 hidden_slots-once (Imported classes) = λ j k s e f. cc
 hidden_slots-once (Declared c given above) = once-new (hidden_slots above) (signatures is_hidden c.methods)

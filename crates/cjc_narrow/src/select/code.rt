@@ -91,7 +91,7 @@ fn put(
 }
 
 /// Puts a place at the end, so many times.
-fn put_source(from: &mut Row<u32>, place: u32, times: usize) -> Result<(), NoMemory>
+pub fn put_source(from: &mut Row<u32>, place: u32, times: usize) -> Result<(), NoMemory>
     ensures { OnOk result (from.new ≡ from.old ++ replicate times place) }
 {
     for _ in 0..times {

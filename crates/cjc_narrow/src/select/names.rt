@@ -22,7 +22,7 @@ use std::alloc::Global;
 use std::marker::Model;
 
 /// What names go by.
-pub(crate) struct Names<'a, 'w> {
+pub struct Names<'a, 'w> {
     pub world: &'a World<'w>,
     /// The class that holds the code.
     pub holder: &'a [u8],
@@ -113,7 +113,7 @@ pub(crate) fn put_this(
 
 /// getfield or putfield, with an index of one byte where the pool has one.
 #[tactic(auto, unfolding(crate::specs::Rows::Resolved::resolution), using(crate::proofs::SelectLaws::Near::near_by_index))]
-pub(crate) fn put_field(
+pub fn put_field(
     out: &mut Row<NInsn>,
     alloc: Global,
     names: &Names<'_, '_>,
@@ -168,7 +168,7 @@ fn called(
 
 /// A call of any kind.
 #[tactic(auto, unfolding(crate::specs::Rows::Resolved::resolution))]
-pub(crate) fn put_call(
+pub fn put_call(
     out: &mut Row<NInsn>,
     alloc: Global,
     names: &Names<'_, '_>,

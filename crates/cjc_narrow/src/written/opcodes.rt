@@ -57,7 +57,7 @@ pub(crate) fn on_stack(op: u8) -> NInsn
 }
 
 /// iadd to ixor.
-pub(crate) fn arithmetic(op: u8) -> u8
+pub fn arithmetic(op: u8) -> u8
     ensures { result ≡ arithmetic op }
 {
     match op {

@@ -161,6 +161,16 @@ impl<'a> Places<'a> {
         Ok(Places { insns, starts })
     }
 
+    /// Those of a method, by how many instructions are written before each of its own and at the end of all. Takes no
+    /// memory.
+    pub fn of(insns: &'a [JInsn], starts: Row<u32>) -> Places<'a>
+        requires each { length starts ≡ length insns.now + 1 }
+        requires ascending { IsAscending insns.now }
+        ensures { result ≡ record { insns = insns.now; starts = starts } }
+    {
+        Places { insns, starts }
+    }
+
     /// The place of what is written for an offset, or of the next that is written.
     pub fn place(&self, offset: u32) -> u32
         ensures { result ≡ place_of self.now offset }

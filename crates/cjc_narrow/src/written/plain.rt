@@ -23,7 +23,7 @@ use cjc_ncode::{NInsn, PoolKey};
 use std::alloc::Global;
 
 /// A local by the opcode of the first short form, or that of the long one.
-fn local(short: u8, long: u8, index: u16) -> NInsn
+pub fn local(short: u8, long: u8, index: u16) -> NInsn
     requires short { short ≤ 250 }
     requires index { IsByte index }
     ensures { local short long index ≡ result ∷ [] }
@@ -38,7 +38,8 @@ fn local(short: u8, long: u8, index: u16) -> NInsn
     }
 }
 
-fn is_byte(z: i16) -> bool
+/// Whether one byte can say a number.
+pub fn is_byte(z: i16) -> bool
     ensures { result ≡ is_byte z }
 {
     -128 <= z && z <= 127

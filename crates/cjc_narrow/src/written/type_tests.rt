@@ -14,7 +14,7 @@ use std::alloc::Global;
 
 /// The operands of a type test.
 #[derive(Clone, Copy)]
-pub(crate) struct Test<'a> {
+pub struct Test<'a> {
     pub kind: u8,
     pub class: Option<&'a [u8]>,
 }
@@ -51,7 +51,7 @@ fn array_test(element: &[u8]) -> Option<Test<'_>>
 }
 
 /// A test whether something is of a class or array type; None where no value is.
-pub(crate) fn tested(class: &[u8]) -> Result<Option<Test<'_>>, NoMemory>
+pub fn tested(class: &[u8]) -> Result<Option<Test<'_>>, NoMemory>
     ensures { IfOk result (λ test. (op : ℕ) → test_by op test ≡ type_test op (shape_named class.now)) }
 {
     match class {
