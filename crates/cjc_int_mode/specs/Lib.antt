@@ -1,4 +1,3 @@
-pub mod Breaches
 pub mod Modes
 pub mod Written
 pub mod Room

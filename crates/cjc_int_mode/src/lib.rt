@@ -16,8 +16,6 @@ pub mod descriptors;
 pub mod laws;
 pub mod modes;
 mod passing;
-mod rules;
-mod search;
 mod space;
 
 pub use choosing::mode;

@@ -1,16 +1,16 @@
 use Rattle.std.proofs.Common.{List, get_or, sym, ap, ◌∙◌, subst}
 use Rattle.std.proofs.lemmas.Option.{get_or_from_slice_get}
-use Rattle.cjc_flow.specs.Types.ClassFile.declared.tree.ClassTree.{ClassTree}
-use Rattle.cjc_flow.specs.Types.ClassFile.declared.tree.MethodTree.{MethodTree}
-use Rattle.cjc_flow.specs.Types.Bytecode.declared.insn.JInsn.{JInsn}
-use Rattle.cjc_flow.specs.Types.World.Classes.{all_classes}
-use Rattle.cjc_flow.specs.Types.Flow.{Body, body_of}
-use Rattle.cjc_flow.specs.Types.Tables.{IsTypeTable, rows_of}
-use Rattle.cjc_flow.proofs.TypesLeast.{method_same}
+use Rattle.cjc_types.specs.ClassFile.declared.tree.ClassTree.{ClassTree}
+use Rattle.cjc_types.specs.ClassFile.declared.tree.MethodTree.{MethodTree}
+use Rattle.cjc_types.specs.Bytecode.declared.insn.JInsn.{JInsn}
+use Rattle.cjc_types.specs.World.Classes.{all_classes}
+use Rattle.cjc_types.specs.Flow.{Body, body_of}
+use Rattle.cjc_types.specs.Tables.{IsTypeTable, rows_of}
+use Rattle.cjc_types.proofs.Least.{method_same}
 use Rattle.cjc_flow.specs.Constants.{values_of}
 use Rattle.cjc_flow.specs.Tables.{ranges_of}
-use Rattle.cjc_int_mode.proofs.First.{found_same, nothing_broken, first_broken}
-use Rattle.cjc_int_mode.proofs.search.first_broken.Goals as goal
+use Rattle.cjc_flow.proofs.TestsLaws.First.{found_same, nothing_broken, first_broken}
+use Rattle.cjc_flow.proofs.tests.passing.first_broken.Goals as goal
 
 pub first_found-requires-clause-desc : goal.first_found-requires-clause-desc
 first_found-requires-clause-desc c =
