@@ -3,14 +3,14 @@ use Rattle.std.proofs.Common.{◌≡◌, ℕ, zero, suc, ◌+◌, ◌<◌, ◌�
 use Rattle.std.proofs.Common.{◌∷◌, ◌++◌, pos}
 use Rattle.std.specs.Prelude.{Some, None, if◌then◌else◌, ◌==◌, ◌&&◌}
 use Rattle.std.proofs.lemmas.Bool.Decides.{nat_tests}
-use Rattle.cjc_card_semantics.specs.CapRead.declared.tree.ClassEntry.{ClassEntry}
-use Rattle.cjc_card_semantics.specs.Script.declared.value.Value.{Value}
-use Rattle.cjc_card_semantics.specs.Script.declared.value.Value.TheVariants.{Num, Null}
+use Rattle.cjc_capread.specs.declared.tree.ClassEntry.{ClassEntry}
+use Rattle.cjc_script.specs.declared.value.Value.{Value}
+use Rattle.cjc_script.specs.declared.value.Value.TheVariants.{Num, Null}
 use Rattle.cjc_card_semantics.specs.Bytecode.Effects.{Slot, slot_of, slots_with}
 use Rattle.cjc_card_semantics.specs.Machine.Classes.{Class, same_class, Field, same_field, is_reference_token, slots_from}
-use Rattle.cjc_card_semantics.proofs.BytesBools.{both_front, both_back}
-use Rattle.cjc_card_semantics.proofs.BytesNumbers.{like_number, number_same}
-use Rattle.cjc_verify_proof.proofs.Upwards.{class_tells, class_same}
+use Rattle.cjc_export.proofs.BytesBools.{both_front, both_back}
+use Rattle.cjc_export.proofs.BytesNumbers.{like_number, number_same}
+use Rattle.cjc_card_semantics.proofs.MachineLaws.Upwards.{class_tells, class_same}
 
 pub field_tells : (a b : Field) → same_field a b ≡ true → a ≡ b
 field_tells a b e =

@@ -1,44 +1,34 @@
 -- Going upwards from a class gives the classes that stand above it, and no other: its steps are enough.
 use Rattle.std.proofs.Common.{◌≡◌, ℕ, zero, suc, ◌+◌, ◌≤◌, refl, sym, ap, subst, ◌∙◌, arith, Bool, true, false, List}
-use Rattle.std.proofs.Common.{[], ◌∷◌, ◌++◌, length, map, inl, inr, ⊎_elim, eqb-true}
+use Rattle.std.proofs.Common.{[], ◌∷◌, ◌++◌, length, map, inl, inr, ⊎_elim}
 use Rattle.std.specs.Prelude.{Option, Some, None, if◌then◌else◌, ◌==◌, ◌||◌, ◌&&◌, ◌⊎◌, flat_map, option_and_then, option_map}
 use Rattle.std.specs.Prelude.{option_to_list, slice_get}
 use Rattle.std.proofs.lemmas.Bool.Decides.{nat_tests}
-use Rattle.cjc_card_semantics.specs.ExportFile.declared.tree.ExportClass.{ExportClass}
-use Rattle.cjc_card_semantics.specs.ExportFile.declared.tree.ExportTree.{ExportTree}
+use Rattle.cjc_export.specs.declared.tree.ExportClass.{ExportClass}
+use Rattle.cjc_export.specs.declared.tree.ExportTree.{ExportTree}
 use Rattle.cjc_card_semantics.specs.Machine.Classes.{Class, Own, External, same_class, is_in, Info, IsInterface}
 use Rattle.cjc_card_semantics.specs.Machine.Classes.{IsClass, infos, info_size, info_supers, all_supers, info_of}
 use Rattle.cjc_card_semantics.specs.Machine.Classes.{info_at, number_from, with_token, external, external_named}
 use Rattle.cjc_card_semantics.specs.Machine.Classes.{class_of, object_class, object_above, some_of, supers, closure}
 use Rattle.cjc_card_semantics.specs.Machine.Classes.{info_steps, part_steps, class_steps, tree_steps, steps, is_kind_of}
 use Rattle.cjc_card_semantics.specs.Machine.Loaded.{Part, Loaded}
-use Rattle.cjc_card_semantics.proofs.BytesLists.{length_mapped}
+use Rattle.cjc_export.proofs.BytesBools.{both_front, both_back}
+use Rattle.cjc_export.proofs.BytesLists.{length_mapped}
+use Rattle.cjc_export.proofs.BytesNumbers.{like_number, number_same}
 
 -- ---- the same class
 
-both_hold : (a b : Bool) → (a && b) ≡ true → (a ≡ true) × (b ≡ true)
-both_hold true b e = (refl, e)
-both_hold false b e = cc
-
-like_itself : (n : ℕ) → (n == n) ≡ true
-like_itself n = grind (arith, nat_tests)
-
-same_number : (m n : ℕ) → (m == n) ≡ true → m ≡ n
-same_number m n e = eqb-true m n e
-
 pub class_tells : (a b : Class) → same_class a b ≡ true → a ≡ b
-class_tells (Own p a) (Own q b) e =
-    let h = both_hold (p == q) (a == b) e in
-    ap (λ x. Own x a) (same_number p q h.0) ∙ ap (Own q) (same_number a b h.1)
-class_tells (External p a) (External q b) e =
-    let h = both_hold (p == q) (a == b) e in
-    ap (λ x. External x a) (same_number p q h.0) ∙ ap (External q) (same_number a b h.1)
+class_tells (Own p a) (Own q b) e = ap (λ x. Own x a) (number_same p q (both_front (p == q) (a == b) e))
+    ∙ ap (Own q) (number_same a b (both_back (p == q) (a == b) e))
+class_tells (External p a) (External q b) e = ap (λ x. External x a) (number_same p q (both_front (p == q) (a == b) e))
+    ∙ ap (External q) (number_same a b (both_back (p == q) (a == b) e))
 class_tells (Own p a) (External q b) e = cc
 class_tells (External p a) (Own q b) e = cc
 
 pub class_same : (a : Class) → same_class a a ≡ true
-class_same (Own p a) = ap (λ t. t && (a == a)) (like_itself p) ∙ like_itself a
-class_same (External p a) = ap (λ t. t && (a == a)) (like_itself p) ∙ like_itself a
+class_same (Own p a) = ap (λ t. t && (a == a)) (like_number p) ∙ like_number a
+class_same (External p a) = ap (λ t. t && (a == a)) (like_number p) ∙ like_number a
 
 -- ---- membership
 
