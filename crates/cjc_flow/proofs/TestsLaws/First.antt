@@ -331,6 +331,7 @@ module _ (b : Body) (types : List (Option State)) (ranges : List (Option RangeSt
 
   pub found_all : (o : Option BrokenAt) → IsFound (is_tested tests.All) b types ranges o
       → answers.IsFound b types ranges o
+  unfolding first_of_all
   found_all None h = all_pass h
   found_all (Some broken) h = record {
     place = h.place;
