@@ -7,9 +7,6 @@
 #![tactic(auto)]
 
 // Lower crates, for those above.
-pub use cjc_flow as flow;
-pub use cjc_ncode as ncode;
-pub use cjc_subset as subset;
 
 mod choosing;
 pub mod descriptors;
