@@ -17,7 +17,7 @@ pub mod Walks
 pub mod Among
 pub mod TypeLaws
 -- Definitions of lower crates, for those above.
-pub mod Fixpoint
-pub mod ClassFile
-pub mod Bytecode
-pub mod World
+pub use Rattle.cjc_fixpoint.specs as Fixpoint
+pub use Rattle.cjc_classfile.specs as ClassFile
+pub use Rattle.cjc_code.specs as Bytecode
+pub use Rattle.cjc_world.specs as World

@@ -5,25 +5,10 @@
 #![tactic(auto)]
 
 // Lower crates, for those above.
-/// What crates above take of cjc_classfile.
-pub mod classfile {
-    pub use cjc_classfile::{Catch, read};
-}
-
-/// What crates above take of cjc_code.
-pub mod bytecode {
-    pub use cjc_code::{JInsn, JOp, MethodCode, jvm};
-}
-
-/// What crates above take of cjc_fixpoint.
-pub mod fixpoint {
-    pub use cjc_fixpoint::{Edge, Flow, Repeating, Walk, all_marks, is_marked, moved_on, solve};
-}
-
-/// What crates above take of cjc_world.
-pub mod world {
-    pub use cjc_world::World;
-}
+pub use cjc_classfile as classfile;
+pub use cjc_code as bytecode;
+pub use cjc_fixpoint as fixpoint;
+pub use cjc_world as world;
 
 mod cell;
 mod index;
