@@ -30,3 +30,7 @@ pub mod CodedLaws
 pub mod ReachLaws
 pub mod DispatchSuits
 pub mod TokenLaws
+pub mod SpeltLaws
+pub mod FoundLaws
+pub mod SentLaws
+pub mod KeptLaws
