@@ -99,7 +99,7 @@ find_filter {A} f g (x ∷ xs) = by (f x) (find_filter f g xs)
     by true e = ap (λ o. cond (g x) (Some x) o) e
     by false e = e
 
-find_there : {A : Type 0} (g : A → Bool) (xs : List A) (k : ℕ) (x : A) → slice_get xs k ≡ Some x → g x ≡ true
+pub find_there : {A : Type 0} (g : A → Bool) (xs : List A) (k : ℕ) (x : A) → slice_get xs k ≡ Some x → g x ≡ true
     → (y : A) × (find g xs ≡ Some y)
 find_there g [] k x e f = absurd cc
 find_there {A} g (y ∷ xs) zero x e f = (y, ap (λ b. cond b (Some y) (find g xs)) (ap g (same_some e) ∙ f))
@@ -109,7 +109,7 @@ find_there {A} g (y ∷ xs) (suc k) x e f = by (g y) (find_there g xs k x e f)
     by true r = (y, refl)
     by false r = r
 
-either_part : {A : Type 0} (xs ys : List A) (k : ℕ) (x : A) → slice_get (xs ++ ys) k ≡ Some x
+pub either_part : {A : Type 0} (xs ys : List A) (k : ℕ) (x : A) → slice_get (xs ++ ys) k ≡ Some x
     → (slice_get xs k ≡ Some x) ⊎ ((j : ℕ) × (slice_get ys j ≡ Some x))
 either_part [] ys k x e = inr (k, e)
 either_part (y ∷ xs) ys zero x e = inl e
@@ -183,7 +183,7 @@ in_class cl h (x ∷ fs) (m ∷ ms) e b f = by b f (in_class cl h fs ms (omega (
         ∷ filter is_plain (described_in cl h fs ms)) (filter is_plain (described_in cl h fs ms)))) g ∙ more
 
 -- what stands at a place among the methods of a class
-in_got : (cl : Class) (h : ClassRef) (fs : List Found) (ms : List MethodDescriptor) (k : ℕ) (d : Described)
+pub in_got : (cl : Class) (h : ClassRef) (fs : List Found) (ms : List MethodDescriptor) (k : ℕ) (d : Described)
     → slice_get (described_in cl h fs ms) k ≡ Some d → (f : Found) × (m : MethodDescriptor) × (slice_get fs k ≡ Some f)
     × (slice_get ms k ≡ Some m) × (record { class = cl; member = f; holder = h; method = m } ≡ d)
 in_got cl h [] ms k d e = absurd cc

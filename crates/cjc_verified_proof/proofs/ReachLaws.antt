@@ -87,7 +87,7 @@ class_there (x ∷ ds) offset d e = by (is_inside x.this_class offset) refl e (c
 
 -- ---- methods among all
 
-abbrev as_described : world.Class → ClassRef → Found → MethodDescriptor → Described
+abbrev pub as_described : world.Class → ClassRef → Found → MethodDescriptor → Described
 as_described cl h f m = record { class = cl; member = f; holder = h; method = m }
 
 in_there : (cl : world.Class) (h : ClassRef) (fs : List Found) (ms : List MethodDescriptor) (j : ℕ) (f : Found)
@@ -99,7 +99,7 @@ in_there cl h (x ∷ fs) (y ∷ ms) zero f m e g = ap (λ q. Some (as_described 
     ∙ ap (λ q. Some (as_described cl h f q)) (same_some g)
 in_there cl h (x ∷ fs) (y ∷ ms) (suc j) f m e g = in_there cl h fs ms j f m e g
 
-among_there : (w order : List world.Class) (xs : List ClassDescriptor) (k : ℕ) (cl : world.Class) (x : ClassDescriptor)
+pub among_there : (w order : List world.Class) (xs : List ClassDescriptor) (k : ℕ) (cl : world.Class) (x : ClassDescriptor)
     → slice_get order k ≡ Some cl → slice_get xs k ≡ Some x → (j : ℕ) (f : Found) (m : MethodDescriptor)
     → slice_get (methods_of_class w cl) j ≡ Some f → slice_get x.methods j ≡ Some m
     → (n : ℕ) × (slice_get (described_among w order xs) n ≡ Some (as_described cl x.this_class f m))
