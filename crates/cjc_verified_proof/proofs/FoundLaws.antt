@@ -1,6 +1,6 @@
 -- The token of a virtual method that a name finds in a class, or in a class above it, is that of the method's slot there.
-use Rattle.std.proofs.Common.{◌≡◌, ℕ, zero, suc, ◌+◌, ◌-◌, ◌<◌, ◌≤◌, refl, sym, ap, subst, ◌∙◌, arith, Bool, true, false}
-use Rattle.std.proofs.Common.{List, [], ◌∷◌, ◌++◌, length, map, slice_get, Option, Some, None, nat_lt}
+use Rattle.std.proofs.Common.{◌≡◌, ℕ, zero, suc, ◌+◌, ◌-◌, ◌^◌, ◌<◌, ◌≤◌, ◌==◌, refl, sym, ap, subst, ◌∙◌, arith, Bool}
+use Rattle.std.proofs.Common.{true, false, List, [], ◌∷◌, ◌++◌, length, map, slice_get, Option, Some, None, nat_lt}
 use Rattle.std.specs.Prelude.{◌||◌, ◌&&◌, not, if◌then◌else◌, is_some, option_map, unwrap_or}
 use Rattle.std.specs.Str.{bytes_eq}
 use Rattle.cjc_bytes.specs.declared.fault.MemberId.{MemberId}
@@ -497,8 +497,9 @@ module _ (name : List ℕ) (list : ListTree) (files : Files) (image : StaticImag
       file_token x d known import (ap (λ (y : Class). is_interface y.flags) same ∙ class_here) j t h
   found (of_package d super known own supers tables rest) k e class_here zero low t h = absurd (omega (arith, low))
   found {x = x} (of_package d super known own supers tables rest) k e class_here (suc j) low t h =
+      let up = facts.super_there x super d known own supers in
       by (machine.declared l (Own 0 tables.at) id) refl (sym (step x super d j tables.at known own plain supers
-      tables.on_card) ∙ h)
+      tables.on_card) ∙ h) (λ g. found rest up.0 up.1 up.2 j (omega (arith, low)) t g)
     where
       plain : is_interface d.flags ≡ false
       plain = (let both : Some d ≡ Some k = sym known ∙ e in ap (λ (y : Class). is_interface y.flags) (same_some both)
@@ -515,11 +516,10 @@ module _ (name : List ℕ) (list : ListTree) (files : Files) (image : StaticImag
       }
 
       by : (o : Option machine.Described) → machine.declared l (Own 0 tables.at) id ≡ o → token_or o (found_token l (suc j)
-          (Some (n.class super)) id) ≡ Some (Some t) → HasToken es w x s t
-      by None f g =
-          let up = facts.super_there x super d known own supers in
-          lower (found rest up.0 up.1 up.2 j (omega (arith, low)) t g)
-      by (Some b) f g =
+          (Some (n.class super)) id) ≡ Some (Some t) → (found_token l (suc j) (Some (n.class super)) id ≡ Some (Some t)
+          → HasToken es w super s t) → HasToken es w x s t
+      by None f g more = lower (more g)
+      by (Some b) f g more =
           let r = declared_named applets files image c whole ordered paired verified tables.at id b f in
           let same : described_token b ≡ described_token (record { part = 0; method = b.method }) = ap (λ n.
           described_token (record { part = n; method = b.method })) r.0 in

@@ -149,7 +149,7 @@ module _ (c : Checked) (ok : IsChecked c) (has : HasCode c) (codes : HaveCode (p
         subst (λ o. HasDesc p m.desc (dispatched_on l o t) × IsOf p kind (dispatched_on l o t) × IsConcrete p (dispatched_on
         l o t)) (sym r.on_card) (fits.desc_is, here, a.concrete)
       where
-        abbrev subtypes : KeepsSubtypes w
+        subtypes : KeepsSubtypes w
         subtypes = keep.subtypes
 
     pub reach : CallsReach p program

@@ -251,83 +251,73 @@ module _ (applets : Bool) (files : Files) (image : StaticImage) (c : Complete) (
       of_number None number f = absurd cc
       of_number (Some k) number f = of_names k number (slice_get part.classes k) refl f
 
--- ---- entries of scripts
+  -- ---- entries of scripts
 
-module _ (applets : Bool) (files : Files) (image : StaticImage) (c : Complete) (whole : whole_spots c ≡ [])
-    (jump : jump_spots c ≡ []) (ordered : (let d = c.descriptor in classes_in_order d.classes (all_starts c.class)) ≡ [])
-    (paired : ArePaired files image c) (verified : IsVerified (pair_of applets files image c)) (refs : AreRefs c)
-    (counted : AreCounted files) (program : Program) (of : IsProgramOf (pair_of applets files image c) program)
-    (codes : HaveCode (pair_of applets files image c)) where
-  abbrev p : Pair
-  p = pair_of applets files image c
+  module _ (jump : jump_spots c ≡ []) (refs : AreRefs c) (counted : AreCounted files) (program : Program)
+      (of : IsProgramOf (pair_of applets files image c) program) (codes : HaveCode (pair_of applets files image c)) where
+    -- a static method among all begins one of the program
+    entry : (j : ℕ) (d : Described) → slice_get (described p) j ≡ Some d → is_static (let m = d.method in m.flags) ≡ true
+        → (desc : List ℕ) → (let x = member_of p d in x.desc) ≡ desc → (m : Start Code)
+        → start_of l 0 (let m = d.method in m.offset) ≡ Some m → IsEntry l program None desc m
+    entry j d e static desc same m starts =
+        let o = own_found applets files image c whole ordered paired verified j d e (ap not (codes.in_classes j d e static))
+        in
+        let b = o.1 in
+        let at = ap (λ (x : MethodDescriptor). x.offset) o.3 in
+        let s = subst (StandsAt p program) at (stands_at applets files image c whole jump ordered paired verified refs counted
+        program of o.0 b o.2) in
+        let is : s.described ≡ d = same_some (sym s.is_described ∙ o.4) in
+        let one : s.start ≡ m = same_some (sym s.starts ∙ starts) in
+        let header : (let h = b.header in h.is_abstract) ≡ false = not_both (let h = b.header in h.is_abstract)
+        (holds (has_code p) (method_at p (let x = b.method in x.offset))) (header_codes p verified o.0 b o.2)
+        (ap (λ n. holds (has_code p) (method_at p n)) at ∙ ap (holds (has_code p)) o.4 ∙ codes.coded j d e static) in
+        let begun : start_at 0 (let x = b.method in x.offset) b.header b.method ≡ s.start = same_some (sym (body_starts applets
+        files image c whole jump o.0 b o.2) ∙ ap (start_of l 0) at ∙ s.starts) in
+        let concrete : (let x = s.start in x.is_abstract) ≡ false = ap (λ (x : Start Code). x.is_abstract) (sym begun)
+        ∙ header in
+        let t = s.typed concrete in
+        let g = codes.signed j d e in
+        let sorts = sorts_said applets files image c whole jump ordered paired verified refs counted
+        (let x = member_of p s.described in x.desc) s.nibbles g.0 s.said (ap (λ (x : Described). signature_of (let y = member_of p x in y.desc)) is
+        ∙ g.1) in
+        let none : holder_type s.body ≡ None = ap (λ (f : MethodDescriptor). if is_static f.flags then None
+        else Some (class_type (let y = s.body in y.holder))) (sym s.method ∙ ap (λ (x : Described). x.method) is)
+        ∙ ap (λ z. if z then None else Some (class_type (let y = s.body in y.holder))) static in
+        record {
+          method = t.0;
+          among = t.1;
+          begins = subst (Begins t.0) one t.2;
+          holder = None;
+          held = tt;
+          signature = g.0;
+          types = ap signature_of (sym same) ∙ g.1;
+          params = (let y = type_of_body c s.body in y.params);
+          sorts = subst (λ (y : MemberType). AreSorts l (let z = g.0 in z.params) y.params) (sym s.types) sorts.0;
+          arguments = t.3 ∙ ap (λ h. argument_cells h (let y = type_of_body c s.body in y.params)) none;
+        }
 
-  abbrev l : Loaded
-  l = p.loaded
+    pub calls : (id : MemberId) (m : Start Code) → called l id ≡ Some m → IsEntry l program None id.desc m
+    calls id m e = of_class (class_named l id.class) e
+      where
+        of_static : (offset : ℕ) (d : MethodDescriptor) → IsNamed offset id d → (b : Bool) → is_static d.flags ≡ b → (if b then start_of l 0 d.offset else None) ≡ Some m
+            → IsEntry l program None id.desc m
+        of_static offset d r true static f = entry r.number r.it r.listed
+            (ap (λ (y : MethodDescriptor). is_static y.flags) r.method ∙ static) id.desc r.desc m
+            (ap (λ (y : MethodDescriptor). start_of l 0 y.offset) r.method ∙ f)
+        of_static offset d r false static f = absurd cc
 
-  -- a static method among all begins one of the program
-  entry : (j : ℕ) (d : Described) → slice_get (described p) j ≡ Some d → is_static (let m = d.method in m.flags) ≡ true
-      → (desc : List ℕ) → (let x = member_of p d in x.desc) ≡ desc → (m : Start Code)
-      → start_of l 0 (let m = d.method in m.offset) ≡ Some m → IsEntry l program None desc m
-  entry j d e static desc same m starts =
-      let o = own_found applets files image c whole ordered paired verified j d e (ap not (codes.in_classes j d e static))
-      in
-      let b = o.1 in
-      let at = ap (λ (x : MethodDescriptor). x.offset) o.3 in
-      let s = subst (StandsAt p program) at (stands_at applets files image c whole jump ordered paired verified refs counted
-      program of o.0 b o.2) in
-      let is : s.described ≡ d = same_some (sym s.is_described ∙ o.4) in
-      let one : s.start ≡ m = same_some (sym s.starts ∙ starts) in
-      let header : (let h = b.header in h.is_abstract) ≡ false = not_both (let h = b.header in h.is_abstract)
-      (holds (has_code p) (method_at p (let x = b.method in x.offset))) (header_codes p verified o.0 b o.2)
-      (ap (λ n. holds (has_code p) (method_at p n)) at ∙ ap (holds (has_code p)) o.4 ∙ codes.coded j d e static) in
-      let begun : start_at 0 (let x = b.method in x.offset) b.header b.method ≡ s.start = same_some (sym (body_starts applets
-      files image c whole jump o.0 b o.2) ∙ ap (start_of l 0) at ∙ s.starts) in
-      let concrete : (let x = s.start in x.is_abstract) ≡ false = ap (λ (x : Start Code). x.is_abstract) (sym begun)
-      ∙ header in
-      let t = s.typed concrete in
-      let g = codes.signed j d e in
-      let sorts = sorts_said applets files image c whole jump ordered paired verified refs counted
-      (let x = member_of p s.described in x.desc) s.nibbles g.0 s.said (ap (λ (x : Described). signature_of (let y = member_of p x in y.desc)) is
-      ∙ g.1) in
-      let none : holder_type s.body ≡ None = ap (λ (f : MethodDescriptor). if is_static f.flags then None
-      else Some (class_type (let y = s.body in y.holder))) (sym s.method ∙ ap (λ (x : Described). x.method) is)
-      ∙ ap (λ z. if z then None else Some (class_type (let y = s.body in y.holder))) static in
-      record {
-        method = t.0;
-        among = t.1;
-        begins = subst (Begins t.0) one t.2;
-        holder = None;
-        held = tt;
-        signature = g.0;
-        types = ap signature_of (sym same) ∙ g.1;
-        params = (let y = type_of_body c s.body in y.params);
-        sorts = subst (λ (y : MemberType). AreSorts l (let z = g.0 in z.params) y.params) (sym s.types) sorts.0;
-        arguments = t.3 ∙ ap (λ h. argument_cells h (let y = type_of_body c s.body in y.params)) none;
-      }
+        of_declared : (offset : ℕ) (o : Option machine.Described) → machine.declared l (Own 0 offset) id ≡ o
+            → option_and_then (static_start l) o ≡ Some m → IsEntry l program None id.desc m
+        of_declared offset None is f = absurd cc
+        of_declared offset (Some b) is f =
+            let r = declared_named offset id b is in
+            let d = b.method in
+            of_static offset d r.1 (is_static d.flags) refl (ap (λ n. if is_static d.flags then start_of l n d.offset
+            else None) (sym r.0) ∙ f)
 
-  pub calls : (id : MemberId) (m : Start Code) → called l id ≡ Some m → IsEntry l program None id.desc m
-  calls id m e = of_class (class_named l id.class) e
-    where
-      of_static : (offset : ℕ) (d : MethodDescriptor) → IsNamed applets files image c whole ordered paired verified offset
-          id d → (b : Bool) → is_static d.flags ≡ b → (if b then start_of l 0 d.offset else None) ≡ Some m
-          → IsEntry l program None id.desc m
-      of_static offset d r true static f = entry r.number r.it r.listed
-          (ap (λ (y : MethodDescriptor). is_static y.flags) r.method ∙ static) id.desc r.desc m
-          (ap (λ (y : MethodDescriptor). start_of l 0 y.offset) r.method ∙ f)
-      of_static offset d r false static f = absurd cc
-
-      of_declared : (offset : ℕ) (o : Option machine.Described) → machine.declared l (Own 0 offset) id ≡ o
-          → option_and_then (static_start l) o ≡ Some m → IsEntry l program None id.desc m
-      of_declared offset None is f = absurd cc
-      of_declared offset (Some b) is f =
-          let r = declared_named applets files image c whole ordered paired verified offset id b is in
-          let d = b.method in
-          of_static offset d r.1 (is_static d.flags) refl (ap (λ n. if is_static d.flags then start_of l n d.offset
-          else None) (sym r.0) ∙ f)
-
-      of_class : (o : Option Class) → option_and_then (λ c. option_and_then (static_start l) (machine.declared l c id)) o
-          ≡ Some m → IsEntry l program None id.desc m
-      of_class None f = absurd cc
-      of_class (Some (External tree token)) f = absurd cc
-      of_class (Some (Own zero offset)) f = of_declared offset (machine.declared l (Own 0 offset) id) refl f
-      of_class (Some (Own (suc k) offset)) f = absurd cc
+        of_class : (o : Option Class) → option_and_then (λ c. option_and_then (static_start l) (machine.declared l c id)) o
+            ≡ Some m → IsEntry l program None id.desc m
+        of_class None f = absurd cc
+        of_class (Some (External tree token)) f = absurd cc
+        of_class (Some (Own zero offset)) f = of_declared offset (machine.declared l (Own 0 offset) id) refl f
+        of_class (Some (Own (suc k) offset)) f = absurd cc

@@ -185,7 +185,7 @@ module _ (c : Checked) (ok : IsChecked c) (has : HasCode c) (codes : HaveCode (p
       -- it is no initialiser, which is static
       plain : is_initialiser method.name ≡ false
       plain =
-          let file = facts.file e.name (imported known.0 e) known.1 refl in
+          let file = files_of.has q facts e.name (imported known.0 e) known.1 refl in
           let methods : map method_of_export e.methods ≡ map method_of_export (let y = file.entry in y.methods) =
           ap (λ (d : world.Class). d.methods) file.class in
           let r = at in
@@ -355,27 +355,33 @@ module _ (c : Checked) (ok : IsChecked c) (has : HasCode c) (codes : HaveCode (p
       sent_enters a of_a y d e class_here below (Some (Some t)) is = token_enters y d e class_here below t is
 
       -- the method of a named class
-      to_enters : (d : world.Class) → world.class_named w id.class ≡ Some d → both_of l (Some kind) (Some (OfClass (n.class
-          id.class))) ≡ true → Enters (sent_to l receiving (n.class id.class) id)
+      abbrev asked_class : Class
+      asked_class = n.class id.class
+
+      abbrev by_object : Option (Option Token)
+      by_object = found_token l (suc (depth l)) (object_class l) id
+
+      abbrev by_name : Option (Option Token)
+      by_name = found_token l (suc (depth l)) (Some asked_class) id
+
+      abbrev sent_where : Bool → Selection
+      sent_where b = if b then through l receiving asked_class (interface_token l asked_class id) (sent_by l receiving
+          asked_class id by_object) else sent_by l receiving asked_class id by_name
+
+      to_enters : (d : world.Class) → world.class_named w id.class ≡ Some d → both_of l (Some kind) (Some (OfClass
+          asked_class)) ≡ true → Enters (sent_to l receiving asked_class id)
       to_enters d e below = by (is_interface d.flags) refl
         where
-          abbrev named : Class
-          named = n.class id.class
-
-          by : (b : Bool) → is_interface d.flags ≡ b → Enters (sent_to l receiving named id)
+          by : (b : Bool) → is_interface d.flags ≡ b → Enters (sent_to l receiving asked_class id)
           by true here =
               let card_here = interface_is id.class d e ∙ here in
               let o = facts.object_class in
-              let other = sent_by l receiving named id (found_token l (suc (depth l)) (object_class l) id) in
-              subst (λ b. Enters (if b then through l receiving named (interface_token l named id) other
-              else sent_by l receiving named id (found_token l (suc (depth l)) (Some named) id))) (sym card_here)
-              (through_enters named card_here below (interface_token l named id) refl other (sent_enters named below object
-              o.0 o.1 o.3 (kind_below named (n.class object) below (interface_below id.class d e here)) (found_token l (suc
-              (depth l)) (object_class l) id) (ap (λ x. found_token l (suc (depth l)) x id) (sym told.object_class))))
-          by false here = subst (λ b. Enters (if b then through l receiving named (interface_token l named id) (sent_by l
-              receiving named id (found_token l (suc (depth l)) (object_class l) id)) else sent_by l receiving named id
-              (found_token l (suc (depth l)) (Some named) id))) (sym (interface_is id.class d e ∙ here)) (sent_enters named
-              below id.class d e here below (found_token l (suc (depth l)) (Some named) id) refl)
+              let of_object = kind_below asked_class (n.class object) below (interface_below id.class d e here) in
+              subst (λ b. Enters (sent_where b)) (sym card_here) (through_enters asked_class card_here below (interface_token l
+              asked_class id) refl (sent_by l receiving asked_class id by_object) (sent_enters asked_class below object o.0
+              o.1 o.3 of_object by_object (ap (λ x. found_token l (suc (depth l)) x id) (sym told.object_class))))
+          by false here = subst (λ b. Enters (sent_where b)) (sym (interface_is id.class d e ∙ here)) (sent_enters asked_class
+              below id.class d e here below by_name refl)
 
       -- What is sent to it begins a method of the program.
       pub sends : (m : Start Code) → sent l kind id ≡ Some m → IsEntry l program (Some kind) id.desc m
