@@ -26,6 +26,7 @@ use Rattle.cjc_tokens.specs.Members.{Signature, is_virtual}
 use Rattle.cjc_tokens.specs.Slots.{hidden_row, hidden_slots, implementing, implementing_hidden, meant_by, row, slots, token}
 use Rattle.cjc_tokens.proofs.Held.{here-has_slot, token-slot}
 use Rattle.cjc_tokens.proofs.Walks.{supertypes-known}
+use Rattle.cjc_vtable.specs.Dispatch.{own_by_token}
 use Rattle.cjc_vtable.specs.Dispatch as tables
 use Rattle.cjc_vtable.specs.Laws.{Under, below, itself}
 use Rattle.cjc_vtable.specs.Naming.{named}
@@ -34,9 +35,10 @@ use Rattle.cjc_vtable.proofs.Calls.{token-some}
 use Rattle.cjc_vtable.proofs.Once.{slots-once}
 use Rattle.cjc_vtable.proofs.SlotNames.{implementing-named, seen-line}
 use Rattle.cjc_vtable.proofs.Worlds.{told-class}
-use Rattle.cjc_card_semantics.specs.Machine.Classes.{External, Info, IsClass, Own, info_size, offset_from}
+use Rattle.cjc_card_semantics.specs.Machine.Classes.{External, Info, IsClass, Own, external, info_size, offset_from}
 use Rattle.cjc_card_semantics.specs.Machine.Dispatch.{Hidden, NotFound, At, Open, Outward, Selection, Token, dispatched}
-use Rattle.cjc_card_semantics.specs.Machine.Dispatch.{dispatched_hidden, dispatched_open, dispatched_outward, in_files}
+use Rattle.cjc_card_semantics.specs.Machine.Dispatch.{dispatched_hidden, dispatched_open, dispatched_outward, exported_line}
+use Rattle.cjc_card_semantics.specs.Machine.Dispatch.{in_files}
 use Rattle.cjc_card_semantics.specs.Machine.Dispatch.{outward, tower}
 use Rattle.cjc_card_semantics.specs.Machine.Loaded.{Loaded}
 use Rattle.cjc_components.specs.NCode.Lowering.Naming.{Naming}
@@ -132,6 +134,14 @@ meant_is implements all t f e = by (mapped_at (meant_by implements) all t (Some 
     by (None, g, h) = cc
     by (Some s, g, h) = (s, g, h)
 
+token_kind : (t : ℕ) (v : Class) (g : Found) → own_by_token t v ≡ Some g → g.imported ≡ v.is_imported
+unfolding own_by_token
+token_kind t v g h = by (position (λ (m : Member). is_virtual m && (m.token == t)) v.methods) h
+  where
+    by : (o : Option ℕ) → option_map (λ i. member_at v (length v.fields + i)) o ≡ Some g → g.imported ≡ v.is_imported
+    by None i = cc
+    by (Some j) i = sym (ap (λ (u : Found). u.imported) (same_some i))
+
 outward_concrete : (p : Pair) (class : List ℕ) (o : Option ExportMethod) (other : Selection) → IsConcrete p other
     → IsConcrete p (outward class o other)
 outward_concrete p class None other h = h
@@ -226,7 +236,7 @@ module _ (c : Checked) (ok : IsChecked c) (has : HasCode c) (keep : KeepsCalls c
         let h = entry_of_name c.name q ok.sound x k e imp in
         let on : n.class x ≡ External h.file (let v = h.entry in v.token) = sym same_class ∙ h.on_card in
         subst (λ v. IsConcrete p (dispatched_open (tower l v) t) × IsConcrete p (dispatched_hidden (tower l v) 0 t)) (sym on)
-        (in_files_concrete p _ t, tt)
+        (in_files_concrete p (exported_line l (external l h.file (let v = h.entry in v.token))) t, tt)
 
     pub open_concrete : (t : ℕ) → t < 128 → IsConcrete p (dispatched_open (tower l (n.class x)) t)
     open_concrete t lt = by k.is_imported refl
@@ -303,15 +313,6 @@ module _ (c : Checked) (ok : IsChecked c) (has : HasCode c) (keep : KeepsCalls c
       same : supers ≡ supertypes w b.supers
       same = facts.one_supertypes b.supers supers (supertypes w b.supers) ks (facts.are_supertypes b.supers)
 
-      kind : (v : Class) (g : Found) → tables.own_by_token t v ≡ Some g → g.imported ≡ v.is_imported
-      unfolding own_by_token
-      kind v g h = by (position (λ (m : Member). is_virtual m && (m.token == t)) v.methods) h
-        where
-          by : (o : Option ℕ) → option_map (λ i. member_at v (length v.fields + i)) o ≡ Some g → g.imported
-              ≡ v.is_imported
-          by None i = cc
-          by (Some j) i = sym (ap (λ (u : Found). u.imported) (same_some i))
-
       up : ((y : List ℕ) (a : Class) → AreSupertypes w (y ∷ []) supers → class_named w y ≡ Some a
           → is_interface a.flags ≡ false → tables.dispatched (tables.tower_in w supers) t ≡ Some f → IsMeantBy y t f)
           → b.is_imported ≡ false → tables.dispatched (tables.tower_in w supers) t ≡ Some f → IsMeantBy x t f
@@ -326,7 +327,7 @@ module _ (c : Checked) (ok : IsChecked c) (has : HasCode c) (keep : KeepsCalls c
           → AreSupertypes w (y ∷ []) supers → class_named w y ≡ Some a → is_interface a.flags ≡ false
           → tables.dispatched (tables.tower_in w supers) t ≡ Some f → IsMeantBy y t f) → IsMeantBy x t f
       by true is g rest =
-          let import = first_imported_found q facts x b known is (tables.own_by_token t) kind f (ap (λ k. first
+          let import = first_imported_found q facts x b known is (tables.own_by_token t) (token_kind t) f (ap (λ k. first
           (tables.own_by_token t) (b ∷ upwards k)) (sym same) ∙ g) in
           let clash : false ≡ true = sym mine ∙ import in
           absurd cc

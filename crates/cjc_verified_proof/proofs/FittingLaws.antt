@@ -1,7 +1,7 @@
 -- Dispatch keeps the descriptors that entries of the constant pool and tokens of interfaces name.
 use Rattle.std.proofs.Common.{◌≡◌, ⊎_elim, ℕ, zero, suc, ◌+◌, ◌-◌, ◌<◌, ◌≤◌, ◌==◌, Bool, true, false, not, List, [], ◌∷◌}
 use Rattle.std.proofs.Common.{◌++◌, length, map, slice_get, Option, Some, None, refl, sym, ap, subst, ◌∙◌, arith, nat_lt}
-use Rattle.std.specs.Prelude.{◌&&◌, ◌||◌, if◌then◌else◌, is_some, option_and_then, option_map, position, reverse, unwrap_or}
+use Rattle.std.specs.Prelude.{◌&&◌, ◌^◌, ◌||◌, if◌then◌else◌, is_some, option_and_then, option_map, position, reverse, unwrap_or}
 use Rattle.std.specs.List.{find, list_any}
 use Rattle.std.proofs.lemmas.Bool.Decides.{nat_tests}
 use Rattle.std.proofs.lemmas.List.Folds.{list_any-append}
@@ -30,17 +30,18 @@ use Rattle.cjc_check_rules.specs.Spots.{Placed, begins, in_info, item_at, unless
 use Rattle.cjc_world.specs.declared.found.Found.{Found}
 use Rattle.cjc_world.specs.Classes.{Class, Member, all_classes, class_named, declared, imported, method_of_export}
 use Rattle.cjc_world.specs.Classes as world
+use Rattle.cjc_world.specs.Lookup.{is_called}
 use Rattle.cjc_world.specs.Interfaces.{known as known_ones}
 use Rattle.cjc_world.specs.Order.{class_order}
 use Rattle.cjc_world.specs.Subtype.{is_subtype}
 use Rattle.cjc_world.specs.Supertypes.{Lists, foremost, line, supertypes}
 use Rattle.cjc_world.proofs.Cycles.{class_named-name}
 use Rattle.cjc_tokens.specs.Lines.{Line, line_at, line_in, line_of}
-use Rattle.cjc_tokens.specs.Members.{In, Signature, all_methods, chosen, is_called, is_initialiser, is_virtual, later, same}
+use Rattle.cjc_tokens.specs.Members.{In, Signature, all_methods, chosen, is_initialiser, is_virtual, later, same}
 use Rattle.cjc_tokens.specs.Members.{first_of as foremost_of, signature_of}
 use Rattle.cjc_tokens.specs.Methods.{interface_methods, interfaces_at}
 use Rattle.cjc_tokens.specs.Slots.{hidden_row, hidden_slots, implementing_hidden, slots, token}
-use Rattle.cjc_tokens.specs.Tokens.{OfClass, assigned, joined, method_of_token}
+use Rattle.cjc_tokens.specs.Tokens.{OfClass as OfTokens, assigned, joined, method_of_token}
 use Rattle.cjc_tokens.proofs.Facts.{same-true}
 use Rattle.cjc_tokens.proofs.Held.{here-has_slot, token-slot}
 use Rattle.cjc_tokens.proofs.Means.{kept-at}
@@ -161,14 +162,14 @@ outside_token (q ∷ ps) trees import class token e = outside_token ps trees imp
 chosen_in : (test : Member → Bool) (s : Signature) (ms : List Member) (m : Member) → chosen test s ms ≡ Some m
     → In m ms × (test m ≡ true) × (signature_of m ≡ s)
 chosen_in test s [] m e = cc
-chosen_in test s (x ∷ ms) m e = by (test x && Rattle.cjc_world.specs.Lookup.is_called s.name s.desc x) refl e (chosen_in
+chosen_in test s (x ∷ ms) m e = by (test x && is_called s.name s.desc x) refl e (chosen_in
     test s ms m)
   where
-    by : (b : Bool) → (test x && Rattle.cjc_world.specs.Lookup.is_called s.name s.desc x) ≡ b → (if b then Some x
+    by : (b : Bool) → (test x && is_called s.name s.desc x) ≡ b → (if b then Some x
         else chosen test s ms) ≡ Some m → (chosen test s ms ≡ Some m → In m ms × (test m ≡ true) × (signature_of m ≡ s))
         → In m (x ∷ ms) × (test m ≡ true) × (signature_of m ≡ s)
     by true is f rest =
-        let two = and_true (test x) (Rattle.cjc_world.specs.Lookup.is_called s.name s.desc x) is in
+        let two = and_true (test x) (is_called s.name s.desc x) is in
         subst (λ v. In v (x ∷ ms) × (test v ≡ true) × (signature_of v ≡ s)) (same_some f) (foremost_of, two.0, same-true
         (signature_of x) s two.1)
     by false is f rest = let r = rest f in (later r.0, r.1, r.2)
@@ -355,7 +356,7 @@ module _ (c : Checked) (ok : IsChecked c) (has : HasCode c) (keep : KeepsCalls c
           let kept = kept-at files applets f.0 f.1 f.2 in
           let here : is_interface v.flags ≡ false = ap (λ (z : Class). is_interface z.flags) (sym f.3) ∙ plain in
           ap (λ (z : Class). method_of_token (assigned applets files) z.number t) f.3
-          ∙ ap (λ b. if b then option_and_then (λ (k : OfClass). joined (slice_get k.public_methods t)) (slice_get (let a =
+          ∙ ap (λ b. if b then option_and_then (λ (k : OfTokens). joined (slice_get k.public_methods t)) (slice_get (let a =
           assigned applets files in a.classes) f.0) else hidden_of (slice_get (let a = assigned applets files in a.classes)
           f.0)) test
           ∙ ap hidden_of kept.1
@@ -363,7 +364,7 @@ module _ (c : Checked) (ok : IsChecked c) (has : HasCode c) (keep : KeepsCalls c
           ∙ ap (λ (z : Class). joined (slice_get (hidden_row (line_at w z)) (t - 128))) (sym f.3)
           ∙ ap (λ (z : Line). joined (slice_get (hidden_row z) (t - 128))) (sym line_same)
         where
-          hidden_of : Option OfClass → Option Found
+          hidden_of : Option OfTokens → Option Found
           hidden_of o = option_and_then (λ k. joined (slice_get k.package_methods (t - 128))) o
 
       own_hidden : (t : ℕ) → nat_lt t 128 ≡ false → (desc : List ℕ) → own_virtual_desc p t d ≡ Some desc → HiddenFits d.name

@@ -1,5 +1,5 @@
 -- What tokens reach on objects of a class: methods of the descriptors that the tokens mean, of the package or imported.
-use Rattle.std.proofs.Common.{◌≡◌, ⊎_elim, ℕ, zero, suc, ◌+◌, ◌<◌, ◌==◌, Bool, true, false, not, List, [], ◌∷◌, ◌++◌}
+use Rattle.std.proofs.Common.{◌≡◌, ◌⊎◌, inl, inr, ⊎_elim, ℕ, zero, suc, ◌+◌, ◌<◌, ◌==◌, Bool, true, false, not, List, [], ◌∷◌, ◌++◌}
 use Rattle.std.proofs.Common.{append-nil, length, map, slice_get, Option, Some, None, refl, sym, ap, subst, ◌∙◌, arith}
 use Rattle.std.proofs.Common.{nat_lt}
 use Rattle.std.specs.Prelude.{◌&&◌, ◌||◌, codes, if◌then◌else◌, option_and_then, option_map, position}
@@ -108,6 +108,10 @@ first_got t (x ∷ xs) m e = by (virtual_method t x) refl e (first_got t xs m)
     by None is h rest = let r = rest h in (suc r.0, r.1, r.2, r.3)
     by (Some u) is h rest = (0, x, refl, is ∙ h)
 
+in_cases : (m n : Member) (ms : List Member) → In m (n ∷ ms) → (n ≡ m) ⊎ In m ms
+in_cases m n ms foremost_of = inl refl
+in_cases m n ms (later i) = inr i
+
 -- a method that may be selected is found, or one before it
 own_there : (s : Signature) (d : Class) (m : Member) → In m d.methods → is_selectable m.flags ≡ true → signature_of m ≡ s
     → (f : Found) × (own_method true s.name s.desc d ≡ Some f)
@@ -129,21 +133,19 @@ own_there s d m i sel is = at_place (place d.methods i)
             && is_called s.name s.desc v) ms)) e
 
         by : (b : Bool) → (is_selectable n.flags && is_called s.name s.desc n) ≡ b → In m (n ∷ ms) → (In m ms → (k : ℕ)
-            × (position (λ (v : Member). is_selectable v.flags && is_called s.name s.desc v) ms
-            ≡ Some k)) → (k : ℕ) × (position (λ (v : Member). is_selectable v.flags
-            && is_called s.name s.desc v) (n ∷ ms) ≡ Some k)
+            × (position (λ (v : Member). is_selectable v.flags && is_called s.name s.desc v) ms ≡ Some k)) → (k : ℕ)
+            × (position (λ (v : Member). is_selectable v.flags && is_called s.name s.desc v) (n ∷ ms) ≡ Some k)
         by true e i rest = (0, step true e)
-        by false e i rest = later_on i
-          where
-            later_on : In m (n ∷ ms) → (k : ℕ) × (position (λ (v : Member). is_selectable v.flags
-                && is_called s.name s.desc v) (n ∷ ms) ≡ Some k)
-            later_on foremost_of =
-                let yes : (is_selectable m.flags && is_called s.name s.desc m) ≡ true = ap (λ b. b && is_called s.name
-                s.desc m) sel ∙ ap (λ v. same v s) is ∙ same-refl s in
-                let clash : true ≡ false = sym yes ∙ e in
-                absurd cc
-            later_on (later j) = let r = rest j in (suc r.0, step false e
-                ∙ ap (option_map suc) r.1)
+        by false e i rest = ⊎_elim
+            (λ one. (
+            let yes : (is_selectable m.flags && is_called s.name s.desc m) ≡ true = ap (λ b. b && is_called s.name s.desc m)
+            sel ∙ ap (λ v. same v s) is ∙ same-refl s in
+            let clash : true ≡ false = sym yes ∙ ap (λ (v : Member). is_selectable v.flags && is_called s.name s.desc v) (sym
+            one) ∙ e in
+            absurd cc
+            ))
+            (λ j. (let r = rest j in (suc r.0, step false e ∙ ap (option_map suc) r.1)))
+            (in_cases m n ms i)
 
     at_place : (k : ℕ) × (position (λ (n : Member). is_selectable n.flags && is_called s.name
         s.desc n) d.methods ≡ Some k) → (f : Found) × (option_map (λ i. member_at d
@@ -378,10 +380,10 @@ module _ (c : Checked) (ok : IsChecked c) (has : HasCode c) (keep : KeepsCalls c
   pub imported_keeps : (y : List ℕ) (d : Class) → class_named w y ≡ Some d → d.is_imported ≡ true → (i : ℕ) (m : Member)
       → slice_get d.methods i ≡ Some m → ((t : sorts.Signature) × (sorts.signature_of m.desc ≡ Some t))
       × (is_interface d.flags ≡ false → is_virtual m ≡ true → m.token < 128)
-  imported_keeps y d e imp i m at =
+  imported_keeps y d e imp i m listed =
       let h = facts.file y d e imp in
       let x = h.entry in
-      let r = export_from x.methods i m (sym (ap (λ (v : Class). slice_get v.methods i) h.class) ∙ at) in
+      let r = export_from x.methods i m (sym (ap (λ (v : Class). slice_get v.methods i) h.class) ∙ listed) in
       let files = c.files in
       let found : check.imported files.exports h.file x.token ≡ Some x = ap (option_and_then (class_with x.token)) h.in_list
       ∙ found_token (let t = h.tree in t.classes) x.token ∙ sym (ap (option_and_then (λ (t : ExportTree). card.with_token

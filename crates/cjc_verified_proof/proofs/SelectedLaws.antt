@@ -22,7 +22,7 @@ use Rattle.cjc_check_rules.specs.ExportFile.declared.tree.ExportTree.{ExportTree
 use Rattle.cjc_check_rules.specs.Members.{class_methods, is_method_start}
 use Rattle.cjc_world.specs.declared.found.Found.{Found}
 use Rattle.cjc_world.specs.Added.{added}
-use Rattle.cjc_world.specs.Classes.{Class, Member, all_classes, class_named, imported, is_at, method_of_export}
+use Rattle.cjc_world.specs.Classes.{Class, Member, all_classes, class_at, class_named, imported, is_at, method_of_export}
 use Rattle.cjc_world.specs.Classes as world
 use Rattle.cjc_world.specs.Lookup.{member_at}
 use Rattle.cjc_world.specs.Order.{class_order, methods_of_class, places, written}
@@ -260,7 +260,7 @@ module _ (c : Checked) (ok : IsChecked c) (has : HasCode c) (keep : KeepsCalls c
         let a = among_there w (class_order w) ds at.number z d.0 at.ordered d.1 h.number f m.0 h.listed m.1 in
         (a.0, as_described z (let y = d.0 in y.this_class) f m.0, a.1, same_itself f mine)
 
-    listed : IsListed z f
+    pub listed : IsListed z f
     listed =
         let t = there in
         let one = find_there test (described p) t.0 t.1 t.2 t.3 in
