@@ -1,9 +1,11 @@
--- A class that is not abstract has no abstract method for one of its tokens, and a token that means a method of the package
+-- A class that is not abstract has no abstract method for one of its tokens, and a token that means a method of the
+-- package
 -- fits seven bits.
-use Rattle.std.proofs.Common.{◌≡◌, ℕ, zero, suc, ◌+◌, ◌-◌, ◌<◌, ◌≤◌, ◌==◌, Bool, true, false, not, List, [], ◌∷◌, ◌++◌}
-use Rattle.std.proofs.Common.{length, map, drop, slice_get, Option, Some, None, refl, sym, ap, subst, ◌∙◌, arith, nat_lt}
-use Rattle.std.specs.Prelude.{◌&&◌, ◌||◌, if◌then◌else◌, option_map, option_to_list, position}
-use Rattle.std.specs.List.{list_any, range_with_len}
+use Rattle.std.proofs.Common.{◌≡◌, [], ℕ, zero, suc, ◌+◌, ◌-◌, ◌<◌, ◌≤◌, ◌==◌, Bool, true, false, not, List, ◌∷◌}
+use Rattle.std.proofs.Common.{length, map, drop, slice_get, Option, Some, None, refl, sym, ap, subst, ◌∙◌, arith}
+use Rattle.std.proofs.Common.{nat_lt}
+use Rattle.std.specs.Prelude.{◌&&◌, ◌||◌, if◌then◌else◌, option_map, position}
+use Rattle.std.specs.List.{range_with_len}
 use Rattle.std.proofs.lemmas.Bool.Decides.{nat_tests}
 use Rattle.std.proofs.lemmas.Option.{slice_get-map}
 use Rattle.cjc_capread.specs.Bytes.AccessFlags.{is_interface}
@@ -14,18 +16,19 @@ use Rattle.cjc_check_rules.specs.ExportFile.Supers.{virtual_method}
 use Rattle.cjc_check_rules.specs.Spots.{beside, in_info}
 use Rattle.cjc_check_rules.specs.declared.spot.ComponentPlace.{ComponentPlace}
 use Rattle.cjc_world.specs.declared.found.Found.{Found}
-use Rattle.cjc_world.specs.Added.{added}
 use Rattle.cjc_world.specs.Classes.{Class, Member, all_classes, class_named}
 use Rattle.cjc_world.specs.Lookup.{first, member_at}
 use Rattle.cjc_world.specs.Order.{class_order}
 use Rattle.cjc_world.specs.Supertypes.{AreSupertypes, End, Known, Lists, Supertypes, Unknown, foremost}
 use Rattle.cjc_world.specs.Supertypes.{known_here, supertypes, unknown_here}
 use Rattle.cjc_world.specs.Supertypes.{upwards}
-use Rattle.cjc_tokens.specs.Lines.{Declared, Imported, Line, line_at, line_in, line_of}
+use Rattle.cjc_tokens.specs.Lines.{line_at, line_in, line_of}
 use Rattle.cjc_tokens.specs.Members.{Signature, is_virtual}
-use Rattle.cjc_tokens.specs.Slots.{hidden_row, hidden_slots, implementing, implementing_hidden, meant_by, row, slots, token}
+use Rattle.cjc_tokens.specs.Slots.{hidden_row, hidden_slots, implementing, implementing_hidden, meant_by, row, slots}
+use Rattle.cjc_tokens.specs.Slots.{token}
 use Rattle.cjc_tokens.proofs.Held.{here-has_slot, token-slot}
 use Rattle.cjc_tokens.proofs.Walks.{supertypes-known}
+use Rattle.cjc_vtable.specs.Dispatch.{own_by_token}
 use Rattle.cjc_vtable.specs.Dispatch as tables
 use Rattle.cjc_vtable.specs.Laws.{Under, below, itself}
 use Rattle.cjc_vtable.specs.Naming.{named}
@@ -34,17 +37,18 @@ use Rattle.cjc_vtable.proofs.Calls.{token-some}
 use Rattle.cjc_vtable.proofs.Once.{slots-once}
 use Rattle.cjc_vtable.proofs.SlotNames.{implementing-named, seen-line}
 use Rattle.cjc_vtable.proofs.Worlds.{told-class}
-use Rattle.cjc_card_semantics.specs.Machine.Classes.{External, Info, IsClass, Own, info_size, offset_from}
+use Rattle.cjc_card_semantics.specs.Machine.Classes.{External, Info, IsClass, Own, external, info_size, offset_from}
 use Rattle.cjc_card_semantics.specs.Machine.Dispatch.{Hidden, NotFound, At, Open, Outward, Selection, Token, dispatched}
-use Rattle.cjc_card_semantics.specs.Machine.Dispatch.{dispatched_hidden, dispatched_open, dispatched_outward, in_files}
+use Rattle.cjc_card_semantics.specs.Machine.Dispatch.{dispatched_hidden, dispatched_open, dispatched_outward}
+use Rattle.cjc_card_semantics.specs.Machine.Dispatch.{exported_line}
+use Rattle.cjc_card_semantics.specs.Machine.Dispatch.{in_files}
 use Rattle.cjc_card_semantics.specs.Machine.Dispatch.{outward, tower}
 use Rattle.cjc_card_semantics.specs.Machine.Loaded.{Loaded}
 use Rattle.cjc_components.specs.NCode.Lowering.Naming.{Naming}
 use Rattle.cjc_components.specs.Package.{Package}
-use Rattle.cjc_components.specs.Names.{class_at as class_by_name}
 use Rattle.cjc_verify.specs.Infos.{abstract_spots, all_tokens, has_abstract_method, infos}
 use Rattle.cjc_verify.specs.Named.{is_abstract_selection, is_unmade}
-use Rattle.cjc_verify.specs.Pairs.{Pair, method_offset}
+use Rattle.cjc_verify.specs.Pairs.{Pair}
 use Rattle.cjc_verified_proof.specs.Checked.{Checked, HasCode, IsChecked, pair}
 use Rattle.cjc_verified_proof.specs.ClassInfos.{wanted_class, wanted_info}
 use Rattle.cjc_verified_proof.specs.Dispatching.{TablesFit, package_of}
@@ -52,7 +56,7 @@ use Rattle.cjc_verified_proof.specs.Kept.{KeepsCalls}
 use Rattle.cjc_verified_proof.specs.Selecting.{IsConcrete}
 use Rattle.cjc_bytes.proofs.Bools.{not_true}
 use Rattle.cjc_bytes.proofs.Gets.{any_off, get_behind, in_front, item_there, mapped_at}
-use Rattle.cjc_bytes.proofs.Lists.{length_mapped, none_left, none_right}
+use Rattle.cjc_bytes.proofs.Lists.{none_left, none_right}
 use Rattle.cjc_bytes.proofs.Plain.{same_some}
 use Rattle.cjc_card_link.proofs.InfoPlaces.{all_starts as starts_of_infos}
 use Rattle.cjc_token_proof.proofs.TablesLaws.Above.{entry_of_name}
@@ -70,7 +74,8 @@ use Rattle.cjc_world.proofs.Cycles.{class_named-name}
 -- ---- lists
 
 -- what is tested of an info at its offset
-beside_place : {B : Type 0} (broken : ℕ → Info → B → List ComponentPlace) (at : ℕ) (is : List Info) (ys : List B) (k : ℕ)
+beside_place : {B : Type 0} (broken : ℕ → Info → B → List ComponentPlace) (at : ℕ) (is : List Info) (ys : List B) (k :
+    ℕ)
     (x : Info) (y : B) (o : ℕ) → beside info_size broken at is ys ≡ [] → slice_get is k ≡ Some x → slice_get ys k
     ≡ Some y → offset_from at is k ≡ Some o → broken o x y ≡ []
 unfolding beside
@@ -78,7 +83,8 @@ beside_place broken at [] ys k x y o e f g h = cc
 beside_place broken at (u ∷ is) [] k x y o e f g h = cc
 beside_place broken at (u ∷ is) (v ∷ ys) zero x y o e f g h =
     ap (λ a. broken a x y) (sym (same_some h)) ∙ ap (λ i. broken at i y) (sym (same_some f))
-    ∙ ap (broken at u) (sym (same_some g)) ∙ none_left (broken at u v) (beside info_size broken (at + info_size u) is ys) e
+    ∙ ap (broken at u) (sym (same_some g)) ∙ none_left (broken at u v) (beside info_size broken (at + info_size u) is
+    ys) e
 beside_place broken at (u ∷ is) (v ∷ ys) (suc k) x y o e f g h = beside_place broken (at + info_size u) is ys k x y o
     (none_right (broken at u v) (beside info_size broken (at + info_size u) is ys) e) f g h
 
@@ -132,12 +138,21 @@ meant_is implements all t f e = by (mapped_at (meant_by implements) all t (Some 
     by (None, g, h) = cc
     by (Some s, g, h) = (s, g, h)
 
+token_kind : (t : ℕ) (v : Class) (g : Found) → own_by_token t v ≡ Some g → g.imported ≡ v.is_imported
+unfolding own_by_token
+token_kind t v g h = by (position (λ (m : Member). is_virtual m && (m.token == t)) v.methods) h
+  where
+    by : (o : Option ℕ) → option_map (λ i. member_at v (length v.fields + i)) o ≡ Some g → g.imported ≡ v.is_imported
+    by None i = cc
+    by (Some j) i = sym (ap (λ (u : Found). u.imported) (same_some i))
+
 outward_concrete : (p : Pair) (class : List ℕ) (o : Option ExportMethod) (other : Selection) → IsConcrete p other
     → IsConcrete p (outward class o other)
 outward_concrete p class None other h = h
 outward_concrete p class (Some m) other h = tt
 
-files_concrete : (p : Pair) (class : List ℕ) (cs : List ExportClass) (t : ℕ) → IsConcrete p (dispatched_outward class cs t)
+files_concrete : (p : Pair) (class : List ℕ) (cs : List ExportClass) (t : ℕ) → IsConcrete p (dispatched_outward class
+    cs t)
 files_concrete p class [] t = tt
 files_concrete p class (x ∷ cs) t = outward_concrete p class (virtual_method t x) (dispatched_outward class cs t)
     (files_concrete p class cs t)
@@ -180,7 +195,8 @@ module _ (c : Checked) (ok : IsChecked c) (has : HasCode c) (keep : KeepsCalls c
     none_abstract : (token : Token) (i : ℕ) → slice_get all_tokens i ≡ Some token → is_abstract_selection p (dispatched
         (tower l (n.class k.name)) token) ≡ false
     none_abstract token i at =
-        let s = kinds.own_stands c.name c.list c.files c.image c.components ok.sound ok.paired ok.verified k.name k e own in
+        let s = kinds.own_stands c.name c.list c.files c.image c.components ok.sound ok.paired ok.verified k.name k e
+        own in
         let clean = abstract_clean c.name applets c.files c.image c.components ok.sound ok.paired ok.verified in
         let x = c.components in
         let there : slice_get (infos x.class) s.number ≡ Some (IsClass (wanted_class p k)) = ap (λ is. slice_get is
@@ -193,20 +209,25 @@ module _ (c : Checked) (ok : IsChecked c) (has : HasCode c) (keep : KeepsCalls c
         ∙ sym (ap (λ (xs : List ℕ). slice_get xs s.number) (starts_of_infos x.class)) ∙ s.starts in
         let spots = beside_place (abstract_spots p) first_interface (infos x.class) (class_order w) s.number (IsClass
         (wanted_class p k)) k s.offset clean there s.ordered from in
-        let fine = unless_holds (is_unmade k.flags || not (has_abstract_method p s.offset)) (in_info 6 s.offset) spots in
-        let none = not_true (has_abstract_method p s.offset) (sym (ap (λ b. b || not (has_abstract_method p s.offset)) made)
+        let fine = unless_holds (is_unmade k.flags || not (has_abstract_method p s.offset)) (in_info 6 s.offset) spots
+        in
+        let none = not_true (has_abstract_method p s.offset) (sym (ap (λ b. b || not (has_abstract_method p s.offset))
+        made)
         ∙ fine) in
         ap (λ v. is_abstract_selection p (dispatched (tower l v) token)) s.on_card ∙ any_off (λ (token : Token).
         is_abstract_selection p (dispatched (tower l (Own 0 s.offset)) token)) all_tokens i token none at
 
     open_made : (t : ℕ) → t < 128 → is_abstract_selection p (dispatched_open (tower l (n.class k.name)) t) ≡ false
-    open_made t lt = none_abstract (Open t) t (in_front (map Open (range_with_len 0 128)) (map (Hidden 0) (range_with_len 0
-        128)) t (Open t) (item_there Open (range_with_len 0 128) t t (range_at 0 128 t lt ∙ ap (λ m. Some m) (let z : 0 + t
+    open_made t lt = none_abstract (Open t) t (in_front (map Open (range_with_len 0 128)) (map (Hidden 0)
+        (range_with_len 0
+        128)) t (Open t) (item_there Open (range_with_len 0 128) t t (range_at 0 128 t lt ∙ ap (λ m. Some m) (let z :
+        0 + t
         ≡ t = omega arith in z))))
 
     hidden_made : (t : ℕ) → t < 128 → is_abstract_selection p (dispatched_hidden (tower l (n.class k.name)) 0 t) ≡ false
     hidden_made t lt = none_abstract (Hidden 0 t) (length (map Open (range_with_len 0 128)) + t) (get_behind (map Open
-        (range_with_len 0 128)) (map (Hidden 0) (range_with_len 0 128)) t ∙ item_there (Hidden 0) (range_with_len 0 128) t
+        (range_with_len 0 128)) (map (Hidden 0) (range_with_len 0 128)) t ∙ item_there (Hidden 0) (range_with_len 0
+        128) t
         t (range_at 0 128 t lt ∙ ap (λ m. Some m) (let z : 0 + t ≡ t = omega arith in z)))
 
   -- ---- a class that is no interface, and of the package is not abstract
@@ -225,8 +246,9 @@ module _ (c : Checked) (ok : IsChecked c) (has : HasCode c) (keep : KeepsCalls c
     of_file imp t =
         let h = entry_of_name c.name q ok.sound x k e imp in
         let on : n.class x ≡ External h.file (let v = h.entry in v.token) = sym same_class ∙ h.on_card in
-        subst (λ v. IsConcrete p (dispatched_open (tower l v) t) × IsConcrete p (dispatched_hidden (tower l v) 0 t)) (sym on)
-        (in_files_concrete p _ t, tt)
+        subst (λ v. IsConcrete p (dispatched_open (tower l v) t) × IsConcrete p (dispatched_hidden (tower l v) 0 t))
+        (sym on)
+        (in_files_concrete p (exported_line l (external l h.file (let v = h.entry in v.token))) t, tt)
 
     pub open_concrete : (t : ℕ) → t < 128 → IsConcrete p (dispatched_open (tower l (n.class x)) t)
     open_concrete t lt = by k.is_imported refl
@@ -278,7 +300,8 @@ module _ (c : Checked) (ok : IsChecked c) (has : HasCode c) (keep : KeepsCalls c
       let r = meant_is (implementing (line_at w d)) (slots (line_at w d)) t f g in
       let near : implementing (line_of w x) r.0 ≡ Some f = ap (λ v. implementing v r.0) (line_same x d e) ∙ r.2 in
       record {
-        low = keep.tokens x d r.0 t e plain (slot_token x d e plain t r.0 (ap (λ v. slice_get (slots v) t) (line_same x d e)
+        low = keep.tokens x d r.0 t e plain (slot_token x d e plain t r.0 (ap (λ v. slice_get (slots v) t) (line_same
+            x d e)
             ∙ r.1));
         signature = r.0;
         name = implementing-named w (line_of w x) r.0 f (seen-line w facts.placed (x ∷ []) _ (facts.are_supertypes (x
@@ -303,22 +326,14 @@ module _ (c : Checked) (ok : IsChecked c) (has : HasCode c) (keep : KeepsCalls c
       same : supers ≡ supertypes w b.supers
       same = facts.one_supertypes b.supers supers (supertypes w b.supers) ks (facts.are_supertypes b.supers)
 
-      kind : (v : Class) (g : Found) → tables.own_by_token t v ≡ Some g → g.imported ≡ v.is_imported
-      unfolding own_by_token
-      kind v g h = by (position (λ (m : Member). is_virtual m && (m.token == t)) v.methods) h
-        where
-          by : (o : Option ℕ) → option_map (λ i. member_at v (length v.fields + i)) o ≡ Some g → g.imported
-              ≡ v.is_imported
-          by None i = cc
-          by (Some j) i = sym (ap (λ (u : Found). u.imported) (same_some i))
-
       up : ((y : List ℕ) (a : Class) → AreSupertypes w (y ∷ []) supers → class_named w y ≡ Some a
           → is_interface a.flags ≡ false → tables.dispatched (tables.tower_in w supers) t ≡ Some f → IsMeantBy y t f)
           → b.is_imported ≡ false → tables.dispatched (tables.tower_in w supers) t ≡ Some f → IsMeantBy x t f
       up rest own g =
           let s = facts.rules.single x b known own in
           let a = facts.super_there x s.0 b known own s.1 in
-          lower_meant x s.0 t f (below b known (subst (Lists s.0) (sym s.1) foremost) itself) (rest s.0 a.0 (subst (λ ss.
+          lower_meant x s.0 t f (below b known (subst (Lists s.0) (sym s.1) foremost) itself) (rest s.0 a.0 (subst (λ
+          ss.
           AreSupertypes w ss supers) s.1 ks) a.1 a.2 g)
 
       by : (v : Bool) → b.is_imported ≡ v → tables.dispatched (if v then tables.Exported (b ∷ upwards supers)
@@ -326,7 +341,8 @@ module _ (c : Checked) (ok : IsChecked c) (has : HasCode c) (keep : KeepsCalls c
           → AreSupertypes w (y ∷ []) supers → class_named w y ≡ Some a → is_interface a.flags ≡ false
           → tables.dispatched (tables.tower_in w supers) t ≡ Some f → IsMeantBy y t f) → IsMeantBy x t f
       by true is g rest =
-          let import = first_imported_found q facts x b known is (tables.own_by_token t) kind f (ap (λ k. first
+          let import = first_imported_found q facts x b known is (tables.own_by_token t) (token_kind t) f (ap (λ k.
+          first
           (tables.own_by_token t) (b ∷ upwards k)) (sym same) ∙ g) in
           let clash : false ≡ true = sym mine ∙ import in
           absurd cc
@@ -339,22 +355,29 @@ module _ (c : Checked) (ok : IsChecked c) (has : HasCode c) (keep : KeepsCalls c
           held (Some None) i le h = up rest is h
           held (Some (Some u)) i le h =
               let r = entry_is b.number (row (line_at w b)) (t - base b.number (row (line_at w b))) u i in
-              let z : base b.number (row (line_at w b)) + (t - base b.number (row (line_at w b))) ≡ t = omega (arith, le) in
-              row_meant x b known plain t f mine (sym (ap (slice_get (row (line_at w b))) z) ∙ r.0 ∙ ap (λ v. Some (Some v))
+              let z : base b.number (row (line_at w b)) + (t - base b.number (row (line_at w b))) ≡ t = omega (
+                arith,
+                le,
+              ) in
+              row_meant x b known plain t f mine (sym (ap (slice_get (row (line_at w b))) z) ∙ r.0 ∙ ap (λ v. Some
+              (Some v))
               (same_some h))
 
           below : (v : Bool) → nat_lt t (base b.number (row (line_at w b))) ≡ v → (if v
               then tables.dispatched (tables.tower_in w supers) t else tables.held (slice_get (entries b.number
-              (row (line_at w b))) (t - base b.number (row (line_at w b)))) (tables.dispatched (tables.tower_in w supers)
+              (row (line_at w b))) (t - base b.number (row (line_at w b)))) (tables.dispatched (tables.tower_in w
+              supers)
               t)) ≡ Some f → IsMeantBy x t f
           below true i h = up rest is h
           below false i h =
               let le : base b.number (row (line_at w b)) ≤ t = grind (arith, nat_tests, i) in
               held (slice_get (entries b.number (row (line_at w b))) (t - base b.number (row (line_at w b)))) refl le h
 
-  pub token_meant : (x : List ℕ) (d : Class) → class_named w x ≡ Some d → is_interface d.flags ≡ false → (t : ℕ) (f : Found)
+  pub token_meant : (x : List ℕ) (d : Class) → class_named w x ≡ Some d → is_interface d.flags ≡ false → (t : ℕ) (f :
+      Found)
       → tables.dispatched (tables.tower_of w x) t ≡ Some f → f.imported ≡ false → IsMeantBy x t f
-  token_meant x d e plain t f found mine = token_by (supertypes w (x ∷ [])) x d (facts.are_supertypes (x ∷ [])) e plain t f
+  token_meant x d e plain t f found mine = token_by (supertypes w (x ∷ [])) x d (facts.are_supertypes (x ∷ [])) e
+      plain t f
       found mine
 
   -- ---- offsets in tables

@@ -1,17 +1,16 @@
 -- Dispatch keeps the descriptors that entries of the constant pool and tokens of interfaces name.
-use Rattle.std.proofs.Common.{◌≡◌, ⊎_elim, ℕ, zero, suc, ◌+◌, ◌-◌, ◌<◌, ◌≤◌, ◌==◌, Bool, true, false, not, List, [], ◌∷◌}
-use Rattle.std.proofs.Common.{◌++◌, length, map, slice_get, Option, Some, None, refl, sym, ap, subst, ◌∙◌, arith, nat_lt}
-use Rattle.std.specs.Prelude.{◌&&◌, ◌||◌, if◌then◌else◌, is_some, option_and_then, option_map, position, reverse, unwrap_or}
+use Rattle.std.proofs.Common.{◌≡◌, [], ℕ, zero, suc, ◌+◌, ◌-◌, ◌<◌, ◌≤◌, ◌==◌, Bool, true, false, not, List, ◌∷◌}
+use Rattle.std.proofs.Common.{length, map, slice_get, Option, Some, None, refl, sym, ap, subst, ◌∙◌, arith, nat_lt}
+use Rattle.std.specs.Prelude.{◌&&◌, ◌^◌, ◌||◌, if◌then◌else◌, is_some, option_and_then, option_map, position, reverse}
+use Rattle.std.specs.Prelude.{unwrap_or}
 use Rattle.std.specs.List.{find, list_any}
 use Rattle.std.proofs.lemmas.Bool.Decides.{nat_tests}
 use Rattle.std.proofs.lemmas.List.Folds.{list_any-append}
 use mathlib.Core.List.{reverse-cons}
 use Rattle.std.proofs.lemmas.Map.Keys.{any_passes_from_place}
 use Rattle.std.proofs.lemmas.Option.{slice_get-map}
-use Rattle.cjc_capread.specs.Bytes.AccessFlags.{acc_abstract, is_interface, is_static}
+use Rattle.cjc_capread.specs.Bytes.AccessFlags.{is_interface, is_static}
 use Rattle.cjc_capread.specs.Bytes.AccessFlags as flags
-use Rattle.cjc_capread.specs.Bytes.declared.fault.MemberId.{MemberId}
-use Rattle.cjc_capread.specs.ClassRefs.{is_inside}
 use Rattle.cjc_capread.specs.declared.tree.ClassEntry.{ClassEntry}
 use Rattle.cjc_capread.specs.declared.tree.ClassRef.{ClassRef}
 use Rattle.cjc_capread.specs.declared.tree.ClassRef.TheVariants.{Inside, Outside}
@@ -30,17 +29,17 @@ use Rattle.cjc_check_rules.specs.Spots.{Placed, begins, in_info, item_at, unless
 use Rattle.cjc_world.specs.declared.found.Found.{Found}
 use Rattle.cjc_world.specs.Classes.{Class, Member, all_classes, class_named, declared, imported, method_of_export}
 use Rattle.cjc_world.specs.Classes as world
+use Rattle.cjc_world.specs.Lookup.{is_called}
 use Rattle.cjc_world.specs.Interfaces.{known as known_ones}
 use Rattle.cjc_world.specs.Order.{class_order}
-use Rattle.cjc_world.specs.Subtype.{is_subtype}
-use Rattle.cjc_world.specs.Supertypes.{Lists, foremost, line, supertypes}
+use Rattle.cjc_world.specs.Supertypes.{Lists, foremost, line}
 use Rattle.cjc_world.proofs.Cycles.{class_named-name}
 use Rattle.cjc_tokens.specs.Lines.{Line, line_at, line_in, line_of}
-use Rattle.cjc_tokens.specs.Members.{In, Signature, all_methods, chosen, is_called, is_initialiser, is_virtual, later, same}
+use Rattle.cjc_tokens.specs.Members.{In, Signature, all_methods, chosen, is_initialiser, is_virtual, later, same}
 use Rattle.cjc_tokens.specs.Members.{first_of as foremost_of, signature_of}
 use Rattle.cjc_tokens.specs.Methods.{interface_methods, interfaces_at}
-use Rattle.cjc_tokens.specs.Slots.{hidden_row, hidden_slots, implementing_hidden, slots, token}
-use Rattle.cjc_tokens.specs.Tokens.{OfClass, assigned, joined, method_of_token}
+use Rattle.cjc_tokens.specs.Slots.{hidden_row, hidden_slots, implementing_hidden, token}
+use Rattle.cjc_tokens.specs.Tokens.{OfClass as OfTokens, assigned, joined, method_of_token}
 use Rattle.cjc_tokens.proofs.Facts.{same-true}
 use Rattle.cjc_tokens.proofs.Held.{here-has_slot, token-slot}
 use Rattle.cjc_tokens.proofs.Means.{kept-at}
@@ -48,7 +47,7 @@ use Rattle.cjc_tokens.proofs.Walks.{supertypes-known}
 use Rattle.cjc_vtable.specs.Calls.{selects}
 use Rattle.cjc_vtable.specs.Dispatch as tables
 use Rattle.cjc_vtable.specs.Dispatch.{at_index}
-use Rattle.cjc_vtable.specs.Laws.{Under, below, interface_named, itself, selection}
+use Rattle.cjc_vtable.specs.Laws.{Under, below, itself}
 use Rattle.cjc_vtable.specs.Naming.{named}
 use Rattle.cjc_vtable.specs.declared.table.InterfaceMap.{InterfaceMap}
 use Rattle.cjc_vtable.proofs.Asked.{has-here, method-asked, named-among}
@@ -56,24 +55,25 @@ use Rattle.cjc_vtable.proofs.Calls.{token-some}
 use Rattle.cjc_vtable.proofs.Once.{hidden_slots-once}
 use Rattle.cjc_card_semantics.specs.Script.Sorts.{Shape, OfClass}
 use Rattle.cjc_card_semantics.specs.Machine.Calls.{dispatched_on}
-use Rattle.cjc_card_semantics.specs.Machine.Classes.{External, Info, IsClass, IsInterface, Own, class_of, external, is_of}
+use Rattle.cjc_card_semantics.specs.Machine.Classes.{External, Info, IsClass, IsInterface, Own, class_of, external}
+use Rattle.cjc_card_semantics.specs.Machine.Classes.{is_of}
 use Rattle.cjc_card_semantics.specs.Machine.Classes.{number_from, offset_from, shape_class}
 use Rattle.cjc_card_semantics.specs.Machine.Classes as card
-use Rattle.cjc_card_semantics.specs.Machine.Dispatch.{Hidden, Open, Outward, NotFound, Selection, Token, dispatched}
+use Rattle.cjc_card_semantics.specs.Machine.Dispatch.{Hidden, Open, NotFound, Selection, Token, dispatched}
 use Rattle.cjc_card_semantics.specs.Machine.Dispatch.{dispatched_hidden, dispatched_interface, dispatched_open}
 use Rattle.cjc_card_semantics.specs.Machine.Dispatch.{interface_method, named_in, of_file, of_names, outward, tower}
 use Rattle.cjc_card_semantics.specs.Machine.Dispatch as card_dispatch
-use Rattle.cjc_card_semantics.specs.Machine.Loaded.{ClassNames, Loaded, MethodName, Part}
+use Rattle.cjc_card_semantics.specs.Machine.Loaded.{ClassNames, Loaded, MethodName}
 use Rattle.cjc_card_semantics.specs.Machine.Operations.{token_of}
 use Rattle.cjc_card_acts.specs.CardTypes.{both_of}
 use Rattle.cjc_components.specs.Class.{superclass}
 use Rattle.cjc_components.specs.NCode.Lowering.Naming.{Naming}
 use Rattle.cjc_components.specs.Package.{Package}
-use Rattle.cjc_components.specs.Paired.Naming.{class_names, part_of}
+use Rattle.cjc_components.specs.Paired.Naming.{class_names}
 use Rattle.cjc_token_proof.specs.ByToken.Above.{IsAtOrAbove}
 use Rattle.cjc_token_proof.specs.ByToken.Above as above
 use Rattle.cjc_verify.specs.Infos.{infos}
-use Rattle.cjc_verify.specs.Named.{entry_of, exported, first_of, found_desc, interface_desc, is_unmade, line_named}
+use Rattle.cjc_verify.specs.Named.{entry_of, exported, first_of, found_desc, interface_desc, line_named}
 use Rattle.cjc_verify.specs.Named.{method_desc, named_desc, own_virtual_desc, selection_desc, virtual_desc_in}
 use Rattle.cjc_verify.specs.Pairs.{Pair, class_at}
 use Rattle.cjc_verify_proof.specs.Frames.{Program}
@@ -84,9 +84,10 @@ use Rattle.cjc_verified_proof.specs.ClassInfos.{wanted_class, wanted_info}
 use Rattle.cjc_verified_proof.specs.Dispatching.{package_of}
 use Rattle.cjc_verified_proof.specs.Kept.{KeepsCalls}
 use Rattle.cjc_verified_proof.specs.Programs.{IsProgramOf}
-use Rattle.cjc_verified_proof.specs.Selecting.{Answers, DispatchFits, HasDesc, IsConcrete, IsOf, NamesSuper, NamesVirtual}
+use Rattle.cjc_verified_proof.specs.Selecting.{Answers, DispatchFits, HasDesc, IsConcrete, IsOf, NamesSuper}
+use Rattle.cjc_verified_proof.specs.Selecting.{NamesVirtual}
 use Rattle.cjc_verified_proof.specs.Selecting as selecting
-use Rattle.cjc_bytes.proofs.Bools.{and_true, or_left, or_right}
+use Rattle.cjc_bytes.proofs.Bools.{and_true, or_right}
 use Rattle.cjc_bytes.proofs.Gets.{find_got, mapped_at, position_there}
 use Rattle.cjc_bytes.proofs.Numbers.{number_same, number_same_number}
 use Rattle.cjc_bytes.proofs.Plain.{same_some}
@@ -108,7 +109,8 @@ use Rattle.cjc_verified_proof.proofs.NameLaws.{holder_there, own_meant}
 use Rattle.cjc_verified_proof.proofs.NamingLaws.{depth_alike, n as names}
 use Rattle.cjc_verified_proof.proofs.OrderedLaws.{ordered}
 use Rattle.cjc_verified_proof.proofs.PlaceLaws.{along_none}
-use Rattle.cjc_verified_proof.proofs.ReachedLaws.{Fits, far_concrete, given, hidden_fits, imported_keeps, interface_fits, interface_same}
+use Rattle.cjc_verified_proof.proofs.ReachedLaws.{Fits, far_concrete, given, hidden_fits, imported_keeps}
+use Rattle.cjc_verified_proof.proofs.ReachedLaws.{interface_fits, interface_same}
 use Rattle.cjc_verified_proof.proofs.ReachedLaws.{listed_fits, select_there, shown_fits, under_plain}
 use Rattle.cjc_verified_proof.proofs.SelectedLaws.{facts as facts_of, item_so}
 use Rattle.cjc_verified_proof.proofs.SupersLaws.{supers_stand}
@@ -146,7 +148,8 @@ own_begins (q ∷ ps) trees offset token e = by (offset == q.at) refl e (own_beg
         else has_token ps trees (let v = q.item in v.superclass) token) else has_token ps trees (Inside offset) token)
         ≡ true → (has_token ps trees (Inside offset) token ≡ true → begins ps offset ≡ true) → begins (q ∷ ps) offset
         ≡ true
-    by true is f rest = ap (λ b. b || begins ps offset) (number_same_number q.at offset (sym (number_same offset q.at is)))
+    by true is f rest = ap (λ b. b || begins ps offset) (number_same_number q.at offset (sym (number_same offset q.at
+        is)))
     by false is f rest = or_second (q.at == offset) (begins ps offset) (rest f)
 
 outside_token : (ps : List (Placed ClassEntry)) (trees : List ExportTree) (import class token : ℕ) → has_token ps trees
@@ -161,16 +164,20 @@ outside_token (q ∷ ps) trees import class token e = outside_token ps trees imp
 chosen_in : (test : Member → Bool) (s : Signature) (ms : List Member) (m : Member) → chosen test s ms ≡ Some m
     → In m ms × (test m ≡ true) × (signature_of m ≡ s)
 chosen_in test s [] m e = cc
-chosen_in test s (x ∷ ms) m e = by (test x && Rattle.cjc_world.specs.Lookup.is_called s.name s.desc x) refl e (chosen_in
+chosen_in test s (x ∷ ms) m e = by (test x && is_called s.name s.desc x) refl e (chosen_in
     test s ms m)
   where
-    by : (b : Bool) → (test x && Rattle.cjc_world.specs.Lookup.is_called s.name s.desc x) ≡ b → (if b then Some x
+    by : (b : Bool) → (test x && is_called s.name s.desc x) ≡ b → (if b then Some x
         else chosen test s ms) ≡ Some m → (chosen test s ms ≡ Some m → In m ms × (test m ≡ true) × (signature_of m ≡ s))
         → In m (x ∷ ms) × (test m ≡ true) × (signature_of m ≡ s)
     by true is f rest =
-        let two = and_true (test x) (Rattle.cjc_world.specs.Lookup.is_called s.name s.desc x) is in
-        subst (λ v. In v (x ∷ ms) × (test v ≡ true) × (signature_of v ≡ s)) (same_some f) (foremost_of, two.0, same-true
-        (signature_of x) s two.1)
+        let two = and_true (test x) (is_called s.name s.desc x) is in
+        subst (λ v. In v (x ∷ ms) × (test v ≡ true) × (signature_of v ≡ s)) (same_some f) (
+          foremost_of,
+          two.0,
+          same-true
+              (signature_of x) s two.1,
+        )
     by false is f rest = let r = rest f in (later r.0, r.1, r.2)
 
 -- the method of a place among signatures
@@ -189,7 +196,8 @@ never_own l stand a b above.itself tree token e part offset f =
 never_own l stand a b (above.upwards {b = External i j} direct more) tree token e part offset f = never_own l stand
     (External i j) b more i j refl part offset f
 never_own l stand a b (above.upwards {b = Own i j} direct more) tree token e part offset f =
-    let clash : true ≡ false = sym direct ∙ ap (λ v. card.is_in (Own i j) (card.supers l v)) e ∙ stand.outside tree token i
+    let clash : true ≡ false = sym direct ∙ ap (λ v. card.is_in (Own i j) (card.supers l v)) e ∙ stand.outside tree
+    token i
     j in
     cc
 
@@ -224,7 +232,8 @@ module _ (c : Checked) (ok : IsChecked c) (has : HasCode c) (keep : KeepsCalls c
   abbrev Receiver : Shape card.Class → Type 0
   Receiver kind = kinds.Receives c.name c.list c.files c.image c.components ok.sound ok.paired ok.verified kind
 
-  order : (let x = c.components in let d = x.descriptor in Rattle.cjc_check_rules.specs.Described.classes_in_order d.classes
+  order : (let x = c.components in let d = x.descriptor in Rattle.cjc_check_rules.specs.Described.classes_in_order
+      d.classes
       (Rattle.cjc_check_rules.specs.Described.all_starts x.class)) ≡ []
   order = ordered c.components ok.described
 
@@ -233,7 +242,8 @@ module _ (c : Checked) (ok : IsChecked c) (has : HasCode c) (keep : KeepsCalls c
   member_there : (k : ℕ) (item : PoolEntry) → entry_of p k ≡ Some item → names_member c.components trees item ≡ true
   member_there k item is =
       let x = c.components in
-      let one = along_none (λ (v : PoolEntry). 4) (λ (at : ℕ) (v : PoolEntry). unless (names_member x trees v) (in_info 5 at))
+      let one = along_none (λ (v : PoolEntry). 4) (λ (at : ℕ) (v : PoolEntry). unless (names_member x trees v)
+      (in_info 5 at))
       2 (let v = x.pool in v.entries) k item has.pool is in
       unless_holds (names_member x trees item) (in_info 5 one.0) one.1
 
@@ -245,7 +255,8 @@ module _ (c : Checked) (ok : IsChecked c) (has : HasCode c) (keep : KeepsCalls c
       let h = holder_there c.components order s.number s.offset s.starts in
       let f = fits applets c.files c.image c.components has.whole order ok.paired ok.verified s.number h.0 h.1 in
       let same : f.class ≡ d = same_some (sym f.in_order ∙ s.ordered) in
-      not_it (is_interface d.flags) (sym (ap (λ (v : Class). not (is_interface v.flags)) same) ∙ sym f.own ∙ ap (is_own_class
+      not_it (is_interface d.flags) (sym (ap (λ (v : Class). not (is_interface v.flags)) same) ∙ sym f.own ∙ ap
+      (is_own_class
       x.class) h.2 ∙ e)
     where
       not_it : (b : Bool) → not b ≡ true → b ≡ false
@@ -263,12 +274,14 @@ module _ (c : Checked) (ok : IsChecked c) (has : HasCode c) (keep : KeepsCalls c
       → is_interface d.flags ≡ false → both_of l (Some kind) (Some (OfClass (n.class y))) ≡ true → Under w r.called y
   receiver_under kind r y d named_y plain is =
       let k = keep.subtypes in
-      k.climbs r.called y r.class d r.known r.plain named_y plain (kinds.of_subtype c.name c.list c.files c.image c.components
+      k.climbs r.called y r.class d r.known r.plain named_y plain (kinds.of_subtype c.name c.list c.files c.image
+      c.components
       ok.sound ok.paired ok.verified r.called y r.class d r.known named_y (sym (r.alike (n.class y)) ∙ is))
 
   module _ (program : Program) (of : IsProgramOf p program) where
     receiver : (kind : Shape card.Class) → IsMade program kind → Receiver kind
-    receiver kind made = kinds.made_receives c.name c.list c.files c.image c.components ok.sound ok.paired ok.verified facts
+    receiver kind made = kinds.made_receives c.name c.list c.files c.image c.components ok.sound ok.paired ok.verified
+        facts
         program of kind made
 
     -- ---- virtual methods
@@ -279,60 +292,66 @@ module _ (c : Checked) (ok : IsChecked c) (has : HasCode c) (keep : KeepsCalls c
         → Fits c ok has keep x desc (dispatched_open (tower l (n.class x)) t)
 
     abbrev HiddenFits : List ℕ → (desc : List ℕ) → (t : ℕ) → Type 0
-    HiddenFits y desc t = (x : List ℕ) (k : Class) → class_named w x ≡ Some k → is_interface k.flags ≡ false → Under w x y
+    HiddenFits y desc t = (x : List ℕ) (k : Class) → class_named w x ≡ Some k → is_interface k.flags ≡ false → Under w
+        x y
         → Fits c ok has keep x desc (dispatched_hidden (tower l (n.class x)) 0 t)
 
     module _ (class : ClassRef) (token : ℕ) (desc y : List ℕ) (d : Class) (named_y : class_named w y ≡ Some d)
-        (plain : is_interface d.flags ≡ false) (means : class_of l 0 class ≡ Some (n.class y)) (t : ℕ) (low : t < 128) where
-      open_names : token_of (n.class y) token ≡ Some (Open t) → OpenFits y desc t → NamesVirtual p program class token desc
-      open_names token_is all = record {
-        named = n.class y;
-        chosen = Open t;
-        meant = means;
-        token_is = token_is;
-        has = (let f = all y d named_y plain itself in f.desc_is);
-        answers = λ kind made is. (
-            let r = receiver kind made in
-            let under = receiver_under kind r y d named_y plain is in
-            let f = all r.called r.class r.known r.plain under in
-            subst (λ o. HasDesc p desc (dispatched_on l o (Open t)) × IsOf p kind (dispatched_on l o (Open t)) × IsConcrete p
-            (dispatched_on l o (Open t))) (sym r.on_card) (
-              f.desc_is,
-              f.is_held r.called r.class r.known itself kind r.alike,
-              open_concrete c ok has keep r.called r.class r.known r.plain r.concrete t low,
-            )
-            );
-      }
+        (plain : is_interface d.flags ≡ false) (means : class_of l 0 class ≡ Some (n.class y)) (t : ℕ) (low : t < 128)
+      where
+        by_open : token_of (n.class y) token ≡ Some (Open t) → OpenFits y desc t → NamesVirtual p program class token
+            desc
+        by_open token_is all = record {
+          named = n.class y;
+          chosen = Open t;
+          meant = means;
+          token_is = token_is;
+          has = (let f = all y d named_y plain itself in f.desc_is);
+          answers = λ kind made is. (
+              let r = receiver kind made in
+              let under = receiver_under kind r y d named_y plain is in
+              let f = all r.called r.class r.known r.plain under in
+              subst (λ o. HasDesc p desc (dispatched_on l o (Open t)) × IsOf p kind (dispatched_on l o (Open t)) ×
+              IsConcrete p
+              (dispatched_on l o (Open t))) (sym r.on_card) (
+                f.desc_is,
+                f.is_held r.called r.class r.known itself kind r.alike,
+                open_concrete c ok has keep r.called r.class r.known r.plain r.concrete t low,
+              )
+              );
+        }
 
-      hidden_names : token_of (n.class y) token ≡ Some (Hidden 0 t) → HiddenFits y desc t → NamesVirtual p program class
-          token desc
-      hidden_names token_is all = record {
-        named = n.class y;
-        chosen = Hidden 0 t;
-        meant = means;
-        token_is = token_is;
-        has = (let f = all y d named_y plain itself in f.desc_is);
-        answers = λ kind made is. (
-            let r = receiver kind made in
-            let under = receiver_under kind r y d named_y plain is in
-            let f = all r.called r.class r.known r.plain under in
-            subst (λ o. HasDesc p desc (dispatched_on l o (Hidden 0 t)) × IsOf p kind (dispatched_on l o (Hidden 0 t))
-            × IsConcrete p (dispatched_on l o (Hidden 0 t))) (sym r.on_card) (
-              f.desc_is,
-              f.is_held r.called r.class r.known itself kind r.alike,
-              hidden_concrete c ok has keep r.called r.class r.known r.plain r.concrete t low,
-            )
-            );
-      }
+        by_hidden : token_of (n.class y) token ≡ Some (Hidden 0 t) → HiddenFits y desc t → NamesVirtual p program class
+            token desc
+        by_hidden token_is all = record {
+          named = n.class y;
+          chosen = Hidden 0 t;
+          meant = means;
+          token_is = token_is;
+          has = (let f = all y d named_y plain itself in f.desc_is);
+          answers = λ kind made is. (
+              let r = receiver kind made in
+              let under = receiver_under kind r y d named_y plain is in
+              let f = all r.called r.class r.known r.plain under in
+              subst (λ o. HasDesc p desc (dispatched_on l o (Hidden 0 t)) × IsOf p kind (dispatched_on l o (Hidden 0 t))
+              × IsConcrete p (dispatched_on l o (Hidden 0 t))) (sym r.on_card) (
+                f.desc_is,
+                f.is_held r.called r.class r.known itself kind r.alike,
+                hidden_concrete c ok has keep r.called r.class r.known r.plain r.concrete t low,
+              )
+              );
+        }
 
     -- ---- tokens of a class of the package
 
-    module _ (d : Class) (known : class_named w d.name ≡ Some d) (own : d.is_imported ≡ false) (plain : is_interface d.flags
+    module _ (d : Class) (known : class_named w d.name ≡ Some d) (own : d.is_imported ≡ false) (plain : is_interface
+        d.flags
         ≡ false) where
       own_open : (t : ℕ) → t < 128 → (desc : List ℕ) → own_virtual_desc p t d ≡ Some desc → OpenFits d.name desc t
       own_open t low desc e = by (method_of_token (assigned applets c.files) d.number t) refl e
         where
-          by : (o : Option Found) → method_of_token (assigned applets c.files) d.number t ≡ o → option_and_then (found_desc p)
+          by : (o : Option Found) → method_of_token (assigned applets c.files) d.number t ≡ o → option_and_then
+              (found_desc p)
               o ≡ Some desc → OpenFits d.name desc t
           by None g h = cc
           by (Some f) g h =
@@ -345,28 +364,33 @@ module _ (c : Checked) (ok : IsChecked c) (has : HasCode c) (keep : KeepsCalls c
       line_same : line_of w d.name ≡ line_at w d
       line_same = ap (line_in w) (supertypes-known w facts.are_supertypes facts.one_supertypes d.name d known)
 
-      hidden_is : (t : ℕ) → nat_lt t 128 ≡ false → method_of_token (assigned applets c.files) d.number t ≡ joined (slice_get
+      hidden_is : (t : ℕ) → nat_lt t 128 ≡ false → method_of_token (assigned applets c.files) d.number t ≡ joined
+          (slice_get
           (hidden_row (line_of w d.name)) (t - 128))
       hidden_is t test =
           let files = c.files in
-          let f = own_filed files (let s = ok.sound in s.classes) (let s = ok.sound in s.exports) d (has_named w d.name d known)
+          let f = own_filed files (let s = ok.sound in s.classes) (let s = ok.sound in s.exports) d (has_named w
+          d.name d known)
           own in
           let v = declared f.0 f.1 in
           let kept = kept-at files applets f.0 f.1 f.2 in
           let here : is_interface v.flags ≡ false = ap (λ (z : Class). is_interface z.flags) (sym f.3) ∙ plain in
           ap (λ (z : Class). method_of_token (assigned applets files) z.number t) f.3
-          ∙ ap (λ b. if b then option_and_then (λ (k : OfClass). joined (slice_get k.public_methods t)) (slice_get (let a =
-          assigned applets files in a.classes) f.0) else hidden_of (slice_get (let a = assigned applets files in a.classes)
+          ∙ ap (λ b. if b then option_and_then (λ (k : OfTokens). joined (slice_get k.public_methods t)) (slice_get
+          (let a =
+          assigned applets files in a.classes) f.0) else hidden_of (slice_get (let a = assigned applets files in
+          a.classes)
           f.0)) test
           ∙ ap hidden_of kept.1
           ∙ ap (λ b. joined (slice_get (if b then [] else hidden_row (line_at w v)) (t - 128))) here
           ∙ ap (λ (z : Class). joined (slice_get (hidden_row (line_at w z)) (t - 128))) (sym f.3)
           ∙ ap (λ (z : Line). joined (slice_get (hidden_row z) (t - 128))) (sym line_same)
         where
-          hidden_of : Option OfClass → Option Found
+          hidden_of : Option OfTokens → Option Found
           hidden_of o = option_and_then (λ k. joined (slice_get k.package_methods (t - 128))) o
 
-      own_hidden : (t : ℕ) → nat_lt t 128 ≡ false → (desc : List ℕ) → own_virtual_desc p t d ≡ Some desc → HiddenFits d.name
+      own_hidden : (t : ℕ) → nat_lt t 128 ≡ false → (desc : List ℕ) → own_virtual_desc p t d ≡ Some desc → HiddenFits
+          d.name
           desc (t - 128)
       own_hidden t test desc e = by (method_of_token (assigned applets c.files) d.number t) refl e
         where
@@ -376,52 +400,64 @@ module _ (c : Checked) (ok : IsChecked c) (has : HasCode c) (keep : KeepsCalls c
           of_slot f s at near h =
               let all = hidden_slots (line_of w d.name) in
               let k = token-some all s (here-has_slot all (t - 128) s at) in
-              let token_is = k.1 ∙ ap (λ m. Some m) (hidden_slots-once (line_of w d.name) k.0 (t - 128) s (token-slot all s k.0
+              let token_is = k.1 ∙ ap (λ m. Some m) (hidden_slots-once (line_of w d.name) k.0 (t - 128) s (token-slot
+              all s k.0
               k.1) at) in
               let held = hidden_holds q facts d.name d known plain s f near in
               let z = held.class in
               let placed = facts.placed z.name z held.known in
-              let there : world.class_at w f.imported f.class ≡ Some z = ap (λ (v : Found). world.class_at w v.imported v.class)
+              let there : world.class_at w f.imported f.class ≡ Some z = ap (λ (v : Found). world.class_at w
+              v.imported v.class)
               held.is ∙ placed in
               let said : found_desc p f ≡ Some s.desc = ap (option_map (λ (v : Class). let m =
               Rattle.cjc_components.specs.Descriptor.method_in w v f.member in m.desc)) there ∙ ap (λ (m : Member). Some
               m.desc) (item_so c ok has keep d.name s f held) ∙ ap (λ (v : Signature). Some v.desc) held.called in
               let same : s.desc ≡ desc = same_some (sym said ∙ h) in
-              λ x k e plain_x under. subst (λ v. Fits c ok has keep x v (dispatched_hidden (tower l (n.class x)) 0 (t - 128)))
+              λ x k e plain_x under. subst (λ v. Fits c ok has keep x v (dispatched_hidden (tower l (n.class x)) 0 (t
+              - 128)))
               same (hidden_fits c ok has keep x k e plain_x d.name d known under s (t - 128) token_is)
 
-          of_row : (o : Option (Option Signature)) → slice_get (hidden_slots (line_of w d.name)) (t - 128) ≡ o → (f : Found)
-              → joined (option_map (Rattle.cjc_tokens.specs.Slots.meant_by (implementing_hidden (line_of w d.name))) o) ≡ Some
+          of_row : (o : Option (Option Signature)) → slice_get (hidden_slots (line_of w d.name)) (t - 128) ≡ o → (f :
+              Found)
+              → joined (option_map (Rattle.cjc_tokens.specs.Slots.meant_by (implementing_hidden (line_of w d.name)))
+              o) ≡ Some
               f → found_desc p f ≡ Some desc → HiddenFits d.name desc (t - 128)
           of_row None at f g h = cc
           of_row (Some None) at f g h = cc
           of_row (Some (Some s)) at f g h = of_slot f s at g h
 
-          by : (o : Option Found) → method_of_token (assigned applets c.files) d.number t ≡ o → option_and_then (found_desc p)
+          by : (o : Option Found) → method_of_token (assigned applets c.files) d.number t ≡ o → option_and_then
+              (found_desc p)
               o ≡ Some desc → HiddenFits d.name desc (t - 128)
           by None g h = cc
-          by (Some f) g h = of_row (slice_get (hidden_slots (line_of w d.name)) (t - 128)) refl f (ap joined (sym (slice_get-map
+          by (Some f) g h = of_row (slice_get (hidden_slots (line_of w d.name)) (t - 128)) refl f (ap joined (sym
+              (slice_get-map
               (Rattle.cjc_tokens.specs.Slots.meant_by (implementing_hidden (line_of w d.name))) (hidden_slots (line_of w
               d.name)) (t - 128))) ∙ sym (hidden_is t test) ∙ g) h
 
     -- ---- tokens of an imported class
 
-    module _ (y : List ℕ) (j : ℕ) (e : ExportClass) (known : class_named w y ≡ Some (imported j e)) (plain : is_interface
+    module _ (y : List ℕ) (j : ℕ) (e : ExportClass) (known : class_named w y ≡ Some (imported j e)) (plain :
+        is_interface
         e.flags ≡ false) (t : ℕ) (m : ExportMethod) (is : first_of (virtual_method t) (e ∷ exports.upwards
         (exports.classes_of trees) e.supers) ≡ Some m) where
       given_low : t < 128
       given_low =
           let g = given c ok has keep y j e known t m is in
-          let keeps = imported_keeps c ok has keep g.holder g.class g.known g.imported g.place (method_of_export m) g.there in
-          let low = keeps.1 (under_plain c ok has keep y g.holder g.under (imported j e) g.class known plain g.known) g.virtual
+          let keeps = imported_keeps c ok has keep g.holder g.class g.known g.imported g.place (method_of_export m)
+          g.there in
+          let low = keeps.1 (under_plain c ok has keep y g.holder g.under (imported j e) g.class known plain g.known)
+          g.virtual
           in
           subst (λ v. v < 128) g.token_is low
 
       given_open : OpenFits y m.desc t
       given_open x k f plain_x under =
           let g = given c ok has keep y j e known t m is in
-          subst (λ v. Fits c ok has keep x m.desc (dispatched_open (tower l (n.class x)) v)) g.token_is (listed_fits c ok has
-          keep x k f plain_x g.holder g.class g.known g.imported (under_on w x y g.holder under g.under) (method_of_export m)
+          subst (λ v. Fits c ok has keep x m.desc (dispatched_open (tower l (n.class x)) v)) g.token_is (listed_fits c
+          ok has
+          keep x k f plain_x g.holder g.class g.known g.imported (under_on w x y g.holder under g.under)
+          (method_of_export m)
           (in_at (let v = g.class in v.methods) g.place (method_of_export m) g.there) g.virtual)
 
     low_test : (t : ℕ) → t < 128 → nat_lt t 0x80 ≡ true
@@ -435,20 +471,25 @@ module _ (c : Checked) (ok : IsChecked c) (has : HasCode c) (keep : KeepsCalls c
     -- ---- entries of virtual methods
 
     own_virtual : (k offset token : ℕ) (desc : List ℕ) → entry_of p k ≡ Some (VirtualMethodref (Inside offset) token)
-        → option_and_then (own_virtual_desc p token) (class_at p offset) ≡ Some desc → NamesVirtual p program (Inside offset)
+        → option_and_then (own_virtual_desc p token) (class_at p offset) ≡ Some desc → NamesVirtual p program (Inside
+        offset)
         token desc
     own_virtual k offset token desc is e = by (class_at p offset) refl e
       where
-        at_class : (d : Class) (s : Stands d) → s.offset ≡ offset → own_virtual_desc p token d ≡ Some desc → NamesVirtual p
+        at_class : (d : Class) (s : Stands d) → s.offset ≡ offset → own_virtual_desc p token d ≡ Some desc →
+            NamesVirtual p
             program (Inside offset) token desc
         at_class d s same h =
             let x = c.components in
-            let there = own_begins (reverse (classes_at x.class)) trees offset token (member_there k (VirtualMethodref (Inside
+            let there = own_begins (reverse (classes_at x.class)) trees offset token (member_there k (VirtualMethodref
+            (Inside
             offset) token) is) in
-            let start = ap (begins (classes_at x.class)) same ∙ sym (any_reversed (λ (v : Placed ClassEntry). v.at == offset)
+            let start = ap (begins (classes_at x.class)) same ∙ sym (any_reversed (λ (v : Placed ClassEntry). v.at ==
+            offset)
             (classes_at x.class)) ∙ there in
             let plain = no_interface d s start in
-            let means : class_of l 0 (Inside offset) ≡ Some (n.class d.name) = ap (λ o. class_of l 0 (Inside o)) (sym same)
+            let means : class_of l 0 (Inside offset) ≡ Some (n.class d.name) = ap (λ o. class_of l 0 (Inside o)) (sym
+            same)
             ∙ meant d s in
             by_token plain means (nat_lt token 128) refl
           where
@@ -456,35 +497,43 @@ module _ (c : Checked) (ok : IsChecked c) (has : HasCode c) (keep : KeepsCalls c
                 → nat_lt token 128 ≡ b → NamesVirtual p program (Inside offset) token desc
             by_token plain means true low =
                 let lt : token < 128 = grind (arith, nat_tests, low) in
-                open_names (Inside offset) token desc d.name d s.known plain means token lt (ap (λ v. token_of v token)
-                s.on_card ∙ ap (λ b. Some (if b then Open token else Hidden 0 (token - 0x80))) low) (own_open d s.known s.own
+                by_open (Inside offset) token desc d.name d s.known plain means token lt (ap (λ v. token_of v token)
+                s.on_card ∙ ap (λ b. Some (if b then Open token else Hidden 0 (token - 0x80))) low) (own_open d
+                s.known s.own
                 plain token lt desc h)
             by_token plain means false high =
                 let size = keep.sized in
                 let lt = high_low token (size.virtuals k (Inside offset) token is) high in
-                hidden_names (Inside offset) token desc d.name d s.known plain means (token - 128) lt (ap (λ v. token_of v token)
-                s.on_card ∙ ap (λ b. Some (if b then Open token else Hidden 0 (token - 0x80))) high) (own_hidden d s.known s.own
+                by_hidden (Inside offset) token desc d.name d s.known plain means (token - 128) lt (ap (λ v.
+                token_of v token)
+                s.on_card ∙ ap (λ b. Some (if b then Open token else Hidden 0 (token - 0x80))) high) (own_hidden d
+                s.known s.own
                 plain token high desc h)
 
         by : (o : Option Class) → class_at p offset ≡ o → option_and_then (own_virtual_desc p token) o ≡ Some desc
             → NamesVirtual p program (Inside offset) token desc
         by None f h = cc
         by (Some d) f h =
-            let r = kinds.at_stands c.name c.list c.files c.image c.components ok.sound ok.paired ok.verified offset d f in
+            let r = kinds.at_stands c.name c.list c.files c.image c.components ok.sound ok.paired ok.verified offset d
+            f in
             at_class d r.0 r.1 h
 
-    other_virtual : (k import class token : ℕ) (desc : List ℕ) → entry_of p k ≡ Some (VirtualMethodref (Outside import class)
-        token) → named_desc p (VirtualMethodref (Outside import class) token) ≡ Some desc → NamesVirtual p program (Outside
+    other_virtual : (k import class token : ℕ) (desc : List ℕ) → entry_of p k ≡ Some (VirtualMethodref (Outside import
+        class)
+        token) → named_desc p (VirtualMethodref (Outside import class) token) ≡ Some desc → NamesVirtual p program
+        (Outside
         import class) token desc
     other_virtual k import class token desc is e = by (exported p import class) refl e
       where
         at_method : (x : ExportClass) → exported p import class ≡ Some x → (o : Option ExportMethod) → first_of
-            (virtual_method token) (x ∷ exports.upwards (exports.classes_of trees) x.supers) ≡ o → method_desc o ≡ Some desc
+            (virtual_method token) (x ∷ exports.upwards (exports.classes_of trees) x.supers) ≡ o → method_desc o ≡
+            Some desc
             → NamesVirtual p program (Outside import class) token desc
         at_method x f None g h = cc
         at_method x f (Some m) g h =
             let there = outside_there applets c.files c.image c.components import class x f in
-            let r = kinds.named_external c.name c.list c.files c.image c.components ok.sound ok.paired ok.verified import class x
+            let r = kinds.named_external c.name c.list c.files c.image c.components ok.sound ok.paired ok.verified
+            import class x
             there.external_is in
             let said = outside_token (reverse (classes_at (let v = c.components in v.class))) trees import class token
             (member_there k (VirtualMethodref (Outside import class) token) is) in
@@ -493,15 +542,19 @@ module _ (c : Checked) (ok : IsChecked c) (has : HasCode c) (keep : KeepsCalls c
             (exports.classes_of trees) token x) fine in
             let plain = Rattle.cjc_bytes.proofs.Bools.not_true (is_interface x.flags) two.0 in
             let low = given_low x.name r.0 x r.1 plain token m g in
-            let means : class_of l 0 (Outside import class) ≡ Some (n.class x.name) = there.meant ∙ ap (λ v. Some v) (sym r.2)
+            let means : class_of l 0 (Outside import class) ≡ Some (n.class x.name) = there.meant ∙ ap (λ v. Some v)
+            (sym r.2)
             in
             let same : m.desc ≡ desc = same_some h in
-            open_names (Outside import class) token desc x.name (imported r.0 x) r.1 plain means token low (ap (λ v. token_of v
-            token) r.2 ∙ ap (λ b. if b then Some (Open token) else None) (low_test token low)) (subst (λ v. OpenFits x.name v
+            by_open (Outside import class) token desc x.name (imported r.0 x) r.1 plain means token low (ap (λ v.
+            token_of v
+            token) r.2 ∙ ap (λ b. if b then Some (Open token) else None) (low_test token low)) (subst (λ v. OpenFits
+            x.name v
             token) same (given_open x.name r.0 x r.1 plain token m g))
 
         by : (o : Option ExportClass) → exported p import class ≡ o → method_desc (first_of (virtual_method token)
-            (Rattle.cjc_verify.specs.Named.line_of trees o)) ≡ Some desc → NamesVirtual p program (Outside import class) token
+            (Rattle.cjc_verify.specs.Named.line_of trees o)) ≡ Some desc → NamesVirtual p program (Outside import
+            class) token
             desc
         by None f h = cc
         by (Some x) f h = at_method x f (first_of (virtual_method token) (x ∷ exports.upwards (exports.classes_of trees)
@@ -538,12 +591,15 @@ module _ (c : Checked) (ok : IsChecked c) (has : HasCode c) (keep : KeepsCalls c
           (tables_fit c ok has keep) t.height super t.foot t.tower u.0 u.1 u.2 in
           let less = super_fits q facts d.name super d u.0 s.known s.own plain super_is u.1 t in
           let deep = depth_alike c.name c.list c.files c.image c.components ok.sound ok.paired ok.verified in
-          superclass_above w n (Rattle.cjc_verified_proof.specs.Dispatching.offset_in p) d.name super t.foot d says far (subst
+          superclass_above w n (Rattle.cjc_verified_proof.specs.Dispatching.offset_in p) d.name super t.foot d says
+          far (subst
           (λ m. suc t.height ≤ m) deep less)
 
       -- a token that reaches a method from there
-      super_names : (offset token : ℕ) (desc : List ℕ) → s.offset ≡ offset → (chosen : Token) → token_of (Own 0 offset) token
-          ≡ Some chosen → Fits c ok has keep super desc (dispatched (tower l (n.class super)) chosen) → NamesSuper p program
+      super_names : (offset token : ℕ) (desc : List ℕ) → s.offset ≡ offset → (chosen : Token) → token_of (Own 0
+          offset) token
+          ≡ Some chosen → Fits c ok has keep super desc (dispatched (tower l (n.class super)) chosen) → NamesSuper p
+          program
           (Inside offset) token desc
       super_names offset token desc same chosen token_is f = record {
         named = n.class d.name;
@@ -554,7 +610,8 @@ module _ (c : Checked) (ok : IsChecked c) (has : HasCode c) (keep : KeepsCalls c
         is_of = λ kind made is. (
             let r = receiver kind made in
             let under = receiver_under kind r d.name d s.known plain is in
-            subst (λ v. IsOf p kind (dispatched v chosen)) (sym above_is) (f.is_held r.called r.class r.known (under_on w
+            subst (λ v. IsOf p kind (dispatched v chosen)) (sym above_is) (f.is_held r.called r.class r.known
+            (under_on w
             r.called d.name super under super_under) kind r.alike)
             );
       }
@@ -565,31 +622,39 @@ module _ (c : Checked) (ok : IsChecked c) (has : HasCode c) (keep : KeepsCalls c
     own_super k offset token desc is e = by (class_at p offset) refl e
       where
         start_of : (o : Option ClassEntry) → item_at (classes_at (let x = c.components in x.class)) offset ≡ o
-            → superclass_has c.components trees o token ≡ true → begins (classes_at (let x = c.components in x.class)) offset
+            → superclass_has c.components trees o token ≡ true → begins (classes_at (let x = c.components in x.class))
+            offset
             ≡ true
         start_of None f g = cc
-        start_of (Some v) f g = by_find (find (λ (q : Placed ClassEntry). q.at == offset) (classes_at (let x = c.components
+        start_of (Some v) f g = by_find (find (λ (q : Placed ClassEntry). q.at == offset) (classes_at (let x =
+            c.components
             in x.class))) refl f
           where
-            by_find : (o : Option (Placed ClassEntry)) → find (λ (q : Placed ClassEntry). q.at == offset) (classes_at (let x =
+            by_find : (o : Option (Placed ClassEntry)) → find (λ (q : Placed ClassEntry). q.at == offset) (classes_at
+                (let x =
                 c.components in x.class)) ≡ o → option_map (λ (q : Placed ClassEntry). q.item) o ≡ Some v → begins
                 (classes_at (let x = c.components in x.class)) offset ≡ true
             by_find None h i = cc
             by_find (Some u) h i =
-                let r = find_got (λ (q : Placed ClassEntry). q.at == offset) (classes_at (let x = c.components in x.class)) u h
+                let r = find_got (λ (q : Placed ClassEntry). q.at == offset) (classes_at (let x = c.components in
+                x.class)) u h
                 in
-                any_passes_from_place (λ (q : Placed ClassEntry). q.at == offset) (classes_at (let x = c.components in x.class)) r.0 u r.1 r.2
+                any_passes_from_place (λ (q : Placed ClassEntry). q.at == offset) (classes_at (let x = c.components in
+                x.class)) r.0 u r.1 r.2
 
-        at_class : (d : Class) (s : Stands d) → s.offset ≡ offset → virtual_desc_in p token (class_named w (superclass d))
+        at_class : (d : Class) (s : Stands d) → s.offset ≡ offset → virtual_desc_in p token (class_named w (superclass
+            d))
             ≡ Some desc → NamesSuper p program (Inside offset) token desc
         at_class d s same h =
             let there = member_there k (SuperMethodref (Inside offset) token) is in
-            let start = ap (begins (classes_at (let x = c.components in x.class))) same ∙ start_of (item_at (classes_at (let x =
+            let start = ap (begins (classes_at (let x = c.components in x.class))) same ∙ start_of (item_at
+            (classes_at (let x =
             c.components in x.class)) offset) refl there in
             let plain = no_interface d s start in
             let u = up d s plain in
             let name : superclass d ≡ super d s plain = ap (λ ss. unwrap_or (slice_get ss 0) []) (super_is d s plain) in
-            let g : virtual_desc_in p token (Some u.0) ≡ Some desc = ap (virtual_desc_in p token) (sym (ap (class_named w) name
+            let g : virtual_desc_in p token (Some u.0) ≡ Some desc = ap (virtual_desc_in p token) (sym (ap
+            (class_named w) name
             ∙ u.1)) ∙ h in
             of_kind plain u.0 u.1 u.2 (let v = u.0 in v.is_imported) refl g
           where
@@ -601,14 +666,17 @@ module _ (c : Checked) (ok : IsChecked c) (has : HasCode c) (keep : KeepsCalls c
                 → is_interface b.flags ≡ false → b.is_imported ≡ true → method_desc (first_of (virtual_method token)
                 (line_named l b.name)) ≡ Some desc → NamesSuper p program (Inside offset) token desc
             of_imported plain b named_b plain_b imp h = by (first_of (virtual_method token) (let v = y.entry in v
-                ∷ exports.upwards (exports.classes_of trees) v.supers)) refl (sym (ap method_desc (ap (first_of (virtual_method
+                ∷ exports.upwards (exports.classes_of trees) v.supers)) refl (sym (ap method_desc (ap (first_of
+                (virtual_method
                 token)) line_so)) ∙ h)
               where
                 y : Rattle.cjc_token_proof.specs.Tables.Infos.HasEntry q b
-                y = Rattle.cjc_token_proof.proofs.TablesLaws.Above.entry_of_name c.name q ok.sound (super d s plain) b named_b
+                y = Rattle.cjc_token_proof.proofs.TablesLaws.Above.entry_of_name c.name q ok.sound (super d s plain) b
+                    named_b
                     imp
 
-                line_so : line_named l b.name ≡ (let v = y.entry in v ∷ exports.upwards (exports.classes_of trees) v.supers)
+                line_so : line_named l b.name ≡ (let v = y.entry in v ∷ exports.upwards (exports.classes_of trees)
+                    v.supers)
                 line_so = ap (Rattle.cjc_verify.specs.Named.line_found l) y.found
                     ∙ ap (card_dispatch.exported_line l) y.there
 
@@ -616,55 +684,70 @@ module _ (c : Checked) (ok : IsChecked c) (has : HasCode c) (keep : KeepsCalls c
                 known_b = named_b ∙ ap (λ v. Some v) y.class
 
                 by : (o : Option ExportMethod) → first_of (virtual_method token) (let v = y.entry in v
-                    ∷ exports.upwards (exports.classes_of trees) v.supers) ≡ o → method_desc o ≡ Some desc → NamesSuper p
+                    ∷ exports.upwards (exports.classes_of trees) v.supers) ≡ o → method_desc o ≡ Some desc →
+                    NamesSuper p
                     program (Inside offset) token desc
                 by None f g = cc
                 by (Some m) f g =
-                    let plain_e : is_interface (let v = y.entry in v.flags) ≡ false = ap (λ (v : Class). is_interface v.flags)
+                    let plain_e : is_interface (let v = y.entry in v.flags) ≡ false = ap (λ (v : Class). is_interface
+                    v.flags)
                     (sym y.class) ∙ plain_b in
                     let low = given_low (super d s plain) y.number y.entry known_b plain_e token m f in
-                    let fit = given_open (super d s plain) y.number y.entry known_b plain_e token m f (super d s plain) b named_b
+                    let fit = given_open (super d s plain) y.number y.entry known_b plain_e token m f (super d s
+                    plain) b named_b
                     plain_b itself in
                     let same_desc : m.desc ≡ desc = same_some g in
-                    super_names d s plain offset token desc same (Open token) (tokened true (low_test token low)) (subst (λ v.
-                    Fits c ok has keep (super d s plain) v (dispatched_open (tower l (n.class (super d s plain))) token))
+                    super_names d s plain offset token desc same (Open token) (tokened true (low_test token low))
+                    (subst (λ v.
+                    Fits c ok has keep (super d s plain) v (dispatched_open (tower l (n.class (super d s plain)))
+                    token))
                     same_desc fit)
 
             of_own : (plain : is_interface d.flags ≡ false) (b : Class) → class_named w (super d s plain) ≡ Some b
-                → is_interface b.flags ≡ false → b.is_imported ≡ false → own_virtual_desc p token b ≡ Some desc → (v : Bool)
+                → is_interface b.flags ≡ false → b.is_imported ≡ false → own_virtual_desc p token b ≡ Some desc → (v :
+                Bool)
                 → nat_lt token 128 ≡ v → NamesSuper p program (Inside offset) token desc
             of_own plain b named_b plain_b own h true low =
                 let lt : token < 128 = grind (arith, nat_tests, low) in
                 let name = class_named-name w (super d s plain) b named_b in
-                let fit = own_open b (ap (class_named w) name ∙ named_b) own plain_b token lt desc h b.name b (ap (class_named w)
+                let fit = own_open b (ap (class_named w) name ∙ named_b) own plain_b token lt desc h b.name b (ap
+                (class_named w)
                 name ∙ named_b) plain_b itself in
-                super_names d s plain offset token desc same (Open token) (tokened true low) (subst (λ v. Fits c ok has keep v
+                super_names d s plain offset token desc same (Open token) (tokened true low) (subst (λ v. Fits c ok
+                has keep v
                 desc (dispatched_open (tower l (n.class v)) token)) name fit)
             of_own plain b named_b plain_b own h false high =
                 let name = class_named-name w (super d s plain) b named_b in
                 let fit = own_hidden b (ap (class_named w) name ∙ named_b) own plain_b token high desc h b.name b (ap
                 (class_named w) name ∙ named_b) plain_b itself in
-                super_names d s plain offset token desc same (Hidden 0 (token - 128)) (tokened false high) (subst (λ v. Fits c ok
+                super_names d s plain offset token desc same (Hidden 0 (token - 128)) (tokened false high) (subst (λ
+                v. Fits c ok
                 has keep v desc (dispatched_hidden (tower l (n.class v)) 0 (token - 128))) name fit)
 
             of_kind : (plain : is_interface d.flags ≡ false) (b : Class) → class_named w (super d s plain) ≡ Some b
-                → is_interface b.flags ≡ false → (v : Bool) → b.is_imported ≡ v → virtual_desc_in p token (Some b) ≡ Some desc
+                → is_interface b.flags ≡ false → (v : Bool) → b.is_imported ≡ v → virtual_desc_in p token (Some b) ≡
+                Some desc
                 → NamesSuper p program (Inside offset) token desc
             of_kind plain b named_b plain_b true imp h = of_imported plain b named_b plain_b imp (sym (ap (λ v. if v
-                then method_desc (first_of (virtual_method token) (line_named l b.name)) else own_virtual_desc p token b) imp)
+                then method_desc (first_of (virtual_method token) (line_named l b.name)) else own_virtual_desc p token
+                b) imp)
                 ∙ h)
             of_kind plain b named_b plain_b false own h = of_own plain b named_b plain_b own (sym (ap (λ v. if v
-                then method_desc (first_of (virtual_method token) (line_named l b.name)) else own_virtual_desc p token b) own)
+                then method_desc (first_of (virtual_method token) (line_named l b.name)) else own_virtual_desc p token
+                b) own)
                 ∙ h) (nat_lt token 128) refl
 
-        by : (o : Option Class) → class_at p offset ≡ o → option_and_then (λ (b : Class). virtual_desc_in p token (class_named
+        by : (o : Option Class) → class_at p offset ≡ o → option_and_then (λ (b : Class). virtual_desc_in p token
+            (class_named
             w (superclass b))) o ≡ Some desc → NamesSuper p program (Inside offset) token desc
         by None f h = cc
         by (Some d) f h =
-            let r = kinds.at_stands c.name c.list c.files c.image c.components ok.sound ok.paired ok.verified offset d f in
+            let r = kinds.at_stands c.name c.list c.files c.image c.components ok.sound ok.paired ok.verified offset d
+            f in
             at_class d r.0 r.1 h
 
-    pub supers : (k : ℕ) (class : ClassRef) (token : ℕ) (desc : List ℕ) → entry_of p k ≡ Some (SuperMethodref class token)
+    pub supers : (k : ℕ) (class : ClassRef) (token : ℕ) (desc : List ℕ) → entry_of p k ≡ Some (SuperMethodref class
+        token)
         → named_desc p (SuperMethodref class token) ≡ Some desc → NamesSuper p program class token desc
     supers k (Inside offset) token desc is e = own_super k offset token desc is e
     supers k (Outside import class) token desc is e = absurd cc
@@ -675,14 +758,17 @@ module _ (c : Checked) (ok : IsChecked c) (has : HasCode c) (keep : KeepsCalls c
     Answered kind desc sel = HasDesc p desc sel × IsOf p kind sel × IsConcrete p sel
 
     -- a method of an interface on an object of a class of the package
-    own_answers : (kind : Shape card.Class) (r : Receiver kind) → (let v = r.class in v.is_imported ≡ false) → (y : List ℕ)
-        (i : Class) → class_named w y ≡ Some i → is_interface i.flags ≡ true → both_of l (Some kind) (Some (OfClass (n.class
+    own_answers : (kind : Shape card.Class) (r : Receiver kind) → (let v = r.class in v.is_imported ≡ false) → (y :
+        List ℕ)
+        (i : Class) → class_named w y ≡ Some i → is_interface i.flags ≡ true → both_of l (Some kind) (Some (OfClass
+        (n.class
         y))) ≡ true → (t : ℕ) (s : Signature) → slice_get (interface_methods w i) t ≡ Some s → Answered kind s.desc
         (dispatched_interface l (Some (n.class r.called)) (n.class y) t)
     own_answers kind r own y i named_y here is t s at =
         let x = r.called in
         let k = r.class in
-        let sub = kinds.of_subtype c.name c.list c.files c.image c.components ok.sound ok.paired ok.verified x y k i r.known
+        let sub = kinds.of_subtype c.name c.list c.files c.image c.components ok.sound ok.paired ok.verified x y k i
+        r.known
         named_y (sym (r.alike (n.class y)) ∙ is) in
         let kept = keep.subtypes in
         let among = kept.implements x y k i r.known r.plain named_y here sub in
@@ -691,17 +777,20 @@ module _ (c : Checked) (ok : IsChecked c) (has : HasCode c) (keep : KeepsCalls c
         let agree = keep.agree in
         let calls = agree.calls in
         let alike = calls.interface_calls x k r.known own concrete y i t s among at in
-        let asked = method-asked w facts.are_supertypes facts.one_supertypes k i s (named-among (known_ones (interfaces_at w k))
+        let asked = method-asked w facts.are_supertypes facts.one_supertypes k i s (named-among (known_ones
+        (interfaces_at w k))
         y i among) (has-here (interface_methods w i) t s at) in
         let one = facts.interfaces.methods x k asked.0 r.known own concrete asked.1 in
-        let chosen_one = chosen_in selects s (all_methods (line w x)) one.0 (ap (λ v. chosen selects v (all_methods (line w x)))
+        let chosen_one = chosen_in selects s (all_methods (line w x)) one.0 (ap (λ v. chosen selects v (all_methods
+        (line w x)))
         (sym asked.2) ∙ one.1) in
         let g = select_there s (line w x) one.0 chosen_one.0 chosen_one.1 chosen_one.2 in
         let f = g.0 in
         let name = line_found q facts true s.name s.desc x f g.1 in
         let found = alike ∙ g.1 in
         let way = by_map (tables.map_of (tables.tower_of w x) y) t f found in
-        let same = interface_same c ok has keep x k r.known r.plain y t way.0 s f (ap is_some named_y) found way.1 name in
+        let same = interface_same c ok has keep x k r.known r.plain y t way.0 s f (ap is_some named_y) found way.1
+        name in
         let fit = interface_fits c ok has keep x k r.known r.plain y t s f (ap is_some named_y) found name (λ mine. (
         let m = token_meant c ok has keep x k r.known r.plain way.0 f way.1 mine in
         let sig : m.signature ≡ s = same_some (sym m.name ∙ name) in
@@ -722,7 +811,8 @@ module _ (c : Checked) (ok : IsChecked c) (has : HasCode c) (keep : KeepsCalls c
             by_index None g = cc
             by_index (Some u) g = (u, g)
 
-        imported_or : (f : Found) (u : ℕ) → tables.dispatched (tables.tower_of w r.called) u ≡ Some f → named w f ≡ Some s
+        imported_or : (f : Found) (u : ℕ) → tables.dispatched (tables.tower_of w r.called) u ≡ Some f → named w f ≡
+            Some s
             → (b : Bool) → f.imported ≡ b → IsConcrete p (dispatched_open (tower l (n.class r.called)) u)
         imported_or f u found name false mine =
             let m = token_meant c ok has keep r.called r.class r.known r.plain u f found mine in
@@ -734,9 +824,11 @@ module _ (c : Checked) (ok : IsChecked c) (has : HasCode c) (keep : KeepsCalls c
     pub interface_answers : (class : card.Class) (token : ℕ) (desc : List ℕ) → interface_desc l token (Some class)
         ≡ Some desc → Answers p program class desc (λ o. dispatched_interface l o class token)
     interface_answers (External tree number) token desc e kind made is = by (external l tree number) refl (if_true
-        (card.is_interface l (External tree number)) (selection_desc (interface_method l (External tree number) token)) desc e)
+        (card.is_interface l (External tree number)) (selection_desc (interface_method l (External tree number)
+        token)) desc e)
       where
-        if_true : (b : Bool) (o : Option (List ℕ)) (v : List ℕ) → (if b then o else None) ≡ Some v → (b ≡ true) × (o ≡ Some
+        if_true : (b : Bool) (o : Option (List ℕ)) (v : List ℕ) → (if b then o else None) ≡ Some v → (b ≡ true) × (o ≡
+            Some
             v)
         if_true true o v f = (refl, f)
         if_true false o v f = cc
@@ -745,13 +837,15 @@ module _ (c : Checked) (ok : IsChecked c) (has : HasCode c) (keep : KeepsCalls c
         r = receiver kind made
 
         at_method : (x : ExportClass) → external l tree number ≡ Some x → is_interface x.flags ≡ true → (o : Option
-            ExportMethod) → virtual_method token x ≡ o → selection_desc (outward x.name o NotFound) ≡ Some desc → Answered
+            ExportMethod) → virtual_method token x ≡ o → selection_desc (outward x.name o NotFound) ≡ Some desc →
+            Answered
             kind desc (dispatched_interface l (shape_class l kind) (External tree number) token)
         at_method x f here None g h = cc
         at_method x f here (Some m) g h = split (let v = r.class in v.is_imported) refl
           where
             y : (j : ℕ) × (class_named w x.name ≡ Some (imported j x)) × (n.class x.name ≡ External tree number)
-            y = kinds.named_external c.name c.list c.files c.image c.components ok.sound ok.paired ok.verified tree number x f
+            y = kinds.named_external c.name c.list c.files c.image c.components ok.sound ok.paired ok.verified tree
+                number x f
 
             same : m.desc ≡ desc
             same = same_some h
@@ -765,13 +859,17 @@ module _ (c : Checked) (ok : IsChecked c) (has : HasCode c) (keep : KeepsCalls c
             split : (b : Bool) → (let v = r.class in v.is_imported) ≡ b → Answered kind desc (dispatched_interface l
                 (shape_class l kind) (External tree number) token)
             split true far =
-                let z = Rattle.cjc_token_proof.proofs.TablesLaws.Above.entry_of_name c.name q ok.sound r.called r.class r.known
+                let z = Rattle.cjc_token_proof.proofs.TablesLaws.Above.entry_of_name c.name q ok.sound r.called
+                r.class r.known
                 far in
-                let on : n.class r.called ≡ External z.file (let v = z.entry in v.token) = ap n.class (sym (class_named-name w
+                let on : n.class r.called ≡ External z.file (let v = z.entry in v.token) = ap n.class (sym
+                (class_named-name w
                 r.called r.class r.known)) ∙ z.on_card in
-                let keeps = imported_keeps c ok has keep x.name (imported y.0 x) y.1 refl got.0 (method_of_export m) member in
+                let keeps = imported_keeps c ok has keep x.name (imported y.0 x) y.1 refl got.0 (method_of_export m)
+                member in
                 let sig = keeps.0 in
-                let all : Answered kind desc (interface_method l (External tree number) token) = subst (λ o. Answered kind desc
+                let all : Answered kind desc (interface_method l (External tree number) token) = subst (λ o. Answered
+                kind desc
                 (of_file o token)) (sym f) (subst (λ o. Answered kind desc (outward x.name o NotFound)) (sym g) (
                   selecting.of_file (record { class = x.name; name = m.name; desc = m.desc }) sig.0 same (ap
                       Rattle.cjc_card_semantics.specs.Script.Sorts.signature_of (sym same) ∙ sig.1),
@@ -784,19 +882,23 @@ module _ (c : Checked) (ok : IsChecked c) (has : HasCode c) (keep : KeepsCalls c
                 let two = and_true (exports.is_virtual m) (m.token == token) got.2 in
                 let token_same = number_same m.token token two.1 in
                 let position_so = keep.listed x.name y.0 x y.1 here got.0 m got.1 (plain_name two.0) in
-                let slot : slice_get (interface_methods w (imported y.0 x)) token ≡ Some (signature_of (method_of_export m)) =
+                let slot : slice_get (interface_methods w (imported y.0 x)) token ≡ Some (signature_of
+                (method_of_export m)) =
                 placed_is (interface_methods w (imported y.0 x)) (signature_of (method_of_export m)) token (position_so
                 ∙ ap (λ v. Some v) token_same) in
-                let a = own_answers kind r own x.name (imported y.0 x) y.1 here (ap (λ v. both_of l (Some kind) (Some (OfClass
+                let a = own_answers kind r own x.name (imported y.0 x) y.1 here (ap (λ v. both_of l (Some kind) (Some
+                (OfClass
                 v))) y.2 ∙ is) token (signature_of (method_of_export m)) slot in
                 subst (λ o. Answered kind desc (dispatched_interface l o (External tree number) token)) (sym r.on_card)
-                (subst (λ v. Answered kind desc (dispatched_interface l (Some (n.class r.called)) v token)) y.2 (subst (λ v.
+                (subst (λ v. Answered kind desc (dispatched_interface l (Some (n.class r.called)) v token)) y.2 (subst
+                (λ v.
                 Answered kind v (dispatched_interface l (Some (n.class r.called)) (n.class x.name) token)) same a))
               where
                 plain_name : exports.is_virtual m ≡ true → is_initialiser m.name ≡ false
                 plain_name v = by (is_initialiser m.name) refl
                   where
-                    file : (j : ℕ) × (u : ExportClass) × (exports.class_named (exports.classes_of trees) x.name ≡ Some u)
+                    file : (j : ℕ) × (u : ExportClass) × (exports.class_named (exports.classes_of trees) x.name ≡ Some
+                        u)
                         × (imported y.0 x ≡ imported j u)
                     file = facts.in_file x.name (imported y.0 x) y.1 refl
 
@@ -804,9 +906,11 @@ module _ (c : Checked) (ok : IsChecked c) (has : HasCode c) (keep : KeepsCalls c
                     by false h = refl
                     by true h =
                         let o = file in
-                        let u = Rattle.cjc_token_proof.proofs.WrittenCalls.Files.export_from (let v = o.1 in v.methods) got.0
+                        let u = Rattle.cjc_token_proof.proofs.WrittenCalls.Files.export_from (let v = o.1 in
+                        v.methods) got.0
                         (method_of_export m) (ap (λ (v : Class). slice_get v.methods got.0) (sym o.3) ∙ member) in
-                        let static = ap (λ (v : Member). is_static v.flags) (sym u.2) ∙ facts.plain x.name o.1 o.2 got.0 u.0 u.1
+                        let static = ap (λ (v : Member). is_static v.flags) (sym u.2) ∙ facts.plain x.name o.1 o.2
+                        got.0 u.0 u.1
                         (ap (λ (v : Member). is_initialiser v.name) u.2 ∙ h) in
                         absurd (virtual_not (is_static m.flags) _ _ v static)
                       where
@@ -815,13 +919,15 @@ module _ (c : Checked) (ok : IsChecked c) (has : HasCode c) (keep : KeepsCalls c
                         virtual_not false b d h i = cc
 
         by : (o : Option ExportClass) → external l tree number ≡ o → (card.is_interface_file o ≡ true) × (selection_desc
-            (of_file o token) ≡ Some desc) → Answered kind desc (dispatched_interface l (shape_class l kind) (External tree
+            (of_file o token) ≡ Some desc) → Answered kind desc (dispatched_interface l (shape_class l kind) (External
+            tree
             number) token)
         by None f h = let g = h.1 in absurd cc
         by (Some x) f h = at_method x f h.0 (virtual_method token x) refl h.1
     interface_answers (Own (suc part) offset) token desc e kind made is = absurd (none e)
       where
-        none : (if card.is_interface_info (card.info_of l (suc part) offset) then selection_desc (of_names (card.names_of l (suc
+        none : (if card.is_interface_info (card.info_of l (suc part) offset) then selection_desc (of_names
+            (card.names_of l (suc
             part) offset) token) else None) ≡ Some desc → ⊥
         none h = cc
     interface_answers (Own zero offset) token desc e kind made is = by (number_from 2 (infos (let x = c.components
@@ -833,14 +939,19 @@ module _ (c : Checked) (ok : IsChecked c) (has : HasCode c) (keep : KeepsCalls c
         all : List Info
         all = infos (let x = c.components in x.class)
 
-        stood : (k : ℕ) → number_from 2 (infos (let x = c.components in x.class)) offset ≡ Some k → (i : Class) → slice_get
+        stood : (k : ℕ) → number_from 2 (infos (let x = c.components in x.class)) offset ≡ Some k → (i : Class) →
+            slice_get
             (class_order w) k ≡ Some i → (s : Stands i) × (s.offset ≡ offset)
-        stood k number i ordered_i = kinds.ordered_at c.name c.list c.files c.image c.components ok.sound ok.paired ok.verified
-            k offset i ordered_i (ap (λ (xs : List ℕ). slice_get xs k) (Rattle.cjc_card_link.proofs.InfoPlaces.all_starts (let
-            x = c.components in x.class)) ∙ Rattle.cjc_verified_proof.proofs.NameLaws.starts_read 2 (infos (let x = c.components
+        stood k number i ordered_i = kinds.ordered_at c.name c.list c.files c.image c.components ok.sound ok.paired
+            ok.verified
+            k offset i ordered_i (ap (λ (xs : List ℕ). slice_get xs k)
+            (Rattle.cjc_card_link.proofs.InfoPlaces.all_starts (let
+            x = c.components in x.class)) ∙ Rattle.cjc_verified_proof.proofs.NameLaws.starts_read 2 (infos (let x =
+            c.components
             in x.class)) k ∙ at_number 2 (infos (let x = c.components in x.class)) k number)
           where
-            at_number : (at : ℕ) (is : List Info) (k : ℕ) → number_from at is offset ≡ Some k → offset_from at is k ≡ Some
+            at_number : (at : ℕ) (is : List Info) (k : ℕ) → number_from at is offset ≡ Some k → offset_from at is k ≡
+                Some
                 offset
             at_number at [] k f = cc
             at_number at (v ∷ is) k f = by_test (at == offset) refl f (at_number (at + card.info_size v) is)
@@ -849,44 +960,54 @@ module _ (c : Checked) (ok : IsChecked c) (has : HasCode c) (keep : KeepsCalls c
                     + card.info_size v) is offset)) ≡ Some k → ((j : ℕ) → number_from (at + card.info_size v) is offset
                     ≡ Some j → offset_from (at + card.info_size v) is j ≡ Some offset) → offset_from at (v ∷ is) k
                     ≡ Some offset
-                by_test true g h rest = subst (λ j. offset_from at (v ∷ is) j ≡ Some offset) (same_some h) (ap (λ m. Some m)
+                by_test true g h rest = subst (λ j. offset_from at (v ∷ is) j ≡ Some offset) (same_some h) (ap (λ m.
+                    Some m)
                     (number_same at offset g))
                 by_test false g h rest = by_more (number_from (at + card.info_size v) is offset) refl h
                   where
-                    by_more : (o : Option ℕ) → number_from (at + card.info_size v) is offset ≡ o → option_map suc o ≡ Some k
+                    by_more : (o : Option ℕ) → number_from (at + card.info_size v) is offset ≡ o → option_map suc o ≡
+                        Some k
                         → offset_from at (v ∷ is) k ≡ Some offset
                     by_more None i j = cc
                     by_more (Some m) i j = subst (λ u. offset_from at (v ∷ is) u ≡ Some offset) (same_some j) (rest m i)
 
         -- an interface of the package, by its number
         at_class : (i : Class) (s : Stands i) → s.offset ≡ offset → is_interface i.flags ≡ true → (t : MethodName)
-            → slice_get (map Rattle.cjc_components.specs.Paired.Naming.signature_name (interface_methods w i)) token ≡ Some t
+            → slice_get (map Rattle.cjc_components.specs.Paired.Naming.signature_name (interface_methods w i)) token ≡
+            Some t
             → t.desc ≡ desc → Answered kind desc (dispatched_interface l (shape_class l kind) (Own 0 offset) token)
         at_class i s same here t at said =
-            let m = mapped_at Rattle.cjc_components.specs.Paired.Naming.signature_name (interface_methods w i) token t at in
+            let m = mapped_at Rattle.cjc_components.specs.Paired.Naming.signature_name (interface_methods w i) token t
+            at in
             let on : n.class i.name ≡ Own 0 offset = s.on_card ∙ ap (Own 0) same in
             let named_so : (let v = m.0 in v.desc) ≡ desc = ap (λ (v : MethodName). v.desc) m.2 ∙ said in
             let below_it = ap (λ v. both_of l (Some kind) (Some (OfClass v))) on ∙ is in
-            let a = own_answers kind r (own_receiver i s below_it (let v = r.class in v.is_imported) refl) i.name i s.known here
+            let a = own_answers kind r (own_receiver i s below_it (let v = r.class in v.is_imported) refl) i.name i
+            s.known here
             below_it token m.0 m.1 in
             subst (λ o. Answered kind desc (dispatched_interface l o (Own 0 offset) token)) (sym r.on_card) (subst (λ v.
-            Answered kind desc (dispatched_interface l (Some (n.class r.called)) v token)) on (subst (λ v. Answered kind v
+            Answered kind desc (dispatched_interface l (Some (n.class r.called)) v token)) on (subst (λ v. Answered
+            kind v
             (dispatched_interface l (Some (n.class r.called)) (n.class i.name) token)) named_so a))
           where
             own_receiver : (i : Class) (s : Stands i) → both_of l (Some kind) (Some (OfClass (n.class i.name))) ≡ true
                 → (b : Bool) → (let v = r.class in v.is_imported) ≡ b → (let v = r.class in v.is_imported) ≡ false
             own_receiver i s f false g = g
             own_receiver i s f true g =
-                let z = Rattle.cjc_token_proof.proofs.TablesLaws.Above.entry_of_name c.name q ok.sound r.called r.class r.known g
+                let z = Rattle.cjc_token_proof.proofs.TablesLaws.Above.entry_of_name c.name q ok.sound r.called
+                r.class r.known g
                 in
-                let on : n.class r.called ≡ External z.file (let v = z.entry in v.token) = ap n.class (sym (class_named-name w
+                let on : n.class r.called ≡ External z.file (let v = z.entry in v.token) = ap n.class (sym
+                (class_named-name w
                 r.called r.class r.known)) ∙ z.on_card in
                 let stand = supers_stand applets c.files c.image c.components ok.supers ok.no_object in
-                absurd (never_own l stand (n.class r.called) (n.class i.name) (told_above l (n.class r.called) (n.class i.name)
+                absurd (never_own l stand (n.class r.called) (n.class i.name) (told_above l (n.class r.called)
+                (n.class i.name)
                 (sym (r.alike (n.class i.name)) ∙ f)) z.file (let v = z.entry in v.token) on 0 s.offset s.on_card)
 
         of_number : (k : ℕ) → number_from 2 (infos (let x = c.components in x.class)) offset ≡ Some k → (o : Option
-            ClassNames) → slice_get (map (class_names c.files (assigned applets c.files)) (class_order w)) k ≡ o → (v : Option
+            ClassNames) → slice_get (map (class_names c.files (assigned applets c.files)) (class_order w)) k ≡ o → (v
+            : Option
             Info) → slice_get (infos (let x = c.components in x.class)) k ≡ v → (if card.is_interface_info v
             then selection_desc (of_names o token) else None) ≡ Some desc → Answered kind desc (dispatched_interface l
             (shape_class l kind) (Own 0 offset) token)
@@ -899,48 +1020,62 @@ module _ (c : Checked) (ok : IsChecked c) (has : HasCode c) (keep : KeepsCalls c
             let a = mapped_at (class_names c.files (assigned applets c.files)) (class_order w) k names there in
             let i = a.0 in
             let st = stood k number i a.1 in
-            let kind_so : v ≡ Some (wanted_info p i) = sym info ∙ ap (λ is. slice_get is k) (infos_are c.name applets c.files
+            let kind_so : v ≡ Some (wanted_info p i) = sym info ∙ ap (λ is. slice_get is k) (infos_are c.name applets
+            c.files
             c.image c.components ok.sound ok.paired ok.verified) ∙ slice_get-map (wanted_info p) (class_order w) k
             ∙ ap (option_map (wanted_info p)) a.1 in
-            by_kind i st.0 st.1 (is_interface i.flags) refl (ap (λ u. if card.is_interface_info u then selection_desc (of_names
+            by_kind i st.0 st.1 (is_interface i.flags) refl (ap (λ u. if card.is_interface_info u then selection_desc
+            (of_names
             (Some (class_names c.files (assigned applets c.files) i)) token) else None) (sym kind_so) ∙ ap (λ u.
             if card.is_interface_info v then selection_desc (of_names (Some u) token) else None) a.2 ∙ h)
           where
             by_kind : (i : Class) (s : Stands i) → s.offset ≡ offset → (b : Bool) → is_interface i.flags ≡ b
-                → (if card.is_interface_info (Some (wanted_info p i)) then selection_desc (of_names (Some (class_names c.files
-                (assigned applets c.files) i)) token) else None) ≡ Some desc → Answered kind desc (dispatched_interface l
+                → (if card.is_interface_info (Some (wanted_info p i)) then selection_desc (of_names (Some (class_names
+                c.files
+                (assigned applets c.files) i)) token) else None) ≡ Some desc → Answered kind desc
+                (dispatched_interface l
                 (shape_class l kind) (Own 0 offset) token)
             by_kind i s same false f g =
                 let no : None ≡ Some desc = sym (ap (λ b. if card.is_interface_info (Some (if b then IsInterface
                 (Rattle.cjc_components.specs.Class.interface_entry (Rattle.cjc_verify.specs.Pairs.class_ref p)
-                (Rattle.cjc_verify.specs.Pairs.world p) i) else IsClass (wanted_class p i))) then selection_desc (of_names (Some
+                (Rattle.cjc_verify.specs.Pairs.world p) i) else IsClass (wanted_class p i))) then selection_desc
+                (of_names (Some
                 (class_names c.files (assigned applets c.files) i)) token) else None) f) ∙ g in
                 absurd cc
             by_kind i s same true f g =
                 let named : selection_desc (named_in i.name (slice_get (if is_interface i.flags
-                then map Rattle.cjc_components.specs.Paired.Naming.signature_name (interface_methods w i) else []) token))
+                then map Rattle.cjc_components.specs.Paired.Naming.signature_name (interface_methods w i) else [])
+                token))
                 ≡ Some desc = sym (ap (λ b. if card.is_interface_info (Some (if b then IsInterface
                 (Rattle.cjc_components.specs.Class.interface_entry (Rattle.cjc_verify.specs.Pairs.class_ref p)
-                (Rattle.cjc_verify.specs.Pairs.world p) i) else IsClass (wanted_class p i))) then selection_desc (of_names (Some
+                (Rattle.cjc_verify.specs.Pairs.world p) i) else IsClass (wanted_class p i))) then selection_desc
+                (of_names (Some
                 (class_names c.files (assigned applets c.files) i)) token) else None) f) ∙ g in
-                by_slot (slice_get (map Rattle.cjc_components.specs.Paired.Naming.signature_name (interface_methods w i)) token)
+                by_slot (slice_get (map Rattle.cjc_components.specs.Paired.Naming.signature_name (interface_methods w
+                i)) token)
                 refl (sym (ap (λ b. selection_desc (named_in i.name (slice_get (if b
-                then map Rattle.cjc_components.specs.Paired.Naming.signature_name (interface_methods w i) else []) token))) f)
+                then map Rattle.cjc_components.specs.Paired.Naming.signature_name (interface_methods w i) else [])
+                token))) f)
                 ∙ named)
               where
-                by_slot : (o : Option MethodName) → slice_get (map Rattle.cjc_components.specs.Paired.Naming.signature_name
-                    (interface_methods w i)) token ≡ o → selection_desc (named_in i.name o) ≡ Some desc → Answered kind desc
+                by_slot : (o : Option MethodName) → slice_get (map
+                    Rattle.cjc_components.specs.Paired.Naming.signature_name
+                    (interface_methods w i)) token ≡ o → selection_desc (named_in i.name o) ≡ Some desc → Answered
+                    kind desc
                     (dispatched_interface l (shape_class l kind) (Own 0 offset) token)
                 by_slot None u v = cc
                 by_slot (Some t) u v = at_class i s same f t u (same_some v)
 
         by : (o : Option ℕ) → number_from 2 (infos (let x = c.components in x.class)) offset ≡ o
             → (if card.is_interface_info (option_and_then (slice_get (infos (let x = c.components in x.class))) o)
-            then selection_desc (of_names (option_and_then (slice_get (map (class_names c.files (assigned applets c.files))
-            (class_order w))) o) token) else None) ≡ Some desc → Answered kind desc (dispatched_interface l (shape_class l
+            then selection_desc (of_names (option_and_then (slice_get (map (class_names c.files (assigned applets
+            c.files))
+            (class_order w))) o) token) else None) ≡ Some desc → Answered kind desc (dispatched_interface l
+            (shape_class l
             kind) (Own 0 offset) token)
         by None f h = cc
-        by (Some k) f h = of_number k f (slice_get (map (class_names c.files (assigned applets c.files)) (class_order w)) k)
+        by (Some k) f h = of_number k f (slice_get (map (class_names c.files (assigned applets c.files)) (class_order
+            w)) k)
             refl (slice_get (infos (let x = c.components in x.class)) k) refl h
 
     pub dispatch_fits : DispatchFits p program

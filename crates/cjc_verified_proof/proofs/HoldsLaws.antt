@@ -1,6 +1,7 @@
--- What dispatch and selection give on an object of a class is held by a class of the package at or above it, unless it is
+-- What dispatch and selection give on an object of a class is held by a class of the package at or above it, unless
+-- it is
 -- imported.
-use Rattle.std.proofs.Common.{◌≡◌, ℕ, zero, suc, ◌+◌, ◌<◌, Bool, true, false, List, [], ◌∷◌, ◌++◌, length, map, slice_get}
+use Rattle.std.proofs.Common.{◌≡◌, [], ℕ, zero, suc, ◌+◌, ◌<◌, Bool, true, false, List, ◌∷◌, length, map, slice_get}
 use Rattle.std.proofs.Common.{Option, Some, None, refl, sym, ap, subst, ◌∙◌, arith}
 use Rattle.std.specs.Prelude.{◌&&◌, ◌||◌, not, codes, if◌then◌else◌, option_map, position}
 use Rattle.std.specs.Str.{bytes_eq}
@@ -10,11 +11,13 @@ use Rattle.cjc_world.specs.Added.{added}
 use Rattle.cjc_world.specs.Classes.{Class, Member, class_named}
 use Rattle.cjc_world.specs.Lookup.{first, is_called, is_selectable, member_at, or_else, own_method}
 use Rattle.cjc_world.specs.Order.{methods_of_class, places, written}
-use Rattle.cjc_world.specs.Supertypes.{AreSupertypes, End, Known, Lists, Supertypes, Unknown, foremost, known_here, line}
+use Rattle.cjc_world.specs.Supertypes.{AreSupertypes, End, Known, Lists, Supertypes, Unknown, foremost, known_here}
+use Rattle.cjc_world.specs.Supertypes.{line}
 use Rattle.cjc_world.specs.Supertypes.{supertypes, unknown_here, upwards}
 use Rattle.cjc_world.proofs.Cycles.{class_named-name}
-use Rattle.cjc_tokens.specs.Lines.{Declared, Imported, Line, line_in, line_of}
-use Rattle.cjc_tokens.specs.Members.{Signature, is_constructor, is_exposed, is_hidden, is_initialiser, is_shown, is_virtual}
+use Rattle.cjc_tokens.specs.Lines.{Declared, Imported, line_in, line_of}
+use Rattle.cjc_tokens.specs.Members.{Signature, is_constructor, is_exposed, is_hidden, is_initialiser, is_shown}
+use Rattle.cjc_tokens.specs.Members.{is_virtual}
 use Rattle.cjc_tokens.specs.Members.{signature_of}
 use Rattle.cjc_tokens.specs.Slots.{got, implementing, implementing_hidden, own}
 use Rattle.cjc_tokens.proofs.Facts.{same-true}
@@ -211,19 +214,22 @@ module _ (q : Package) (facts : Facts q) where
                 is = sym (same_some h) ∙ ap (member_at d) z;
                 number = length own_written + i;
                 listed = get_behind own_written own_places i
-                    ∙ places_has d (length d.fields + length d.methods) (length (added w d)) i (get_below (added w d) i r.0
+                    ∙ places_has d (length d.fields + length d.methods) (length (added w d)) i (get_below (added w d)
+                    i r.0
                     r.1) ∙ h;
                 called = same-true (signature_of r.0) s r.2;
                 unbound = refl;
               }
 
       -- what goes on above
-      goes_above : (k : Supertypes) → AreSupertypes w d.supers k → ((y : List ℕ) (a : Class) → AreSupertypes w (y ∷ []) k
+      goes_above : (k : Supertypes) → AreSupertypes w d.supers k → ((y : List ℕ) (a : Class) → AreSupertypes w (y ∷
+          []) k
           → class_named w y ≡ Some a → is_interface a.flags ≡ false → d.supers ≡ y ∷ [] → Holds y s f) → Holds x s f
       goes_above k ks rest =
           let one = facts.rules.single x d known mine in
           let up = facts.super_there x one.0 d known mine one.1 in
-          lower_holds x one.0 (below d known (subst (Lists one.0) (sym one.1) foremost) itself) s f (rest one.0 up.0 (subst (λ ss. AreSupertypes w ss k) one.1 ks) up.1 up.2 one.1)
+          lower_holds x one.0 (below d known (subst (Lists one.0) (sym one.1) foremost) itself) s f (rest one.0 up.0
+          (subst (λ ss. AreSupertypes w ss k) one.1 ks) up.1 up.2 one.1)
 
   -- ---- the nearest class with a public or protected method
 
@@ -259,7 +265,8 @@ module _ (q : Package) (facts : Facts q) where
               → or_else o (or_else u (implementing (line_in w supers) s)) ≡ Some f → Holds x s f
           split (Some a) h u k g = own_holds x d known is plain s f is_shown (λ m t called. unbound_shown m t) (h ∙ g)
           split None h (Some a) k g = got_holds x d known is plain s f (k ∙ g)
-          split None h None k g = goes_above x d known is plain s f supers ks (λ y a are named_y class_y only. rest y a are
+          split None h None k g = goes_above x d known is plain s f supers ks (λ y a are named_y class_y only. rest y
+              a are
               named_y class_y g)
 
   pub implementing_holds : (x : List ℕ) (c : Class) → class_named w x ≡ Some c → is_interface c.flags ≡ false
@@ -296,7 +303,8 @@ module _ (q : Package) (facts : Facts q) where
           split None h g = goes_above x d known is plain s f supers ks (λ y a are named_y class_y only. rest y a are
               named_y class_y g)
 
-  pub hidden_holds : (x : List ℕ) (c : Class) → class_named w x ≡ Some c → is_interface c.flags ≡ false → (s : Signature)
+  pub hidden_holds : (x : List ℕ) (c : Class) → class_named w x ≡ Some c → is_interface c.flags ≡ false → (s :
+      Signature)
       (f : Found) → implementing_hidden (line_of w x) s ≡ Some f → Holds x s f
   hidden_holds x c e class_here s f found = hidden_by (supertypes w (x ∷ [])) x c (facts.are_supertypes (x ∷ [])) e
       class_here s f found
@@ -324,21 +332,26 @@ module _ (q : Package) (facts : Facts q) where
       kind b g h = own_kind (λ (m : Member). is_selectable m.flags) s b g (sym (selecting_own s b) ∙ h)
 
       by : (b : Bool) → d.is_imported ≡ b → ((y : List ℕ) (a : Class) → AreSupertypes w (y ∷ []) supers
-          → class_named w y ≡ Some a → is_interface a.flags ≡ false → first (own_method true s.name s.desc) (line w y) ≡ Some f → Holds y s f)
+          → class_named w y ≡ Some a → is_interface a.flags ≡ false → first (own_method true s.name s.desc) (line w y)
+          ≡ Some f → Holds y s f)
           → Holds x s f
       by true is rest =
-          let clash : false ≡ true = sym mine ∙ first_imported_found q facts x d known is (own_method true s.name s.desc) kind f from_line in
+          let clash : false ≡ true = sym mine ∙ first_imported_found q facts x d known is (own_method true s.name
+          s.desc) kind f from_line in
           absurd cc
-      by false is rest = split ((own_method true s.name s.desc) d) refl (sym (first_step (own_method true s.name s.desc) d (upwards (supertypes w d.supers))) ∙ from_line)
+      by false is rest = split ((own_method true s.name s.desc) d) refl (sym (first_step (own_method true s.name
+          s.desc) d (upwards (supertypes w d.supers))) ∙ from_line)
         where
-          split : (o : Option Found) → (own_method true s.name s.desc) d ≡ o → or_else o (first (own_method true s.name s.desc) (upwards (supertypes w d.supers))) ≡ Some f
+          split : (o : Option Found) → (own_method true s.name s.desc) d ≡ o → or_else o (first (own_method true
+              s.name s.desc) (upwards (supertypes w d.supers))) ≡ Some f
               → Holds x s f
           split (Some a) h g = own_holds x d known is plain s f (λ (m : Member). is_selectable m.flags) (λ m t called. (
             unbound_selectable m t,
             ap (λ (v : Signature). is_initialiser v.name) called ∙ virtual,
           )) (sym (selecting_own s d) ∙ h ∙ g)
           split None h g = goes_above x d known is plain s f supers ks (λ y a are named_y class_y only. rest y a are
-              named_y class_y (ap (first (own_method true s.name s.desc)) (line_of_names q facts y) ∙ sym (ap (λ ss. first (own_method true s.name s.desc)
+              named_y class_y (ap (first (own_method true s.name s.desc)) (line_of_names q facts y) ∙ sym (ap (λ ss.
+              first (own_method true s.name s.desc)
               (upwards (supertypes w ss))) only) ∙ g))
 
   pub selection_holds : (x : List ℕ) (c : Class) → class_named w x ≡ Some c → is_interface c.flags ≡ false

@@ -1,10 +1,11 @@
--- Classes on the card by their names: each class of an export file, and each one of the package, is that of a name, and a
+-- Classes on the card by their names: each class of an export file, and each one of the package, is that of a name,
+-- and a
 -- class over superclasses of another is so on the card.
-use Rattle.std.proofs.Common.{◌≡◌, ◌⊎◌, inl, inr, ℕ, zero, suc, ◌+◌, ◌<◌, ◌==◌, Bool, true, false, List, [], ◌∷◌, ◌++◌}
-use Rattle.std.proofs.Common.{length, map, slice_get, Option, Some, None, refl, sym, ap, subst, ◌∙◌, arith, nat_lt}
-use Rattle.std.specs.Prelude.{◌&&◌, ◌||◌, not, if◌then◌else◌, is_some, option_and_then, option_map, option_to_list, position}
+use Rattle.std.proofs.Common.{◌≡◌, [], ◌⊎◌, inl, inr, ℕ, zero, suc, ◌+◌, ◌<◌, ◌==◌, Bool, true, false, List, ◌∷◌, ◌++◌}
+use Rattle.std.proofs.Common.{length, slice_get, Option, Some, None, refl, sym, ap, subst, ◌∙◌, arith, nat_lt}
+use Rattle.std.specs.Prelude.{◌&&◌, ◌||◌, not, if◌then◌else◌, is_some, option_and_then, option_map, option_to_list}
+use Rattle.std.specs.Prelude.{position}
 use Rattle.std.specs.Prelude.{unwrap_or}
-use Rattle.std.specs.Str.{bytes_eq}
 use Rattle.cjc_capread.specs.Bytes.AccessFlags.{is_interface}
 use Rattle.cjc_check_rules.specs.Complete.{Complete}
 use Rattle.cjc_check_rules.specs.ExportFile.declared.tree.ExportClass.{ExportClass}
@@ -20,19 +21,17 @@ use Rattle.cjc_world.specs.Supertypes.{Above, Lists, after, directly, foremost, 
 use Rattle.cjc_world.proofs.Subtypes.{reaches}
 use Rattle.cjc_vtable.specs.Laws.{Under, below, itself}
 use Rattle.cjc_vtable.specs.Subset.Members.{imports}
-use Rattle.cjc_vtable.proofs.Filed.{Has, get-has}
+use Rattle.cjc_vtable.proofs.Filed.{get-has}
 use Rattle.cjc_card_semantics.specs.Script.Sorts.{Shape, OfClass, OfNumbers, OfReferences}
 use Rattle.cjc_card_semantics.specs.Machine.Classes.{Own, External, external, external_from, infos, is_interface_file}
 use Rattle.cjc_card_semantics.specs.Machine.Classes.{is_kind_of, is_of, object_class, or_else, shape_class, with_token}
 use Rattle.cjc_card_semantics.specs.Machine.Classes as card
 use Rattle.cjc_card_semantics.specs.Machine.Loaded.{Loaded}
 use Rattle.cjc_card_acts.specs.CardTypes.{both_of}
-use Rattle.cjc_components.specs.Names.{class_at as class_by_name}
 use Rattle.cjc_components.specs.NCode.Lowering.Naming.{Naming}
 use Rattle.cjc_components.specs.Package.{Package}
 use Rattle.cjc_components.specs.Paired.Pairs.{ArePaired}
-use Rattle.cjc_token_proof.specs.ByToken.Supers.{KindsAgree, SaysKinds, has_class}
-use Rattle.cjc_token_proof.specs.Tables.Infos.{HasEntry, HasInfo}
+use Rattle.cjc_token_proof.specs.ByToken.Supers.{KindsAgree, SaysKinds}
 use Rattle.cjc_token_proof.specs.Tables.Sound.{IsSound}
 use Rattle.cjc_verify.specs.Named.{is_unmade, is_unmade_class}
 use Rattle.cjc_verify.specs.Pairs.{Pair, class_at, pair_of}
@@ -40,14 +39,13 @@ use Rattle.cjc_verify.specs.Pairs as pairs
 use Rattle.cjc_verify.specs.Verified.{IsVerified}
 use Rattle.cjc_verify_proof.specs.Frames.{Program}
 use Rattle.cjc_verify_proof.specs.Turns.{IsMade}
-use Rattle.cjc_verified_proof.specs.Dispatching.{naming_of, package_of}
-use Rattle.cjc_verified_proof.specs.Programs.{IsProgramOf, is_made}
+use Rattle.cjc_verified_proof.specs.Programs.{IsProgramOf}
 use Rattle.cjc_bytes.proofs.Bools.{and_true, not_true}
-use Rattle.cjc_bytes.proofs.Gets.{get_behind, get_below, get_inside, in_front, position_there}
+use Rattle.cjc_bytes.proofs.Gets.{get_behind, get_below, in_front, position_there}
 use Rattle.cjc_bytes.proofs.Numbers.{number_same}
 use Rattle.cjc_bytes.proofs.Plain.{same_some}
 use Rattle.cjc_token_proof.proofs.ByToken.Subtypes.{kinds_agree}
-use Rattle.cjc_token_proof.proofs.TablesLaws.Above.{class_there, entry_of_name, info_of_name}
+use Rattle.cjc_token_proof.proofs.TablesLaws.Above.{entry_of_name, info_of_name}
 use Rattle.cjc_token_proof.proofs.TablesLaws.Clean.{own_name}
 use Rattle.cjc_token_proof.proofs.TablesLaws.Filed.{import_in}
 use Rattle.cjc_token_proof.proofs.TablesLaws.Order.{order_in, own_names}
@@ -75,7 +73,8 @@ at_place (u ∷ ts) zero a t e f g =
     slice_get x.classes a) (same_some f) ∙ g)
 at_place (u ∷ ts) (suc i) a t e f g =
     let z : length u.classes + front ts i + a ≡ length u.classes + (front ts i + a) = omega arith in
-    ap (slice_get (u.classes ++ imports ts)) z ∙ get_behind u.classes (imports ts) (front ts i + a) ∙ at_place ts i a t e f
+    ap (slice_get (u.classes ++ imports ts)) z ∙ get_behind u.classes (imports ts) (front ts i + a) ∙ at_place ts i a
+    t e f
     g
 
 one_place : (ts : List ExportTree) (i j a b : ℕ) (t u : ExportTree) (e f : ExportClass) → slice_get ts i ≡ Some t
@@ -120,7 +119,8 @@ is_there : (ts : List ExportTree) (tree token : ℕ) (e : ExportClass) → optio
     with_token t.classes token) (slice_get ts tree) ≡ Some e → IsThere ts tree token e
 is_there ts tree token e f = by (slice_get ts tree) refl f
   where
-    by : (o : Option ExportTree) → slice_get ts tree ≡ o → option_and_then (λ (t : ExportTree). with_token t.classes token)
+    by : (o : Option ExportTree) → slice_get ts tree ≡ o → option_and_then (λ (t : ExportTree). with_token t.classes
+        token)
         o ≡ Some e → IsThere ts tree token e
     by None g h = cc
     by (Some t) g h =
@@ -221,7 +221,8 @@ module _ (name : List ℕ) (list : ListTree) (files : Files) (image : StaticImag
       ≡ Some offset → Stands k
   ordered_stands i offset k ordered starts =
       let o = order_in name files sound k (get-has k (class_order w) i ordered) in
-      let at : pairs.offset_of p k.name ≡ Some offset = ap (option_and_then (slice_get (pairs.starts p))) (own_names name
+      let at : pairs.offset_of p k.name ≡ Some offset = ap (option_and_then (slice_get (pairs.starts p))) (own_names
+      name
       files sound i k ordered) ∙ starts in
       record {
         number = i;
@@ -278,7 +279,8 @@ module _ (name : List ℕ) (list : ListTree) (files : Files) (image : StaticImag
   -- a class is of another that stands above it
   pub under_of : (x y : List ℕ) (k d : Class) → class_named w x ≡ Some k → class_named w y ≡ Some d → Under w x y
       → is_of l (OfClass (n.class x)) (OfClass (n.class y)) ≡ true
-  under_of x y k d e f under = agree (OfClass x) (OfClass y) (ap is_some e) (ap is_some f) ∙ under_subtype w x y (no_array
+  under_of x y k d e f under = agree (OfClass x) (OfClass y) (ap is_some e) (ap is_some f) ∙ under_subtype w x y
+      (no_array
       x k e) (no_array y d f) under
 
   -- and is by name what it is on the card
@@ -296,7 +298,8 @@ module _ (name : List ℕ) (list : ListTree) (files : Files) (image : StaticImag
     pub plain : is_interface class.flags ≡ false
     pub concrete : class.is_imported ≡ false → is_unmade class.flags ≡ false
     pub on_card : shape_class l kind ≡ Some (n.class called)
-    pub alike : (d : card.Class) → both_of l (Some kind) (Some (OfClass d)) ≡ is_of l (OfClass (n.class called)) (OfClass d)
+    pub alike : (d : card.Class) → both_of l (Some kind) (Some (OfClass d)) ≡ is_of l (OfClass (n.class called))
+        (OfClass d)
 
   unmade_parts : (a b : Bool) → (a || b) ≡ false → a ≡ false
   unmade_parts true b e = cc
@@ -354,7 +357,8 @@ module _ (name : List ℕ) (list : ListTree) (files : Files) (image : StaticImag
         by (Some k) f g z =
             let r = at_stands offset k f in
             let s = r.0 in
-            let same : Own part offset ≡ n.class k.name = ap (λ i. Own i offset) z ∙ ap (Own 0) (sym r.1) ∙ sym s.on_card
+            let same : Own part offset ≡ n.class k.name = ap (λ i. Own i offset) z ∙ ap (Own 0) (sym r.1) ∙ sym
+            s.on_card
             in
             record {
               called = k.name;

@@ -1,5 +1,5 @@
 -- Descriptor has the classes of Class in order, by 718.
-use Rattle.std.proofs.Common.{◌≡◌, ◌==◌, [], ◌++◌, length}
+use Rattle.std.proofs.Common.{◌≡◌, [], ◌==◌, ◌++◌, length}
 use Rattle.std.specs.Prelude.{◌+◌, None}
 use Rattle.cjc_check_rules.specs.ClassRefs.{pool_count_at}
 use Rattle.cjc_check_rules.specs.Complete.{Complete, described_size}

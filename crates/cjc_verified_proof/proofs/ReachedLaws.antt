@@ -1,11 +1,12 @@
 -- What tokens reach on objects of a class: methods of the descriptors that the tokens mean, of the package or imported.
-use Rattle.std.proofs.Common.{◌≡◌, ⊎_elim, ℕ, zero, suc, ◌+◌, ◌<◌, ◌==◌, Bool, true, false, not, List, [], ◌∷◌, ◌++◌}
+use Rattle.std.proofs.Common.{◌≡◌, [], ◌⊎◌, inl, inr, ⊎_elim, ℕ, zero, suc, ◌+◌, ◌<◌, ◌==◌, Bool, true, false, not}
+use Rattle.std.proofs.Common.{List, ◌∷◌, ◌++◌}
 use Rattle.std.proofs.Common.{append-nil, length, map, slice_get, Option, Some, None, refl, sym, ap, subst, ◌∙◌, arith}
 use Rattle.std.proofs.Common.{nat_lt}
 use Rattle.std.specs.Prelude.{◌&&◌, ◌||◌, codes, if◌then◌else◌, option_and_then, option_map, position}
 use Rattle.std.specs.Str.{bytes_eq}
 use Rattle.std.proofs.lemmas.Bool.Decides.{nat_tests}
-use Rattle.cjc_capread.specs.Bytes.AccessFlags.{is_interface, is_private, is_static}
+use Rattle.cjc_capread.specs.Bytes.AccessFlags.{is_interface, is_static}
 use Rattle.cjc_check_rules.specs.Classes.{class_with}
 use Rattle.cjc_check_rules.specs.Classes as check
 use Rattle.cjc_check_rules.specs.ExportFile.declared.tree.ExportClass.{ExportClass}
@@ -18,53 +19,49 @@ use Rattle.cjc_check_rules.specs.ExportFile.Writable.{ClassFits, IsWritable, Met
 use Rattle.cjc_world.specs.declared.found.Found.{Found}
 use Rattle.cjc_world.specs.Classes.{Class, Member, all_classes, class_named, imported, method_of_export}
 use Rattle.cjc_world.specs.Lookup.{first, is_called, is_selectable, member_at, or_else, own_method}
-use Rattle.cjc_world.specs.Supertypes.{AreSupertypes, Known, Lists, Supertypes, after, ends, foremost, known_here, line}
+use Rattle.cjc_world.specs.Supertypes.{AreSupertypes, Lists, Supertypes, after, ends, foremost, known_here, line}
 use Rattle.cjc_world.specs.Supertypes.{supertypes, unknown_here, upwards}
 use Rattle.cjc_tokens.specs.Lines.{line_of}
-use Rattle.cjc_tokens.specs.Members.{In, Signature, all_methods, is_constructor, is_exposed, is_hidden, is_initialiser}
-use Rattle.cjc_tokens.specs.Members.{is_shown, is_virtual, later, same, signature_of}
+use Rattle.cjc_tokens.specs.Members.{In, Signature, all_methods, is_constructor, is_exposed, is_initialiser}
+use Rattle.cjc_tokens.specs.Members.{is_virtual, later, same, signature_of}
 use Rattle.cjc_tokens.specs.Members.{first_of as foremost_of}
 use Rattle.cjc_tokens.specs.Slots.{hidden_slots, slots, token}
 use Rattle.cjc_tokens.proofs.Facts.{position-cons, same-refl}
 use Rattle.cjc_tokens.proofs.Walks.{supertypes-known}
 use Rattle.cjc_vtable.specs.Dispatch as tables
-use Rattle.cjc_vtable.specs.Laws.{Under, below, itself, selection}
+use Rattle.cjc_vtable.specs.Laws.{Under, below, itself}
 use Rattle.cjc_vtable.specs.Naming.{named}
 use Rattle.cjc_vtable.proofs.Calls.{In-behind, In-front}
 use Rattle.cjc_vtable.proofs.Given.{In-split}
 use Rattle.cjc_vtable.proofs.Worlds.{In-either, methods-behind, methods-front}
-use Rattle.cjc_card_semantics.specs.Script.Sorts.{Shape, OfClass}
 use Rattle.cjc_card_semantics.specs.Script.Sorts as sorts
-use Rattle.cjc_card_semantics.specs.Machine.Classes.{is_of}
 use Rattle.cjc_card_semantics.specs.Machine.Classes as card
 use Rattle.cjc_card_semantics.specs.Machine.Dispatch.{At, Outward, Selection, dispatched_hidden, dispatched_interface}
 use Rattle.cjc_card_semantics.specs.Machine.Dispatch.{dispatched_open, tower}
 use Rattle.cjc_card_semantics.specs.Machine.Loaded.{Loaded}
-use Rattle.cjc_card_acts.specs.CardTypes.{both_of}
 use Rattle.cjc_components.specs.NCode.Lowering.Naming.{Naming}
 use Rattle.cjc_components.specs.Package.{Package}
 use Rattle.cjc_token_proof.specs.ByToken.Supers.{has_class}
 use Rattle.cjc_token_proof.specs.Calls.Dispatching.{DispatchAgrees, event, selection_of}
-use Rattle.cjc_token_proof.specs.Tables.Infos.{HasEntry}
 use Rattle.cjc_verify.specs.Named.{first_of}
 use Rattle.cjc_verify.specs.Pairs.{Pair}
 use Rattle.cjc_verified_proof.specs.Checked.{Checked, HasCode, IsChecked, pair}
 use Rattle.cjc_verified_proof.specs.Dispatching.{offset_in, package_of}
 use Rattle.cjc_verified_proof.specs.Kept.{KeepsCalls}
-use Rattle.cjc_verified_proof.specs.Selecting.{HasDesc, IsConcrete, IsOf}
-use Rattle.cjc_bytes.proofs.Bools.{and_true, not_true, or_right}
+use Rattle.cjc_verified_proof.specs.Selecting.{HasDesc, IsConcrete}
+use Rattle.cjc_bytes.proofs.Bools.{and_true, or_right}
 use Rattle.cjc_bytes.proofs.Gets.{all_at, find_got}
 use Rattle.cjc_bytes.proofs.Lists.{bytes_true, name_is}
 use Rattle.cjc_bytes.proofs.Numbers.{number_same}
 use Rattle.cjc_bytes.proofs.Plain.{same_some}
 use Rattle.cjc_export.proofs.Upwards.{each_own, found_is}
 use Rattle.cjc_token_proof.proofs.WrittenCalls.Facts.{Facts}
-use Rattle.cjc_token_proof.proofs.WrittenCalls.Files.{export_at, export_from, export_virtual, in_at}
-use Rattle.cjc_token_proof.proofs.WrittenCalls.Receivers.{first_step, line_found}
+use Rattle.cjc_token_proof.proofs.WrittenCalls.Files.{export_at, export_from, export_virtual}
+use Rattle.cjc_token_proof.proofs.WrittenCalls.Receivers.{line_found}
 use Rattle.cjc_token_proof.proofs.WrittenCalls.Towers.{line_is, line_of_names}
 use Rattle.cjc_verified_proof.proofs.ConcreteLaws.{tables_fit}
 use Rattle.cjc_verified_proof.proofs.FixedLaws.{each_after, method_signed}
-use Rattle.cjc_verified_proof.proofs.HoldsLaws.{Holds, hidden_holds, implementing_holds, selection_holds, unbound_virtual}
+use Rattle.cjc_verified_proof.proofs.HoldsLaws.{hidden_holds, implementing_holds, selection_holds, unbound_virtual}
 use Rattle.cjc_verified_proof.proofs.HoldsLaws.{under_on}
 use Rattle.cjc_verified_proof.proofs.NamingLaws.{n as names}
 use Rattle.cjc_verified_proof.proofs.PlaceLaws.{found_token}
@@ -108,8 +105,13 @@ first_got t (x ∷ xs) m e = by (virtual_method t x) refl e (first_got t xs m)
     by None is h rest = let r = rest h in (suc r.0, r.1, r.2, r.3)
     by (Some u) is h rest = (0, x, refl, is ∙ h)
 
+in_cases : (m n : Member) (ms : List Member) → In m (n ∷ ms) → (n ≡ m) ⊎ In m ms
+in_cases m n ms foremost_of = inl refl
+in_cases m n ms (later i) = inr i
+
 -- a method that may be selected is found, or one before it
-own_there : (s : Signature) (d : Class) (m : Member) → In m d.methods → is_selectable m.flags ≡ true → signature_of m ≡ s
+own_there : (s : Signature) (d : Class) (m : Member) → In m d.methods → is_selectable m.flags ≡ true → signature_of m
+    ≡ s
     → (f : Found) × (own_method true s.name s.desc d ≡ Some f)
 unfolding own_method
 own_there s d m i sel is = at_place (place d.methods i)
@@ -129,21 +131,21 @@ own_there s d m i sel is = at_place (place d.methods i)
             && is_called s.name s.desc v) ms)) e
 
         by : (b : Bool) → (is_selectable n.flags && is_called s.name s.desc n) ≡ b → In m (n ∷ ms) → (In m ms → (k : ℕ)
-            × (position (λ (v : Member). is_selectable v.flags && is_called s.name s.desc v) ms
-            ≡ Some k)) → (k : ℕ) × (position (λ (v : Member). is_selectable v.flags
-            && is_called s.name s.desc v) (n ∷ ms) ≡ Some k)
+            × (position (λ (v : Member). is_selectable v.flags && is_called s.name s.desc v) ms ≡ Some k)) → (k : ℕ)
+            × (position (λ (v : Member). is_selectable v.flags && is_called s.name s.desc v) (n ∷ ms) ≡ Some k)
         by true e i rest = (0, step true e)
-        by false e i rest = later_on i
-          where
-            later_on : In m (n ∷ ms) → (k : ℕ) × (position (λ (v : Member). is_selectable v.flags
-                && is_called s.name s.desc v) (n ∷ ms) ≡ Some k)
-            later_on foremost_of =
-                let yes : (is_selectable m.flags && is_called s.name s.desc m) ≡ true = ap (λ b. b && is_called s.name
-                s.desc m) sel ∙ ap (λ v. same v s) is ∙ same-refl s in
-                let clash : true ≡ false = sym yes ∙ e in
-                absurd cc
-            later_on (later j) = let r = rest j in (suc r.0, step false e
-                ∙ ap (option_map suc) r.1)
+        by false e i rest = ⊎_elim
+            (λ one. (
+            let yes : (is_selectable m.flags && is_called s.name s.desc m) ≡ true = ap (λ b. b && is_called s.name
+            s.desc m)
+            sel ∙ ap (λ v. same v s) is ∙ same-refl s in
+            let clash : true ≡ false = sym yes ∙ ap (λ (v : Member). is_selectable v.flags && is_called s.name s.desc
+            v) (sym
+            one) ∙ e in
+            absurd cc
+            ))
+            (λ j. (let r = rest j in (suc r.0, step false e ∙ ap (option_map suc) r.1)))
+            (in_cases m n ms i)
 
     at_place : (k : ℕ) × (position (λ (n : Member). is_selectable n.flags && is_called s.name
         s.desc n) d.methods ≡ Some k) → (f : Found) × (option_map (λ i. member_at d
@@ -160,15 +162,19 @@ unfolding first
 select_there s [] m i sel is = elim i [ ]
 select_there s (d ∷ cs) m i sel is = by (own_method true s.name s.desc d) refl (select_there s cs m)
   where
-    by : (o : Option Found) → own_method true s.name s.desc d ≡ o → (In m (all_methods cs) → is_selectable m.flags ≡ true
+    by : (o : Option Found) → own_method true s.name s.desc d ≡ o → (In m (all_methods cs) → is_selectable m.flags ≡
+        true
         → signature_of m ≡ s → (f : Found) × (first (own_method true s.name s.desc) cs ≡ Some f)) → (f : Found)
         × (or_else (own_method true s.name s.desc d) (first (own_method true s.name s.desc)
         cs) ≡ Some f)
     by (Some g) e rest = (g, ap (λ o. or_else o (first (own_method true s.name s.desc) cs)) e)
     by None e rest = ⊎_elim
         (λ j. (let r = own_there s d m j sel is in let clash : None ≡ Some r.0 = sym e ∙ r.1 in absurd cc))
-        (λ j. (let r = rest j sel is in (r.0, ap (λ o. or_else o (first (own_method true
-        s.name s.desc) cs)) e ∙ r.1)))
+        (λ j. (let r = rest j sel is in (
+          r.0,
+          ap (λ o. or_else o (first (own_method true
+              s.name s.desc) cs)) e ∙ r.1,
+        )))
         (In-split m d.methods (all_methods cs) i)
 
 -- a virtual method of a class of an export file has a token of seven bits
@@ -191,8 +197,10 @@ virtual_low files written import class x e plain k m is bound = by (slice_get fi
         let got = find_got (λ (c : ExportClass). c.token == class) t.classes x h in
         let fits = each_after ClassFits [] t.classes got.0 x w.classes got.1 in
         let fit = fits.1 in
-        let stands = each_after (MethodStands (is_interface x.flags) (length x.methods)) [] x.methods k m fit.methods is in
-        let own : MethodStands false (length x.methods) stands.0 m = subst (λ b. MethodStands b (length x.methods) stands.0 m)
+        let stands = each_after (MethodStands (is_interface x.flags) (length x.methods)) [] x.methods k m fit.methods
+        is in
+        let own : MethodStands false (length x.methods) stands.0 m = subst (λ b. MethodStands b (length x.methods)
+        stands.0 m)
         plain stands.1 in
         last (method_token_taken stands.0 (is_unbound m.flags m.name) m.token) (is_unbound m.flags m.name) m.token own.1
         bound
@@ -238,7 +246,8 @@ module _ (c : Checked) (ok : IsChecked c) (has : HasCode c) (keep : KeepsCalls c
         subst (Fits x s.desc) (sym same) (record { desc_is = r.0; is_held = r.1 })
 
     pub open_fits : (t : ℕ) (s : Signature) (f : Found) → tables.dispatched (tables.tower_of w x) t ≡ Some f → named w f
-        ≡ Some s → (f.imported ≡ false → Held c ok has keep x s f) → Fits x s.desc (dispatched_open (tower l (n.class x))
+        ≡ Some s → (f.imported ≡ false → Held c ok has keep x s f) → Fits x s.desc (dispatched_open (tower l (n.class
+        x))
         t)
     open_fits t s f found is held =
         let a = agreed in
@@ -266,12 +275,14 @@ module _ (c : Checked) (ok : IsChecked c) (has : HasCode c) (keep : KeepsCalls c
         b.interface_method i t f s there found is ∙ sym (b.open_method u f s by_token is)
 
     -- an imported method is not an abstract one of the package
-    pub far_concrete : (u : ℕ) (s : Signature) (f : Found) → tables.dispatched (tables.tower_of w x) u ≡ Some f → named w f
+    pub far_concrete : (u : ℕ) (s : Signature) (f : Found) → tables.dispatched (tables.tower_of w x) u ≡ Some f →
+        named w f
         ≡ Some s → f.imported ≡ true → IsConcrete p (dispatched_open (tower l (n.class x)) u)
     far_concrete u s f found is far =
         let a = agreed in
         let b = a.1 in
-        subst (IsConcrete p) (sym (b.open_method u f s found is ∙ ap (λ i. if i then Outward (event a.0 s) else At 0 (offset_in
+        subst (IsConcrete p) (sym (b.open_method u f s found is ∙ ap (λ i. if i then Outward (event a.0 s) else At 0
+        (offset_in
         p f)) far)) tt
 
     hidden_method_fits : (t : ℕ) (s : Signature) (f : Found) → tables.dispatched_hidden (tables.tower_of w x) t ≡ Some f
@@ -316,7 +327,8 @@ module _ (c : Checked) (ok : IsChecked c) (has : HasCode c) (keep : KeepsCalls c
       → In m (all_methods (upwards k))
   names_has xs k ends y d listed e m i = elim listed [ ]
   names_has xs k (unknown_here {next = r} none rest) y d foremost e m i = absurd cc
-  names_has xs k (unknown_here {xs = ys} {next = r} none rest) y d (after listed) e m i = names_has ys r rest y d listed e m i
+  names_has xs k (unknown_here {xs = ys} {next = r} none rest) y d (after listed) e m i = names_has ys r rest y d
+      listed e m i
   names_has xs k (known_here {c = b} {supers = su} {next = r} known ks ki kn) y d foremost e m i =
       let same : supertypes w b.supers ≡ su = facts.one_supertypes b.supers (supertypes w b.supers) su
       (facts.are_supertypes b.supers) ks in
@@ -329,7 +341,8 @@ module _ (c : Checked) (ok : IsChecked c) (has : HasCode c) (keep : KeepsCalls c
       (subst (λ v. In m (all_methods v)) (append-nil (upwards su)) a)))
       j
   names_has xs k (known_here {xs = ys} {c = b} {supers = su} {next = r} known ks ki kn) y d (after listed) e m i =
-      In-behind m b.methods (all_methods (upwards su ++ upwards r)) (methods-behind (upwards su) (upwards r) m (names_has
+      In-behind m b.methods (all_methods (upwards su ++ upwards r)) (methods-behind (upwards su) (upwards r) m
+      (names_has
       ys r kn y d listed e m i))
 
   line_has : (x y : List ℕ) (d : Class) → Under w x y → class_named w y ≡ Some d → (m : Member) → In m d.methods
@@ -338,7 +351,8 @@ module _ (c : Checked) (ok : IsChecked c) (has : HasCode c) (keep : KeepsCalls c
       (all_methods (upwards (supertypes w d.supers))) i)
   line_has x y d (below {y = b} k h l rest) e m i =
       let o = known_of b y d rest e in
-      let up = names_has k.supers (supertypes w k.supers) (facts.are_supertypes k.supers) b o.0 l o.1 m (subst (λ v. In m
+      let up = names_has k.supers (supertypes w k.supers) (facts.are_supertypes k.supers) b o.0 l o.1 m (subst (λ v.
+      In m
       (all_methods v)) (line_of_names q facts b) (line_has b y d rest e m i)) in
       subst (λ v. In m (all_methods v)) (sym (line_is q facts x k h)) (In-behind m k.methods (all_methods (upwards
       (supertypes w k.supers))) up)
@@ -369,7 +383,8 @@ module _ (c : Checked) (ok : IsChecked c) (has : HasCode c) (keep : KeepsCalls c
           (is_virtual m) (ap not exposed) virtual) in
           let two = and_true (is_selectable m.flags) (not (is_constructor m.name || is_initialiser m.name)) virtual in
           let r = select_there (signature_of m) (line w x) m (line_has x y d under named_y m i) two.0 refl in
-          open_fits x k e plain m.token (signature_of m) r.0 (alike ∙ r.1) (line_found q facts true m.name m.desc x r.0 r.1)
+          open_fits x k e plain m.token (signature_of m) r.0 (alike ∙ r.1) (line_found q facts true m.name m.desc x
+          r.0 r.1)
           (selection_holds q facts x k e plain (signature_of m) (unbound_virtual m virtual).1 r.0 r.1)
 
   -- ---- what an export file says of a class, and those above it
@@ -378,20 +393,25 @@ module _ (c : Checked) (ok : IsChecked c) (has : HasCode c) (keep : KeepsCalls c
   pub imported_keeps : (y : List ℕ) (d : Class) → class_named w y ≡ Some d → d.is_imported ≡ true → (i : ℕ) (m : Member)
       → slice_get d.methods i ≡ Some m → ((t : sorts.Signature) × (sorts.signature_of m.desc ≡ Some t))
       × (is_interface d.flags ≡ false → is_virtual m ≡ true → m.token < 128)
-  imported_keeps y d e imp i m at =
+  imported_keeps y d e imp i m listed =
       let h = facts.file y d e imp in
       let x = h.entry in
-      let r = export_from x.methods i m (sym (ap (λ (v : Class). slice_get v.methods i) h.class) ∙ at) in
+      let r = export_from x.methods i m (sym (ap (λ (v : Class). slice_get v.methods i) h.class) ∙ listed) in
       let files = c.files in
-      let found : check.imported files.exports h.file x.token ≡ Some x = ap (option_and_then (class_with x.token)) h.in_list
-      ∙ found_token (let t = h.tree in t.classes) x.token ∙ sym (ap (option_and_then (λ (t : ExportTree). card.with_token
+      let found : check.imported files.exports h.file x.token ≡ Some x = ap (option_and_then (class_with x.token))
+      h.in_list
+      ∙ found_token (let t = h.tree in t.classes) x.token ∙ sym (ap (option_and_then (λ (t : ExportTree).
+      card.with_token
       t.classes x.token)) h.in_list) ∙ h.there in
       let sig = method_signed files.exports has.written h.file x.token x found i r.0 r.1 in (
         (sig.0, ap (λ (v : Member). sorts.signature_of v.desc) (sym r.2) ∙ sig.1),
-        λ plain virtual. (subst (λ (v : Member). v.token < 128) r.2 (virtual_low files.exports has.written h.file x.token x
+        λ plain virtual. (subst (λ (v : Member). v.token < 128) r.2 (virtual_low files.exports has.written h.file
+            x.token x
             found (sym (ap (λ (v : Class). is_interface v.flags) h.class) ∙ plain) i r.0 r.1 (unbound (let v = r.0
-            in is_static v.flags) (let v = r.0 in bytes_eq v.name (codes "<init>")) (ap (λ (v : Member). is_static v.flags)
-            r.2 ∙ (unbound_virtual m virtual).0) (ap (λ (v : Member). is_constructor v.name) r.2 ∙ constructor m virtual)))),
+            in is_static v.flags) (let v = r.0 in bytes_eq v.name (codes "<init>")) (ap (λ (v : Member). is_static
+            v.flags)
+            r.2 ∙ (unbound_virtual m virtual).0) (ap (λ (v : Member). is_constructor v.name) r.2 ∙ constructor m
+            virtual)))),
       )
     where
       unbound : (a b : Bool) → a ≡ false → b ≡ false → (a || b) ≡ false
@@ -414,7 +434,8 @@ module _ (c : Checked) (ok : IsChecked c) (has : HasCode c) (keep : KeepsCalls c
       let o = facts.of_file x u named_x in
       under_on w y x z (above_under y k e known x up) (below (imported o.0 u) o.1 (one_lists z u.supers is) itself)
 
-  pub under_plain : (x y : List ℕ) → Under w x y → (k d : Class) → class_named w x ≡ Some k → is_interface k.flags ≡ false
+  pub under_plain : (x y : List ℕ) → Under w x y → (k d : Class) → class_named w x ≡ Some k → is_interface k.flags ≡
+      false
       → class_named w y ≡ Some d → is_interface d.flags ≡ false
   under_plain x y itself k d e plain f = ap (λ (v : Class). is_interface v.flags) (same_some (sym f ∙ e)) ∙ plain
   under_plain x y (below {y = b} v h l rest) k d e plain f =
@@ -433,7 +454,8 @@ module _ (c : Checked) (ok : IsChecked c) (has : HasCode c) (keep : KeepsCalls c
     pub virtual : is_virtual (method_of_export m) ≡ true
     pub token_is : m.token ≡ t
 
-  pub given : (y : List ℕ) (k : ℕ) (e : ExportClass) → class_named w y ≡ Some (imported k e) → (t : ℕ) (m : ExportMethod)
+  pub given : (y : List ℕ) (k : ℕ) (e : ExportClass) → class_named w y ≡ Some (imported k e) → (t : ℕ) (m :
+      ExportMethod)
       → first_of (virtual_method t) (e ∷ exports.upwards es e.supers) ≡ Some m → IsGiven y t m
   given y k e known t m is = by (first_got t (e ∷ exports.upwards es e.supers) m is)
     where
@@ -444,7 +466,8 @@ module _ (c : Checked) (ok : IsChecked c) (has : HasCode c) (keep : KeepsCalls c
           let g = find_got (λ (v : ExportMethod). exports.is_virtual v && (v.token == t)) x.methods m f in
           let two = and_true (exports.is_virtual m) (m.token == t) g.2 in
           let o = facts.in_file z (imported j x) named_z refl in
-          let u = export_from (let v = o.1 in v.methods) g.0 (method_of_export m) (ap (λ (v : Class). slice_get v.methods g.0)
+          let u = export_from (let v = o.1 in v.methods) g.0 (method_of_export m) (ap (λ (v : Class). slice_get
+          v.methods g.0)
           (sym o.3) ∙ export_at x.methods g.0 m g.1) in
           record {
             holder = z;
@@ -454,7 +477,8 @@ module _ (c : Checked) (ok : IsChecked c) (has : HasCode c) (keep : KeepsCalls c
             under = under;
             place = g.0;
             there = export_at x.methods g.0 m g.1;
-            virtual = sym (export_virtual m (λ init. (ap (λ (v : Member). is_static v.flags) (sym u.2) ∙ facts.plain z o.1
+            virtual = sym (export_virtual m (λ init. (ap (λ (v : Member). is_static v.flags) (sym u.2) ∙ facts.plain z
+                o.1
                 o.2 g.0 u.0 u.1 (ap (λ (v : Member). is_initialiser v.name) u.2 ∙ init)))) ∙ two.0;
             token_is = number_same m.token t two.1;
           }
@@ -463,7 +487,8 @@ module _ (c : Checked) (ok : IsChecked c) (has : HasCode c) (keep : KeepsCalls c
           ≡ Some m) → IsGiven y t m
       by (zero, x, at_i, f) = of_class y k e known itself (ap (virtual_method t) (same_some at_i) ∙ f)
       by (suc i, x, at_i, f) =
-          let own = all_at (λ (v : ExportClass). exports.class_named es v.name ≡ Some v) (exports.upwards es e.supers) i x
+          let own = all_at (λ (v : ExportClass). exports.class_named es v.name ≡ Some v) (exports.upwards es e.supers)
+          i x
           (each_own es e.supers) at_i in
           let o = facts.of_file x.name x own in
           let far = found_is es e.supers x.name (one_name (exports.upwards es e.supers) i x at_i) in

@@ -1,15 +1,16 @@
--- What dispatch and selection give on an object of a class is a method of the descriptor that is sought: one of the package
+-- What dispatch and selection give on an object of a class is a method of the descriptor that is sought: one of the
+-- package
 -- with what Descriptor says of it, held by a class that the object is of, or an imported one.
-use Rattle.std.proofs.Common.{◌≡◌, ◌⊎◌, ⊎_elim, ℕ, zero, suc, ◌+◌, ◌-◌, ◌<◌, ◌≤◌, ◌==◌, Bool, true, false, not, List, []}
-use Rattle.std.proofs.Common.{◌∷◌, ◌++◌, length, map, drop, slice_get, Option, Some, None, refl, sym, ap, subst, ◌∙◌, arith}
+use Rattle.std.proofs.Common.{◌≡◌, [], ◌⊎◌, ⊎_elim, ℕ, zero, suc, ◌+◌, ◌-◌, ◌<◌, ◌≤◌, ◌==◌, Bool, true, false, not}
+use Rattle.std.proofs.Common.{List}
+use Rattle.std.proofs.Common.{◌∷◌, ◌++◌, length, drop, slice_get, Option, Some, None, refl, sym, ap, subst, ◌∙◌, arith}
 use Rattle.std.proofs.Common.{nat_lt}
 use Rattle.std.specs.Prelude.{◌&&◌, codes, if◌then◌else◌, option_and_then, option_map, unwrap_or}
-use Rattle.std.specs.List.{find, list_any}
+use Rattle.std.specs.List.{list_any}
 use Rattle.std.specs.Str.{bytes_eq}
 use Rattle.std.proofs.lemmas.Bool.Decides.{nat_tests}
 use Rattle.std.proofs.lemmas.Map.Keys.{any_passes_from_place}
 use Rattle.cjc_capread.specs.Bytes.AccessFlags.{is_interface, is_static}
-use Rattle.cjc_capread.specs.Bytes.declared.fault.MemberId.{MemberId}
 use Rattle.cjc_capread.specs.MethodHeader.{MethodHeader, method_header}
 use Rattle.cjc_capread.specs.declared.tree.ClassDescriptor.{ClassDescriptor}
 use Rattle.cjc_capread.specs.declared.tree.ClassRef.TheVariants.{Inside}
@@ -17,12 +18,11 @@ use Rattle.cjc_capread.specs.declared.tree.MethodDescriptor.{MethodDescriptor}
 use Rattle.cjc_check_rules.specs.Classes.{class_with}
 use Rattle.cjc_check_rules.specs.Classes as check
 use Rattle.cjc_check_rules.specs.Codes.{methods_begin}
-use Rattle.cjc_check_rules.specs.Described.{all_starts, classes_in_order}
 use Rattle.cjc_check_rules.specs.ExportFile.declared.tree.ExportTree.{ExportTree}
 use Rattle.cjc_check_rules.specs.Members.{class_methods, is_method_start}
 use Rattle.cjc_world.specs.declared.found.Found.{Found}
 use Rattle.cjc_world.specs.Added.{added}
-use Rattle.cjc_world.specs.Classes.{Class, Member, all_classes, class_named, imported, is_at, method_of_export}
+use Rattle.cjc_world.specs.Classes.{Class, Member, all_classes, class_at, class_named, imported, is_at}
 use Rattle.cjc_world.specs.Classes as world
 use Rattle.cjc_world.specs.Lookup.{member_at}
 use Rattle.cjc_world.specs.Order.{class_order, methods_of_class, places, written}
@@ -34,27 +34,26 @@ use Rattle.cjc_vtable.proofs.Numbers.{at-kind}
 use Rattle.cjc_vtable.proofs.SlotNames.{added-none}
 use Rattle.cjc_card_semantics.specs.Script.Sorts.{Shape, OfClass}
 use Rattle.cjc_card_semantics.specs.Script.Sorts as sorts
-use Rattle.cjc_card_semantics.specs.Machine.Classes.{Own, class_of, is_of}
+use Rattle.cjc_card_semantics.specs.Machine.Classes.{is_of}
 use Rattle.cjc_card_semantics.specs.Machine.Classes as card
 use Rattle.cjc_card_semantics.specs.Machine.Dispatch.{At, Outward, Selection}
 use Rattle.cjc_card_semantics.specs.Machine.Loaded.{Loaded}
-use Rattle.cjc_card_acts.specs.CardTypes.{both_of, class_by, shape_by}
+use Rattle.cjc_card_acts.specs.CardTypes.{both_of, shape_by}
 use Rattle.cjc_components.specs.Descriptor.{method_flags, method_in, methods_with_added, no_member}
 use Rattle.cjc_components.specs.NCode.Lowering.Naming.{Naming}
-use Rattle.cjc_components.specs.Package.{Package, world as package_world}
+use Rattle.cjc_components.specs.Package.{Package}
 use Rattle.cjc_token_proof.specs.Calls.Dispatching.{event, selection_of}
-use Rattle.cjc_verify.specs.Bodies.{Body, bodies}
 use Rattle.cjc_verify.specs.ClassTypes.{class_type}
 use Rattle.cjc_verify.specs.Named.{holder_in, is_static_described}
 use Rattle.cjc_verify.specs.Pairs.{Described, Pair, described, described_among, described_in, member_of, method_at}
-use Rattle.cjc_verify.specs.Pairs.{method_offset, pair_of, same_found}
+use Rattle.cjc_verify.specs.Pairs.{method_offset, same_found}
 use Rattle.cjc_verify.specs.Pairs as pairs
 use Rattle.cjc_verified_proof.specs.Checked.{Checked, HasCode, IsChecked, pair}
 use Rattle.cjc_verified_proof.specs.Dispatching.{offset_in, package_of}
 use Rattle.cjc_verified_proof.specs.Kept.{KeepsCalls}
 use Rattle.cjc_verified_proof.specs.Selecting.{HasDesc, IsOf, of_file, of_package}
 use Rattle.cjc_bytes.proofs.Bools.{and_true, not_true}
-use Rattle.cjc_bytes.proofs.Gets.{drop_past, find_got, get_below, get_inside, in_front}
+use Rattle.cjc_bytes.proofs.Gets.{drop_past, find_got, get_below, get_inside}
 use Rattle.cjc_bytes.proofs.Numbers.{number_same, number_same_number, other_number}
 use Rattle.cjc_bytes.proofs.Plain.{same_some}
 use Rattle.cjc_token_proof.proofs.TablesLaws.Clean.{own_name}
@@ -125,7 +124,8 @@ among_is : (w order : List Class) (xs : List ClassDescriptor) (k : ℕ) (d : Des
 among_is w [] xs k d e = absurd cc
 among_is w (c ∷ order) [] k d e = absurd cc
 among_is w (c ∷ order) (x ∷ xs) k d e = ⊎_elim
-    (λ a. (let g = in_got c x.this_class (methods_of_class w c) x.methods k d a in subst (Among w (c ∷ order) (x ∷ xs)) g.4
+    (λ a. (let g = in_got c x.this_class (methods_of_class w c) x.methods k d a in subst (Among w (c ∷ order) (x ∷
+    xs)) g.4
     (record {
       number = 0;
       ordered = refl;
@@ -172,7 +172,8 @@ unfolding class_at
 class_has [] b k d e = cc
 class_has (c ∷ cs) b k d e = by (is_at b k c) e (class_has cs b k d)
   where
-    by : (t : Bool) → (if t then Some c else world.class_at cs b k) ≡ Some d → (world.class_at cs b k ≡ Some d → Has d cs)
+    by : (t : Bool) → (if t then Some c else world.class_at cs b k) ≡ Some d → (world.class_at cs b k ≡ Some d → Has d
+        cs)
         → Has d (c ∷ cs)
     by true f rest = subst (λ z. Has d (z ∷ cs)) (sym (same_some f)) at_front
     by false f rest = behind (rest f)
@@ -214,11 +215,13 @@ module _ (c : Checked) (ok : IsChecked c) (has : HasCode c) (keep : KeepsCalls c
 
   -- a thing of this kind counts as an object of a class
   abbrev pub IsAlike : List ℕ → Shape card.Class → Type 0
-  IsAlike x kind = (d : card.Class) → both_of l (Some kind) (Some (OfClass d)) ≡ is_of l (OfClass (n.class x)) (OfClass d)
+  IsAlike x kind = (d : card.Class) → both_of l (Some kind) (Some (OfClass d)) ≡ is_of l (OfClass (n.class x))
+      (OfClass d)
 
   -- on objects of a class and of those below it, a receiver is of the class that holds what is selected
   abbrev pub AreOf : List ℕ → Selection → Type 0
-  AreOf x sel = (v : List ℕ) (k : Class) → class_named w v ≡ Some k → Under w v x → (kind : Shape card.Class) → IsAlike v
+  AreOf x sel = (v : List ℕ) (k : Class) → class_named w v ≡ Some k → Under w v x → (kind : Shape card.Class) →
+      IsAlike v
       kind → IsOf p kind sel
 
   -- ---- methods of the package
@@ -245,13 +248,15 @@ module _ (c : Checked) (ok : IsChecked c) (has : HasCode c) (keep : KeepsCalls c
     test d = same_found d.member f
 
     stood : OfClassStands z
-    stood = kinds.own_stands c.name c.list c.files c.image c.components ok.sound ok.paired ok.verified z.name z h.known h.own
+    stood = kinds.own_stands c.name c.list c.files c.image c.components ok.sound ok.paired ok.verified z.name z
+        h.known h.own
 
     there : (j : ℕ) × (d : Described) × (slice_get (described p) j ≡ Some d) × (test d ≡ true)
     there =
         let at = stood in
         let d = holder_there c.components (ordered c.components ok.described) at.number at.offset at.starts in
-        let b = fits applets c.files c.image c.components has.whole (ordered c.components ok.described) ok.paired ok.verified at.number d.0
+        let b = fits applets c.files c.image c.components has.whole (ordered c.components ok.described) ok.paired
+        ok.verified at.number d.0
         d.1 in
         let same : b.class ≡ z = same_some (sym b.in_order ∙ at.ordered) in
         let below = get_below (methods_of_class w z) h.number f h.listed in
@@ -260,7 +265,7 @@ module _ (c : Checked) (ok : IsChecked c) (has : HasCode c) (keep : KeepsCalls c
         let a = among_there w (class_order w) ds at.number z d.0 at.ordered d.1 h.number f m.0 h.listed m.1 in
         (a.0, as_described z (let y = d.0 in y.this_class) f m.0, a.1, same_itself f mine)
 
-    listed : IsListed z f
+    pub listed : IsListed z f
     listed =
         let t = there in
         let one = find_there test (described p) t.0 t.1 t.2 t.3 in
@@ -278,7 +283,8 @@ module _ (c : Checked) (ok : IsChecked c) (has : HasCode c) (keep : KeepsCalls c
         let number : e.number ≡ z.number = sym own.1 ∙ ap (λ (v : Found). v.class) (member ∙ h.is) in
         let same : e ≡ z = same_some (sym placed ∙ ap (λ b. world.class_at w b e.number) kind
         ∙ ap (world.class_at w z.is_imported) number ∙ placed_z) in
-        let b = fits applets c.files c.image c.components has.whole (ordered c.components ok.described) ok.paired ok.verified a.number
+        let b = fits applets c.files c.image c.components has.whole (ordered c.components ok.described) ok.paired
+        ok.verified a.number
         a.descriptor a.listed in
         let st = kinds.ordered_at c.name c.list c.files c.image c.components ok.sound ok.paired ok.verified a.number
         b.offset z (a.ordered ∙ ap (λ v. Some v) same) b.starts in
@@ -304,7 +310,8 @@ module _ (c : Checked) (ok : IsChecked c) (has : HasCode c) (keep : KeepsCalls c
 
     pub item_so : method_in w z f.member ≡ h.item
     item_so =
-        let i : f.member - length z.fields ≡ h.place = (let e = ap (λ (v : Found). v.member) h.is in omega (arith, e)) in
+        let i : f.member - length z.fields ≡ h.place = (let e = ap (λ (v : Found). v.member) h.is in omega (arith, e))
+        in
         ap (λ k. unwrap_or (slice_get (methods_with_added w z) k) no_member) i
         ∙ ap (λ o. unwrap_or o no_member) h.there
 
@@ -317,9 +324,11 @@ module _ (c : Checked) (ok : IsChecked c) (has : HasCode c) (keep : KeepsCalls c
         let i = listed in
         let d = i.described in
         let m = d.method in
-        let plain : not (is_interface (let k = d.class in k.flags)) ≡ true = ap (λ (v : Class). not (is_interface v.flags))
+        let plain : not (is_interface (let k = d.class in k.flags)) ≡ true = ap (λ (v : Class). not (is_interface
+        v.flags))
         i.class ∙ ap not h.plain in
-        let o = own_found applets c.files c.image c.components has.whole (ordered c.components ok.described) ok.paired ok.verified i.index d
+        let o = own_found applets c.files c.image c.components has.whole (ordered c.components ok.described) ok.paired
+        ok.verified i.index d
         i.among plain in
         let b = o.1 in
         let st = body_stands c.components has.whole o.0 b o.2 in
@@ -332,9 +341,11 @@ module _ (c : Checked) (ok : IsChecked c) (has : HasCode c) (keep : KeepsCalls c
         let begins = at.begins in
         let within = inside bytes (y.offset - methods_begin x) cut.header cut.is_header in
         let size = (let k = keep.sized in k.method) in
-        let own = body_own applets c.files c.image c.components has.whole (ordered c.components ok.described) ok.paired ok.verified o.0 b o.2
+        let own = body_own applets c.files c.image c.components has.whole (ordered c.components ok.described)
+        ok.paired ok.verified o.0 b o.2
         in
-        let same : own.described ≡ d = same_some (sym own.found ∙ ap (λ (v : MethodDescriptor). method_at p v.offset) o.3
+        let same : own.described ≡ d = same_some (sym own.found ∙ ap (λ (v : MethodDescriptor). method_at p v.offset)
+        o.3
         ∙ o.4) in
         let said = own.said in
         let flags : m.flags ≡ method_flags h.item = ap (λ (v : Described). let g = v.method in g.flags) (sym same)
@@ -385,7 +396,8 @@ module _ (c : Checked) (ok : IsChecked c) (has : HasCode c) (keep : KeepsCalls c
         let i = listed in
         let a = placed in
         let d = i.described in
-        subst (λ o. HasDesc p s.desc (At 0 o)) offset_same (of_package a.offset d a.start a.at (ap (λ (v : Member). v.desc)
+        subst (λ o. HasDesc p s.desc (At 0 o)) offset_same (of_package a.offset d a.start a.at (ap (λ (v : Member).
+        v.desc)
         (member_so d i.class i.member) ∙ ap (λ (v : Signature). v.desc) h.called) a.unbound)
 
     -- the class that holds it
@@ -394,18 +406,22 @@ module _ (c : Checked) (ok : IsChecked c) (has : HasCode c) (keep : KeepsCalls c
         let i = listed in
         let a = placed in
         let t = i.stands in
-        let low = starts_low applets c.files c.image c.components (ordered c.components ok.described) has.refs has.counted t.number t.offset
+        let low = starts_low applets c.files c.image c.components (ordered c.components ok.described) has.refs
+        has.counted t.number t.offset
         t.starts in
-        let meant = own_meant applets c.files c.image c.components (ordered c.components ok.described) has.refs has.counted t.number t.offset
+        let meant = own_meant applets c.files c.image c.components (ordered c.components ok.described) has.refs
+        has.counted t.number t.offset
         t.starts in
         ap (λ o. shape_by l (holder_in (method_at p o))) (sym offset_same) ∙ ap (λ o. shape_by l (holder_in o)) a.at
-        ∙ ap (λ r. shape_by l (class_type r)) i.holder ∙ ap (option_map OfClass) (all_read l (Inside t.offset) low ∙ meant)
+        ∙ ap (λ r. shape_by l (class_type r)) i.holder ∙ ap (option_map OfClass) (all_read l (Inside t.offset) low ∙
+        meant)
         ∙ ap (λ k. Some (OfClass k)) (sym t.on_card)
 
     -- an object of a class at or below it is of it
     pub held_is_of : (v : List ℕ) (k : Class) → class_named w v ≡ Some k → Under w v x → (kind : Shape card.Class)
         → IsAlike v kind → IsOf p kind (At 0 (offset_in p f))
-    held_is_of v k e under kind alike = ap (both_of l (Some kind)) held_by ∙ alike (n.class z.name) ∙ kinds.under_of c.name
+    held_is_of v k e under kind alike = ap (both_of l (Some kind)) held_by ∙ alike (n.class z.name) ∙ kinds.under_of
+        c.name
         c.list c.files c.image c.components ok.sound ok.paired ok.verified v z.name k z e h.known (under_on w v x z.name
         under h.under)
 
@@ -458,7 +474,8 @@ module _ (c : Checked) (ok : IsChecked c) (has : HasCode c) (keep : KeepsCalls c
 
   -- what is held or imported has the descriptor, and a receiver is of the class that holds it
   pub selected : (x : List ℕ) (s : Signature) (f : Found) → named w f ≡ Some s → (f.imported ≡ false → Held x s f)
-      → (foot : List ℕ) → HasDesc p s.desc (selection_of n (offset_in p) foot s f) × AreOf x (selection_of n (offset_in p)
+      → (foot : List ℕ) → HasDesc p s.desc (selection_of n (offset_in p) foot s f) × AreOf x (selection_of n
+      (offset_in p)
       foot s f)
   selected x s f is held foot = by f.imported refl
     where

@@ -23,7 +23,8 @@ pub record AreSized (c : Complete) : Type 0 where
   pub method : methods_begin c + length (let m = c.method in m.methods) ≤ 0xFFFF
 
 -- The files keep what dispatch rests on: dispatch by class tables is selection by name, a class is of another over
--- superclasses and interfaces, tokens of public and protected methods fit seven bits, and an interface of an export file
+-- superclasses and interfaces, tokens of public and protected methods fit seven bits, and an interface of an export
+-- file
 -- has its methods at the places of their tokens.
 pub record KeepsCalls (c : Checked) : Type 0 where
   pub agree : FilesAgree (package_of c.list c.files c.image)
