@@ -96,8 +96,14 @@ file_at [] files trees h k t e = let none : trees ≡ [] = h.1 in absurd (no_tre
     no_tree k f = cc
 file_at (line ∷ lines) [] trees h k t e = absurd h
 file_at (line ∷ lines) (bytes ∷ files) [] h k t e = absurd h
-file_at (line ∷ lines) (bytes ∷ files) (x ∷ trees) h zero t e = (line, bytes, 0, refl, subst (FileIs line bytes)
-    (same_some e) h.0)
+file_at (line ∷ lines) (bytes ∷ files) (x ∷ trees) h zero t e = (
+  line,
+  bytes,
+  0,
+  refl,
+  subst (FileIs line bytes)
+      (same_some e) h.0,
+)
 file_at (line ∷ lines) (bytes ∷ files) (x ∷ trees) h (suc k) t e = let r = file_at lines files trees h.1 k t e in
     (r.0, r.1, suc r.2, r.3, r.4)
 

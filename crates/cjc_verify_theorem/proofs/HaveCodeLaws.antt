@@ -158,9 +158,13 @@ got_among w (c ∷ order) (x ∷ xs) j d e = ⊎_elim
     (λ a. (
     let g = in_got c x.this_class (methods_of_class w c) x.methods j d a in
     let class : c ≡ d.class = ap (λ (y : Described). y.class) g.4 in
-    let member : g.0 ≡ d.member = ap (λ (y : Described). y.member) g.4 in
-    (0, j, ap (λ y. Some y) class, ap (λ y. slice_get (methods_of_class w y) j) (sym class) ∙ g.2
-        ∙ ap (λ y. Some y) member)
+    let member : g.0 ≡ d.member = ap (λ (y : Described). y.member) g.4 in (
+      0,
+      j,
+      ap (λ y. Some y) class,
+      ap (λ y. slice_get (methods_of_class w y) j) (sym class) ∙ g.2
+          ∙ ap (λ y. Some y) member,
+    )
     ))
     (λ b. (let r = got_among w order xs b.0 d b.1 in (suc r.0, r.1, r.2, r.3)))
     (either_part (described_in c x.this_class (methods_of_class w c) x.methods) (described_among w order xs) j d e)
@@ -205,7 +209,7 @@ module _ (name : List ℕ) (applets : Bool) (files : Files) (image : StaticImage
       in own_typed r.1.0 i r.1.1
       ))
     where
-      abbrev known_ones : List Class
+      known_ones : List Class
       known_ones = Rattle.cjc_world.specs.Interfaces.known (gathered false (supertypes w d.supers)
           ++ gathered true (supertypes w d.interfaces))
 
@@ -235,7 +239,7 @@ module _ (name : List ℕ) (applets : Bool) (files : Files) (image : StaticImage
       let o = order_in name files sound d.class (get-has d.class (class_order w) g.0 g.2) in
       record { known = own_name name files sound d.class o.0; own = o.1; method = by g.1 g.3 }
     where
-      abbrev k : Class
+      k : Class
       k = d.class
 
       by : (i : ℕ) → slice_get (methods_of_class w k) i ≡ Some d.member → IsMethodOf d

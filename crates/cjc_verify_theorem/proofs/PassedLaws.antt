@@ -91,20 +91,20 @@ are_true (s ∷ ss) e k u f = by k f
 
 -- what was told of files beside one another
 pub record Told (files : Files) (list : List ℕ) (codes : List MethodCode) (settings : Settings) (q : Package) : Type 0
-    where
-  pub sound : ExportsAreSound files
-  pub plain : ExportsArePlain files
-  pub agree : ExportsAgree (all_classes files)
-  pub send : ExportsSend q
-  pub acyclic : IsAcyclic (all_classes files)
-  pub are_supertypes : (xs : List (List ℕ)) → AreSupertypes (all_classes files) xs (supertypes (all_classes files) xs)
-  pub one_supertypes : (xs : List (List ℕ)) (j k : Supertypes) → AreSupertypes (all_classes files) xs j
-      → AreSupertypes (all_classes files) xs k → j ≡ k
-  pub none : BreaksNone list files codes settings
-  pub keeps : IsKept list files codes settings → Keeps (all_classes files)
-  pub calls : IsKept list files codes settings → CallsAgree (all_classes files)
-  pub open_tokens : KeepsRules (all_classes files) → AreNumbered (all_classes files) → TokensMean (all_classes files)
-  pub hidden_tokens : KeepsRules (all_classes files) → PackageTokensMean (all_classes files)
+  where
+    pub sound : ExportsAreSound files
+    pub plain : ExportsArePlain files
+    pub agree : ExportsAgree (all_classes files)
+    pub send : ExportsSend q
+    pub acyclic : IsAcyclic (all_classes files)
+    pub are_supertypes : (xs : List (List ℕ)) → AreSupertypes (all_classes files) xs (supertypes (all_classes files) xs)
+    pub one_supertypes : (xs : List (List ℕ)) (j k : Supertypes) → AreSupertypes (all_classes files) xs j
+        → AreSupertypes (all_classes files) xs k → j ≡ k
+    pub none : BreaksNone list files codes settings
+    pub keeps : IsKept list files codes settings → Keeps (all_classes files)
+    pub calls : IsKept list files codes settings → CallsAgree (all_classes files)
+    pub open_tokens : KeepsRules (all_classes files) → AreNumbered (all_classes files) → TokensMean (all_classes files)
+    pub hidden_tokens : KeepsRules (all_classes files) → PackageTokensMean (all_classes files)
 
 module _ (list : ListTree) (files : List (List ℕ)) (tested : List Group) (judged : Judged) (cap : CapTree) (c : Complete)
     (image : StaticImage) (is : IsPassed list files tested judged cap c image) where
@@ -169,7 +169,7 @@ module _ (list : ListTree) (files : List (List ℕ)) (tested : List Group) (judg
         (letters "java/lang/Object") (imported root.number root.class) root.found in
         by k e (ap (number_named own.classes) (sym named) ∙ h.has_no_info)
       where
-        abbrev own : Part
+        own : Part
         own = part_of (has_applets list) w image c
 
         by : (k : ℕ) → slice_get (own ∷ []) k ≡ Some part → number_named own.classes (letters "java/lang/Object") ≡ None
