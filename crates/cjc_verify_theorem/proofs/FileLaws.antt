@@ -34,12 +34,10 @@ use Rattle.cjc_order.specs.Classes.Numbers.{class_count}
 use Rattle.cjc_shape.proofs.PreparedLaws.Limited as limited
 use Rattle.cjc_shape_proof.proofs.WrittenLaws.PackageNames.{package_named}
 use Rattle.cjc_subset.specs.Checks.{check_breaks}
-use Rattle.cjc_subset.specs.Members.{imports}
 use Rattle.cjc_theorem.proofs.FairExports.Listed.{names}
 use Rattle.cjc_tokens.specs.Rules.{tested_breaks, token_breaks}
 use Rattle.cjc_token_proof.specs.Tables.Sound.{AreFieldDescs, IsSound, export_count}
 use Rattle.cjc_token_proof.proofs.TablesLaws.Filed.{export_count-cons}
-use Rattle.cjc_vtable.specs.Kept.{AreRead}
 use Rattle.cjc_world.specs.Files.{Files}
 use Rattle.cjc_world.specs.Rules.{breaks}
 use Rattle.cjc_world_proof.specs.Files.{AreReadFiles}
