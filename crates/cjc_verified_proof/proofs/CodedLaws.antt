@@ -14,7 +14,6 @@ use Rattle.cjc_card_semantics.specs.Machine.Methods.{Code}
 use Rattle.cjc_card_semantics.specs.Machine.Statics.{first_memory}
 use Rattle.cjc_components.specs.Package.{Package, world}
 use Rattle.cjc_token_proof.specs.WrittenSends.Named.{FaultsAreClasses}
-use Rattle.cjc_verify.specs.Instructions.{throwable}
 use Rattle.cjc_verify.specs.Pairs.{Pair}
 use Rattle.cjc_verify_proof.specs.Frames.{AreMethods, Program, Typing}
 use Rattle.cjc_verify_proof.specs.Memories.{AreDeclared, IsMemory}

@@ -49,14 +49,13 @@ use Rattle.cjc_components.specs.Package.{Package}
 use Rattle.cjc_components.specs.Paired.Pairs.{ArePaired}
 use Rattle.cjc_token_proof.specs.Calls.Dispatching.{SaysTower, of_file, of_package}
 use Rattle.cjc_token_proof.specs.Calls.Selecting.{signature}
-use Rattle.cjc_token_proof.specs.Tables.Infos.{HasEntry, HasInfo}
+use Rattle.cjc_token_proof.specs.Tables.Infos.{HasEntry}
 use Rattle.cjc_token_proof.specs.Tables.Loading.{loaded, naming, part}
 use Rattle.cjc_token_proof.specs.Tables.Sound.{IsSound}
 use Rattle.cjc_token_proof.specs.WrittenCalls.Calls.{KeepsTokens}
 use Rattle.cjc_verify.specs.Described.{member_token}
-use Rattle.cjc_verify.specs.Infos.{infos}
 use Rattle.cjc_verify.specs.Named.{first_of}
-use Rattle.cjc_verify.specs.Pairs.{Described, Pair, class_ref, member_of, pair_of}
+use Rattle.cjc_verify.specs.Pairs.{Pair, class_ref, member_of, pair_of}
 use Rattle.cjc_verify.specs.Verified.{IsVerified}
 use Rattle.cjc_verified_proof.specs.ClassInfos.{wanted_class}
 use Rattle.cjc_verified_proof.specs.Dispatching.{FilesAgree, naming_of, package_of}

@@ -1,6 +1,6 @@
 -- Where the files keep what dispatch rests on, calls by dispatch and entries on receivers reach methods of the program, so
 -- that no run of it is stuck.
-use Rattle.std.proofs.Common.{◌≡◌, ℕ, suc, ◌<◌, ◌≤◌, refl, sym, ap, subst, ◌∙◌, true, false, not, List, Option, Some}
+use Rattle.std.proofs.Common.{◌≡◌, ℕ, suc, ◌<◌, ◌≤◌, refl, sym, ap, subst, ◌∙◌, true, false, not, List, Some}
 use Rattle.cjc_bytes.specs.declared.fault.MemberId.{MemberId}
 use Rattle.cjc_bytes.proofs.Bools.{and_true}
 use Rattle.cjc_bytes.proofs.Plain.{same_some}
@@ -37,7 +37,7 @@ use Rattle.cjc_verified_proof.specs.Checked.{Checked, HasCode, IsChecked, pair}
 use Rattle.cjc_verified_proof.specs.Dispatching.{package_of}
 use Rattle.cjc_verified_proof.specs.Kept.{KeepsCalls}
 use Rattle.cjc_verified_proof.specs.Programs.{CallsReach, IsProgramOf}
-use Rattle.cjc_verified_proof.specs.Selecting.{DispatchFits, HasDesc, IsConcrete, IsOf}
+use Rattle.cjc_verified_proof.specs.Selecting.{HasDesc, IsConcrete, IsOf}
 use Rattle.cjc_verified_proof.specs.Suited.{HaveCode}
 use Rattle.cjc_verified_proof.proofs.CodedLaws as coded
 use Rattle.cjc_verified_proof.proofs.ConcreteLaws.{hidden_concrete, open_concrete}

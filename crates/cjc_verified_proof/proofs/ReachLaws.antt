@@ -1,13 +1,12 @@
 -- Entries of scripts that name a static method begin one of the program.
-use Rattle.std.proofs.Common.{◌≡◌, ℕ, zero, suc, ◌+◌, ◌==◌, refl, sym, ap, subst, ◌∙◌, Bool, true, false, not, List, []}
-use Rattle.std.proofs.Common.{◌∷◌, ◌++◌, length, map, slice_get, Option, Some, None}
-use Rattle.std.specs.Prelude.{◌&&◌, Contains, if◌then◌else◌, option_and_then, option_map}
+use Rattle.std.proofs.Common.{◌≡◌, ℕ, zero, suc, ◌+◌, refl, sym, ap, subst, ◌∙◌, Bool, true, false, not, List, []}
+use Rattle.std.proofs.Common.{◌∷◌, ◌++◌, length, slice_get, Option, Some, None}
+use Rattle.std.specs.Prelude.{◌&&◌, if◌then◌else◌, option_and_then, option_map}
 use Rattle.std.specs.Str.{bytes_eq}
 use Rattle.cjc_bytes.specs.declared.fault.MemberId.{MemberId}
-use Rattle.cjc_capread.specs.Bytes.AccessFlags.{is_interface, is_static}
+use Rattle.cjc_capread.specs.Bytes.AccessFlags.{is_static}
 use Rattle.cjc_capread.specs.declared.tree.ClassDescriptor.{ClassDescriptor}
 use Rattle.cjc_capread.specs.declared.tree.ClassRef.{ClassRef}
-use Rattle.cjc_capread.specs.declared.tree.ClassRef.TheVariants.{Inside}
 use Rattle.cjc_capread.specs.declared.tree.MethodDescriptor.{MethodDescriptor}
 use Rattle.cjc_capread.specs.ClassRefs.{is_inside}
 use Rattle.cjc_check_rules.specs.Codes.{whole_spots}
@@ -32,7 +31,7 @@ use Rattle.cjc_card_acts.specs.CardTypes.{MemberType}
 use Rattle.cjc_components.specs.Descriptor.{method_in}
 use Rattle.cjc_components.specs.Paired.Naming.{class_names, method_name, method_names, part_of}
 use Rattle.cjc_components.specs.Paired.Pairs.{ArePaired}
-use Rattle.cjc_verify.specs.Bodies.{Body, bodies, type_of_body}
+use Rattle.cjc_verify.specs.Bodies.{type_of_body}
 use Rattle.cjc_verify.specs.ClassTypes.{class_type}
 use Rattle.cjc_verify.specs.Headers.{has_code}
 use Rattle.cjc_verify.specs.Infos.{infos}
@@ -51,7 +50,7 @@ use Rattle.cjc_bytes.proofs.Lists.{bytes_true}
 use Rattle.cjc_bytes.proofs.Numbers.{number_same}
 use Rattle.cjc_bytes.proofs.Plain.{same_some}
 use Rattle.cjc_card_link.proofs.InfoPlaces.{all_starts as starts_of_infos}
-use Rattle.cjc_verified_proof.proofs.DescribedLaws.{fits, method_said, own_found}
+use Rattle.cjc_verified_proof.proofs.DescribedLaws.{fits, own_found}
 use Rattle.cjc_verified_proof.proofs.MethodLaws.{body_starts}
 use Rattle.cjc_verified_proof.proofs.NameLaws.{number_back, starts_read}
 use Rattle.cjc_verified_proof.proofs.StandingLaws.{header_codes, sorts_said, stands_at}

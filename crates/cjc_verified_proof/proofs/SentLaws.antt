@@ -1,7 +1,7 @@
 -- What a script sends to a thing that is made begins a method of the program.
-use Rattle.std.proofs.Common.{◌≡◌, ℕ, zero, suc, ◌≤◌, refl, sym, ap, subst, ◌∙◌, Bool, true, false, List, [], ◌∷◌, length}
-use Rattle.std.proofs.Common.{map, slice_get, Option, Some, None, nat_lt, ⊎_elim}
-use Rattle.std.specs.Prelude.{◌||◌, ◌&&◌, not, if◌then◌else◌, is_some, option_and_then, option_map, position}
+use Rattle.std.proofs.Common.{◌≡◌, ℕ, suc, refl, sym, ap, subst, ◌∙◌, Bool, true, false, List, [], ◌∷◌}
+use Rattle.std.proofs.Common.{map, slice_get, Option, Some, None}
+use Rattle.std.specs.Prelude.{◌||◌, not, if◌then◌else◌, is_some, option_and_then, option_map}
 use Rattle.std.specs.Str.{bytes_eq}
 use Rattle.cjc_bytes.specs.declared.fault.MemberId.{MemberId}
 use Rattle.cjc_capread.specs.Bytes.AccessFlags.{is_interface, is_private, is_static}
@@ -9,15 +9,14 @@ use Rattle.cjc_capread.specs.declared.tree.MethodDescriptor.{MethodDescriptor}
 use Rattle.cjc_card_semantics.specs.Bytecode.Machine.{Start}
 use Rattle.cjc_card_semantics.specs.Machine.Calls.{dispatched_on, found_token, interface_token, is_named, listed_token}
 use Rattle.cjc_card_semantics.specs.Machine.Calls.{place_named, sent, sent_as, sent_by, sent_to, start_selected, through}
-use Rattle.cjc_card_semantics.specs.Machine.Calls.{through_first, token_if_interface}
+use Rattle.cjc_card_semantics.specs.Machine.Calls.{through_first}
 use Rattle.cjc_card_semantics.specs.Machine.Classes.{Class, External, Own, depth, external, is_in, is_kind_of, is_of}
 use Rattle.cjc_card_semantics.specs.Machine.Classes.{names_of, object_class, shape_class, upwards}
 use Rattle.cjc_card_semantics.specs.Machine.Classes as card
-use Rattle.cjc_card_semantics.specs.Machine.Dispatch.{At, NotFound, Outward, Selection, Token, dispatched}
+use Rattle.cjc_card_semantics.specs.Machine.Dispatch.{NotFound, Selection, Token}
 use Rattle.cjc_card_semantics.specs.Machine.Dispatch.{dispatched_interface, interface_method, named_in, of_file, outward}
-use Rattle.cjc_card_semantics.specs.Machine.Dispatch.{tower}
 use Rattle.cjc_card_semantics.specs.Machine.Loaded.{ClassNames, Loaded, MethodName}
-use Rattle.cjc_card_semantics.specs.Machine.Methods.{Code, start_of}
+use Rattle.cjc_card_semantics.specs.Machine.Methods.{Code}
 use Rattle.cjc_card_semantics.specs.Script.Sorts.{OfClass, Shape, signature_of as types_of}
 use Rattle.cjc_card_acts.specs.CardTypes.{MemberType, both_of, shape_by}
 use Rattle.cjc_world.specs.ExportFile.Supers.{virtual_method}
@@ -26,11 +25,10 @@ use Rattle.cjc_world.specs.ExportFile.declared.tree.ExportMethod.{ExportMethod}
 use Rattle.cjc_world.specs.Classes as world
 use Rattle.cjc_world.specs.Classes.{Member, all_classes, imported, method_of_export}
 use Rattle.cjc_world.specs.Lookup.{object}
-use Rattle.cjc_world.specs.Supertypes.{End, Known, stands, supertypes}
+use Rattle.cjc_world.specs.Supertypes.{stands, supertypes}
 use Rattle.cjc_tokens.specs.Members.{Signature, is_initialiser, same, signature_of}
 use Rattle.cjc_tokens.specs.Methods.{interface_methods}
 use Rattle.cjc_tokens.proofs.Walks.{supertypes-known}
-use Rattle.cjc_vtable.specs.Laws.{Under}
 use Rattle.cjc_components.specs.NCode.Lowering.Naming.{Naming}
 use Rattle.cjc_components.specs.Package.{Package}
 use Rattle.cjc_token_proof.specs.ByToken.Above.{IsAtOrAbove, itself, upwards as higher}
@@ -38,14 +36,14 @@ use Rattle.cjc_token_proof.specs.ByToken.Supers.{SaysKinds}
 use Rattle.cjc_token_proof.specs.Calls.Selecting.{signature}
 use Rattle.cjc_verify.specs.ClassTypes.{class_type}
 use Rattle.cjc_verify.specs.Bodies.{type_of_body}
-use Rattle.cjc_verify.specs.Named.{holder_in, interface_desc, is_abstract_at, is_abstract_start, selection_desc}
-use Rattle.cjc_verify.specs.Pairs.{Described, Pair, described, is_method_at, member_of, method_at}
+use Rattle.cjc_verify.specs.Named.{holder_in, interface_desc, is_abstract_start, selection_desc}
+use Rattle.cjc_verify.specs.Pairs.{Described, Pair, described, is_method_at, member_of}
 use Rattle.cjc_verify_proof.specs.Calls.{AreSorts, argument_cells}
 use Rattle.cjc_verify_proof.specs.Frames.{Begins, Program}
 use Rattle.cjc_verify_proof.specs.Runs.{IsEntry}
 use Rattle.cjc_verify_proof.specs.Turns.{IsMade}
 use Rattle.cjc_verified_proof.specs.Checked.{Checked, HasCode, IsChecked, pair}
-use Rattle.cjc_verified_proof.specs.Dispatching.{naming_of, offset_in, package_of}
+use Rattle.cjc_verified_proof.specs.Dispatching.{naming_of, package_of}
 use Rattle.cjc_verified_proof.specs.Kept.{KeepsCalls}
 use Rattle.cjc_verified_proof.specs.Programs.{IsProgramOf}
 use Rattle.cjc_verified_proof.specs.Selecting.{DispatchFits, HasDesc, IsConcrete, IsOf, of_file as of_import, of_package}
@@ -64,7 +62,7 @@ use Rattle.cjc_token_proof.proofs.WrittenSends.Interfaces.{or_left, or_right, po
 use Rattle.cjc_token_proof.proofs.WrittenSends.Root.{object_above}
 use Rattle.cjc_verified_proof.proofs.CodedLaws as coded
 use Rattle.cjc_verified_proof.proofs.FoundLaws.{HasToken, IsListed, listed_there}
-use Rattle.cjc_verified_proof.proofs.KindLaws.{Receives, made_receives, named_external, of_subtype}
+use Rattle.cjc_verified_proof.proofs.KindLaws.{Receives, made_receives, named_external}
 use Rattle.cjc_verified_proof.proofs.NamingLaws.{kinds, named_alike, own_info}
 
 -- ---- names of methods

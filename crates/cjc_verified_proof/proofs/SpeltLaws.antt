@@ -305,8 +305,7 @@ each_size p m size (suc n) at xs bytes ok spelt =
     let b = inner (repeated n p) (λ ys. gives (a.x ∷ ys)) _ xs a.back a.backs a.rest in
     let g = given (a.x ∷ b.x) _ xs b.back b.rest in
     let one = size at a.x a.front a.fronts a.one in
-    let more = each_size p m size n _ b.x b.front b.fronts b.one in
-    (
+    let more = each_size p m size n _ b.x b.front b.fronts b.one in (
       ap length (sym g.0) ∙ ap suc more.0,
       by m n (length bytes) (length a.front) (length a.back) (length b.front) (length b.back) a.sizes b.sizes g.1 one
           more.1,

@@ -34,12 +34,10 @@ use Rattle.cjc_order.specs.Classes.Numbers.{class_count}
 use Rattle.cjc_shape.proofs.PreparedLaws.Limited as limited
 use Rattle.cjc_shape_proof.proofs.WrittenLaws.PackageNames.{package_named}
 use Rattle.cjc_subset.specs.Checks.{check_breaks}
-use Rattle.cjc_subset.specs.Members.{imports}
 use Rattle.cjc_theorem.proofs.FairExports.Listed.{names}
 use Rattle.cjc_tokens.specs.Rules.{tested_breaks, token_breaks}
 use Rattle.cjc_token_proof.specs.Tables.Sound.{AreFieldDescs, IsSound, export_count}
 use Rattle.cjc_token_proof.proofs.TablesLaws.Filed.{export_count-cons}
-use Rattle.cjc_vtable.specs.Kept.{AreRead}
 use Rattle.cjc_world.specs.Files.{Files}
 use Rattle.cjc_world.specs.Rules.{breaks}
 use Rattle.cjc_world_proof.specs.Files.{AreReadFiles}
@@ -96,8 +94,14 @@ file_at [] files trees h k t e = let none : trees ≡ [] = h.1 in absurd (no_tre
     no_tree k f = cc
 file_at (line ∷ lines) [] trees h k t e = absurd h
 file_at (line ∷ lines) (bytes ∷ files) [] h k t e = absurd h
-file_at (line ∷ lines) (bytes ∷ files) (x ∷ trees) h zero t e = (line, bytes, 0, refl, subst (FileIs line bytes)
-    (same_some e) h.0)
+file_at (line ∷ lines) (bytes ∷ files) (x ∷ trees) h zero t e = (
+  line,
+  bytes,
+  0,
+  refl,
+  subst (FileIs line bytes)
+      (same_some e) h.0,
+)
 file_at (line ∷ lines) (bytes ∷ files) (x ∷ trees) h (suc k) t e = let r = file_at lines files trees h.1 k t e in
     (r.0, r.1, suc r.2, r.3, r.4)
 

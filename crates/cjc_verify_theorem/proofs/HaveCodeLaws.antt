@@ -1,23 +1,19 @@
 -- The methods of a package that Descriptor lists have descriptors of methods, and static ones stand in classes and have
 -- code.
-use Rattle.std.proofs.Common.{◌≡◌, ℕ, zero, suc, ◌+◌, ◌-◌, ◌<◌, ◌≤◌, refl, sym, ap, subst, ◌∙◌, arith, Bool, true, false}
-use Rattle.std.proofs.Common.{List, [], ◌∷◌, ◌++◌, length, map, slice_get, Option, Some, None, inl, inr, ⊎_elim}
+use Rattle.std.proofs.Common.{◌≡◌, ℕ, zero, suc, ◌+◌, ◌-◌, ◌<◌, refl, sym, ap, subst, ◌∙◌, arith, Bool, true, false}
+use Rattle.std.proofs.Common.{List, [], ◌∷◌, ◌++◌, length, map, slice_get, Some, None, ⊎_elim}
 use Rattle.std.specs.Prelude.{◌⊎◌, ◌||◌, not, if◌then◌else◌, option_and_then, unwrap_or}
-use Rattle.std.specs.Str.{bytes_eq}
 use Rattle.cjc_bytes.specs.AccessFlags.{is_abstract, is_interface, is_static}
 use Rattle.cjc_bytes.specs.declared.settings.Settings.{Settings}
 use Rattle.cjc_bytes.proofs.Gets.{in_front, mapped_at}
 use Rattle.cjc_bytes.proofs.Plain.{same_some}
 use Rattle.cjc_capread.specs.declared.tree.ClassDescriptor.{ClassDescriptor}
-use Rattle.cjc_capread.specs.declared.tree.ClassRef.{ClassRef}
-use Rattle.cjc_capread.specs.declared.tree.MethodDescriptor.{MethodDescriptor}
 use Rattle.cjc_check_rules.specs.Codes.{whole_spots}
 use Rattle.cjc_check_rules.specs.Complete.{Complete}
 use Rattle.cjc_check_rules.specs.Described.{all_starts, classes_in_order}
-use Rattle.cjc_classfile.specs.declared.tree.ClassTree.{ClassTree}
 use Rattle.cjc_code.specs.ReadLaws.Members.{IsDescOf}
 use Rattle.cjc_code.specs.declared.method_code.MethodCode.{MethodCode}
-use Rattle.cjc_components.specs.Descriptor.{as_added, method_flags, method_in, methods_with_added, no_member}
+use Rattle.cjc_components.specs.Descriptor.{as_added, method_in, methods_with_added, no_member}
 use Rattle.cjc_components.specs.Paired.Pairs.{ArePaired}
 use Rattle.cjc_script.specs.Sorts.{Signature, result_by, signature_by, signature_of, sort_of}
 use Rattle.cjc_shape_proof.proofs.FindsLaws.Descs.{member_desc}
@@ -28,7 +24,6 @@ use Rattle.cjc_tokens.specs.Members.{is_initialiser}
 use Rattle.cjc_token_proof.proofs.TablesLaws.Clean.{own_name}
 use Rattle.cjc_token_proof.proofs.TablesLaws.Order.{order_in}
 use Rattle.cjc_token_proof.specs.Tables.Sound.{IsSound}
-use Rattle.cjc_verify.specs.Headers.{has_code}
 use Rattle.cjc_verify.specs.Pairs.{Described, Pair, described, described_among, described_in, member_of, pair_of}
 use Rattle.cjc_verify.specs.Verified.{IsVerified}
 use Rattle.cjc_verified_proof.specs.Suited.{HaveCode}
@@ -45,7 +40,6 @@ use Rattle.cjc_world.specs.Files.{Files}
 use Rattle.cjc_world.specs.Interfaces.{gathered, known}
 use Rattle.cjc_world.specs.Lookup.{member_at}
 use Rattle.cjc_world.specs.Order.{class_order, methods_of_class, places, written}
-use Rattle.cjc_world.specs.Rules.{breaks}
 use Rattle.cjc_world.specs.Supertypes.{AreSupertypes, IsAcyclic, supertypes}
 use Rattle.cjc_world_proof.specs.Calls.Solid.{IsOwn, IsSolid}
 use Rattle.cjc_world_proof.specs.Files.{AreReadFiles}
@@ -158,9 +152,13 @@ got_among w (c ∷ order) (x ∷ xs) j d e = ⊎_elim
     (λ a. (
     let g = in_got c x.this_class (methods_of_class w c) x.methods j d a in
     let class : c ≡ d.class = ap (λ (y : Described). y.class) g.4 in
-    let member : g.0 ≡ d.member = ap (λ (y : Described). y.member) g.4 in
-    (0, j, ap (λ y. Some y) class, ap (λ y. slice_get (methods_of_class w y) j) (sym class) ∙ g.2
-        ∙ ap (λ y. Some y) member)
+    let member : g.0 ≡ d.member = ap (λ (y : Described). y.member) g.4 in (
+      0,
+      j,
+      ap (λ y. Some y) class,
+      ap (λ y. slice_get (methods_of_class w y) j) (sym class) ∙ g.2
+          ∙ ap (λ y. Some y) member,
+    )
     ))
     (λ b. (let r = got_among w order xs b.0 d b.1 in (suc r.0, r.1, r.2, r.3)))
     (either_part (described_in c x.this_class (methods_of_class w c) x.methods) (described_among w order xs) j d e)
@@ -205,7 +203,7 @@ module _ (name : List ℕ) (applets : Bool) (files : Files) (image : StaticImage
       in own_typed r.1.0 i r.1.1
       ))
     where
-      abbrev known_ones : List Class
+      known_ones : List Class
       known_ones = Rattle.cjc_world.specs.Interfaces.known (gathered false (supertypes w d.supers)
           ++ gathered true (supertypes w d.interfaces))
 
@@ -235,7 +233,7 @@ module _ (name : List ℕ) (applets : Bool) (files : Files) (image : StaticImage
       let o = order_in name files sound d.class (get-has d.class (class_order w) g.0 g.2) in
       record { known = own_name name files sound d.class o.0; own = o.1; method = by g.1 g.3 }
     where
-      abbrev k : Class
+      k : Class
       k = d.class
 
       by : (i : ℕ) → slice_get (methods_of_class w k) i ≡ Some d.member → IsMethodOf d

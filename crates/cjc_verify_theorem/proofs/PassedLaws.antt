@@ -1,24 +1,22 @@
 -- Components that break no rule beside a package that breaks none are those of a checked package whose calls keep what
 -- dispatch rests on.
-use Rattle.std.proofs.Common.{◌≡◌, ℕ, zero, suc, ◌<◌, ◌≤◌, ◌^◌, refl, sym, ap, subst, ◌∙◌, Bool, true, false, List, []}
-use Rattle.std.proofs.Common.{◌∷◌, length}
-use Rattle.std.specs.Prelude.{◌&&◌, None, Some, codes as letters, is_some, nat_lt, slice_get}
+use Rattle.std.proofs.Common.{◌≡◌, ℕ, zero, suc, refl, sym, ap, subst, ◌∙◌, true, false, List, []}
+use Rattle.std.proofs.Common.{◌∷◌}
+use Rattle.std.specs.Prelude.{None, Some, codes as letters, is_some, slice_get}
 use Rattle.std.specs.List.{list_all}
 use Rattle.cjc_bytes.specs.declared.settings.Settings.{Settings}
 use Rattle.cjc_bytes.proofs.Bools.{and_true}
 use Rattle.cjc_bytes.proofs.Plain.{same_some}
 use Rattle.cjc_capread.specs.declared.tree.CapTree.{CapTree}
-use Rattle.cjc_check_rules.specs.Complete.{Complete, complete}
+use Rattle.cjc_check_rules.specs.Complete.{Complete}
 use Rattle.cjc_check_rules.specs.Consistent.{Sentence, is_true, of_complete, sentences, where_complete}
 use Rattle.cjc_check_rules.specs.declared.spot.ComponentPlace.{ComponentPlace}
-use Rattle.cjc_code.specs.PackageCodes.{all_codes}
 use Rattle.cjc_code.specs.declared.method_code.MethodCode.{MethodCode}
 use Rattle.cjc_card_semantics.specs.Machine.Classes.{number_named}
 use Rattle.cjc_card_semantics.specs.Machine.Loaded.{Part}
 use Rattle.cjc_components.specs.Package.{Package, world}
 use Rattle.cjc_components.specs.Paired.Naming.{loaded_of, part_of}
 use Rattle.cjc_export.specs.Writable.{ClassFits, IsWritable}
-use Rattle.cjc_export.specs.declared.tree.ExportClass.{ExportClass}
 use Rattle.cjc_export.specs.declared.tree.ExportTree.{ExportTree}
 use Rattle.cjc_judge.specs.Rules.{has_applets, settings_of}
 use Rattle.cjc_judge.specs.declared.groups.Group.{Group}
@@ -29,7 +27,6 @@ use Rattle.cjc_shape_proof.proofs.WrittenLaws.Subtypes.{keeps_subtypes}
 use Rattle.cjc_shape_proof.proofs.WrittenLaws.Tokens.{keeps_tokens}
 use Rattle.cjc_shape_proof.specs.Written.Converted.{ExportsArePlain}
 use Rattle.cjc_subset.specs.Checks.{check_breaks}
-use Rattle.cjc_theorem.specs.FairExports.Fair.{ExportsAreFair}
 use Rattle.cjc_theorem.proofs.AlikeLaws.JoinedLaws.Faults.{faults_are_classes}
 use Rattle.cjc_theorem.proofs.AlikeLaws.NamedLaws.Exports.{exports_keep}
 use Rattle.cjc_token_proof.specs.Tables.Sound.{AreFieldDescs, IsSound}
@@ -91,20 +88,20 @@ are_true (s ∷ ss) e k u f = by k f
 
 -- what was told of files beside one another
 pub record Told (files : Files) (list : List ℕ) (codes : List MethodCode) (settings : Settings) (q : Package) : Type 0
-    where
-  pub sound : ExportsAreSound files
-  pub plain : ExportsArePlain files
-  pub agree : ExportsAgree (all_classes files)
-  pub send : ExportsSend q
-  pub acyclic : IsAcyclic (all_classes files)
-  pub are_supertypes : (xs : List (List ℕ)) → AreSupertypes (all_classes files) xs (supertypes (all_classes files) xs)
-  pub one_supertypes : (xs : List (List ℕ)) (j k : Supertypes) → AreSupertypes (all_classes files) xs j
-      → AreSupertypes (all_classes files) xs k → j ≡ k
-  pub none : BreaksNone list files codes settings
-  pub keeps : IsKept list files codes settings → Keeps (all_classes files)
-  pub calls : IsKept list files codes settings → CallsAgree (all_classes files)
-  pub open_tokens : KeepsRules (all_classes files) → AreNumbered (all_classes files) → TokensMean (all_classes files)
-  pub hidden_tokens : KeepsRules (all_classes files) → PackageTokensMean (all_classes files)
+  where
+    pub sound : ExportsAreSound files
+    pub plain : ExportsArePlain files
+    pub agree : ExportsAgree (all_classes files)
+    pub send : ExportsSend q
+    pub acyclic : IsAcyclic (all_classes files)
+    pub are_supertypes : (xs : List (List ℕ)) → AreSupertypes (all_classes files) xs (supertypes (all_classes files) xs)
+    pub one_supertypes : (xs : List (List ℕ)) (j k : Supertypes) → AreSupertypes (all_classes files) xs j
+        → AreSupertypes (all_classes files) xs k → j ≡ k
+    pub none : BreaksNone list files codes settings
+    pub keeps : IsKept list files codes settings → Keeps (all_classes files)
+    pub calls : IsKept list files codes settings → CallsAgree (all_classes files)
+    pub open_tokens : KeepsRules (all_classes files) → AreNumbered (all_classes files) → TokensMean (all_classes files)
+    pub hidden_tokens : KeepsRules (all_classes files) → PackageTokensMean (all_classes files)
 
 module _ (list : ListTree) (files : List (List ℕ)) (tested : List Group) (judged : Judged) (cap : CapTree) (c : Complete)
     (image : StaticImage) (is : IsPassed list files tested judged cap c image) where
@@ -169,7 +166,7 @@ module _ (list : ListTree) (files : List (List ℕ)) (tested : List Group) (judg
         (letters "java/lang/Object") (imported root.number root.class) root.found in
         by k e (ap (number_named own.classes) (sym named) ∙ h.has_no_info)
       where
-        abbrev own : Part
+        own : Part
         own = part_of (has_applets list) w image c
 
         by : (k : ℕ) → slice_get (own ∷ []) k ≡ Some part → number_named own.classes (letters "java/lang/Object") ≡ None

@@ -1,18 +1,16 @@
 -- Files of a folder spell the components that are read of it, and what was tested is what the theorem of the type checker
 -- asks.
-use Rattle.std.proofs.Common.{◌≡◌, ◌⊎◌, ◌<◌, ◌==◌, ℕ, zero, suc, inl, inr, ⊎_elim, refl, sym, ap, subst, ◌∙◌, Bool, true}
+use Rattle.std.proofs.Common.{◌≡◌, ◌⊎◌, ◌<◌, ◌==◌, ℕ, suc, inl, inr, ⊎_elim, refl, sym, ap, subst, ◌∙◌, Bool, true}
 use Rattle.std.proofs.Common.{false, eqb-true, List, [], ◌∷◌, length, slice_get}
 use Rattle.std.specs.Prelude.{Option, Some, None, Result, Ok, Err}
-use Rattle.std.specs.Int.{w16, w8}
 use Rattle.std.specs.List.{AllByRecursion}
 use Rattle.cjc_card.specs.CheckRules.Complete.{Complete, complete, complete_with}
 use Rattle.cjc_cmd_card.specs.Running.Reads.{IsInput}
 use Rattle.cjc_cmd_card.specs.Running.Ready.{IsReady, tested}
 use Rattle.cjc_cmd_card.specs.declared.running.input.Input.{Input}
 use Rattle.cjc_cmd_card.specs.declared.running.ready.Ready.{Ready}
-use Rattle.cjc_capread.specs.Component.{component, either, info, size_in}
+use Rattle.cjc_capread.specs.Component.{component, either, info}
 use Rattle.cjc_capread.specs.Kinds.{descriptor_of, method_of, pool_of}
-use Rattle.cjc_capread.specs.Parts.{exactly}
 use Rattle.cjc_capread.specs.declared.tree.CapTree.{CapTree}
 use Rattle.cjc_capread.specs.declared.tree.ClassInfo.{ClassInfo}
 use Rattle.cjc_capread.specs.declared.tree.ConstantPool.{ConstantPool}
@@ -26,7 +24,7 @@ use Rattle.cjc_capread.specs.declared.tree.Component.TheVariants as components
 use Rattle.cjc_cmd_check.specs.Folder.Breaks.{cap_in, cap_of, front, with_component, with_components, with_read}
 use Rattle.cjc_cmd_check.specs.Folder.Reads.{read_component}
 use Rattle.cjc_cmd_check.specs.declared.folder.folder.Parts.{Parts}
-use Rattle.cjc_bytes.specs.Format.{FileSpells, Format, Spells, gives, looked_up, number, ◌>>=◌}
+use Rattle.cjc_bytes.specs.Format.{FileSpells, Format, Spells, gives, looked_up, ◌>>=◌}
 use Rattle.cjc_judge.specs.Clinit.Image.{IsImage}
 use Rattle.cjc_judge.specs.Rules.{has_applets}
 use Rattle.cjc_judge.specs.World.declared.image.StaticImage.{StaticImage}
