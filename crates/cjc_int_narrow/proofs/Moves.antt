@@ -4,10 +4,11 @@ use Rattle.std.proofs.Common.{List, [], ◌∷◌, ◌++◌, length, map, get_or
 use Rattle.std.specs.Prelude.{if◌then◌else◌, ◌||◌, Option, Some, None}
 use Rattle.std.specs.List.{list_any}
 use Rattle.std.proofs.lemmas.List.{drop_all}
+use Rattle.cjc_bytes.specs.AccessFlags.{is_static}
 use Rattle.cjc_bytes.specs.Descriptor.{Part}
 use Rattle.cjc_bytes.proofs.Gets.{from_index}
-use Rattle.cjc_ncode.specs.Script.Sorts.{Sort, Shape, OfClass, OfNumbers, OfReferences, Booleans, Bytes, Shorts, Ints}
-use Rattle.cjc_ncode.specs.Script.Sorts.{reference_to, sort_of}
+use Rattle.cjc_ncode.specs.Script.Sorts.{Sort, Reference, Shape, OfClass, OfNumbers, OfReferences, Booleans, Bytes, Shorts}
+use Rattle.cjc_ncode.specs.Script.Sorts.{Ints, reference_to, signature_of, sort_of}
 use Rattle.cjc_ncode.specs.CardSemantics.Bytecode.Arguments.{width, widths}
 use Rattle.cjc_ncode.specs.declared.narrow.NInsn.{NInsn}
 use Rattle.cjc_ncode.specs.IntCode.IntCode.{Frame, first_word, handed_over, is_by_scratch, is_reference, is_short}
@@ -16,8 +17,11 @@ use Rattle.cjc_ncode.specs.IntCode.IntCode.{stores, taken_back}
 use Rattle.cjc_ncode.specs.Written.{type_test}
 use Rattle.cjc_narrow.specs.Written.Working.Tests.{test_by}
 use Rattle.cjc_narrow.specs.declared.written.type_tests.Test.{Test}
+use Rattle.cjc_int_mode.specs.Written.{params_by}
 use Rattle.cjc_int_narrow.specs.declared.kinds.Kept.{Kept}
+use Rattle.cjc_int_narrow.specs.Working.Frames.{frame_of}
 use Rattle.cjc_int_narrow.specs.Working.Moves.{aside_all, back_all, handed, kept_as, moved_all, moved_by, narrowed_if}
+use Rattle.cjc_int_narrow.specs.Working.Moves.{receiver_kept}
 
 -- ---- arguments
 
@@ -51,6 +55,27 @@ pub prologue_moves : (f : Frame) (words : ℕ) → words ≡ nargs f → prologu
 prologue_moves f words is =
     let first : first_word f 0 ≡ words = omega (arith, is) in
     moves f 0 0 f.params ∙ ap (λ (w : ℕ). moved_all 0 w f.params) first
+
+-- a static method has no receiver
+pub prologue_static : (class : List ℕ) (flags : ℕ) (desc : List ℕ) (max_locals : ℕ) (f : Frame) (words : ℕ)
+    (static : Bool) → f ≡ frame_of class flags desc max_locals → words ≡ nargs (frame_of class flags desc max_locals)
+    → static ≡ is_static flags → static ≡ true → prologue f ≡ moved_all 0 words (params_by (signature_of desc))
+unfolding frame_of
+prologue_static class flags desc max_locals f words static is is_words is_flag on =
+    ap prologue is ∙ prologue_moves (frame_of class flags desc max_locals) words is_words
+    ∙ ap (λ (b : Bool). moved_all 0 words ((if b then [] else Reference (OfClass class) ∷ [])
+    ++ params_by (signature_of desc))) (sym is_flag ∙ on)
+
+-- the receiver of any other is moved first
+pub prologue_own : (class : List ℕ) (flags : ℕ) (desc : List ℕ) (max_locals : ℕ) (f : Frame) (words : ℕ)
+    (static : Bool) → f ≡ frame_of class flags desc max_locals → words ≡ nargs (frame_of class flags desc max_locals)
+    → static ≡ is_static flags → static ≡ false
+    → prologue f ≡ moved_by receiver_kept 0 words ++ moved_all 1 (words + 2) (params_by (signature_of desc))
+unfolding frame_of
+prologue_own class flags desc max_locals f words static is is_words is_flag off =
+    ap prologue is ∙ prologue_moves (frame_of class flags desc max_locals) words is_words
+    ∙ ap (λ (b : Bool). moved_all 0 words ((if b then [] else Reference (OfClass class) ∷ [])
+    ++ params_by (signature_of desc))) (sym is_flag ∙ off)
 
 -- ---- parameters of one word
 

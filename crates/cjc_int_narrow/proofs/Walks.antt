@@ -177,7 +177,7 @@ module _ (f : Frame) (r : Resolution) where
   none_before offset (i ∷ insns) (Some b ∷ befores) behind =
       let rest = none_before offset insns befores (λ k x e. behind (suc k) x e) in
       ap (λ (c : Bool). (if c then count f r b i.op else 0) + place_from f r (reached_by insns befores) offset)
-      (behind 0 i refl) ∙ rest
+      (behind 0 i refl) ∙ ap (λ (n : ℕ). 0 + n) rest
 
   place_found : (offset before : ℕ) (insns : List JInsn) (befores : List (Option Before)) → IsAscending insns
       → length befores ≡ length insns

@@ -2,5 +2,6 @@
 pub mod Elements
 pub mod Moves
 pub mod Frames
+pub mod Puts
 pub mod Walks
 pub mod Whole

@@ -97,7 +97,7 @@ fn count_of(insns: &[NInsn]) -> Result<u32, NoMemory>
 fn put_all(
     out: &mut Row<NInsn>,
     from: &mut Row<u32>,
-    starts: &mut Row<u32>,
+    counts: &mut Row<u32>,
     alloc: Global,
     names: &Names<'_, '_>,
     places: &Places<'_>,
@@ -112,11 +112,11 @@ fn put_all(
         (place_of places.now) (length out.old) (reached_by insns.now befores.now)) }
     ensures from { OnOk result (from.new ≡ from.old ++ sources frame.now (resolution_of names.now)
         (reached_by insns.now befores.now) (places_by 0 insns.now befores.now)) }
-    ensures starts { OnOk result (starts.new ≡ starts.old ++ starts frame.now (resolution_of names.now)
+    ensures starts { OnOk result (counts.new ≡ counts.old ++ starts frame.now (resolution_of names.now)
         (length out.old) insns.now befores.now) }
 {
     for k in 0..insns.len() {
-        starts.push(count_of(out.items())?)?;
+        counts.push(count_of(out.items())?)?;
         put_at(
             out,
             from,
@@ -129,7 +129,7 @@ fn put_all(
             &insns[k].op,
         )?;
     }
-    starts.push(count_of(out.items())?)
+    counts.push(count_of(out.items())?)
 }
 
 /// What is written for a method whose labels are these places, the prologue among it.

@@ -1,17 +1,17 @@
 //! What is written for an instruction of a method in int mode. Called by whoever selects code.
 
-ghost use Rattle.std.specs.Prelude.{◌≡◌, ◌+◌, ◌++◌, ◌∷◌, [], ◌==◌, if◌then◌else◌, false, length, OnOk};
+ghost use Rattle.std.specs.Prelude.{◌≡◌, ◌+◌, ◌++◌, ◌∷◌, [], ◌==◌, if◌then◌else◌, ℕ, true, length, OnOk};
 ghost use Rattle.cjc_ncode.specs.CapRead.Card as card;
 ghost use Rattle.cjc_ncode.specs.Bytecode.Jvm as jvm;
 ghost use Rattle.cjc_ncode.specs.Bytecode.declared.insn.JOp.TheVariants as jop;
 ghost use Rattle.cjc_ncode.specs.declared.narrow.NInsn.TheVariants.{Inc, Op};
-ghost use Rattle.cjc_ncode.specs.IntCode.IntCode.{jumped, returned, written};
-ghost use Rattle.cjc_ncode.specs.Written.{Resolution, arithmetic, is_byte, leaving, written as written_short};
+ghost use Rattle.cjc_ncode.specs.IntCode.IntCode.{Before as TableRow, Frame as Words, returned, written};
+ghost use Rattle.cjc_ncode.specs.Written.{Resolution, arithmetic, is_byte, leaving};
 ghost use Rattle.cjc_narrow.specs.Select.Working.Names.{resolution_of};
 ghost use Rattle.cjc_narrow.specs.Written.Labels.{place_of};
-ghost use Rattle.cjc_narrow.specs.Written.Operands.{CanBeSaid as FitsShort, names_member};
 ghost use Rattle.cjc_int_narrow.specs.Operands.{CanBeSaid};
 ghost use Rattle.cjc_int_narrow.specs.Reached.{known};
+ghost use Rattle.cjc_int_narrow.specs.Working.Puts.{gives_word, is_same, takes_word};
 
 use crate::elements::{put_read, put_written};
 use crate::frame::Frame;
@@ -95,13 +95,28 @@ fn put_if(
     insn: &JOp,
 ) -> Result<(), NoMemory>
     requires { insn.now ≡ jop.If op target }
-    ensures { (r : Resolution) → OnOk result (out.new ≡ out.old ++ jumped op (place_of places.now target)) }
+    ensures { (f : Words) (r : Resolution) (b : TableRow) (here : ℕ) → OnOk result (out.new ≡ out.old
+        ++ written f r (place_of places.now) b here insn.now) }
 {
     if op <= jvm::IF_ICMPLE {
         put_comparison(out, places, op, target)
     } else {
         put_plain(out, alloc, places, insn)
     }
+}
+
+/// An instruction that is written as in short mode.
+fn put_same(
+    out: &mut Row<NInsn>,
+    alloc: Global,
+    places: &Places<'_>,
+    op: &JOp,
+) -> Result<(), NoMemory>
+    requires { is_same op.now ≡ true }
+    ensures { (f : Words) (r : Resolution) (b : TableRow) (here : ℕ) → OnOk result (out.new ≡ out.old
+        ++ written f r (place_of places.now) b here op.now) }
+{
+    put_plain(out, alloc, places, op)
 }
 
 /// An instruction of short mode whose value is one word, as a number of two words.
@@ -111,9 +126,9 @@ fn put_wide(
     places: &Places<'_>,
     op: &JOp,
 ) -> Result<(), NoMemory>
-    requires { FitsShort op.now }
-    ensures { (r : Resolution) → names_member op.now ≡ false → OnOk result (out.new ≡ out.old
-        ++ written_short r (place_of places.now) op.now ++ Op card.s2i ∷ []) }
+    requires { gives_word op.now ≡ true }
+    ensures { (f : Words) (r : Resolution) (b : TableRow) (here : ℕ) → OnOk result (out.new ≡ out.old
+        ++ written f r (place_of places.now) b here op.now) }
 {
     put_plain(out, alloc, places, op)?;
     out.push(NInsn::Op(card::S2I))
@@ -126,9 +141,9 @@ fn put_cut(
     places: &Places<'_>,
     op: &JOp,
 ) -> Result<(), NoMemory>
-    requires { FitsShort op.now }
-    ensures { (r : Resolution) → names_member op.now ≡ false → OnOk result (out.new ≡ out.old
-        ++ Op card.i2s ∷ written_short r (place_of places.now) op.now) }
+    requires { takes_word op.now ≡ true }
+    ensures { (f : Words) (r : Resolution) (b : TableRow) (here : ℕ) → OnOk result (out.new ≡ out.old
+        ++ written f r (place_of places.now) b here op.now) }
 {
     out.push(NInsn::Op(card::I2S))?;
     put_plain(out, alloc, places, op)
@@ -174,6 +189,6 @@ pub(crate) fn put(
         JOp::ArrayLength | JOp::InstanceOf(_) => put_wide(out, alloc, places, op),
         JOp::NewArray(_) | JOp::ANewArray(_) => put_cut(out, alloc, places, op),
         JOp::Nop | JOp::Null | JOp::Goto(_) | JOp::New(_) | JOp::Throw | JOp::CheckCast(_) =>
-            put_plain(out, alloc, places, op),
+            put_same(out, alloc, places, op),
     }
 }

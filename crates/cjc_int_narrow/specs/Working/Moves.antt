@@ -14,6 +14,10 @@ use Rattle.cjc_int_narrow.specs.declared.kinds.Kept.{Kept}
 abbrev pub kept_as : Sort → Kept
 kept_as sort = record { is_short = is_short sort; is_reference = is_reference sort; words = width sort }
 
+-- how a receiver is kept
+abbrev pub receiver_kept : Kept
+receiver_kept = record { is_short = false; is_reference = true; words = 1 }
+
 -- the load of a value so kept
 abbrev pub loaded : Kept → (word : ℕ) → List NInsn
 loaded k word = if k.is_short then local card.sload_0 card.sload word else loads k.is_reference word

@@ -16,6 +16,6 @@ invariant-loop-k l =
       from : l.from ++ sources l.frame r (reached_by (drop l.k l.insns) (drop l.k l.befores))
           (places_by l.k (drop l.k l.insns) (drop l.k l.befores))
           ≡ l.fn.from ++ sources l.frame r (reached_by l.insns l.befores) (places_by 0 l.insns l.befores);
-      starts : l.starts ++ starts l.frame r (length l.out) (drop l.k l.insns) (drop l.k l.befores)
-          ≡ l.fn.starts ++ starts l.frame r (length l.fn.out) l.insns l.befores;
+      starts : l.counts ++ starts l.frame r (length l.out) (drop l.k l.insns) (drop l.k l.befores)
+          ≡ l.fn.counts ++ starts l.frame r (length l.fn.out) l.insns l.befores;
     }

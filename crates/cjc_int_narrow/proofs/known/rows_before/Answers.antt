@@ -29,7 +29,7 @@ loop-place-preserved c =
           c.loop-place.invariant.frames c.frame.ensures)
           (subst (λ (s : Walking RangeState). slice_get s.rows s.at ≡ Some c.row.result.now)
           c.loop-place.invariant.ranges c.row.ensures)
-          c.loop-place.rows _ _ _ c.in_ok-push.ensures c.in_ok-before_at.ensures c.loop-place.invariant.known;
+          c.loop-place.rows _ _ _ c.in_ok-push.ensures.ok c.in_ok-before_at.ensures c.loop-place.invariant.known;
     }
 
 pub returns : goal.returns
