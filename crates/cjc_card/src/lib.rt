@@ -2,10 +2,30 @@
 #![tactic(auto)]
 
 // Lower crates, for those above.
-pub use cjc_card_calls::{check_index, check_rules};
-pub use cjc_card_frame as card_frame;
-pub use cjc_card_semantics::export_file;
-pub use cjc_script as script;
+/// What crates above take of check_index.
+pub mod check_index {
+    pub use cjc_card_calls::check_index::lookup;
+}
+
+/// What crates above take of check_rules.
+pub mod check_rules {
+    pub use cjc_card_calls::check_rules::consistent_where_unbroken;
+}
+
+/// What crates above take of cjc_card_frame.
+pub mod card_frame {
+    pub use cjc_card_frame::parts;
+}
+
+/// What crates above take of export_file.
+pub mod export_file {
+    pub use cjc_card_semantics::export_file::ExportTree;
+}
+
+/// What crates above take of cjc_script.
+pub mod script {
+    pub use cjc_script::{Report, Script};
+}
 
 pub mod acts;
 pub mod group;

@@ -2,7 +2,10 @@
 #![tactic(auto)]
 
 // Lower crates, for those above.
-pub use cjc_frames as frames;
+/// What crates above take of cjc_frames.
+pub mod frames {
+    pub use cjc_frames::{Act, Given, Need, Read, Subtypes};
+}
 
 pub mod described;
 pub mod rows;

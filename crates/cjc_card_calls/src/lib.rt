@@ -2,9 +2,25 @@
 #![tactic(auto)]
 
 // Lower crates, for those above.
-pub use cjc_card_frame as card_frame;
-pub use cjc_card_link as card_link;
-pub use cjc_card_link::{check_index, check_rules};
+/// What crates above take of cjc_card_frame.
+pub mod card_frame {
+    pub use cjc_card_frame::{fetch, heap, opcodes};
+}
+
+/// What crates above take of cjc_card_link.
+pub mod card_link {
+    pub use cjc_card_link::{ClassNames, FieldName, Part, Tables};
+}
+
+/// What crates above take of check_index.
+pub mod check_index {
+    pub use cjc_card_link::check_index::lookup;
+}
+
+/// What crates above take of check_rules.
+pub mod check_rules {
+    pub use cjc_card_link::check_rules::consistent_where_unbroken;
+}
 
 pub mod calls;
 pub mod files;

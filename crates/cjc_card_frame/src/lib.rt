@@ -2,8 +2,15 @@
 #![tactic(auto)]
 
 // Lower crates, for those above.
-pub use cjc_jvm_step as jvm_step;
-pub use cjc_jvm_step::classfile;
+/// What crates above take of cjc_jvm_step.
+pub mod jvm_step {
+    pub use cjc_jvm_step::{frame, heap, step};
+}
+
+/// What crates above take of classfile.
+pub mod classfile {
+    pub use cjc_jvm_step::classfile::{ClassTree, FieldTree, MethodTree};
+}
 
 pub mod fetch;
 pub mod frame;

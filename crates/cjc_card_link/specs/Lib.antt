@@ -9,9 +9,9 @@ pub mod Walks
 pub mod MetClasses
 pub mod Climbs
 -- Definitions of lower crates, for those above.
-pub use Rattle.cjc_card_frame.specs.ClassFile as ClassFile
-pub use Rattle.cjc_capread.specs as CapRead
-pub use Rattle.cjc_check_index.specs.CheckRules as CheckRules
-pub use Rattle.cjc_check_index.specs as CheckIndex
-pub use Rattle.cjc_card_semantics.specs as CardSemantics
-pub use Rattle.cjc_card_frame.specs as CardFrame
+pub mod ClassFile
+pub mod CapRead
+pub mod CheckRules
+pub mod CheckIndex
+pub mod CardSemantics
+pub mod CardFrame

@@ -1,1 +1,3 @@
 pub mod Fetching
+pub mod Keys
+pub mod Upwards

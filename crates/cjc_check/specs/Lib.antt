@@ -5,5 +5,5 @@ pub mod Order
 pub mod Codes
 pub mod Jumps
 -- Definitions of lower crates, for those above.
-pub use Rattle.cjc_check_rules.specs.ExportFile as ExportFile
-pub use Rattle.cjc_check_rules.specs as CheckRules
+pub mod ExportFile
+pub mod CheckRules

@@ -3,8 +3,10 @@
 #![tactic(auto)]
 
 // Lower crates, for those above.
-pub use cjc_check_rules::export_file;
-pub use cjc_check_tables::check_index;
+/// What crates above take of export_file.
+pub mod export_file {
+    pub use cjc_check_rules::export_file::{ExportTree, read};
+}
 
 mod checked;
 mod coded;

@@ -6,4 +6,4 @@ pub mod Consistent
 pub mod Made
 pub mod Limits
 -- Definitions of lower crates, for those above.
-pub use Rattle.cjc_pool.specs as Pool
+pub mod Pool

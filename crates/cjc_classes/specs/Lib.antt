@@ -5,11 +5,11 @@ pub mod Descriptor
 pub mod Entries
 pub mod Walks
 -- Definitions of lower crates, for those above.
-pub use Rattle.cjc_bytes.specs as Bytes
-pub use Rattle.cjc_capread.specs as CapRead
-pub use Rattle.cjc_world.specs as World
+pub mod Bytes
+pub mod CapRead
+pub mod World
 pub use Rattle.cjc_components.specs.ClassOrder as ClassOrder
 pub use Rattle.cjc_components.specs.Subset as Subset
-pub use Rattle.cjc_tokens.specs as Tokens
+pub mod Tokens
 pub use Rattle.cjc_components.specs.Clinit as Clinit
-pub use Rattle.cjc_components.specs as Components
+pub mod Components

@@ -3,11 +3,32 @@
 #![tactic(auto)]
 
 // Lower crates, for those above.
-pub use cjc_bytes as bytes;
-pub use cjc_capread as capread;
+/// What crates above take of cjc_bytes.
+pub mod bytes {
+    pub use cjc_bytes::{
+        Break, Bytes, Fault, FileKey, MemberId, NoMemory, Part, PlaceRef, Row, RulePlace, answer,
+        is_interface, is_static,
+    };
+}
+
+/// What crates above take of cjc_capread.
+pub mod capread {
+    pub use cjc_capread::{
+        CapTree, ClassRef, ConstantPool, Descriptor, Directory, Export, Header, Method,
+        ReferenceLocation, readings,
+    };
+}
+
 pub use cjc_components::class_order;
-pub use cjc_tokens as tokens;
-pub use cjc_world as world;
+/// What crates above take of cjc_tokens.
+pub mod tokens {
+    pub use cjc_tokens::{Slot, Tokens, interface_methods};
+}
+
+/// What crates above take of cjc_world.
+pub mod world {
+    pub use cjc_world::{Found, Known, StaticImage, ValueCell, World};
+}
 
 pub mod class_info;
 pub mod descriptor;

@@ -1,5 +1,5 @@
 pub mod Folder
 pub mod Check
 -- Definitions of lower crates, for those above.
-pub use Rattle.cjc_shelf.specs as Shelf
-pub use Rattle.cjc_capread.specs as CapRead
+pub mod Shelf
+pub mod CapRead

@@ -2,9 +2,20 @@
 #![tactic(auto)]
 
 // Lower crates, for those above.
-pub use cjc_capread as capread;
-pub use cjc_check as check;
-pub use cjc_shelf as shelf;
+/// What crates above take of cjc_capread.
+pub mod capread {
+    pub use cjc_capread::{CapTree, Export, ExportedClass};
+}
+
+/// What crates above take of cjc_check.
+pub mod check {
+    pub use cjc_check::{Checked, check};
+}
+
+/// What crates above take of cjc_shelf.
+pub mod shelf {
+    pub use cjc_shelf::{Shelf, command};
+}
 
 pub mod checking;
 pub mod folder;

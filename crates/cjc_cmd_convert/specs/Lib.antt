@@ -2,7 +2,7 @@ pub mod Conversion
 pub mod Publication
 -- Definitions of lower crates, for those above.
 pub use Rattle.cjc_convert.specs.List as List
-pub use Rattle.cjc_theorem.specs.ClassFile as ClassFile
-pub use Rattle.cjc_theorem.specs.Bytecode as Bytecode
-pub use Rattle.cjc_convert.specs.ExportFile as ExportFile
-pub use Rattle.cjc_theorem.specs.Script as Script
+pub mod ClassFile
+pub mod Bytecode
+pub mod ExportFile
+pub mod Script

@@ -3,7 +3,15 @@
 
 // Lower crates, for those above.
 pub use cjc_convert::check_rules;
-pub use cjc_theorem::{bytecode, script};
+/// What crates above take of bytecode.
+pub mod bytecode {
+    pub use cjc_theorem::bytecode::jvm;
+}
+
+/// What crates above take of script.
+pub mod script {
+    pub use cjc_theorem::script::{Note, Report, Value};
+}
 
 pub mod conversion;
 pub mod publication;

@@ -2,8 +2,15 @@
 #![tactic(auto)]
 
 // Lower crates, for those above.
-pub use cjc_script_text as script_text;
-pub use cjc_shelf as shelf;
+/// What crates above take of cjc_script_text.
+pub mod script_text {
+    pub use cjc_script_text::{print, read};
+}
+
+/// What crates above take of cjc_shelf.
+pub mod shelf {
+    pub use cjc_shelf::{Shelf, command};
+}
 
 pub mod report;
 pub mod running;

@@ -1,5 +1,5 @@
 pub mod Reads
 pub mod Verify
 pub mod Working
+
 -- Definitions of lower crates, for those above.
-pub use Rattle.cjc_verify.specs as Typing

@@ -12,19 +12,19 @@ pub mod ExportFile
 pub mod Limits
 pub mod Paired
 -- Definitions of lower crates, for those above.
-pub use Rattle.cjc_list.specs as List
-pub use Rattle.cjc_narrow.specs.Script as Script
-pub use Rattle.cjc_capwrite.specs.CapRead as CapRead
-pub use Rattle.cjc_capwrite.specs as CapWrite
-pub use Rattle.cjc_vtable.specs.ClassOrder as ClassOrder
-pub use Rattle.cjc_vtable.specs.Subset as Subset
-pub use Rattle.cjc_vtable.specs.Tokens as Tokens
-pub use Rattle.cjc_vtable.specs as VTable
-pub use Rattle.cjc_clinit.specs as Clinit
-pub use Rattle.cjc_check_rules.specs as CheckRules
-pub use Rattle.cjc_narrow.specs.CardSemantics as CardSemantics
-pub use Rattle.cjc_narrow.specs.NCode as NCode
-pub use Rattle.cjc_narrow.specs.JvmSemantics as JvmSemantics
-pub use Rattle.cjc_narrow.specs as Narrow
-pub use Rattle.cjc_emit.specs.Layout as Layout
-pub use Rattle.cjc_emit.specs as Emit
+pub mod List
+pub mod Script
+pub mod CapRead
+pub mod CapWrite
+pub mod ClassOrder
+pub mod Subset
+pub mod Tokens
+pub mod VTable
+pub mod Clinit
+pub mod CheckRules
+pub mod CardSemantics
+pub mod NCode
+pub mod JvmSemantics
+pub mod Narrow
+pub mod Layout
+pub mod Emit

@@ -5,16 +5,69 @@
 #![tactic(auto)]
 
 // Lower crates, for those above.
-pub use cjc_capwrite as capwrite;
-pub use cjc_capwrite::capread;
-pub use cjc_check_rules as check_rules;
-pub use cjc_emit as emit;
-pub use cjc_emit::layout;
-pub use cjc_list as list;
-pub use cjc_narrow as narrow;
-pub use cjc_narrow::ncode;
-pub use cjc_vtable as vtable;
-pub use cjc_vtable::{class_order, subset, tokens};
+/// What crates above take of cjc_capwrite.
+pub mod capwrite {
+    pub use cjc_capwrite::{CapFiles, broken_limit, size, write};
+}
+
+/// What crates above take of capread.
+pub mod capread {
+    pub use cjc_capwrite::capread::{
+        ClassDescriptor, ClassEntry, ClassRef, Export, ExportedClass, FieldPlace, MethodDescriptor,
+    };
+}
+
+/// What crates above take of cjc_check_rules.
+pub mod check_rules {
+    pub use cjc_check_rules::consistent_where_unbroken;
+}
+
+/// What crates above take of cjc_emit.
+pub mod emit {
+    pub use cjc_emit::{MethodBytes, PoolLookup, emit};
+}
+
+/// What crates above take of layout.
+pub mod layout {
+    pub use cjc_emit::layout::{
+        Handler, Layout, lay, layouts_are_laid_out, order_changes_no_search,
+    };
+}
+
+/// What crates above take of cjc_list.
+pub mod list {
+    pub use cjc_list::List;
+}
+
+/// What crates above take of cjc_narrow.
+pub mod narrow {
+    pub use cjc_narrow::{keys, select};
+}
+
+/// What crates above take of ncode.
+pub mod ncode {
+    pub use cjc_narrow::ncode::PoolKey;
+}
+
+/// What crates above take of cjc_vtable.
+pub mod vtable {
+    pub use cjc_vtable::{ClassTable, ClassTables, InterfaceMap, tables};
+}
+
+/// What crates above take of class_order.
+pub mod class_order {
+    pub use cjc_vtable::class_order::{classes, supers};
+}
+
+/// What crates above take of subset.
+pub mod subset {
+    pub use cjc_vtable::subset::is_int_desc;
+}
+
+/// What crates above take of tokens.
+pub mod tokens {
+    pub use cjc_vtable::tokens::Tokens;
+}
 
 pub mod paired;
 

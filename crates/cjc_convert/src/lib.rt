@@ -4,7 +4,12 @@
 #![tactic(auto)]
 
 // Lower crates, for those above.
-pub use cjc_captree::{capread, capwrite, check_rules, list};
+/// What crates above take of capread.
+pub mod capread {
+    pub use cjc_captree::capread::readings;
+}
+
+pub use cjc_captree::{capwrite, check_rules, list};
 
 mod building;
 mod conversion;

@@ -3,4 +3,4 @@ pub mod Worked
 pub mod Working
 pub mod Said
 -- Definitions of lower crates, for those above.
-pub use Rattle.cjc_layout.specs as Layout
+pub mod Layout

@@ -4,7 +4,10 @@
 #![tactic(auto)]
 
 // Lower crates, for those above.
-pub use cjc_layout as layout;
+/// What crates above take of cjc_layout.
+pub mod layout {
+    pub use cjc_layout::{Handler, Layout, lay, layouts_are_laid_out, order_changes_no_search};
+}
 
 pub mod emit_laws;
 

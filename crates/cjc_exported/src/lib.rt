@@ -2,7 +2,10 @@
 #![tactic(auto)]
 
 // Lower crates, for those above.
-pub use cjc_tokens as tokens;
+/// What crates above take of cjc_tokens.
+pub mod tokens {
+    pub use cjc_tokens::Tokens;
+}
 
 pub mod export_file;
 pub mod export_laws;

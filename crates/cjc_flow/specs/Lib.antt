@@ -4,6 +4,6 @@ pub mod Tables
 pub mod Working
 pub mod Tests
 -- Definitions of lower crates, for those above.
-pub use Rattle.cjc_fixpoint.specs as Fixpoint
-pub use Rattle.cjc_types.specs as Types
-pub use Rattle.cjc_intervals.specs as Intervals
+pub mod Fixpoint
+pub mod Types
+pub mod Intervals

@@ -3,7 +3,13 @@
 #![tactic(auto)]
 
 // Lower crates, for those above.
-pub use cjc_types as types;
+/// What crates above take of cjc_types.
+pub mod types {
+    pub use cjc_types::{
+        Cell, Frame, InferError, Method, Operands, TypeTable, TypeWalk, bytecode, infer_method,
+        world,
+    };
+}
 
 mod arrival;
 mod elements;

@@ -3,4 +3,4 @@
 mod passing;
 mod rules;
 
-pub use passing::passes;
+pub use passing::{Tested, first_broken, passes};

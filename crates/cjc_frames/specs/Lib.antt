@@ -6,4 +6,4 @@ pub mod Tables
 pub mod Search
 pub mod Working
 -- Definitions of lower crates, for those above.
-pub use Rattle.cjc_types.specs as LowerTypes
+pub mod LowerTypes

@@ -1,5 +1,3 @@
-pub mod Lowest
-pub mod First
 pub mod Words
 pub mod Pairs
 pub mod Named

@@ -1,22 +1,18 @@
 -- The mode of a method. In int mode every number is two words with its whole value of 32 bits; in short mode it is the
 -- one word that its low half is.
-use Rattle.std.specs.Prelude.{◌≡◌, ℕ, Bool, true, not, ◌==◌, ◌&&◌, ◌||◌, nat_le, List, Option}
+use Rattle.std.specs.Prelude.{◌≡◌, ℕ, Bool, true, not, ◌||◌, List, Option}
 use Rattle.std.specs.List.{list_any}
 use Rattle.cjc_flow.specs.Types.declared.state.State.{State}
 use Rattle.cjc_flow.specs.Types.Flow.{Body}
 use Rattle.cjc_flow.specs.Intervals.Frames.{RangeState}
 use Rattle.cjc_flow.specs.Intervals.Tables.{Breach}
+use Rattle.cjc_flow.specs.Tests.Breaches.{is_of_low_word}
 use Rattle.cjc_subset.specs.Ints.{works_on_int}
 use Rattle.cjc_subset.specs.Types.{is_int_desc}
 use Rattle.cjc_int_mode.specs.declared.modes.Mode.{Mode}
 use Rattle.cjc_int_mode.specs.declared.modes.Mode.TheVariants as modes
 
 -- ---- rules by mode
-
--- Where a number is its low word alone: 601 bounds operands of comparisons, 602 of divisions, 603 of shifts to the
--- right, 604 of switches, and 606 indices of arrays.
-abbrev pub is_of_low_word : (rule : ℕ) → Bool
-is_of_low_word rule = (nat_le 601 rule && nat_le rule 604) || (rule == 606)
 
 -- Whether one of 601 to 609 binds a method of this mode. 605 and 607 to 609 bind every method: of a count of elements,
 -- and of a value of type short, byte or boolean, one word is kept in int mode too.

@@ -13,8 +13,8 @@ ghost use Rattle.cjc_flow.specs.Tables.{IsRangeTable, ranges_of};
 ghost use Rattle.cjc_int_mode.specs.Modes.{IsModeOf, names_int};
 
 use crate::modes::Mode;
-use crate::search::{Tested, first_broken};
 use cjc_bytes::NoMemory;
+use cjc_flow::tests::{Tested, first_broken};
 use cjc_flow::types::TypeTable;
 use cjc_flow::types::bytecode::MethodCode;
 use cjc_flow::types::world::World;

@@ -15,7 +15,7 @@ ghost use Rattle.cjc_subset.specs.Ints.{code_works_on_int};
 ghost use Rattle.cjc_ncode.specs.Written.{Resolution};
 ghost use Rattle.cjc_int_mode.specs.declared.modes.Mode.{Mode as Modes};
 ghost use Rattle.cjc_int_mode.specs.declared.modes.Mode.TheVariants as modes;
-ghost use Rattle.cjc_int_mode.specs.Breaches.{NoBreach};
+ghost use Rattle.cjc_flow.specs.Tests.Breaches.{NoBreach};
 ghost use Rattle.cjc_int_mode.specs.Modes.{IsModeOf, binds, names_int};
 ghost use Rattle.cjc_int_mode.specs.Written.{argument_words, local_words, stack_words, written_in_int_mode};
 

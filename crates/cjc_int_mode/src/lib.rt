@@ -7,17 +7,12 @@
 #![tactic(auto)]
 
 // Lower crates, for those above.
-pub use cjc_flow as flow;
-pub use cjc_ncode as ncode;
-pub use cjc_subset as subset;
 
 mod choosing;
 pub mod descriptors;
 pub mod laws;
 pub mod modes;
 mod passing;
-mod rules;
-mod search;
 mod space;
 
 pub use choosing::mode;

@@ -1,6 +1,6 @@
 //! The first number of a method that may not lie where the rules that bind its mode need it.
 
-ghost use Rattle.std.specs.Prelude.{◌≡◌, Option, ℤ, IfOk};
+ghost use Rattle.std.specs.Prelude.{◌≡◌, ℕ, Option, ℤ, IfOk};
 ghost use Rattle.cjc_bytes.specs.declared.fault.MemberId.{MemberId as Field};
 ghost use Rattle.cjc_flow.specs.Types.ClassFile.Code.{CodeTree};
 ghost use Rattle.cjc_flow.specs.Types.ClassFile.declared.tree.ClassTree.{ClassTree as ClassFile};
@@ -10,17 +10,27 @@ ghost use Rattle.cjc_flow.specs.Types.Flow.{body_of};
 ghost use Rattle.cjc_flow.specs.Types.Tables.{IsMethodOf, IsOfPackage, IsTypeTable, rows_of};
 ghost use Rattle.cjc_flow.specs.Constants.{AreNumbers, values_of};
 ghost use Rattle.cjc_flow.specs.Tables.{IsRangeTable, ranges_of};
-ghost use Rattle.cjc_int_mode.specs.Breaches.{IsFound};
+ghost use Rattle.cjc_flow.specs.Tests.Breaches.{IsFound, is_tested};
 ghost use Rattle.cjc_int_mode.specs.Modes.{binds};
 
 use crate::modes::Mode;
-use crate::search::{Tested, first_broken};
 use cjc_bytes::{BrokenAt, NoMemory};
+use cjc_flow::tests::{Tested, first_broken};
 use cjc_flow::types::TypeTable;
 use cjc_flow::types::bytecode::MethodCode;
 use cjc_flow::types::world::World;
-use cjc_flow::{RangeTable, Ranging, tests};
+use cjc_flow::{RangeTable, Ranging};
 use std::alloc::Global;
+
+/// The rules that bind a mode.
+fn tested_by(mode: Mode) -> Tested
+    ensures { (rule : ℕ) → is_tested result rule ≡ binds mode rule }
+{
+    match mode {
+        Mode::Short => Tested::All,
+        Mode::Int => Tested::Values,
+    }
+}
 
 /// The first number of a method that may not lie where its instruction needs it, by the instructions' order and then
 /// by the rule, with the offset of the instruction in bytes: 601 to 609, and in int mode 605 and 607 to 609 alone.
@@ -53,8 +63,5 @@ pub fn passes(
         (rows_of (body_of c m t code.now.insns) types.now) (ranges_of (body_of c m t code.now.insns) constant
         (rows_of (body_of c m t code.now.insns) types.now) table.now.marks table.now.rows)) }
 {
-    match mode {
-        Mode::Short => tests::passes(alloc, world, code, types, ranging, table),
-        Mode::Int => first_broken(alloc, Tested::Values, world, code, types, ranging, table),
-    }
+    first_broken(alloc, tested_by(mode), world, code, types, ranging, table)
 }

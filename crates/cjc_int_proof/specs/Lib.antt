@@ -1,5 +1,5 @@
 pub mod Walks
 pub mod LongRuns
 pub mod Labels
+
 -- Definitions of lower crates, for those above.
-pub use Rattle.cjc_ncode.specs as NCode

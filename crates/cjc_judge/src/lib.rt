@@ -3,9 +3,20 @@
 #![tactic(auto)]
 
 // Lower crates, for those above.
-pub use cjc_bytes as bytes;
-pub use cjc_list as list;
-pub use cjc_world as world;
+/// What crates above take of cjc_bytes.
+pub mod bytes {
+    pub use cjc_bytes::{Bytes, Fault, NoMemory, Row};
+}
+
+/// What crates above take of cjc_list.
+pub mod list {
+    pub use cjc_list::{List, read_list};
+}
+
+/// What crates above take of cjc_world.
+pub mod world {
+    pub use cjc_world::StaticImage;
+}
 
 mod groups;
 mod judged;

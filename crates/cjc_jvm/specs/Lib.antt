@@ -2,4 +2,4 @@ pub mod Acts
 pub mod States
 pub mod Runs
 -- Definitions of lower crates, for those above.
-pub use Rattle.cjc_jvm_semantics.specs as JvmSemantics
+pub mod JvmSemantics

@@ -6,4 +6,4 @@ pub mod Keys
 pub mod Starts
 pub mod Working
 -- Definitions of lower crates, for those above.
-pub use Rattle.cjc_world.specs as World
+pub mod World

@@ -3,7 +3,10 @@
 #![tactic(auto)]
 
 // Lower crates, for those above.
-pub use cjc_world as world;
+/// What crates above take of cjc_world.
+pub mod world {
+    pub use cjc_world::StaticImage;
+}
 
 mod calls;
 mod cells;

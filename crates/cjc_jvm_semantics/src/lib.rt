@@ -36,10 +36,25 @@ ghost use Rattle.cjc_jvm_semantics.specs.Worked.{both, app_package, a_b, an_a, r
 ghost use Rattle.cjc_jvm_semantics.specs.Worked.{arrays_with};
 ghost use Rattle.cjc_jvm_semantics.specs.Wallet.{wallet_package, wallet_script, wallet_report};
 
-pub use cjc_code as bytecode;
-pub use cjc_code::classfile;
-pub use cjc_script as script;
-pub use cjc_world as world;
+/// What crates above take of cjc_code.
+pub mod bytecode {
+    pub use cjc_code::{JCase, JInsn, JOp, MethodCode, jvm};
+}
+
+/// What crates above take of classfile.
+pub mod classfile {
+    pub use cjc_code::classfile::{Catch, ClassTree, FieldTree, MethodTree};
+}
+
+/// What crates above take of cjc_script.
+pub mod script {
+    pub use cjc_script::{FieldValue, Value};
+}
+
+/// What crates above take of cjc_world.
+pub mod world {
+    pub use cjc_world::{Found, Known, World};
+}
 
 /// For every record of look-ups and every script: a run that is over stays as it is, however many instructions
 /// it is given, and no note is taken back.

@@ -2,7 +2,10 @@
 #![tactic(auto)]
 
 // Lower crates, for those above.
-pub use cjc_jvm_semantics::classfile;
+/// What crates above take of classfile.
+pub mod classfile {
+    pub use cjc_jvm_semantics::classfile::{ClassTree, FieldTree, MethodTree};
+}
 
 pub mod frame;
 pub mod heap;

@@ -5,8 +5,15 @@
 
 // Lower crates, for those above.
 pub use cjc_components::class_order;
-pub use cjc_ncode as ncode;
-pub use cjc_pool as pool;
+/// What crates above take of cjc_ncode.
+pub mod ncode {
+    pub use cjc_ncode::{NMethod, PoolKey};
+}
+
+/// What crates above take of cjc_pool.
+pub mod pool {
+    pub use cjc_pool::{Pool, build};
+}
 
 mod codes;
 pub mod component;

@@ -2,9 +2,20 @@
 #![tactic(auto)]
 
 // Lower crates, for those above.
-pub use cjc_bytes as bytes;
-pub use cjc_jvm_semantics::world;
-pub use cjc_ncode as ncode;
+/// What crates above take of cjc_bytes.
+pub mod bytes {
+    pub use cjc_bytes::{Fault, MemberId, NoMemory, Row, RulePlace, answer, broken};
+}
+
+/// What crates above take of world.
+pub mod world {
+    pub use cjc_jvm_semantics::world::World;
+}
+
+/// What crates above take of cjc_ncode.
+pub mod ncode {
+    pub use cjc_ncode::{NInsn, NMethod, PoolKey};
+}
 
 pub mod keys;
 pub mod rows;

@@ -5,11 +5,11 @@ pub mod Selected
 pub mod Laws
 pub mod Sources
 -- Definitions of lower crates, for those above.
-pub use Rattle.cjc_range.specs as Range
-pub use Rattle.cjc_code.specs as Bytecode
-pub use Rattle.cjc_subset.specs as Subset
-pub use Rattle.cjc_types.specs as Types
-pub use Rattle.cjc_intervals.specs as Intervals
-pub use Rattle.cjc_jvm_semantics.specs as JvmSemantics
-pub use Rattle.cjc_narrow.specs as Narrow
-pub use Rattle.cjc_emit.specs as Emit
+pub mod Range
+pub mod Bytecode
+pub mod Subset
+pub mod Types
+pub mod Intervals
+pub mod JvmSemantics
+pub mod Narrow
+pub mod Emit

@@ -2,10 +2,25 @@
 #![tactic(auto)]
 
 // Lower crates, for those above.
-pub use cjc_emit as emit;
-pub use cjc_intervals as intervals;
-pub use cjc_subset as subset;
-pub use cjc_types as types;
+/// What crates above take of cjc_emit.
+pub mod emit {
+    pub use cjc_emit::emit_laws;
+}
+
+/// What crates above take of cjc_intervals.
+pub mod intervals {
+    pub use cjc_intervals::range_laws;
+}
+
+/// What crates above take of cjc_subset.
+pub mod subset {
+    pub use cjc_subset::any_works_on_int;
+}
+
+/// What crates above take of cjc_types.
+pub mod types {
+    pub use cjc_types::State;
+}
 
 pub mod laws;
 pub mod names;

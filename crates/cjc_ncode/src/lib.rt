@@ -4,9 +4,30 @@
 #![tactic(auto)]
 
 // Lower crates, for those above.
-pub use cjc_card_semantics::{capread, export_file};
-pub use cjc_code as bytecode;
-pub use cjc_code::{bytes, classfile};
+/// What crates above take of capread.
+pub mod capread {
+    pub use cjc_card_semantics::capread::{Handler, Method, ReferenceLocation, card, op};
+}
+
+/// What crates above take of export_file.
+pub mod export_file {
+    pub use cjc_card_semantics::export_file::{ExportClass, ExportTree, may_be_constant};
+}
+
+/// What crates above take of cjc_code.
+pub mod bytecode {
+    pub use cjc_code::{JCase, JInsn, JOp, jvm};
+}
+
+/// What crates above take of bytes.
+pub mod bytes {
+    pub use cjc_code::bytes::{Bytes, Fault, MemberId, NoMemory, Part, PlaceRef, Row, refused_at};
+}
+
+/// What crates above take of classfile.
+pub mod classfile {
+    pub use cjc_code::classfile::{Catch, ClassTree, Code, MethodTree};
+}
 
 pub mod int_code;
 pub mod lowering;

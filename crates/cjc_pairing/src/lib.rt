@@ -4,7 +4,10 @@
 #![tactic(auto)]
 
 // Lower crates, for those above.
-pub use cjc_card_link as card_link;
+/// What crates above take of cjc_card_link.
+pub mod card_link {
+    pub use cjc_card_link::{ClassNames, Part};
+}
 
 mod breaks;
 pub mod card_names;

@@ -2,9 +2,20 @@
 #![tactic(auto)]
 
 // Lower crates, for those above.
-pub use cjc_exported as exported;
-pub use cjc_judge as judge;
-pub use cjc_methods as methods;
+/// What crates above take of cjc_exported.
+pub mod exported {
+    pub use cjc_exported::{export_file, export_laws};
+}
+
+/// What crates above take of cjc_judge.
+pub mod judge {
+    pub use cjc_judge::{Group, Judged, judge};
+}
+
+/// What crates above take of cjc_methods.
+pub mod methods {
+    pub use cjc_methods::methods_can_be_laid_out;
+}
 
 pub mod judged;
 pub mod prepared;

@@ -1,13 +1,13 @@
 pub mod Whole
 pub mod Written
 -- Definitions of lower crates, for those above.
-pub use Rattle.cjc_bytes.specs as Bytes
-pub use Rattle.cjc_classfile.specs as ClassFile
-pub use Rattle.cjc_export.specs as ExportFile
-pub use Rattle.cjc_tokens.specs as Tokens
-pub use Rattle.cjc_ncode.specs as NCode
-pub use Rattle.cjc_classes.specs as Classes
-pub use Rattle.cjc_shape.specs.Methods as Methods
-pub use Rattle.cjc_check_proof.specs as CheckProof
-pub use Rattle.cjc_shape.specs.Judge as Judge
-pub use Rattle.cjc_shape.specs as Shape
+pub mod Bytes
+pub mod ClassFile
+pub mod ExportFile
+pub mod Tokens
+pub mod NCode
+pub mod Classes
+pub mod Methods
+pub mod CheckProof
+pub mod Judge
+pub mod Shape

@@ -2,12 +2,35 @@
 #![tactic(auto)]
 
 // Lower crates, for those above.
-pub use cjc_bytes as bytes;
-pub use cjc_check_proof as check_proof;
-pub use cjc_export as export_file;
-pub use cjc_ncode as ncode;
-pub use cjc_shape as shape;
-pub use cjc_shape::judge;
+/// What crates above take of cjc_bytes.
+pub mod bytes {
+    pub use cjc_bytes::{Bytes, Fault, NoMemory, Row, answer};
+}
+
+/// What crates above take of cjc_check_proof.
+pub mod check_proof {
+    pub use cjc_check_proof::{consistent, flags};
+}
+
+/// What crates above take of cjc_export.
+pub mod export_file {
+    pub use cjc_export::write;
+}
+
+/// What crates above take of cjc_ncode.
+pub mod ncode {
+    pub use cjc_ncode::{NMethod, PoolKey};
+}
+
+/// What crates above take of cjc_shape.
+pub mod shape {
+    pub use cjc_shape::whole;
+}
+
+/// What crates above take of judge.
+pub mod judge {
+    pub use cjc_shape::judge::{Group, Judged, judge};
+}
 
 pub mod finds;
 pub mod writing;

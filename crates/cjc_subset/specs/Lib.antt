@@ -11,8 +11,8 @@ pub mod Checks
 pub mod Ints
 pub mod Working
 -- Definitions of lower crates, for those above.
-pub use Rattle.cjc_code.specs.Range as Range
-pub use Rattle.cjc_code.specs.ClassFile as ClassFile
-pub use Rattle.cjc_code.specs as Bytecode
-pub use Rattle.cjc_world.specs.ExportFile as ExportFile
-pub use Rattle.cjc_world.specs as World
+pub mod Range
+pub mod ClassFile
+pub mod Bytecode
+pub mod ExportFile
+pub mod World

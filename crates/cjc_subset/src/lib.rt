@@ -3,11 +3,30 @@
 #![tactic(auto)]
 
 // Lower crates, for those above.
-pub use cjc_bytes as bytes;
-pub use cjc_code as bytecode;
-pub use cjc_code::classfile;
-pub use cjc_world as world;
-pub use cjc_world::export_file;
+/// What crates above take of cjc_bytes.
+pub mod bytes {
+    pub use cjc_bytes::{Bytes, Fault, FileLine, NoMemory, Row, Settings};
+}
+
+/// What crates above take of cjc_code.
+pub mod bytecode {
+    pub use cjc_code::{Codes, JInsn, JOp, MethodCode, decode, jvm};
+}
+
+/// What crates above take of classfile.
+pub mod classfile {
+    pub use cjc_code::classfile::{ClassTree, FieldTree, MethodTree};
+}
+
+/// What crates above take of cjc_world.
+pub mod world {
+    pub use cjc_world::{ArrayCell, Found, StaticImage, ValueCell, World};
+}
+
+/// What crates above take of export_file.
+pub mod export_file {
+    pub use cjc_world::export_file::{may_be_constant, read};
+}
 
 mod applets;
 mod checking;

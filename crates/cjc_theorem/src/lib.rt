@@ -3,8 +3,15 @@
 #![tactic(auto)]
 
 // Lower crates, for those above.
-pub use cjc_code as bytecode;
-pub use cjc_script as script;
+/// What crates above take of cjc_code.
+pub mod bytecode {
+    pub use cjc_code::jvm;
+}
+
+/// What crates above take of cjc_script.
+pub mod script {
+    pub use cjc_script::{Note, Report, Value};
+}
 
 pub mod alike;
 pub mod fair_exports;

@@ -10,4 +10,4 @@ pub mod SlotRows
 pub mod Working
 pub mod TokenLaws
 -- Definitions of lower crates, for those above.
-pub use Rattle.cjc_fixpoint.specs as Fixpoint
+pub mod Fixpoint

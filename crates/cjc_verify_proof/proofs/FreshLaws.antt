@@ -20,9 +20,9 @@ use Rattle.cjc_card_acts.specs.CardTypes.{ValueType, Void, Boolean, Byte, Short,
 use Rattle.cjc_verify_proof.specs.Values.{IsValue, Holds}
 use Rattle.cjc_verify_proof.specs.Memories.{FieldTypes, AreSlots, SupersStand, begins_as, IsDeclared, AreDeclared}
 use Rattle.cjc_card_semantics.proofs.BytesNumbers.{number_same}
-use Rattle.cjc_verify_proof.proofs.Upwards.{Over, told_over, either_in, first_or_later, class_tells}
-use Rattle.cjc_verify_proof.proofs.Upwards as upwards
-use Rattle.cjc_verify_proof.proofs.KeyLaws.{in_front, past_front, of_other_class, of_token}
+use Rattle.cjc_card_semantics.proofs.MachineLaws.Upwards.{Over, told_over, either_in, first_or_later, class_tells}
+use Rattle.cjc_card_semantics.proofs.MachineLaws.Upwards as upwards
+use Rattle.cjc_card_semantics.proofs.MachineLaws.Keys.{in_front, past_front, of_other_class, of_token}
 use Rattle.cjc_verify_proof.proofs.OffLaws.{Off, all_off, stays_off, interface_off}
 
 -- ---- numbers of infos

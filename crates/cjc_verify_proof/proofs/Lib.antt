@@ -6,7 +6,6 @@ pub mod OperandLaws
 pub mod TestLaws
 pub mod HeapLaws
 pub mod StoreLaws
-pub mod Upwards
 pub mod TypeLaws
 pub mod GrowthLaws
 pub mod ControlLaws
@@ -20,7 +19,6 @@ pub mod TurnLaws
 pub mod InstructionLaws
 pub mod RunLaws
 pub mod OffLaws
-pub mod KeyLaws
 pub mod FreshLaws
 pub mod ImageLaws
 pub mod FirstLaws
@@ -30,3 +28,5 @@ pub mod ArrayLaws
 pub mod MadeLaws
 pub mod RowSuits
 pub mod CalleeLaws
+-- Lemmas of lower crates, for those above.
+pub use Rattle.cjc_card_semantics.proofs.MachineLaws.Upwards as Upwards

@@ -28,7 +28,7 @@ use Rattle.cjc_verify_proof.proofs.GrowthLaws.{word_stays, words_stay, locals_st
 use Rattle.cjc_verify_proof.proofs.GrowthLaws.{pushed_extends, set_extends, each_pushed, each_set, fit_pushed, held_pushed}
 use Rattle.cjc_verify_proof.proofs.GrowthLaws.{fit_set, held_set}
 use Rattle.cjc_verify_proof.proofs.HeapLaws.{goes_on}
-use Rattle.cjc_verify_proof.proofs.KeyLaws.{field_tells, put_here, put_other}
+use Rattle.cjc_card_semantics.proofs.MachineLaws.Keys.{field_tells, put_here, put_other}
 use Rattle.cjc_verify_proof.proofs.ImageLaws.{Moves, of_booleans, of_bytes, of_shorts, of_ints, of_references}
 
 -- ---- values

@@ -8,7 +8,7 @@ use Rattle.cjc_card_semantics.specs.Machine.Classes.{Class, Own, External, Info,
 use Rattle.cjc_card_semantics.specs.Machine.Classes.{class_of, info_of, is_in, is_interface, is_interface_info, is_kind_of}
 use Rattle.cjc_card_semantics.specs.Machine.Classes.{is_object, object_above, object_class, some_of, supers}
 use Rattle.cjc_verify_proof.specs.Memories.{SupersStand}
-use Rattle.cjc_verify_proof.proofs.Upwards.{Over, here, up, told_over, either_in, first_or_later}
+use Rattle.cjc_card_semantics.proofs.MachineLaws.Upwards.{Over, here, up, told_over, either_in, first_or_later}
 
 module _ (l : Loaded) (s : SupersStand l) where
   -- imported, or no class of the group

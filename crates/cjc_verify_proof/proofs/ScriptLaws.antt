@@ -32,7 +32,7 @@ use Rattle.cjc_verify_proof.specs.Growth.{Extends}
 use Rattle.cjc_verify_proof.specs.References.{IsItem, HoldsItems, AreHeld}
 use Rattle.cjc_verify_proof.specs.Frames.{Program}
 use Rattle.cjc_verify_proof.specs.Memories.{FieldTypes, AreSlots, HaveSlots, AreCells, IsMemory, SupersStand, AreDeclared}
-use Rattle.cjc_verify_proof.proofs.Upwards.{told_over}
+use Rattle.cjc_card_semantics.proofs.MachineLaws.Upwards.{told_over}
 use Rattle.cjc_verify_proof.proofs.OffLaws.{Off, all_off}
 use Rattle.cjc_verify_proof.proofs.MemoryLaws.{slots_stay, cells_stay}
 use Rattle.cjc_verify_proof.specs.Heaps.{object_is}

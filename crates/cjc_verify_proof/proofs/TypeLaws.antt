@@ -17,7 +17,7 @@ use Rattle.cjc_card_semantics.specs.Machine.Classes.{is_of}
 use Rattle.cjc_card_acts.specs.CardTypes.{shape_by, both_of, is_type_of}
 use Rattle.cjc_verify_proof.specs.Words.{IsOneOf, IsWord}
 use Rattle.cjc_verify_proof.specs.Heaps.{thing_is, object_is}
-use Rattle.cjc_verify_proof.proofs.Upwards.{kind_itself, kind_through}
+use Rattle.cjc_card_semantics.proofs.MachineLaws.Upwards.{kind_itself, kind_through}
 use Rattle.cjc_verify_proof.proofs.HeapLaws.{passes_in}
 use Rattle.cjc_card_semantics.proofs.BytesBools.{or_cases}
 

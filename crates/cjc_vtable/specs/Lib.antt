@@ -7,10 +7,10 @@ pub mod Naming
 pub mod Working
 pub mod Meant
 -- Definitions of lower crates, for those above.
-pub use Rattle.cjc_subset.specs.Range as Range
-pub use Rattle.cjc_world.specs.ClassFile as ClassFile
-pub use Rattle.cjc_subset.specs.Bytecode as Bytecode
-pub use Rattle.cjc_world.specs as World
-pub use Rattle.cjc_order.specs as ClassOrder
-pub use Rattle.cjc_subset.specs as Subset
-pub use Rattle.cjc_tokens.specs as Tokens
+pub mod Range
+pub mod ClassFile
+pub mod Bytecode
+pub mod World
+pub mod ClassOrder
+pub mod Subset
+pub mod Tokens

@@ -3,9 +3,20 @@
 #![tactic(auto)]
 
 // Lower crates, for those above.
-pub use cjc_order as class_order;
-pub use cjc_subset as subset;
-pub use cjc_tokens as tokens;
+/// What crates above take of cjc_order.
+pub mod class_order {
+    pub use cjc_order::{classes, supers};
+}
+
+/// What crates above take of cjc_subset.
+pub mod subset {
+    pub use cjc_subset::{class_spot, first_broken, is_int_desc, method_spot, names};
+}
+
+/// What crates above take of cjc_tokens.
+pub mod tokens {
+    pub use cjc_tokens::{Tokens, assign, first_high};
+}
 
 mod building;
 mod entries;

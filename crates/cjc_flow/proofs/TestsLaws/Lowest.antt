@@ -2,6 +2,7 @@
 use Rattle.std.proofs.Common.{◌≡◌, ◌⊎◌, ◌≤◌, ◌<◌, ◌&&◌, ◌==◌, ◌+◌, ◌-◌, ℕ, zero, suc, Bool, true, false, cond, leb}
 use Rattle.std.proofs.Common.{List, [], ◌∷◌, length, get_or, Option, Some, None, refl, sym, ◌∙◌, ap, subst, inl, inr}
 use Rattle.std.proofs.Common.{arith, int_le}
+use Rattle.std.specs.Prelude.{not}
 use Rattle.std.proofs.lemmas.Bool.{leb-true, leb-false, eqb-true, cases_lt}
 use Rattle.std.proofs.lemmas.Int.{ints}
 use Rattle.std.proofs.lemmas.List.{get_or_append_left}
@@ -26,6 +27,10 @@ use Rattle.cjc_intervals.specs.Bounds.{a_lookup, a_count, a_reference_count, a_l
 use Rattle.cjc_intervals.specs.Bounds.{an_argument, a_result, a_boolean_element}
 use Rattle.cjc_flow.specs.Tests.Working.Search.{lies_in, tested, lower, kind_rule, part_rule, arguments_rule}
 use Rattle.cjc_flow.specs.Tests.Working.Search.{comparison_rule, arithmetic_rule, element_rule, put_rule, lowest_rule}
+use Rattle.cjc_flow.specs.Tests.Working.Search.{low_word_rule, value_rule}
+use Rattle.cjc_flow.specs.Tests.Breaches.{is_of_low_word, is_tested}
+use Rattle.cjc_flow.specs.declared.tests.passing.Tested.{Tested}
+use Rattle.cjc_flow.specs.declared.tests.passing.Tested.TheVariants as tests
 
 abbrev pub Outside : Span → Span → Type 0
 Outside s bound = Within s bound → ⊥
@@ -151,6 +156,23 @@ arguments_are id (suc n) s =
       | inr more ↦ (let lt = h.1 in let same : h.0 ≡ n = omega (arith, lt, more)
           in inr (subst (λ (k : ℕ). PartBroken (parameter id k) (operand s k) r) same h.2))
     ])
+
+-- ---- a kind of rules
+
+abbrev Kept : (ℕ → Bool) → (ℕ → Type 0) → ℕ → Type 0
+Kept wanted P r = (wanted r ≡ true) × P r
+
+all_kept : (wanted : ℕ → Bool) (P : ℕ → Type 0) (o : Option ℕ) → IsLowest P o → ((r : ℕ) → P r → wanted r ≡ true)
+    → IsLowest (Kept wanted P) o
+all_kept wanted P o h f = same_rules P (Kept wanted P) o h (λ r p. (f r p, p)) (λ r q. q.1)
+
+none_kept : (wanted : ℕ → Bool) (P : ℕ → Type 0) → ((r : ℕ) → P r → wanted r ≡ false) → IsLowest (Kept wanted P) None
+none_kept wanted P f = λ r h. (let fails = f r h.1 in let holds = h.0 in cc)
+
+value_bound : (p : Part) (r : ℕ) (t : Span) → IsBoundOf p r t → is_of_low_word r ≡ false
+value_bound p _ _ (a_short e) = refl
+value_bound p _ _ (a_byte e) = refl
+value_bound p _ _ (a_boolean e) = refl
 
 -- ---- instructions
 
@@ -390,37 +412,232 @@ module _ (b : Body) (types : List Cell) (s : List Span) where
       (field_only field)
   field_is false field = λ r h. got_field field r h.0 h.1 h.2
 
-  pub lowest_is : (op : JOp) → IsLowest (Broken op) (lowest_rule b op types s)
-  lowest_is (jop.If opcode target) = compare_is opcode target
-  lowest_is (jop.Arith opcode) = arith_is opcode
-  lowest_is (jop.TableSwitch other low targets) = single (jop.TableSwitch other low targets) 604 0 short_range a_table
-      (table_only other low targets)
-  lowest_is (jop.LookupSwitch other cases) = single (jop.LookupSwitch other cases) 604 0 short_range a_lookup
-      (lookup_only other cases)
-  lowest_is (jop.NewArray number) = single (jop.NewArray number) 605 0 short_range a_count (count_only number)
-  lowest_is (jop.ANewArray class) = single (jop.ANewArray class) 605 0 short_range a_reference_count
-      (reference_only class)
-  lowest_is (jop.ArrayLoad opcode) = single (jop.ArrayLoad opcode) 606 0 index_range a_load (load_only opcode)
-  lowest_is (jop.ArrayStore opcode) = store_is opcode
-  lowest_is (jop.Static put field) = static_is put field
-  lowest_is (jop.Field put field) = field_is put field
-  lowest_is (jop.Call opcode id) = call_is opcode id
-  lowest_is (jop.Return opcode) = of_part (jop.Return opcode) (parts b.desc).result (λ r t is. a_result is)
-      (return_only opcode)
-  lowest_is jop.Nop = λ r h. elim h.2 [ ]
-  lowest_is jop.Null = λ r h. elim h.2 [ ]
-  lowest_is (jop.Number z) = λ r h. elim h.2 [ ]
-  lowest_is (jop.Load refs k) = λ r h. elim h.2 [ ]
-  lowest_is (jop.Store refs k) = λ r h. elim h.2 [ ]
-  lowest_is (jop.Stack opcode) = λ r h. elim h.2 [ ]
-  lowest_is (jop.Inc k by) = λ r h. elim h.2 [ ]
-  lowest_is (jop.Narrow opcode) = λ r h. elim h.2 [ ]
-  lowest_is (jop.Goto target) = λ r h. elim h.2 [ ]
-  lowest_is (jop.New class) = λ r h. elim h.2 [ ]
-  lowest_is jop.ArrayLength = λ r h. elim h.2 [ ]
-  lowest_is jop.Throw = λ r h. elim h.2 [ ]
-  lowest_is (jop.CheckCast class) = λ r h. elim h.2 [ ]
-  lowest_is (jop.InstanceOf class) = λ r h. elim h.2 [ ]
+  -- ---- rules of one kind
+
+  abbrev Breaks : JOp → ℕ → Type 0
+  Breaks op r = Broken op r
+
+  if_low : (opcode target r k : ℕ) (t : Span) → Bounds b (jop.If opcode target) types r k t → is_of_low_word r ≡ true
+  if_low opcode target _ _ _ (a_comparison e lt) = refl
+
+  arith_low : (opcode r k : ℕ) (t : Span) → Bounds b (jop.Arith opcode) types r k t → is_of_low_word r ≡ true
+  arith_low opcode _ _ _ (a_division e lt) = refl
+  arith_low opcode _ _ _ (a_shift e) = refl
+
+  table_low : (other : ℕ) (low : _) (targets : List ℕ) (r k : ℕ) (t : Span)
+      → Bounds b (jop.TableSwitch other low targets) types r k t → is_of_low_word r ≡ true
+  table_low other low targets _ _ _ a_table = refl
+
+  lookup_low : (other : ℕ) (cases : _) (r k : ℕ) (t : Span) → Bounds b (jop.LookupSwitch other cases) types r k t
+      → is_of_low_word r ≡ true
+  lookup_low other cases _ _ _ a_lookup = refl
+
+  load_low : (opcode r k : ℕ) (t : Span) → Bounds b (jop.ArrayLoad opcode) types r k t → is_of_low_word r ≡ true
+  load_low opcode _ _ _ a_load = refl
+
+  count_value : (number r k : ℕ) (t : Span) → Bounds b (jop.NewArray number) types r k t → is_of_low_word r ≡ false
+  count_value number _ _ _ a_count = refl
+
+  reference_value : (class : List ℕ) (r k : ℕ) (t : Span) → Bounds b (jop.ANewArray class) types r k t
+      → is_of_low_word r ≡ false
+  reference_value class _ _ _ a_reference_count = refl
+
+  static_value : (put : Bool) (field : _) (r k : ℕ) (t : Span) → Bounds b (jop.Static put field) types r k t
+      → is_of_low_word r ≡ false
+  static_value put field r _ t (a_static_field is) = value_bound _ r t is
+
+  field_value : (put : Bool) (field : _) (r k : ℕ) (t : Span) → Bounds b (jop.Field put field) types r k t
+      → is_of_low_word r ≡ false
+  field_value put field r _ t (a_field is) = value_bound _ r t is
+
+  call_value : (opcode : ℕ) (id : _) (r k : ℕ) (t : Span) → Bounds b (jop.Call opcode id) types r k t
+      → is_of_low_word r ≡ false
+  call_value opcode id r _ t (an_argument lt is) = value_bound _ r t is
+
+  return_value : (opcode r k : ℕ) (t : Span) → Bounds b (jop.Return opcode) types r k t → is_of_low_word r ≡ false
+  return_value opcode r _ t (a_result is) = value_bound _ r t is
+
+  -- ---- the store of an element has one rule of each kind
+
+  store_low : (opcode r k : ℕ) (t : Span) → Bounds b (jop.ArrayStore opcode) types r k t → is_of_low_word r ≡ true
+      → (r ≡ 606) × ((k ≡ 1) × (t ≡ index_range))
+  store_low opcode _ _ _ a_store holds = (refl, (refl, refl))
+  store_low _ _ _ _ (a_boolean_element h) holds = absurd cc
+
+  store_value : (opcode r k : ℕ) (t : Span) → Bounds b (jop.ArrayStore opcode) types r k t → is_of_low_word r ≡ false
+      → (((opcode == 0x54) && may_hold_booleans (typed.operand types 2)) ≡ true)
+      × ((r ≡ 609) × ((k ≡ 0) × (t ≡ boolean_range)))
+  store_value opcode _ _ _ a_store fails = absurd cc
+  store_value _ _ _ _ (a_boolean_element h) fails = (h, (refl, (refl, refl)))
+
+  index_is : (opcode : ℕ) → IsLowest (Kept is_of_low_word (Breaks (jop.ArrayStore opcode))) (tested 606 index_range
+      (operand s 1))
+  index_is opcode =
+      same_rules (Low 606 1 index_range) (Kept is_of_low_word (Breaks (jop.ArrayStore opcode))) _
+      (tested_is 606 index_range (operand s 1))
+      (λ r h. (
+        subst (λ (q : ℕ). is_of_low_word q ≡ true) (sym h.0) refl,
+        (
+          1,
+          index_range,
+          subst (λ (q : ℕ). Bounds b (jop.ArrayStore opcode) types q 1 index_range) (sym h.0) a_store,
+          h.1,
+        ),
+      ))
+      (λ r h. (let broken = h.1 in let is = store_low opcode r broken.0 broken.1 broken.2 h.0 in (
+        is.0,
+        subst (λ (k : ℕ). Outside (operand s k) index_range) is.1.0
+            (subst (λ (t : Span). Outside (operand s broken.0) t) is.1.1 broken.3),
+      )))
+
+  not_low : (r : ℕ) → not (is_of_low_word r) ≡ true → is_of_low_word r ≡ false
+  not_low r e = go (is_of_low_word r) e
+    where
+      go : (l : Bool) → not l ≡ true → l ≡ false
+      go true e = absurd cc
+      go false e = refl
+
+  abbrev is_value : ℕ → Bool
+  is_value r = not (is_of_low_word r)
+
+  element : (opcode r : ℕ) → r ≡ 609 → (is : Bool) → (opcode == 0x54) ≡ is
+      → (is && may_hold_booleans (typed.operand types 2)) ≡ true
+      → Bounds b (jop.ArrayStore opcode) types r 0 boolean_range
+  element opcode r is_r true e h = subst (λ (o : ℕ). Bounds b (jop.ArrayStore o) types r 0 boolean_range)
+      (sym (eqb-true opcode 0x54 e)) (subst (λ (q : ℕ). Bounds b (jop.ArrayStore 0x54) types q 0 boolean_range)
+      (sym is_r) (a_boolean_element h))
+  element opcode r is_r false e h = absurd cc
+
+  boolean_is : (opcode : ℕ) → IsLowest (Kept is_value (Breaks (jop.ArrayStore opcode))) (element_rule opcode
+      (typed.operand types 2) (operand s 0))
+  boolean_is opcode =
+      same_rules (λ r. (((opcode == 0x54) && may_hold_booleans (typed.operand types 2)) ≡ true)
+      × Low 609 0 boolean_range r) (Kept is_value (Breaks (jop.ArrayStore opcode))) _
+      (when_is ((opcode == 0x54) && may_hold_booleans (typed.operand types 2)) (Low 609 0 boolean_range)
+      (tested 609 boolean_range (operand s 0)) (tested_is 609 boolean_range (operand s 0)))
+      (λ r h. (let at = h.1 in (
+        subst (λ (q : ℕ). is_value q ≡ true) (sym at.0) refl,
+        (0, boolean_range, element opcode r at.0 (opcode == 0x54) refl h.0, at.1),
+      )))
+      (λ r h. (let broken = h.1 in
+      let is = store_value opcode r broken.0 broken.1 broken.2 (not_low r h.0) in (
+        is.0,
+        (
+          is.1.0,
+          subst (λ (k : ℕ). Outside (operand s k) boolean_range) is.1.1.0
+              (subst (λ (t : Span). Outside (operand s broken.0) t) is.1.1.1 broken.3),
+        ),
+      )))
+
+  -- ---- each instruction
+
+  abbrev IsLow : JOp → Type 0
+  IsLow op = IsLowest (Kept is_of_low_word (Breaks op)) (low_word_rule op s)
+
+  low : (op : JOp) → ((r k : ℕ) (t : Span) → Bounds b op types r k t → is_of_low_word r ≡ true)
+      → (o : Option ℕ) → IsLowest (Breaks op) o → IsLowest (Kept is_of_low_word (Breaks op)) o
+  low op f o h = all_kept is_of_low_word (Breaks op) o h (λ r p. f r p.0 p.1 p.2)
+
+  not_of_low : (op : JOp) → ((r k : ℕ) (t : Span) → Bounds b op types r k t → is_of_low_word r ≡ false)
+      → IsLowest (Kept is_of_low_word (Breaks op)) None
+  not_of_low op f = none_kept is_of_low_word (Breaks op) (λ r p. f r p.0 p.1 p.2)
+
+  lowest_low : (op : JOp) → IsLow op
+  lowest_low (jop.If opcode target) = low (jop.If opcode target) (if_low opcode target) _
+      (compare_is opcode target)
+  lowest_low (jop.Arith opcode) = low (jop.Arith opcode) (arith_low opcode) _ (arith_is opcode)
+  lowest_low (jop.TableSwitch other lo targets) = low (jop.TableSwitch other lo targets) (table_low other lo targets) _
+      (single (jop.TableSwitch other lo targets) 604 0 short_range a_table (table_only other lo targets))
+  lowest_low (jop.LookupSwitch other cases) = low (jop.LookupSwitch other cases) (lookup_low other cases) _
+      (single (jop.LookupSwitch other cases) 604 0 short_range a_lookup (lookup_only other cases))
+  lowest_low (jop.ArrayLoad opcode) = low (jop.ArrayLoad opcode) (load_low opcode) _
+      (single (jop.ArrayLoad opcode) 606 0 index_range a_load (load_only opcode))
+  lowest_low (jop.ArrayStore opcode) = index_is opcode
+  lowest_low (jop.NewArray number) = not_of_low (jop.NewArray number) (count_value number)
+  lowest_low (jop.ANewArray class) = not_of_low (jop.ANewArray class) (reference_value class)
+  lowest_low (jop.Static put field) = not_of_low (jop.Static put field) (static_value put field)
+  lowest_low (jop.Field put field) = not_of_low (jop.Field put field) (field_value put field)
+  lowest_low (jop.Call opcode id) = not_of_low (jop.Call opcode id) (call_value opcode id)
+  lowest_low (jop.Return opcode) = not_of_low (jop.Return opcode) (return_value opcode)
+  lowest_low jop.Nop = λ r h. elim h.1.2 [ ]
+  lowest_low jop.Null = λ r h. elim h.1.2 [ ]
+  lowest_low (jop.Number z) = λ r h. elim h.1.2 [ ]
+  lowest_low (jop.Load refs k) = λ r h. elim h.1.2 [ ]
+  lowest_low (jop.Store refs k) = λ r h. elim h.1.2 [ ]
+  lowest_low (jop.Stack opcode) = λ r h. elim h.1.2 [ ]
+  lowest_low (jop.Inc k by) = λ r h. elim h.1.2 [ ]
+  lowest_low (jop.Narrow opcode) = λ r h. elim h.1.2 [ ]
+  lowest_low (jop.Goto target) = λ r h. elim h.1.2 [ ]
+  lowest_low (jop.New class) = λ r h. elim h.1.2 [ ]
+  lowest_low jop.ArrayLength = λ r h. elim h.1.2 [ ]
+  lowest_low jop.Throw = λ r h. elim h.1.2 [ ]
+  lowest_low (jop.CheckCast class) = λ r h. elim h.1.2 [ ]
+  lowest_low (jop.InstanceOf class) = λ r h. elim h.1.2 [ ]
+
+  abbrev IsValue : JOp → Type 0
+  IsValue op = IsLowest (Kept is_value (Breaks op)) (value_rule b op types s)
+
+  value : (op : JOp) → ((r k : ℕ) (t : Span) → Bounds b op types r k t → is_of_low_word r ≡ false)
+      → (o : Option ℕ) → IsLowest (Breaks op) o → IsLowest (Kept is_value (Breaks op)) o
+  value op f o h = all_kept is_value (Breaks op) o h (λ r p. ap not (f r p.0 p.1 p.2))
+
+  not_of_value : (op : JOp) → ((r k : ℕ) (t : Span) → Bounds b op types r k t → is_of_low_word r ≡ true)
+      → IsLowest (Kept is_value (Breaks op)) None
+  not_of_value op f = none_kept is_value (Breaks op) (λ r p. ap not (f r p.0 p.1 p.2))
+
+  lowest_value : (op : JOp) → IsValue op
+  lowest_value (jop.If opcode target) = not_of_value (jop.If opcode target) (if_low opcode target)
+  lowest_value (jop.Arith opcode) = not_of_value (jop.Arith opcode) (arith_low opcode)
+  lowest_value (jop.TableSwitch other lo targets) = not_of_value (jop.TableSwitch other lo targets) (table_low other lo
+      targets)
+  lowest_value (jop.LookupSwitch other cases) = not_of_value (jop.LookupSwitch other cases) (lookup_low other cases)
+  lowest_value (jop.ArrayLoad opcode) = not_of_value (jop.ArrayLoad opcode) (load_low opcode)
+  lowest_value (jop.ArrayStore opcode) = boolean_is opcode
+  lowest_value (jop.NewArray number) = value (jop.NewArray number) (count_value number) _
+      (single (jop.NewArray number) 605 0 short_range a_count (count_only number))
+  lowest_value (jop.ANewArray class) = value (jop.ANewArray class) (reference_value class) _
+      (single (jop.ANewArray class) 605 0 short_range a_reference_count (reference_only class))
+  lowest_value (jop.Static put field) = value (jop.Static put field) (static_value put field) _
+      (static_is put field)
+  lowest_value (jop.Field put field) = value (jop.Field put field) (field_value put field) _
+      (field_is put field)
+  lowest_value (jop.Call opcode id) = value (jop.Call opcode id) (call_value opcode id) _
+      (call_is opcode id)
+  lowest_value (jop.Return opcode) = value (jop.Return opcode) (return_value opcode) _
+      (of_part (jop.Return opcode) (parts b.desc).result (λ r t is. a_result is) (return_only opcode))
+  lowest_value jop.Nop = λ r h. elim h.1.2 [ ]
+  lowest_value jop.Null = λ r h. elim h.1.2 [ ]
+  lowest_value (jop.Number z) = λ r h. elim h.1.2 [ ]
+  lowest_value (jop.Load refs k) = λ r h. elim h.1.2 [ ]
+  lowest_value (jop.Store refs k) = λ r h. elim h.1.2 [ ]
+  lowest_value (jop.Stack opcode) = λ r h. elim h.1.2 [ ]
+  lowest_value (jop.Inc k by) = λ r h. elim h.1.2 [ ]
+  lowest_value (jop.Narrow opcode) = λ r h. elim h.1.2 [ ]
+  lowest_value (jop.Goto target) = λ r h. elim h.1.2 [ ]
+  lowest_value (jop.New class) = λ r h. elim h.1.2 [ ]
+  lowest_value jop.ArrayLength = λ r h. elim h.1.2 [ ]
+  lowest_value jop.Throw = λ r h. elim h.1.2 [ ]
+  lowest_value (jop.CheckCast class) = λ r h. elim h.1.2 [ ]
+  lowest_value (jop.InstanceOf class) = λ r h. elim h.1.2 [ ]
+
+  all_is : (op : JOp) → IsLowest (Kept (λ r. true) (Breaks op)) (lower (low_word_rule op s) (value_rule b op types s))
+  all_is op = same_rules (λ r. Kept is_of_low_word (Breaks op) r ⊎ Kept is_value (Breaks op) r)
+      (Kept (λ r. true) (Breaks op)) _
+      (lower_is (Kept is_of_low_word (Breaks op)) (Kept is_value (Breaks op)) _ _ (lowest_low op) (lowest_value op))
+      (λ r h. elim h [ inl x ↦ (refl, x.1) | inr y ↦ (refl, y.1) ])
+      (λ r h. by_kind r (is_of_low_word r) refl h.1)
+    where
+      by_kind : (r : ℕ) (low : Bool) → is_of_low_word r ≡ low → Breaks op r
+          → Kept is_of_low_word (Breaks op) r ⊎ Kept is_value (Breaks op) r
+      by_kind r true e h = inl (e, h)
+      by_kind r false e h = inr (ap not e, h)
+
+  -- The rule of the tested kind that is found is broken, and the lowest of its kind.
+  pub lowest_of : (which : Tested) (op : JOp) → IsLowest (λ r. (is_tested which r ≡ true) × Broken op r)
+      (lowest_rule which b op types s)
+  lowest_of tests.All op = all_is op
+  lowest_of tests.LowWords op = lowest_low op
+  lowest_of tests.Values op = lowest_value op
 
 -- ---- arguments
 

@@ -12,9 +12,11 @@ ghost use Rattle.cjc_intervals.specs.Frames.{spans_of};
 ghost use Rattle.cjc_intervals.specs.Steps.{operand};
 ghost use Rattle.cjc_intervals.specs.Values.{is_boolean_array};
 ghost use Rattle.cjc_flow.specs.Tests.Working.Search.{arguments_rule, arithmetic_rule, comparison_rule, element_rule};
-ghost use Rattle.cjc_flow.specs.Tests.Working.Search.{kind_rule, lower, lowest_rule, part_rule, put_rule, tested};
+ghost use Rattle.cjc_flow.specs.Tests.Working.Search.{kind_rule, low_word_rule, lower, lowest_rule, part_rule};
+ghost use Rattle.cjc_flow.specs.Tests.Working.Search.{put_rule, tested, value_rule};
 
 use crate::Ranges;
+use crate::tests::passing::Tested;
 use cjc_fixpoint::bytes::{Kind, MemberId};
 use cjc_range::Interval;
 use cjc_types::bytecode::{JOp, jvm};
@@ -212,16 +214,6 @@ fn element_rule(opcode: u8, types: &Operands, interval: Interval) -> Option<u16>
     }
 }
 
-fn store_rule(opcode: u8, types: &Operands, before: &Ranges) -> Option<u16>
-    ensures { result ≡ lower (tested 606 index_range (operand (spans_of before.now.stack) 1))
-        (element_rule opcode (typed_operand types.now 2) (operand (spans_of before.now.stack) 0)) }
-{
-    lower(
-        index_tested(before.operand(1)),
-        element_rule(opcode, types, before.operand(0)),
-    )
-}
-
 /// 607 to 609 of a number that is put into a field.
 fn put_rule(put: bool, field: &MemberId, before: &Ranges) -> Option<u16>
     ensures { result ≡ put_rule put field.now (spans_of before.now.stack) }
@@ -233,21 +225,52 @@ fn put_rule(put: bool, field: &MemberId, before: &Ranges) -> Option<u16>
     }
 }
 
-/// The lowest rule that an instruction of a method with this descriptor breaks.
-pub(crate) fn lowest_rule(desc: &[u8], op: &JOp, types: &Operands, before: &Ranges) -> Option<u16>
-    ensures { (b : Body) → b.desc ≡ desc.now → result ≡ lowest_rule b op.now types.now (spans_of before.now.stack) }
+/// The lowest of 601 to 604 and 606 that an instruction breaks.
+fn low_word_rule(op: &JOp, before: &Ranges) -> Option<u16>
+    ensures { result ≡ low_word_rule op.now (spans_of before.now.stack) }
 {
     match op {
         JOp::If { op: opcode, .. } => comparison_rule(*opcode, before),
         JOp::Arith(opcode) => arithmetic_rule(*opcode, before),
         JOp::TableSwitch { .. } | JOp::LookupSwitch { .. } => short_tested(604, before.operand(0)),
-        JOp::NewArray(_) | JOp::ANewArray(_) => short_tested(605, before.operand(0)),
         JOp::ArrayLoad(_) => index_tested(before.operand(0)),
-        JOp::ArrayStore(opcode) => store_rule(*opcode, types, before),
+        JOp::ArrayStore(_) => index_tested(before.operand(1)),
+        _ => None,
+    }
+}
+
+/// The lowest of 605 and 607 to 609 that an instruction of a method with this descriptor breaks.
+fn value_rule(desc: &[u8], op: &JOp, types: &Operands, before: &Ranges) -> Option<u16>
+    ensures { (b : Body) → b.desc ≡ desc.now → result ≡ value_rule b op.now types.now (spans_of before.now.stack) }
+{
+    match op {
+        JOp::NewArray(_) | JOp::ANewArray(_) => short_tested(605, before.operand(0)),
+        JOp::ArrayStore(opcode) => element_rule(*opcode, types, before.operand(0)),
         JOp::Static { put, field } => put_rule(*put, field, before),
         JOp::Field { put, field } => put_rule(*put, field, before),
         JOp::Call { method, .. } => arguments_rule(method, before),
         JOp::Return(_) => result_rule(desc, before.operand(0)),
         _ => None,
+    }
+}
+
+/// The lowest of the tested rules that an instruction of a method with this descriptor breaks.
+pub(crate) fn lowest_rule(
+    tested: Tested,
+    desc: &[u8],
+    op: &JOp,
+    types: &Operands,
+    before: &Ranges,
+) -> Option<u16>
+    ensures { (b : Body) → b.desc ≡ desc.now
+        → result ≡ lowest_rule tested b op.now types.now (spans_of before.now.stack) }
+{
+    match tested {
+        Tested::All => lower(
+            low_word_rule(op, before),
+            value_rule(desc, op, types, before),
+        ),
+        Tested::LowWords => low_word_rule(op, before),
+        Tested::Values => value_rule(desc, op, types, before),
     }
 }

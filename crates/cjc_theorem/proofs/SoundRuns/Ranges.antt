@@ -17,7 +17,8 @@ use Rattle.cjc_components.specs.List.Listed.{ListTree}
 use Rattle.cjc_narrow.specs.Rows.Resolved.{constant_named}
 use Rattle.cjc_judge.specs.Flow.Tests.Answers.{IsFirstBroken}
 use Rattle.cjc_judge.specs.Flow.Tests.Working.Search.{first_from}
-use Rattle.cjc_judge.proofs.FlowFirst.{first_broken, nothing_broken}
+use Rattle.cjc_judge.specs.Flow.declared.tests.passing.Tested.TheVariants as tests
+use Rattle.cjc_judge.proofs.FlowFirst.{all_pass, first_broken, first_of_all, nothing_broken}
 use Rattle.cjc_shape_proof.specs.Shape.Judged.Tested.{IsTested}
 use Rattle.cjc_shape_proof.specs.Shape.Prepared.{IsSound, tested}
 use Rattle.cjc_narrow_proof.specs.Intervals.Frames.{RangeState}
@@ -67,15 +68,15 @@ module _ (list : ListTree) (files : List (List ℕ)) (judged : Judged) (is : IsS
         → (ranges : List (Option RangeState))
         → IsLeastRanges body (constant_named judged.world (all_classes judged.world)) (rows_of body table) ranges
         → Passes body (rows_of body table) ranges
-    ranges_pass table is_table ranges least = by (first_from body 0 code.insns types ranges) refl
+    ranges_pass table is_table ranges least = by (first_from tests.All body 0 code.insns types ranges) refl
       where
         types : List (Option State)
         types = rows_of body table
 
-        by : (o : Option _) → first_from body 0 code.insns types ranges ≡ o → Passes body types ranges
-        by None e = nothing_broken body types ranges e
+        by : (o : Option _) → first_from tests.All body 0 code.insns types ranges ≡ o → Passes body types ranges
+        by None e = all_pass body types ranges (nothing_broken tests.All body types ranges e)
         by (Some f) e =
-            let first = first_broken body types ranges f e in
+            let first = first_of_all body types ranges f.place f.rule (first_broken tests.All body types ranges f e) in
             let broken : BrokenAt = record { rule = f.rule; offset = (let b = first.breach in let i = b.insn in i.at) }
             in
             let found : IsFirstBroken body types ranges broken = record { place = f.place; first = first; is = refl } in

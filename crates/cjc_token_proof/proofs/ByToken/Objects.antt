@@ -26,8 +26,10 @@ use Rattle.cjc_token_proof.specs.ByToken.Objects.{field_name, value_under, fille
 use Rattle.cjc_token_proof.specs.ByToken.Objects
 use Rattle.cjc_token_proof.proofs.ByToken.Members.{own_slot, front_one, behind_one, front_all, behind_all, either_field}
 use Rattle.cjc_token_proof.proofs.ByToken.Members.{shown_all}
-use Rattle.cjc_token_proof.proofs.ByToken.Slots.{Slots, class_tells, class_same, field_tells, field_same, in_front}
-use Rattle.cjc_token_proof.proofs.ByToken.Slots.{past_front, of_other_class, of_token, Once, none, one, own_once}
+use Rattle.cjc_card_semantics.proofs.MachineLaws.Keys.{Slots, field_tells, field_same, in_front}
+use Rattle.cjc_card_semantics.proofs.MachineLaws.Upwards.{class_tells, class_same}
+use Rattle.cjc_card_semantics.proofs.MachineLaws.Keys.{past_front, of_other_class, of_token}
+use Rattle.cjc_token_proof.proofs.ByToken.Slots.{Once, none, one, own_once}
 use Rattle.cjc_token_proof.proofs.ByToken.Slots.{both_once, filled_slot, under, filled_put}
 
 module _ (n : Naming) (may : MemberId → Bool) where

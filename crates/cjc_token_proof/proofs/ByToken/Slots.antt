@@ -1,139 +1,22 @@
--- Slots by class and token.
-use Rattle.std.proofs.Common.{◌≡◌, ℕ, zero, suc, ◌+◌, ◌<◌, ◌≤◌, refl, sym, ap, ◌∙◌, arith, Bool, true, false, List, []}
-use Rattle.std.proofs.Common.{◌∷◌, ◌++◌, pos}
-use Rattle.std.specs.Prelude.{Some, None, if◌then◌else◌, ◌==◌, ◌&&◌, option_map}
-use Rattle.std.proofs.lemmas.Bool.Decides.{nat_tests}
+-- Slots under keys that stand once, and what objects by name hold in them.
+use Rattle.std.proofs.Common.{◌≡◌, ℕ, zero, suc, ◌+◌, refl, sym, ap, ◌∙◌, arith, Bool, true, false, List, [], ◌∷◌}
+use Rattle.std.proofs.Common.{◌++◌}
+use Rattle.std.specs.Prelude.{Some, None, if◌then◌else◌, option_map}
 use Rattle.cjc_bytes.specs.declared.fault.MemberId.{MemberId}
-use Rattle.cjc_bytes.proofs.Bools.{both_front, both_back}
-use Rattle.cjc_bytes.proofs.Numbers.{like_number, number_same}
 use Rattle.cjc_check_rules.specs.CapRead.declared.tree.ClassEntry.{ClassEntry}
 use Rattle.cjc_script.specs.declared.value.Value.{Value}
-use Rattle.cjc_script.specs.declared.value.Value.TheVariants.{Num, Null}
 use Rattle.cjc_card_semantics.specs.Bytecode.Effects.{Slot, slot_of, slots_with}
 use Rattle.cjc_card_semantics.specs.Bytecode.Renaming.{keys}
 use Rattle.cjc_card_semantics.specs.Machine.ByToken.{value_or}
-use Rattle.cjc_card_semantics.specs.Machine.Classes.{Class, Own, External, same_class, Field, same_field}
-use Rattle.cjc_card_semantics.specs.Machine.Classes.{is_reference_token, slots_from}
+use Rattle.cjc_card_semantics.specs.Machine.Classes.{Class, Field, same_field, slots_from}
+use Rattle.cjc_card_semantics.proofs.MachineLaws.Keys.{Slots, field_tells, field_same, field_apart, past_front}
+use Rattle.cjc_card_semantics.proofs.MachineLaws.Keys.{of_lesser_token}
 use Rattle.cjc_ncode.specs.PoolOrder.{same_member}
 use Rattle.cjc_ncode.specs.Lowering.Naming.{Naming, field}
 use Rattle.cjc_token_proof.specs.ByToken.Cells.{is_one_of}
 use Rattle.cjc_token_proof.specs.ByToken.Objects.{value_under, filled}
 use Rattle.cjc_token_proof.proofs.ByToken.Members.{member_tells, member_same, front_one}
 use Rattle.cjc_token_proof.proofs.ByToken.Members.{behind_one}
-
--- ---- sameness
-
-pub class_tells : (a b : Class) → same_class a b ≡ true → a ≡ b
-class_tells (Own p a) (Own q b) e = ap (λ x. Own x a) (number_same p q (both_front (p == q) (a == b) e))
-    ∙ ap (Own q) (number_same a b (both_back (p == q) (a == b) e))
-class_tells (External p a) (External q b) e = ap (λ x. External x a) (number_same p q (both_front (p == q) (a == b) e))
-    ∙ ap (External q) (number_same a b (both_back (p == q) (a == b) e))
-class_tells (Own p a) (External q b) e = cc
-class_tells (External p a) (Own q b) e = cc
-
-pub class_same : (a : Class) → same_class a a ≡ true
-class_same (Own p a) = ap (λ t. t && (a == a)) (like_number p) ∙ like_number a
-class_same (External p a) = ap (λ t. t && (a == a)) (like_number p) ∙ like_number a
-
-pub field_tells : (a b : Field) → same_field a b ≡ true → a ≡ b
-field_tells a b e =
-    let c = class_tells a.class b.class (both_front (same_class a.class b.class) (a.token == b.token) e) in
-    let t = number_same a.token b.token (both_back (same_class a.class b.class) (a.token == b.token) e) in
-    ap (λ x. record { class = x; token = a.token }) c ∙ ap (λ x. record { class = b.class; token = x }) t
-
-pub field_same : (a : Field) → same_field a a ≡ true
-field_same a = ap (λ t. t && (a.token == a.token)) (class_same a.class) ∙ like_number a.token
-
-pub field_apart : (a b : Field) → same_field a b ≡ false → same_field b a ≡ false
-field_apart a b e = by (same_field b a) refl
-  where
-    by : (t : Bool) → same_field b a ≡ t → same_field b a ≡ false
-    by false is = is
-    by true is = let clash : true ≡ false = sym (ap (λ x. same_field a x) (field_tells b a is) ∙ field_same a) ∙ e in cc
-
--- ---- one key in slots
-
-abbrev pub Slots : Type 0
-Slots = List (Slot Field)
-
--- what is there is first sought in front
-pub in_front : (a b : Slots) (key : Field) (v : Value) → slot_of same_field a key ≡ Some v
-    → slot_of same_field (a ++ b) key ≡ Some v
-in_front [] b key v e = cc
-in_front (s ∷ a) b key v e = by (same_field s.key key) e (in_front a b key v)
-  where
-    by : (t : Bool) → (if t then Some s.value else slot_of same_field a key) ≡ Some v
-        → (slot_of same_field a key ≡ Some v → slot_of same_field (a ++ b) key ≡ Some v)
-        → (if t then Some s.value else slot_of same_field (a ++ b) key) ≡ Some v
-    by true h rest = h
-    by false h rest = rest h
-
-pub past_front : (a b : Slots) (key : Field) → slot_of same_field a key ≡ None → slot_of same_field (a ++ b) key
-    ≡ slot_of same_field b key
-past_front [] b key e = refl
-past_front (s ∷ a) b key e = by (same_field s.key key) e (past_front a b key)
-  where
-    by : (t : Bool) → (if t then Some s.value else slot_of same_field a key) ≡ None → (slot_of same_field a key ≡ None
-        → slot_of same_field (a ++ b) key ≡ slot_of same_field b key)
-        → (if t then Some s.value else slot_of same_field (a ++ b) key) ≡ slot_of same_field b key
-    by true h rest = cc
-    by false h rest = rest h
-
--- no slot of another class
-pub of_other_class : (class : Class) (c : ClassEntry) (from count : ℕ) (key : Field) → same_class class key.class
-    ≡ false → slot_of same_field (slots_from class c from count) key ≡ None
-of_other_class class c from zero key e = refl
-of_other_class class c from (suc n) key e =
-    ap (λ t. if t && (from == key.token) then Some (if is_reference_token c from then Null else Num (pos 0))
-    else slot_of same_field (slots_from class c (from + 1) n) key) e
-    ∙ of_other_class class c (from + 1) n key e
-
--- no slot of a lesser token
-pub of_lesser_token : (class : Class) (c : ClassEntry) (from count : ℕ) (key : Field) → key.token < from
-    → slot_of same_field (slots_from class c from count) key ≡ None
-of_lesser_token class c from zero key lt = refl
-of_lesser_token class c from (suc n) key lt =
-    let e : (from == key.token) ≡ false = grind (arith, nat_tests) in
-    let no : same_field (record { class = class; token = from }) key ≡ false = ap (λ t. same_class class key.class
-    && t) e ∙ off (same_class class key.class) in
-    ap (λ t. if t then Some (if is_reference_token c from then Null else Num (pos 0))
-    else slot_of same_field (slots_from class c (from + 1) n) key) no
-    ∙ of_lesser_token class c (from + 1) n key (omega arith)
-  where
-    off : (t : Bool) → (t && false) ≡ false
-    off true = refl
-    off false = refl
-
--- the slot of a token
-pub of_token : (class : Class) (c : ClassEntry) (from count token : ℕ) → from ≤ token → token < from + count
-    → slot_of same_field (slots_from class c from count) (record { class = class; token = token })
-    ≡ Some (if is_reference_token c token then Null else Num (pos 0))
-of_token class c from zero token le lt = absurd (omega arith)
-of_token class c from (suc n) token le lt = by (from == token) refl (λ h. of_token class c (from + 1) n token h
-    (omega arith))
-  where
-    by : (t : Bool) → (from == token) ≡ t → (from + 1 ≤ token → slot_of same_field (slots_from class c (from + 1) n)
-        (record { class = class; token = token }) ≡ Some (if is_reference_token c token then Null else Num (pos 0)))
-        → (if same_class class class && (from == token) then Some (if is_reference_token c from then Null
-        else Num (pos 0)) else slot_of same_field (slots_from class c (from + 1) n) (record {
-          class = class;
-          token = token;
-        })) ≡ Some (if is_reference_token c token then Null else Num (pos 0))
-    by true e rest =
-        ap (λ t. if t && (from == token) then Some (if is_reference_token c from then Null else Num (pos 0))
-        else slot_of same_field (slots_from class c (from + 1) n) (record { class = class; token = token }))
-        (class_same class)
-        ∙ (ap (λ t. if t then Some (if is_reference_token c from then Null else Num (pos 0))
-        else slot_of same_field (slots_from class c (from + 1) n) (record { class = class; token = token })) e
-        ∙ ap (λ k. Some (if is_reference_token c k then Null else Num (pos 0))) (number_same from token e))
-    by false e rest =
-        let ne : from + 1 ≤ token = grind (arith, nat_tests) in
-        ap (λ t. if t && (from == token) then Some (if is_reference_token c from then Null else Num (pos 0))
-        else slot_of same_field (slots_from class c (from + 1) n) (record { class = class; token = token }))
-        (class_same class)
-        ∙ (ap (λ t. if t then Some (if is_reference_token c from then Null else Num (pos 0))
-        else slot_of same_field (slots_from class c (from + 1) n) (record { class = class; token = token })) e
-        ∙ rest ne)
 
 -- ---- each key once
 

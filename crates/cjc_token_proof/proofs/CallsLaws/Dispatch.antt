@@ -27,7 +27,7 @@ use Rattle.cjc_vtable.specs.Naming.{named}
 use Rattle.cjc_vtable.specs.Tables.{table_of, of_package, methods}
 use Rattle.cjc_ncode.specs.Lowering.Naming.{Naming}
 use Rattle.cjc_token_proof.specs.ByToken.Supers.{has_class, SaysKinds}
-use Rattle.cjc_token_proof.proofs.ByToken.Slots.{class_tells, class_same}
+use Rattle.cjc_card_semantics.proofs.MachineLaws.Upwards.{class_tells, class_same}
 use Rattle.cjc_token_proof.proofs.ByToken.Members.{bytes_tell, bytes_same}
 use Rattle.cjc_token_proof.specs.Calls.Dispatching.{table_entry, event, selection_of, SaysTower}
 use Rattle.cjc_token_proof.specs.Calls.Dispatching.{of_file, DispatchAgrees}

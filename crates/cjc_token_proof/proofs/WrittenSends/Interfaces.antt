@@ -509,7 +509,7 @@ module _ (list : List ℕ) (p : Package) (sound : IsSound list p.files) (facts :
       all_over [] h = tt
       all_over (k ∷ ks) h =
           let far = h k (or_left (card.same_class k k) (card.is_in k ks)
-          (Rattle.cjc_token_proof.proofs.ByToken.Slots.class_same k)) in
+          (Rattle.cjc_card_semantics.proofs.MachineLaws.Upwards.class_same k)) in
           let r = named_above (n.class y0) k far y0 refl (ap is_some named) in
           let i = class_of_name r.0 r.1 in
           let to_one = subst (IsAtOrAbove n.loaded (n.class y0)) r.2 far in (

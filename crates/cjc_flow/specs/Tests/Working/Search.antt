@@ -1,4 +1,4 @@
--- The lowest rule that an instruction breaks, and the first of a method.
+-- The lowest of the tested rules that an instruction breaks, and the first of a method.
 use Rattle.std.specs.Prelude.{ℕ, zero, suc, ◌+◌, ◌==◌, ◌&&◌, nat_le, Bool, if◌then◌else◌, List, [], ◌∷◌, length, Option}
 use Rattle.std.specs.Prelude.{Some, None, int_le}
 use Rattle.cjc_fixpoint.specs.Bytes.Descriptor.{Part}
@@ -23,6 +23,8 @@ use Rattle.cjc_intervals.specs.Steps.{operand}
 use Rattle.cjc_intervals.specs.Values.{boolean_range}
 use Rattle.cjc_intervals.specs.Bounds.{index_range, divides, shifts_right, may_hold_booleans, parameter}
 use Rattle.cjc_flow.specs.declared.tests.passing.Found.{Found}
+use Rattle.cjc_flow.specs.declared.tests.passing.Tested.{Tested}
+use Rattle.cjc_flow.specs.declared.tests.passing.Tested.TheVariants as wanted
 
 -- whether the interval lies within its bound
 abbrev pub lies_in : Span → (bound : Span) → Bool
@@ -78,28 +80,38 @@ element_rule opcode array s = if (opcode == jvm.bastore) && may_hold_booleans ar
 abbrev pub put_rule : (put : Bool) → MemberId → List Span → Option ℕ
 put_rule put field s = if put then part_rule (parts field.desc).result (operand s 0) else None
 
--- the lowest rule that an instruction breaks, on a stack of these types with these intervals
-abbrev pub lowest_rule : Body → JOp → List Cell → List Span → Option ℕ
-lowest_rule b (jop.If opcode target) types s = comparison_rule opcode s
-lowest_rule b (jop.Arith opcode) types s = arithmetic_rule opcode s
-lowest_rule b (jop.TableSwitch other low targets) types s = tested 604 short_range (operand s 0)
-lowest_rule b (jop.LookupSwitch other cases) types s = tested 604 short_range (operand s 0)
-lowest_rule b (jop.NewArray number) types s = tested 605 short_range (operand s 0)
-lowest_rule b (jop.ANewArray class) types s = tested 605 short_range (operand s 0)
-lowest_rule b (jop.ArrayLoad opcode) types s = tested 606 index_range (operand s 0)
-lowest_rule b (jop.ArrayStore opcode) types s = lower (tested 606 index_range (operand s 1))
-    (element_rule opcode (typed.operand types 2) (operand s 0))
-lowest_rule b (jop.Static put field) types s = put_rule put field s
-lowest_rule b (jop.Field put field) types s = put_rule put field s
-lowest_rule b (jop.Call opcode id) types s = arguments_rule id (length (parts id.desc).params) s
-lowest_rule b (jop.Return opcode) types s = part_rule (parts b.desc).result (operand s 0)
-lowest_rule b _ types s = None
+-- the lowest of 601 to 604 and 606 that an instruction breaks, on a stack with these intervals
+abbrev pub low_word_rule : JOp → List Span → Option ℕ
+low_word_rule (jop.If opcode target) s = comparison_rule opcode s
+low_word_rule (jop.Arith opcode) s = arithmetic_rule opcode s
+low_word_rule (jop.TableSwitch other low targets) s = tested 604 short_range (operand s 0)
+low_word_rule (jop.LookupSwitch other cases) s = tested 604 short_range (operand s 0)
+low_word_rule (jop.ArrayLoad opcode) s = tested 606 index_range (operand s 0)
+low_word_rule (jop.ArrayStore opcode) s = tested 606 index_range (operand s 1)
+low_word_rule _ s = None
+
+-- the lowest of 605 and 607 to 609, on a stack of these types with these intervals
+abbrev pub value_rule : Body → JOp → List Cell → List Span → Option ℕ
+value_rule b (jop.NewArray number) types s = tested 605 short_range (operand s 0)
+value_rule b (jop.ANewArray class) types s = tested 605 short_range (operand s 0)
+value_rule b (jop.ArrayStore opcode) types s = element_rule opcode (typed.operand types 2) (operand s 0)
+value_rule b (jop.Static put field) types s = put_rule put field s
+value_rule b (jop.Field put field) types s = put_rule put field s
+value_rule b (jop.Call opcode id) types s = arguments_rule id (length (parts id.desc).params) s
+value_rule b (jop.Return opcode) types s = part_rule (parts b.desc).result (operand s 0)
+value_rule b _ types s = None
+
+-- the lowest of those that are tested
+abbrev pub lowest_rule : Tested → Body → JOp → List Cell → List Span → Option ℕ
+lowest_rule wanted.All b op types s = lower (low_word_rule op s) (value_rule b op types s)
+lowest_rule wanted.LowWords b op types s = low_word_rule op s
+lowest_rule wanted.Values b op types s = value_rule b op types s
 
 -- of an instruction that both tables reach
-abbrev pub row_rule : Body → JInsn → Option State → Option RangeState → Option ℕ
-row_rule b insn None ranged = None
-row_rule b insn (Some t) None = None
-row_rule b insn (Some t) (Some x) = lowest_rule b insn.op (cells_of t.stack) (spans_of x.stack)
+abbrev pub row_rule : Tested → Body → JInsn → Option State → Option RangeState → Option ℕ
+row_rule which b insn None ranged = None
+row_rule which b insn (Some t) None = None
+row_rule which b insn (Some t) (Some x) = lowest_rule which b insn.op (cells_of t.stack) (spans_of x.stack)
 
 -- this place with the rule that is broken there, or else what is found later
 abbrev pub or_later : Option ℕ → (place : ℕ) → Option Found → Option Found
@@ -107,9 +119,10 @@ or_later (Some rule) place later = Some (record { place = place; rule = rule })
 or_later None place later = later
 
 -- of these instructions and their rows, the first of which has this place
-abbrev pub first_from : Body → (place : ℕ) → List JInsn → List (Option State) → List (Option RangeState) → Option Found
-first_from b place [] types ranges = None
-first_from b place (insn ∷ insns) [] ranges = None
-first_from b place (insn ∷ insns) (t ∷ types) [] = None
-first_from b place (insn ∷ insns) (t ∷ types) (x ∷ ranges) = or_later (row_rule b insn t x) place
-    (first_from b (place + 1) insns types ranges)
+abbrev pub first_from : Tested → Body → (place : ℕ) → List JInsn → List (Option State) → List (Option RangeState)
+    → Option Found
+first_from which b place [] types ranges = None
+first_from which b place (insn ∷ insns) [] ranges = None
+first_from which b place (insn ∷ insns) (t ∷ types) [] = None
+first_from which b place (insn ∷ insns) (t ∷ types) (x ∷ ranges) = or_later (row_rule which b insn t x) place
+    (first_from which b (place + 1) insns types ranges)

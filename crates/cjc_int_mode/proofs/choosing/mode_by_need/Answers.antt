@@ -3,9 +3,8 @@ use Rattle.cjc_flow.specs.Fixpoint.Bytes.declared.breaks.BrokenAt.{BrokenAt}
 use Rattle.cjc_flow.specs.Types.Flow.{body_of}
 use Rattle.cjc_flow.specs.Types.Tables.{rows_of}
 use Rattle.cjc_flow.specs.Tables.{ranges_of}
-use Rattle.cjc_int_mode.specs.declared.search.Tested.TheVariants as kinds
-use Rattle.cjc_int_mode.specs.Breaches.{IsFound}
-use Rattle.cjc_int_mode.specs.Working.Search.{is_tested}
+use Rattle.cjc_flow.specs.declared.tests.passing.Tested.TheVariants as kinds
+use Rattle.cjc_flow.specs.Tests.Breaches.{IsFound, is_tested}
 use Rattle.cjc_int_mode.proofs.Chosen.{wide, narrow}
 use Rattle.cjc_int_mode.proofs.choosing.mode_by_need.Goals as goal
 

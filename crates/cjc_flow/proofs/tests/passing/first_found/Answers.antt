@@ -16,7 +16,8 @@ returns-in-Some-clause-first c = λ constant numbers values.
     let types = rows_of b c.args.types.now in
     let ranges = c.walk-rows.result.rows in
     let insn = c.index-insns-place.result in
-    found_here b c.args.insns.now types ranges c.loop-place.place insn (option_map state_of c.frame.result.now)
+    found_here c.args.tested b c.args.insns.now types ranges c.loop-place.place insn
+    (option_map state_of c.frame.result.now)
     c.row.result.now
     (slice_get-get_or c.args.insns.now c.loop-place.place insn c.loop-place-test.true
     ∙ ap Some (sym c.index-insns-place.is))
@@ -25,7 +26,7 @@ returns-in-Some-clause-first c = λ constant numbers values.
     (subst (λ (s : Walking RangeState). slice_get s.rows s.at ≡ Some c.row.result.now) c.loop-place.invariant.rows
     c.row.ensures)
     _ c.loop-place.invariant.first c.in-Some.rule (sym (c.row_rule.ensures b (sym c.requires.desc)) ∙ c.in-Some.is)
-    ∙ ap (λ (rs : List (Option RangeState)). first_from b 0 c.args.insns.now types rs)
+    ∙ ap (λ (rs : List (Option RangeState)). first_from c.args.tested b 0 c.args.insns.now types rs)
     (ap (λ (s : Walking RangeState). s.rows) (c.walk-rows.ensures constant numbers values))
 
 pub loop-place-preserved : goal.loop-place-preserved
@@ -41,7 +42,7 @@ loop-place-preserved c =
         at = s.at + 1;
         rows = s.rows;
       }) c.loop-place.invariant.rows;
-      first = found_later b c.args.insns.now types ranges c.loop-place.place insn
+      first = found_later c.args.tested b c.args.insns.now types ranges c.loop-place.place insn
           (option_map state_of c.frame.result.now) c.row.result.now
           (slice_get-get_or c.args.insns.now c.loop-place.place insn c.loop-place-test.true
           ∙ ap Some (sym c.index-insns-place.is))
@@ -58,8 +59,8 @@ returns-clause-first c = λ constant numbers values.
     let types = rows_of b c.args.types.now in
     let ranges = c.walk-rows.result.rows in
     let place = c.loop-place.place in
-    sym (ap (λ (is : List JInsn). first_from b place is (drop place types) (drop place ranges))
+    sym (ap (λ (is : List JInsn). first_from c.args.tested b place is (drop place types) (drop place ranges))
     (drop_all place c.args.insns.now c.loop-place-test.false))
     ∙ c.loop-place.invariant.first
-    ∙ ap (λ (rs : List (Option RangeState)). first_from b 0 c.args.insns.now types rs)
+    ∙ ap (λ (rs : List (Option RangeState)). first_from c.args.tested b 0 c.args.insns.now types rs)
     (ap (λ (s : Walking RangeState). s.rows) (c.walk-rows.ensures constant numbers values))

@@ -1,0 +1,3 @@
+-- What crates above take of cjc_classes.
+pub use Rattle.cjc_classes.specs.Descriptor as Descriptor
+pub use Rattle.cjc_classes.specs.Entries as Entries

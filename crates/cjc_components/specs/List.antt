@@ -1,0 +1,4 @@
+-- What crates above take of cjc_list.
+pub use Rattle.cjc_list.specs.Grammar as Grammar
+pub use Rattle.cjc_list.specs.Listed as Listed
+pub use Rattle.cjc_list.specs.Spelling as Spelling

@@ -1,0 +1,2 @@
+-- What crates above take of cjc_list.
+pub use Rattle.cjc_list.specs.Listed as Listed

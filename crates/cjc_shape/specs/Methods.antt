@@ -1,0 +1,3 @@
+-- What crates above take of cjc_methods.
+pub use Rattle.cjc_methods.specs.Component as Component
+pub use Rattle.cjc_methods.specs.Ready as Ready

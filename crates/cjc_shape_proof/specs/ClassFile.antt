@@ -1,0 +1,2 @@
+-- What crates above take of cjc_classfile.
+pub use Rattle.cjc_classfile.specs.declared as declared
