@@ -8,8 +8,8 @@ use Rattle.cjc_bytes.proofs.Gets.{drop_at}
 use Rattle.cjc_bytes.proofs.Lists.{map_append}
 use Rattle.cjc_ncode.specs.Bytecode.declared.insn.JInsn.{JInsn}
 use Rattle.cjc_ncode.specs.IntCode.IntCode.{Before as TableRow}
-use Rattle.cjc_int_mode.specs.Flow.Types.declared.state.State.{State}
-use Rattle.cjc_int_mode.specs.Flow.Intervals.Frames.{RangeState}
+use Rattle.cjc_flow.specs.Types.declared.state.State.{State}
+use Rattle.cjc_flow.specs.Intervals.Frames.{RangeState}
 use Rattle.cjc_int_mode.specs.Written.{before}
 use Rattle.cjc_int_narrow.specs.declared.known.Before.{Before}
 use Rattle.cjc_int_narrow.specs.Reached.{known}

@@ -14,10 +14,10 @@ use Rattle.cjc_ncode.specs.declared.narrow.NMethod.{NMethod}
 use Rattle.cjc_ncode.specs.Written.{Resolution, catches_at, reached}
 use Rattle.cjc_ncode.specs.IntCode.IntCode.{Before as TableRow, Frame, Reached, int_method, nargs, place_in, prologue}
 use Rattle.cjc_ncode.specs.IntCode.IntCode.{scratch_pairs, scratch_pairs_of, written_from}
-use Rattle.cjc_int_mode.specs.Flow.Fixpoint.Tables.{HasRow}
-use Rattle.cjc_int_mode.specs.Flow.Types.declared.state.State.{State}
-use Rattle.cjc_int_mode.specs.Flow.Types.Flow.{Body, body_of}
-use Rattle.cjc_int_mode.specs.Flow.Intervals.Frames.{RangeState}
+use Rattle.cjc_flow.specs.Fixpoint.Tables.{HasRow}
+use Rattle.cjc_flow.specs.Types.declared.state.State.{State}
+use Rattle.cjc_flow.specs.Types.Flow.{Body, body_of}
+use Rattle.cjc_flow.specs.Intervals.Frames.{RangeState}
 use Rattle.cjc_int_mode.specs.Room.{many_words, high_stack}
 use Rattle.cjc_int_mode.specs.Written.{before, int_frame, most_pairs, places_from, reached_from, written_in_int_mode}
 use Rattle.cjc_int_mode.proofs.Written.{pairs_same}

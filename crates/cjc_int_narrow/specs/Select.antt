@@ -8,10 +8,10 @@ use Rattle.cjc_ncode.specs.Bytecode.Jvm as jvm
 use Rattle.cjc_ncode.specs.Written.{nargs_of}
 use Rattle.cjc_ncode.specs.IntCode.IntCode.{Before as TableRow}
 use Rattle.cjc_narrow.specs.Written.Operands.{IsAscending, IsByte}
-use Rattle.cjc_int_mode.specs.Flow.Fixpoint.Tables.{HasRow}
-use Rattle.cjc_int_mode.specs.Flow.Types.declared.state.State.{State}
-use Rattle.cjc_int_mode.specs.Flow.Types.Flow.{Body}
-use Rattle.cjc_int_mode.specs.Flow.Intervals.Frames.{RangeState}
+use Rattle.cjc_flow.specs.Fixpoint.Tables.{HasRow}
+use Rattle.cjc_flow.specs.Types.declared.state.State.{State}
+use Rattle.cjc_flow.specs.Types.Flow.{Body}
+use Rattle.cjc_flow.specs.Intervals.Frames.{RangeState}
 use Rattle.cjc_int_mode.specs.declared.modes.Mode.TheVariants as modes
 use Rattle.cjc_int_mode.specs.Room.{IsRoom}
 use Rattle.cjc_int_mode.specs.Written.{before, int_frame}

@@ -3,10 +3,6 @@
 //! to know the constant pool and again by its indices. It knows no token and no offset.
 #![tactic(auto)]
 
-// Lower crates, for those above.
-pub use cjc_int_mode as int_mode;
-pub use cjc_narrow as narrow;
-
 mod calls;
 mod code;
 mod elements;
