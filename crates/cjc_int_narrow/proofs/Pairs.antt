@@ -10,8 +10,8 @@ use Rattle.cjc_int_narrow.specs.Reached.{reached_by}
 use Rattle.cjc_int_narrow.specs.Working.Walks.{pairs_if}
 
 pairs_first : (i : JInsn) (rest : List JInsn) (b : Option Before) (others : List (Option Before)) (n : ℕ)
-    → max n (scratch_pairs (reached_by (i ∷ rest) (b ∷ others))) ≡ max (pairs_if b n i.op) (scratch_pairs (reached_by rest
-    others))
+    → max n (scratch_pairs (reached_by (i ∷ rest) (b ∷ others)))
+    ≡ max (pairs_if b n i.op) (scratch_pairs (reached_by rest others))
 pairs_first i rest None others n = refl
 pairs_first i rest (Some b) others n = omega arith
 

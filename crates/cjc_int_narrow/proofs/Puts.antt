@@ -15,7 +15,8 @@ use Rattle.cjc_ncode.specs.Script.Sorts.{Signature, result_by, signature_by, sor
 use Rattle.cjc_ncode.specs.declared.narrow.NInsn.{NInsn}
 use Rattle.cjc_ncode.specs.declared.narrow.NInsn.TheVariants.{Jump, Op}
 use Rattle.cjc_ncode.specs.Written.{Resolution, call_by, condition, written as written_short}
-use Rattle.cjc_ncode.specs.IntCode.IntCode.{Before, Frame, called_with, is_short, jumped, scratch, widened_result, written}
+use Rattle.cjc_ncode.specs.IntCode.IntCode.{Before, Frame, called_with, is_short, jumped, scratch, widened_result}
+use Rattle.cjc_ncode.specs.IntCode.IntCode.{written}
 use Rattle.cjc_narrow.specs.Written.Operands.{CanBeSaid, names_member}
 use Rattle.cjc_int_narrow.specs.Working.Moves.{handed, widened_if}
 use Rattle.cjc_int_narrow.specs.Working.Puts.{gives_word, is_same, takes_word}

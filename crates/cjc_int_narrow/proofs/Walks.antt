@@ -1,6 +1,7 @@
 -- What is written for instructions one after the other, where it comes from, and where it stands.
-use Rattle.std.proofs.Common.{◌≡◌, ℕ, zero, suc, ◌+◌, ◌-◌, ◌<◌, ◌≤◌, arith, refl, sym, ap, subst, ◌∙◌, Bool, true, false}
-use Rattle.std.proofs.Common.{cond, List, [], ◌∷◌, ◌++◌, length, get_or, drop, append_assoc, append-nil, slice_get}
+use Rattle.std.proofs.Common.{◌≡◌, ℕ, zero, suc, ◌+◌, ◌-◌, ◌<◌, ◌≤◌, arith, refl, sym, ap, subst, ◌∙◌, Bool, true}
+use Rattle.std.proofs.Common.{false, cond, List, [], ◌∷◌, ◌++◌, length, get_or, drop, append_assoc, append-nil}
+use Rattle.std.proofs.Common.{slice_get}
 use Rattle.std.specs.Prelude.{if◌then◌else◌, nat_lt, Option, Some, None}
 use Rattle.std.specs.List.{prefix_len}
 use Rattle.std.proofs.lemmas.List.{drop_all, length-append}
@@ -87,9 +88,9 @@ module _ (f : Frame) (r : Resolution) where
     befores_open : known_there ∷ drop (k + 1) befores ≡ drop k befores
     befores_open = sym (from_index befores k e (omega (arith, lt, each)))
 
-    pub code_next : (p : ℕ → ℕ) (out after total : List NInsn) → after ≡ out ++ written_if known_there f r p (length out)
-        (let i = insn in i.op) → out ++ written_from f r p (length out) (reached_by (drop k insns) (drop k befores))
-        ≡ total
+    pub code_next : (p : ℕ → ℕ) (out after total : List NInsn)
+        → after ≡ out ++ written_if known_there f r p (length out) (let i = insn in i.op)
+        → out ++ written_from f r p (length out) (reached_by (drop k insns) (drop k befores)) ≡ total
         → after ++ written_from f r p (length after) (reached_by (drop (k + 1) insns) (drop (k + 1) befores)) ≡ total
     code_next p out after total is so_far =
         let new : List NInsn = written_if known_there f r p (length out) (let i = insn in i.op) in
@@ -173,7 +174,8 @@ module _ (f : Frame) (r : Resolution) where
       → place_from f r (reached_by insns befores) offset ≡ 0
   none_before offset [] befores behind = refl
   none_before offset (i ∷ insns) [] behind = refl
-  none_before offset (i ∷ insns) (None ∷ befores) behind = none_before offset insns befores (λ k x e. behind (suc k) x e)
+  none_before offset (i ∷ insns) (None ∷ befores) behind =
+      none_before offset insns befores (λ k x e. behind (suc k) x e)
   none_before offset (i ∷ insns) (Some b ∷ befores) behind =
       let rest = none_before offset insns befores (λ k x e. behind (suc k) x e) in
       ap (λ (c : Bool). (if c then count f r b i.op else 0) + place_from f r (reached_by insns befores) offset)

@@ -51,8 +51,8 @@ assembled f r code insns befores place m places parts =
 -- ---- tables
 
 -- the rows of the first instruction and of the others
-first_same : (b : Option Before) (befores : List (Option Before)) (row : Option TableRow) (rows : List (Option TableRow))
-    → map (option_map known) (b ∷ befores) ≡ row ∷ rows → option_map known b ≡ row
+first_same : (b : Option Before) (befores : List (Option Before)) (row : Option TableRow)
+    (rows : List (Option TableRow)) → map (option_map known) (b ∷ befores) ≡ row ∷ rows → option_map known b ≡ row
 first_same b befores row rows e = cc
 
 rest_same : (b : Option Before) (befores : List (Option Before)) (row : Option TableRow) (rows : List (Option TableRow))
@@ -179,12 +179,13 @@ stands f pairs (jop.InstanceOf class) words le h = tt
 
 -- what is read of a method is what its class file says
 pub framed : (class : ClassTree) (method : MethodTree) (code : CodeTree) (insns : List JInsn) (holder desc : List ℕ)
-    → holder ≡ class.name → desc ≡ method.desc
-    → frame_of holder method.flags desc code.max_locals ≡ int_frame (body_of class method code insns)
+    (max_locals : ℕ) → holder ≡ class.name → desc ≡ method.desc → max_locals ≡ code.max_locals
+    → frame_of holder method.flags desc max_locals ≡ int_frame (body_of class method code insns)
 unfolding frame_of
-framed class method code insns holder desc is_holder is_desc =
-    ap (λ (h : List ℕ). frame_of h method.flags desc code.max_locals) is_holder
-    ∙ ap (λ (d : List ℕ). frame_of class.name method.flags d code.max_locals) is_desc
+framed class method code insns holder desc max_locals is_holder is_desc are_locals =
+    ap (λ (h : List ℕ). frame_of h method.flags desc max_locals) is_holder
+    ∙ ap (λ (d : List ℕ). frame_of class.name method.flags d max_locals) is_desc
+    ∙ ap (λ (m : ℕ). frame_of class.name method.flags method.desc m) are_locals
 
 -- ---- a method by its tables
 
@@ -205,7 +206,8 @@ module _ (b : Body) (types : List (Option State)) (ranges : List (Option RangeSt
   fits code is_stack few selectable =
       let most : scratch_pairs (reached_by b.insns befores) ≡ most_pairs (reached b.insns types) =
       ap scratch_pairs reached_are ∙ pairs_same ranges 0 b.insns types in
-      let stack : 2 * b.max_stack + 4 ≤ 255 = few_enough (2 * b.max_stack + 4) (λ gt. selectable.room (high_stack gt)) in
+      let stack : 2 * b.max_stack + 4 ≤ 255 = few_enough (2 * b.max_stack + 4)
+      (λ gt. selectable.room (high_stack gt)) in
       let room : nargs (int_frame b) + (2 * b.max_locals + 2 * most_pairs (reached b.insns types)) ≤ 255 =
       few_enough (nargs (int_frame b) + (2 * b.max_locals + 2 * most_pairs (reached b.insns types)))
       (λ gt. selectable.room (many_words gt)) in

@@ -57,8 +57,8 @@ fn put_back(out: &mut Row<NInsn>, desc: &Desc<'_>, scratch: u8) -> Result<(), No
     Ok(())
 }
 
-/// Puts what cuts the parameters of a call at the end; where one has one word that is not the last, all go into the pairs
-/// from a word on, and come back.
+/// Puts what cuts the parameters of a call at the end; where one has one word that is not the last, all go into the
+/// pairs from a word on, and come back.
 #[tactic(auto, using(cjc_int_mode::proofs::Words::by_scratch))]
 pub(crate) fn put_handed(out: &mut Row<NInsn>, desc: &Desc<'_>, scratch: u8) -> Result<(), NoMemory>
     requires { is_by_scratch (map sort_of desc.now.params) ≡ true → scratch + 2 * length desc.now.params ≤ 255 }

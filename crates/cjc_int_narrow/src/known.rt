@@ -20,10 +20,10 @@ ghost use Rattle.cjc_int_narrow.specs.Reached.{known};
 ghost use Rattle.cjc_int_narrow.specs.Select.{AreBefore, rows_before};
 
 use cjc_bytes::{NoMemory, Row};
+use cjc_flow::{RangeTable, Ranges, Ranging};
 use cjc_types::bytecode::{JInsn, JOp, MethodCode};
 use cjc_types::world::World;
 use cjc_types::{Cell, Frame, Method, Operands, TypeTable, TypeWalk};
-use cjc_flow::{RangeTable, Ranges, Ranging};
 use std::alloc::Global;
 
 /// What is known before an instruction that is reached.

@@ -15,8 +15,8 @@ returns-then-has_short_before c =
     let by : is_by_scratch sorts ≡ true = by_scratch sorts ∙ sym c.has_short_before.ensures
     ∙ c.if-has_short_before.true in
     on_ok_weaker c.put_back.result (
-      λ more. more ∙ ap (λ out. out ++ back_all first sorts) c.in_ok-put_aside.ensures
-      ∙ append_assoc c.args.out.now (aside_all first sorts) (back_all first sorts)
-      ∙ ap (λ (b : Bool). c.args.out.now ++ (if b then aside_all first sorts ++ back_all first sorts
-      else narrowed_if (list_any is_short sorts))) (sym by)
+    λ more. more ∙ ap (λ out. out ++ back_all first sorts) c.in_ok-put_aside.ensures
+    ∙ append_assoc c.args.out.now (aside_all first sorts) (back_all first sorts)
+    ∙ ap (λ (b : Bool). c.args.out.now ++ (if b then aside_all first sorts ++ back_all first sorts
+    else narrowed_if (list_any is_short sorts))) (sym by)
     ) c.put_back.ensures

@@ -6,5 +6,5 @@ use Rattle.cjc_int_narrow.proofs.Moves.{named_shape}
 use Rattle.cjc_int_narrow.proofs.kinds.is_shape.Goals as goal
 
 pub returns-in-Some : goal.returns-in-Some
-returns-in-Some c = named_shape c.in-Some.field-0 _ (λ op. ap (λ (test : Option Test). test_by op test) (sym c.in-Some.is)
-    ∙ c.in_ok-tested.ensures op)
+returns-in-Some c = named_shape c.in-Some.field-0 _ (λ op. ap (λ (test : Option Test). test_by op test)
+    (sym c.in-Some.is) ∙ c.in_ok-tested.ensures op)

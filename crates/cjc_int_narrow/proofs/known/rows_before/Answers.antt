@@ -1,4 +1,4 @@
-use Rattle.std.proofs.Common.{◌≡◌, ◌+◌, List, slice_get, Option, Some, option_map, sym, ap, ◌∙◌, subst}
+use Rattle.std.proofs.Common.{◌≡◌, ◌+◌, List, slice_get, get_or, Option, Some, option_map, ap, ◌∙◌, subst}
 use Rattle.std.proofs.lemmas.Option.{slice_get-get_or}
 use Rattle.cjc_flow.specs.Fixpoint.Walks.{Walking}
 use Rattle.cjc_flow.specs.Types.declared.state.State.{State}
@@ -13,7 +13,8 @@ pub loop-place-preserved : goal.loop-place-preserved
 loop-place-preserved c =
     let types = rows_of c.args.method.now c.args.types.now in
     let ranges = c.walk-ranges.result.rows in
-    let insn = c.index-insns-place.result in
+    let place = c.loop-place.place in
+    let insn = get_or c.args.insns.now place c.index-insns-place.result in
     record {
       frames = c.in_ok-advance.ensures.ok ∙ ap (λ (s : Walking State). record { at = s.at + 1; rows = s.rows })
           c.loop-place.invariant.frames;
@@ -21,10 +22,9 @@ loop-place-preserved c =
         at = s.at + 1;
         rows = s.rows;
       }) c.loop-place.invariant.ranges;
-      known = rows_next ranges c.args.insns.now types c.loop-place.place insn
+      known = rows_next ranges c.args.insns.now types place insn
           (option_map state_of c.frame.result.now) c.row.result.now
-          (slice_get-get_or c.args.insns.now c.loop-place.place insn c.loop-place-test.true
-          ∙ ap Some (sym c.index-insns-place.is))
+          (slice_get-get_or c.args.insns.now place c.index-insns-place.result c.loop-place-test.true)
           (subst (λ (s : Walking State). slice_get s.rows s.at ≡ Some (option_map state_of c.frame.result.now))
           c.loop-place.invariant.frames c.frame.ensures)
           (subst (λ (s : Walking RangeState). slice_get s.rows s.at ≡ Some c.row.result.now)

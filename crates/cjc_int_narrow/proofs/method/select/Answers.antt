@@ -1,4 +1,5 @@
 use Rattle.std.proofs.Common.{◌≡◌, ◌≤◌, List, ℕ, refl, sym, ap, ◌∙◌, subst, arith}
+use Rattle.cjc_ncode.specs.ClassFile.Code.{CodeTree}
 use Rattle.cjc_ncode.specs.IntCode.IntCode.{Frame, int_method, nargs}
 use Rattle.cjc_narrow.specs.Rows.Resolved.{resolution}
 use Rattle.cjc_narrow.specs.Rows.Selected.{near_fields}
@@ -16,23 +17,39 @@ overflow_cast-words c =
     let b = body_of c.args.class.now c.args.method.now c.args.code.now c.args.insns.now in
     let selectable = c.requires.3 in
     let few : argument_words b ≤ 255 = few_enough (argument_words b) (λ gt. selectable.room (many_arguments gt)) in
-    let is = c.in_ok-argument_words.ensures.words b refl (sym c.items-desc.ensures) in
+    let is = c.in_ok-words.ensures.words b refl (sym c.items-desc.ensures) in
     omega (arith, few, is)
 
 pub new-requires : goal.new-requires
 new-requires c =
     let m = c.args.method.now in
     let b = body_of c.args.class.now m c.args.code.now c.args.insns.now in
-    let is = c.in_ok-argument_words.ensures.words b refl (sym c.items-desc.ensures) in
-    is ∙ ap nargs (sym (framed c.args.class.now m c.args.code.now c.args.insns.now _ _ c.items-holder.ensures
-    c.items-desc.ensures))
+    let is = c.in_ok-words.ensures.words b refl (sym c.items-desc.ensures) in
+    let view : c.args.code.now ≡ record {
+      max_stack = c.code.inside.max_stack;
+      max_locals = c.code.inside.max_locals;
+      bytes = c.code.inside.bytes.now;
+      catches = c.code.inside.catches;
+    } = cc in
+    let locals : c.code.inside.max_locals ≡ c.args.code.now.max_locals =
+    sym (ap (λ (t : CodeTree). t.max_locals) view) in
+    is ∙ ap nargs (sym (framed c.args.class.now m c.args.code.now c.args.insns.now _ _ _ c.items-holder.ensures
+    c.items-desc.ensures locals))
 
 pub method_by-requires : goal.method_by-requires
 method_by-requires c =
     let m = c.args.method.now in
     let b = body_of c.args.class.now m c.args.code.now c.args.insns.now in
-    let same = c.in_ok-frame.ensures ∙ framed c.args.class.now m c.args.code.now c.args.insns.now _ _
-    c.items-holder.ensures c.items-desc.ensures in
+    let view : c.args.code.now ≡ record {
+      max_stack = c.code.inside.max_stack;
+      max_locals = c.code.inside.max_locals;
+      bytes = c.code.inside.bytes.now;
+      catches = c.code.inside.catches;
+    } = cc in
+    let locals : c.code.inside.max_locals ≡ c.args.code.now.max_locals =
+    sym (ap (λ (t : CodeTree). t.max_locals) view) in
+    let same = c.in_ok-frame.ensures ∙ framed c.args.class.now m c.args.code.now c.args.insns.now _ _ _
+    c.items-holder.ensures c.items-desc.ensures locals in
     subst (λ (f : Frame). Fits f c.args.code.now c.args.insns.now c.args.befores.now) (sym same)
     (fits b c.requires.0 c.requires.1 c.args.befores.now c.requires.2 c.args.code.now refl (omega arith) c.requires.3)
 
@@ -42,8 +59,16 @@ returns c = λ types ranges known.
     let insns = c.args.insns.now in
     let befores = c.args.befores.now in
     let b = body_of c.args.class.now m c.args.code.now insns in
-    let same = c.in_ok-frame.ensures ∙ framed c.args.class.now m c.args.code.now insns _ _ c.items-holder.ensures
-    c.items-desc.ensures in
+    let view : c.args.code.now ≡ record {
+      max_stack = c.code.inside.max_stack;
+      max_locals = c.code.inside.max_locals;
+      bytes = c.code.inside.bytes.now;
+      catches = c.code.inside.catches;
+    } = cc in
+    let locals : c.code.inside.max_locals ≡ c.args.code.now.max_locals =
+    sym (ap (λ (t : CodeTree). t.max_locals) view) in
+    let same = c.in_ok-frame.ensures ∙ framed c.args.class.now m c.args.code.now insns _ _ _ c.items-holder.ensures
+    c.items-desc.ensures locals in
     let look = λ (holder : List ℕ). resolution c.args.world.now (near_fields c.args.pool.now) holder in
     let made = λ (f : Frame) (holder : List ℕ). int_method f (look holder) c.args.code.now (reached_by insns befores)
     (places_by 0 insns befores) in

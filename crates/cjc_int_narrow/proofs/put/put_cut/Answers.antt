@@ -16,7 +16,7 @@ returns c = λ f r b here.
     let p = place_of c.args.places.now in
     let fits = cut_fits op c.requires in
     on_ok_weaker c.put_plain.result (
-      λ more. more ∙ ap (λ front. front ++ written_short r p op) c.in_ok-push.ensures.ok
-      ∙ append_assoc c.args.out.now (Op card.i2s ∷ []) (written_short r p op)
-      ∙ ap (λ code. c.args.out.now ++ code) (sym (cut_written f r p b here op c.requires))
+    λ more. more ∙ ap (λ front. front ++ written_short r p op) c.in_ok-push.ensures.ok
+    ∙ append_assoc c.args.out.now (Op card.i2s ∷ []) (written_short r p op)
+    ∙ ap (λ code. c.args.out.now ++ code) (sym (cut_written f r p b here op c.requires))
     ) (c.put_plain.ensures r fits.0)

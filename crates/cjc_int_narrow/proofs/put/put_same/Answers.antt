@@ -11,6 +11,6 @@ pub returns : goal.returns
 returns c = λ f r b here.
     let fits = same_fits c.args.op.now c.requires in
     on_ok_weaker c.put_plain.result (
-      λ more. more ∙ ap (λ code. c.args.out.now ++ code) (sym (same_written f r (place_of c.args.places.now) b here
-      c.args.op.now c.requires))
+    λ more. more ∙ ap (λ code. c.args.out.now ++ code) (sym (same_written f r (place_of c.args.places.now) b here
+    c.args.op.now c.requires))
     ) (c.put_plain.ensures r fits.0)

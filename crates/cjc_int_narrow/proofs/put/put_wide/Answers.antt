@@ -16,7 +16,7 @@ returns c = λ f r b here.
     let p = place_of c.args.places.now in
     let fits = wide_fits op c.requires in
     on_ok_weaker c.push.result (
-      λ more. more ∙ ap (λ front. front ++ Op card.s2i ∷ []) (c.in_ok-put_plain.ensures r fits.0)
-      ∙ append_assoc c.args.out.now (written_short r p op) (Op card.s2i ∷ [])
-      ∙ ap (λ code. c.args.out.now ++ code) (sym (wide_written f r p b here op c.requires))
+    λ more. more ∙ ap (λ front. front ++ Op card.s2i ∷ []) (c.in_ok-put_plain.ensures r fits.0)
+    ∙ append_assoc c.args.out.now (written_short r p op) (Op card.s2i ∷ [])
+    ∙ ap (λ code. c.args.out.now ++ code) (sym (wide_written f r p b here op c.requires))
     ) c.push.ensures.ok

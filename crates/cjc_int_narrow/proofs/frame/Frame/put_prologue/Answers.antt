@@ -27,6 +27,6 @@ returns c =
     let own = moved_by receiver_kept 0 f.words in
     let rest = moved_all 1 (f.words + 2) (params_by (signature_of f.desc.now)) in
     on_ok_weaker c.put_all-2.result (
-      λ more. more ∙ ap (λ out. out ++ rest) c.in_ok-put_moved.ensures ∙ append_assoc c.args.out.now own rest
-      ∙ ap (λ code. c.args.out.now ++ code) (sym moves)
+    λ more. more ∙ ap (λ out. out ++ rest) c.in_ok-put_moved.ensures ∙ append_assoc c.args.out.now own rest
+    ∙ ap (λ code. c.args.out.now ++ code) (sym moves)
     ) c.put_all-2.ensures
