@@ -53,7 +53,8 @@ use Rattle.cjc_bytes.proofs.Gets.{find_got, item_there, mapped_at}
 use Rattle.cjc_bytes.proofs.Lists.{bytes_true}
 use Rattle.cjc_bytes.proofs.Plain.{same_some}
 use Rattle.cjc_world.proofs.Cycles.{class_named-name}
-use Rattle.cjc_token_proof.proofs.ByToken.Above.{above_told, head_in, later_in, told_above}
+use Rattle.cjc_card_semantics.proofs.MachineLaws.Upwards.{head_in, later_in}
+use Rattle.cjc_token_proof.proofs.ByToken.Above.{above_told, told_above}
 use Rattle.cjc_token_proof.proofs.ByToken.Subtypes.{kinds_agree}
 use Rattle.cjc_token_proof.proofs.TablesLaws.Tables.{names_agree}
 use Rattle.cjc_token_proof.proofs.WrittenCalls.Facts.{Facts, exported}
