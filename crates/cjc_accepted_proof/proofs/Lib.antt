@@ -1,0 +1,5 @@
+pub mod ArraysLaws
+pub mod NamesLaws
+pub mod OffsetsLaws
+pub mod InfosLaws
+pub mod DescribedLaws

@@ -1,0 +1,7 @@
+//! What is written for a package, the type checker accepts: the components of a package that is converted break none of
+//! the rules of the type checker. It has definitions and laws alone.
+#![tactic(auto)]
+
+pub mod arrays;
+pub mod described;
+pub mod infos;
