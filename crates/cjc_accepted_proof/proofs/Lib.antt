@@ -3,3 +3,5 @@ pub mod NamesLaws
 pub mod OffsetsLaws
 pub mod InfosLaws
 pub mod DescribedLaws
+pub mod BelowLaws
+pub mod RowsLaws

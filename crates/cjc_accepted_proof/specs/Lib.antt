@@ -1,2 +1,4 @@
 pub mod Written
 pub mod Carded
+pub mod Tables
+pub mod Frames

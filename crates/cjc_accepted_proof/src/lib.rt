@@ -4,4 +4,6 @@
 
 pub mod arrays;
 pub mod described;
+pub mod frames;
 pub mod infos;
+pub mod rows;
