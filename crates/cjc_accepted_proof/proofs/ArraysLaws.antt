@@ -21,7 +21,8 @@ use Rattle.cjc_clinit.specs.declared.stage.Held.{Held}
 use Rattle.cjc_clinit.specs.Fields.{Contents, array_desc, takes}
 use Rattle.cjc_clinit.specs.Image.{AreInitialised, IsImage, array_in, arrays_of, own_field}
 use Rattle.cjc_clinit.specs.Image.AreInitialised.{none as no_code, other as other_code, one as one_code}
-use Rattle.cjc_clinit.specs.Initialiser.{Initialises, Makes, of_number, of_null, of_array, Put, element_kind, open_place}
+use Rattle.cjc_clinit.specs.Initialiser.{Initialises, Makes, of_number, of_null, of_array, Put, element_kind}
+use Rattle.cjc_clinit.specs.Initialiser.{open_place}
 use Rattle.cjc_clinit.specs.Initialiser.{place_for}
 use Rattle.cjc_clinit.specs.Initialiser.Initialises.{ends, puts}
 use Rattle.cjc_ncode.specs.Bytecode.declared.insn.JOp.{JOp}
@@ -63,8 +64,8 @@ taken files n c fields contents id k e = by (takes contents id.desc) (open_place
     by true o f = refl
     by false o f = cc
 
-made_typed : (field : MemberId) (made : List JOp) (contents : Contents) → Makes made contents → takes contents field.desc
-    ≡ true → AllByRecursion IsOfField (array_in field contents)
+made_typed : (field : MemberId) (made : List JOp) (contents : Contents) → Makes made contents → takes contents
+    field.desc ≡ true → AllByRecursion IsOfField (array_in field contents)
 made_typed field made contents of_number t = tt
 made_typed field made contents of_null t = tt
 made_typed field made contents (of_array {number = number} {kind = kind} le is stores) t = (
@@ -77,7 +78,8 @@ puts_typed : (files : Files) (n : ℕ) (t : ClassTree) (before after : List Held
 puts_typed files n t before after ops ps ends = tt
 puts_typed files n t before after ops ps (puts {made = made} {ops = more} {contents = contents} {id = id} {k = k}
     {rest = rest} makes place next) =
-    all_both IsOfField (array_in (own_field t id) contents) (arrays_of t rest) (made_typed (own_field t id) made contents
+    all_both IsOfField (array_in (own_field t id) contents) (arrays_of t rest) (made_typed (own_field t id) made
+    contents
     makes (taken files n t before contents id k place)) (puts_typed files n t _ after more rest next)
 
 all_typed : (files : Files) (before after : List (List Held)) (codes : List MethodCode) (arrays : List ArrayCell)
@@ -97,7 +99,8 @@ unfolding beside
 each_array at [] rest g = refl
 each_array at (a ∷ arrays) rest g =
     let f = a.field in
-    none_in_both (passes (is_number (type_number a.kind) (array_number f.desc)) (in_info 8 at) (ap (is_number (type_number
+    none_in_both (passes (is_number (type_number a.kind) (array_number f.desc)) (in_info 8 at) (ap (is_number
+    (type_number
     a.kind)) g.0 ∙ like_number (type_number a.kind))) (each_array (at + array_size (array_init a)) arrays rest g.1)
 
 pub array_spots_none : (p : Package) (codes : List MethodCode) → IsImage p.files codes p.image
@@ -107,6 +110,7 @@ array_spots_none p codes image =
     let classes = (let files = p.files in files.classes) in
     let groups = subst (λ (i : StaticImage). GroupsAre image.fields i classes image.arrays) (sym image.is) (groups_are
     image.fields classes image.arrays) in
-    let good : AllByRecursion IsOfField i.arrays = subst (AllByRecursion IsOfField) (sym groups.array) (all_typed p.files
+    let good : AllByRecursion IsOfField i.arrays = subst (AllByRecursion IsOfField) (sym groups.array) (all_typed
+    p.files
     _ image.fields codes image.arrays image.initialises) in
     each_array 6 i.arrays (i.nulls ++ (i.zeros ++ map (λ (v : ValueCell). v.field) i.others)) good

@@ -1,7 +1,9 @@
 -- What breaks a rule in a frame breaks one in each frame above, so a closed table that breaks none leaves the least one
 -- none.
-use Rattle.std.proofs.Common.{◌≡◌, ◌⊎◌, ℕ, zero, suc, ◌+◌, ◌-◌, ◌<◌, ◌≤◌, refl, sym, ap, subst, ◌∙◌, arith, inl, inr, ⊎_elim}
-use Rattle.std.proofs.Common.{Bool, true, false, List, [], ◌∷◌, ◌++◌, length, length-append, map, drop, slice_get, Option}
+use Rattle.std.proofs.Common.{◌≡◌, ◌⊎◌, ℕ, zero, suc, ◌+◌, ◌-◌, ◌<◌, ◌≤◌, refl, sym, ap, subst, ◌∙◌, arith, inl, inr}
+use Rattle.std.proofs.Common.{⊎_elim}
+use Rattle.std.proofs.Common.{Bool, true, false, List, [], ◌∷◌, ◌++◌, length, length-append, map, drop, slice_get}
+use Rattle.std.proofs.Common.{Option}
 use Rattle.std.proofs.Common.{Some, None}
 use Rattle.std.specs.Prelude.{◌&&◌, ◌||◌, not, nat_le, nat_lt, if◌then◌else◌}
 use Rattle.std.specs.List.{AllZip, list_all, list_any}
@@ -75,7 +77,8 @@ module _ (is_of : Subtype) where
   wrong_above [] xs ys below e = absurd cc
   wrong_above (n ∷ needs) [] ys below e = absurd cc
   wrong_above (n ∷ needs) (x ∷ xs) [] below e = absurd below
-  wrong_above (n ∷ needs) (x ∷ xs) (y ∷ ys) below e = by (not (meets is_of n x)) refl e (wrong_above needs xs ys below.1)
+  wrong_above (n ∷ needs) (x ∷ xs) (y ∷ ys) below e = by (not (meets is_of n x)) refl e (wrong_above needs xs ys
+      below.1)
     where
       by : (b : Bool) → not (meets is_of n x) ≡ b → (b || has_wrong is_of needs xs) ≡ true
           → (has_wrong is_of needs xs ≡ true → has_wrong is_of needs ys ≡ true)
@@ -130,7 +133,8 @@ module _ (is_of : Subtype) where
 
       by : (b : Bool) → has_wrong is_of a.takes xs ≡ b → (c : Bool) → has_wrong_local is_of a.reads ls ≡ c → (d : Bool)
           → ((b || c) || d) ≡ true → ((has_wrong is_of a.takes ys || has_wrong_local is_of a.reads ms) || d) ≡ true
-      by true is c other d f = ap (λ t. (t || has_wrong_local is_of a.reads ms) || d) (wrong_above a.takes xs ys below is)
+      by true is c other d f = ap (λ t. (t || has_wrong_local is_of a.reads ms) || d) (wrong_above a.takes xs ys below
+          is)
       by false is true other d f =
           ap (λ t. (has_wrong is_of a.takes ys || t) || d) (locals_above a.reads ls ms lower other)
           ∙ ap (λ t. t || d) (more (has_wrong is_of a.takes ys))
@@ -153,7 +157,8 @@ module _ (is_of : Subtype) where
       let lacks : lacks_local a ls ≡ lacks_local a ms = ap (λ n. list_any (λ (r : Read). nat_le n r.local) a.reads
       || list_any (λ (w : Write). nat_le n w.local) a.writes) locals in
       sym (ap (λ n. nat_lt n (length a.takes) || nat_lt max n || nat_lt max (length (stack_behind a ls xs))
-      || lacks_local a ls) stack ∙ ap (λ n. nat_lt (length ys) (length a.takes) || nat_lt max (length ys) || nat_lt max n
+      || lacks_local a ls) stack ∙ ap (λ n. nat_lt (length ys) (length a.takes) || nat_lt max (length ys) || nat_lt
+      max n
       || lacks_local a ls) behind ∙ ap (λ b. nat_lt (length ys) (length a.takes) || nat_lt max (length ys)
       || nat_lt max (length (stack_behind a ms ys)) || b) lacks) ∙ e
 
@@ -181,8 +186,8 @@ module _ (is_of : Subtype) where
   breaks_above count max a x y below rule (unknown z e) = (726, unknown y e)
   breaks_above count max a x y below rule (misnamed z e) = (727, misnamed y e)
 
-  pub none_below : (b : Body) (rows others : List (Option State)) → IsLeastTable b rows → IsClosed (frame_flow b) (length
-      b.steps) others → BreaksNone is_of b others → BreaksNone is_of b rows
+  pub none_below : (b : Body) (rows others : List (Option State)) → IsLeastTable b rows → IsClosed (frame_flow b)
+      (length b.steps) others → BreaksNone is_of b others → BreaksNone is_of b rows
   none_below b rows others least closed none place rule breach =
       let above = least.least others closed place breach.state breach.reached in
       let s = breach.step in

@@ -1,5 +1,5 @@
--- Descriptor gives classes and members the tokens, flags, places and types of the package's, and entries of the constant
--- pool the types of their members.
+-- Descriptor gives classes and members the tokens, flags, places and types of the package's, and entries of the
+-- constant pool the types of their members.
 use Rattle.std.proofs.Common.{◌≡◌, ℕ, zero, suc, ◌+◌, ◌*◌, ◌<◌, ◌≤◌, ◌==◌, ◌&&◌, ◌||◌, refl, sym, ap, subst, ◌∙◌, arith}
 use Rattle.std.proofs.Common.{Bool, true, false, not, List, [], ◌∷◌, ◌++◌, length, map, slice_get, Option, Some, None}
 use Rattle.std.proofs.Common.{cond}
@@ -22,7 +22,8 @@ use Rattle.cjc_capread.specs.declared.tree.PoolEntry.{PoolEntry}
 use Rattle.cjc_capread.specs.declared.tree.TypeDescriptor.{TypeDescriptor}
 use Rattle.cjc_check_rules.specs.ClassRefs.{fields_begin, pool_count_at}
 use Rattle.cjc_check_rules.specs.Complete.{described_size, type_size}
-use Rattle.cjc_check_rules.specs.Described.{has_type, is_type, methods_begin, type_is_there, type_of_entry, type_of_field}
+use Rattle.cjc_check_rules.specs.Described.{has_type, is_type, methods_begin, type_is_there, type_of_entry}
+use Rattle.cjc_check_rules.specs.Described.{type_of_field}
 use Rattle.cjc_check_rules.specs.Described.{type_of_method, types_in_class, types_in_pool}
 use Rattle.cjc_check_rules.specs.Spots.{Placed, along, begins, beside, in_info, item_at, placed, starts, unless}
 use Rattle.cjc_check_rules.specs.declared.spot.ComponentPlace.{ComponentPlace}
@@ -92,14 +93,16 @@ item_there size some from (y ∷ xs) zero s x e f =
     let at : from ≡ s = cc in
     let is : y ≡ x = cc in
     let same : (from == s) ≡ true = grind (arith, nat_tests, at) in
-    ap (λ b. option_map (λ (q : Placed _). q.item) (cond b (Some (record { at = from; item = y })) (find (λ q. q.at == s)
+    ap (λ b. option_map (λ (q : Placed _). q.item) (cond b (Some (record { at = from; item = y })) (find (λ q. q.at ==
+    s)
     (placed size (from + size y) xs)))) same ∙ ap Some is
 item_there size some from (y ∷ xs) (suc k) s x e f =
     let within = start_within size (from + size y) xs k s some f in
     let low = within.0 in
     let more = some y in
     let other : (from == s) ≡ false = grind (arith, nat_tests, low, more) in
-    ap (λ b. option_map (λ (q : Placed _). q.item) (cond b (Some (record { at = from; item = y })) (find (λ q. q.at == s)
+    ap (λ b. option_map (λ (q : Placed _). q.item) (cond b (Some (record { at = from; item = y })) (find (λ q. q.at ==
+    s)
     (placed size (from + size y) xs)))) other ∙ item_there size some (from + size y) xs k s x e f
 
 -- what holds of items by one rule holds of them beside what they are made of
@@ -195,8 +198,8 @@ module _ (p : Package) where
 
   -- ---- fields
 
-  field_said : (f : FieldTree) (s : Sort) → IsOnCard f.desc → type_is_there (descriptor p) (field_type p f.desc s) ≡ true
-      → is_field_type q f.desc (field_type p f.desc s) s ≡ true
+  field_said : (f : FieldTree) (s : Sort) → IsOnCard f.desc → type_is_there (descriptor p) (field_type p f.desc s) ≡
+      true → is_field_type q f.desc (field_type p f.desc s) s ≡ true
   field_said f Boolean card e = refl
   field_said f Byte card e = refl
   field_said f Short card e = refl
@@ -221,20 +224,24 @@ module _ (p : Package) where
           ∙ both_hold (both_hold (ap not e) (ap (same_class (class_ref p c.name)) (ref_alike p c.name) ∙ same_itself
           (class_ref p c.name))) (like_number token)
 
-  one_field : (c : Class) (at i : ℕ) (f : FieldTree) → IsOnCard f.desc → type_of_field (descriptor p) at (field_descriptor
+  one_field : (c : Class) (at i : ℕ) (f : FieldTree) → IsOnCard f.desc → type_of_field (descriptor p) at
+      (field_descriptor
       p c i f) ≡ [] → field_spots q c at (field_descriptor p c i f) (record { number = i; field = f }) ≡ []
   one_field c at i f card e =
       let d = field_descriptor p c i f in
       let typed = unless_holds (type_is_there (descriptor p) d.type_) (in_info 11 (at + 5)) e in
       none_in_both (none_in_both (none_in_both (passes (d.token == d.token) (in_info 11 at) (like_number d.token))
-      (passes (d.flags == d.flags) (in_info 11 (at + 1)) (like_number d.flags))) (passes (is_place q c f d.token d.place)
+      (passes (d.flags == d.flags) (in_info 11 (at + 1)) (like_number d.flags))) (passes (is_place q c f d.token
+      d.place)
       (in_info 11 (at + 2)) (place_said c f d.token))) (passes (is_field_type q f.desc d.type_ (field_sort f.desc))
       (in_info 11 (at + 5)) (field_said f (field_sort f.desc) card typed))
 
   -- those of a class
   each_field : (c : Class) (at i : ℕ) (fs : List FieldTree) → ((k : ℕ) (f : FieldTree) → slice_get fs k ≡ Some f
-      → IsOnCard f.desc) → along (λ (f : FieldDescriptor). 7) (type_of_field (descriptor p)) at (fields_from p c i fs) ≡ []
-      → beside (λ (f : FieldDescriptor). 7) (field_spots q c) at (fields_from p c i fs) (described.fields_from i fs) ≡ []
+      → IsOnCard f.desc) → along (λ (f : FieldDescriptor). 7) (type_of_field (descriptor p)) at (fields_from p c i fs)
+      ≡ []
+      → beside (λ (f : FieldDescriptor). 7) (field_spots q c) at (fields_from p c i fs) (described.fields_from i fs) ≡
+      []
   unfolding along beside
   each_field c at i [] card e = refl
   each_field c at i (f ∷ fs) card e = by (is_constant f) e (λ n. each_field c n (i + 1) fs (λ k g h. card (suc k) g h))
@@ -252,7 +259,8 @@ module _ (p : Package) where
           let rest = along (λ (f : FieldDescriptor). 7) (type_of_field (descriptor p)) (at + 7) (fields_from p c (i + 1)
           fs) in
           let first = type_of_field (descriptor p) at (field_descriptor p c i f) in
-          none_in_both (one_field c at i f (card 0 f refl) (none_left first rest g)) (more (at + 7) (none_right first rest
+          none_in_both (one_field c at i f (card 0 f refl) (none_left first rest g)) (more (at + 7) (none_right first
+          rest
           g))
 
   as_many : (c : Class) (i : ℕ) (fs : List FieldTree) → length (fields_from p c i fs) ≡ length (described.fields_from i
@@ -292,7 +300,8 @@ module _ (p : Package) where
         d.token)) (passes (d.flags == d.flags) (in_info 11 (at + 1)) (like_number d.flags))) (passes (length d.fields ==
         length (wanted_fields q c)) (in_info 11 (at + 5)) (number_same_number (length d.fields) (length (wanted_fields q
         c)) (as_many c 0 fs)))) (each_field c (fields_begin at d) 0 fs (λ i f g. card.fields k c here i f g) (none_left
-        front back e))) (along_beside (λ m. 12) (type_of_method (descriptor p)) (method_spots q c) (method_descriptor p c)
+        front back e))) (along_beside (λ m. 12) (type_of_method (descriptor p)) (method_spots q c) (method_descriptor
+        p c)
         (methods_of_class w c) (λ n i f g h. one_method c n f (card.methods k c here i f g) h) (methods_begin at d)
         (none_right front back e))
 
@@ -309,7 +318,8 @@ module _ (p : Package) where
           → unless (is_entry_type q (type_offset p desc) (named_desc q entry)) (in_info 11 at) ≡ []
       said_of at entry desc is on e =
           passes (is_entry_type q (type_offset p desc) (named_desc q entry)) (in_info 11 at) (ap (is_entry_type q
-          (type_offset p desc)) is ∙ says_it desc on (both_back (not (type_offset p desc == 0xFFFF)) (is_type (descriptor
+          (type_offset p desc)) is ∙ says_it desc on (both_back (not (type_offset p desc == 0xFFFF)) (is_type
+          (descriptor
           p) (type_offset p desc)) e))
 
       one_entry : (at : ℕ) (key : PoolKey) → AllByRecursion (λ (desc : List ℕ). named_desc q (entry_of (names p) key)
@@ -317,23 +327,27 @@ module _ (p : Package) where
           (pool_type p key) (entry_of (names p) key) ≡ [] → entry_spots q at (pool_type p key) (entry_of (names p) key)
           ≡ []
       one_entry at (keys.Class c) is on e = refl
-      one_entry at (keys.Field m) is on e = said_of at (entry_of (names p) (keys.Field m)) m.desc is.0 on.0 (unless_holds
+      one_entry at (keys.Field m) is on e = said_of at (entry_of (names p) (keys.Field m)) m.desc is.0 on.0
+          (unless_holds
           (has_type (descriptor p) (entry_of (names p) (keys.Field m)) (type_offset p m.desc)) (in_info 11 at) e)
       one_entry at (keys.Virtual m) is on e = said_of at (entry_of (names p) (keys.Virtual m)) m.desc is.0 on.0
-          (unless_holds (has_type (descriptor p) (entry_of (names p) (keys.Virtual m)) (type_offset p m.desc)) (in_info 11
+          (unless_holds (has_type (descriptor p) (entry_of (names p) (keys.Virtual m)) (type_offset p m.desc))
+          (in_info 11
           at) e)
-      one_entry at (keys.Super m) is on e = said_of at (entry_of (names p) (keys.Super m)) m.desc is.0 on.0 (unless_holds
+      one_entry at (keys.Super m) is on e = said_of at (entry_of (names p) (keys.Super m)) m.desc is.0 on.0
+          (unless_holds
           (has_type (descriptor p) (entry_of (names p) (keys.Super m)) (type_offset p m.desc)) (in_info 11 at) e)
       one_entry at (keys.StaticField m) is on e = said_of at (entry_of (names p) (keys.StaticField m)) m.desc is.0 on.0
           (unless_holds (has_type (descriptor p) (entry_of (names p) (keys.StaticField m)) (type_offset p m.desc))
           (in_info 11 at) e)
-      one_entry at (keys.StaticMethod m) is on e = said_of at (entry_of (names p) (keys.StaticMethod m)) m.desc is.0 on.0
-          (unless_holds (has_type (descriptor p) (entry_of (names p) (keys.StaticMethod m)) (type_offset p m.desc))
+      one_entry at (keys.StaticMethod m) is on e = said_of at (entry_of (names p) (keys.StaticMethod m)) m.desc is.0
+          on.0 (unless_holds (has_type (descriptor p) (entry_of (names p) (keys.StaticMethod m)) (type_offset p m.desc))
           (in_info 11 at) e)
 
       each_entry : (ks : List PoolKey) → ((k : ℕ) (key : PoolKey) → slice_get ks k ≡ Some key
           → AllByRecursion (λ (desc : List ℕ). named_desc q (entry_of (names p) key) ≡ Some desc) (desc_of_key key)
-          × AllByRecursion IsOnCard (desc_of_key key)) → (at : ℕ) → types_in_pool (descriptor p) at (map (pool_type p) ks)
+          × AllByRecursion IsOnCard (desc_of_key key)) → (at : ℕ) → types_in_pool (descriptor p) at (map (pool_type p)
+          ks)
           (map (entry_of (names p)) ks) ≡ [] → beside (λ (offset : ℕ). 2) (entry_spots q) at (map (pool_type p) ks) (map
           (entry_of (names p)) ks) ≡ []
       unfolding beside

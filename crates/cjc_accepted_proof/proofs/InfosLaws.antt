@@ -1,4 +1,5 @@
--- The infos of Class are those of the package's classes: their flags, supers, items on instance fields, tables and maps.
+-- The infos of Class are those of the package's classes: their flags, supers, items on instance fields, tables and
+-- maps.
 use Rattle.std.proofs.Common.{◌≡◌, ℕ, zero, suc, ◌+◌, ◌*◌, ◌==◌, ◌&&◌, refl, sym, ap, subst, ◌∙◌, Bool, true, false}
 use Rattle.std.proofs.Common.{not, List, [], ◌∷◌, ◌++◌, length, map, slice_get, Option, Some, None}
 use Rattle.std.specs.Prelude.{if◌then◌else◌}
@@ -52,7 +53,8 @@ pub none_beside : {A C : Type 0} (size : A → ℕ) (broken : ℕ → A → C �
 unfolding beside
 none_beside size broken f [] us vs each rest at = rest at
 none_beside size broken f (c ∷ cs) us vs each rest at =
-    none_in_both (each at 0 c refl) (none_beside size broken f cs us vs (λ n k d e. each n (suc k) d e) rest (at + size (f
+    none_in_both (each at 0 c refl) (none_beside size broken f cs us vs (λ n k d e. each n (suc k) d e) rest (at +
+    size (f
     c)))
 
 nothing_beside : {A C : Type 0} (size : A → ℕ) (broken : ℕ → A → C → List ComponentPlace) (at : ℕ)
@@ -100,12 +102,12 @@ module _ (p : Package) (has : HasMethods p) where
   same_ref x = ap (same_class (class_ref p x)) (ref_alike p x) ∙ same_itself (class_ref p x)
 
   refs_alike : (c : Class) → interface_refs q c ≡ map (λ (s : Class). class_ref p s.name) (interfaces_of w c)
-  refs_alike c = map_same (λ (s : Class). pairs.class_ref q s.name) (λ (s : Class). class_ref p s.name) (λ s. ref_alike p
-      s.name) (interfaces_of w c)
+  refs_alike c = map_same (λ (s : Class). pairs.class_ref q s.name) (λ (s : Class). class_ref p s.name) (λ s.
+      ref_alike p s.name) (interfaces_of w c)
 
   refs_none : (at : ℕ) (rs : List ClassRef) → refs_differ at rs rs ≡ []
-  refs_none at rs = none_differ (λ (r : ClassRef). 2) (λ (n : ℕ) (r v : ClassRef). unless (same_class r v) (in_info 6 n))
-      (λ n r. passes (same_class r r) (in_info 6 n) (same_itself r)) at rs
+  refs_none at rs = none_differ (λ (r : ClassRef). 2) (λ (n : ℕ) (r v : ClassRef). unless (same_class r v) (in_info 6
+      n)) (λ n r. passes (same_class r r) (in_info 6 n) (same_itself r)) at rs
 
   interface_none : (at : ℕ) (c : Class) → interface_spots q at (interface_entry (class_ref p) w c) c ≡ []
   interface_none at c =
@@ -120,8 +122,8 @@ module _ (p : Package) (has : HasMethods p) where
       (same_ref m.interface)
 
   map_none : (at : ℕ) (m : InterfaceMap) → map_spots q at (implemented (class_ref p) m) m ≡ []
-  map_none at m = none_in_both (none_in_both (map_named at m) (passes (length m.index == length m.index) (in_info 6 (at +
-      2)) (like_number (length m.index)))) (numbers_alike 1 6 (at + 3) m.index)
+  map_none at m = none_in_both (none_in_both (map_named at m) (passes (length m.index == length m.index) (in_info 6
+      (at + 2)) (like_number (length m.index)))) (numbers_alike 1 6 (at + 3) m.index)
 
   public_same : (o : Option Found) → public_entry q o ≡ table_entry p o
   public_same None = refl
@@ -135,7 +137,8 @@ module _ (p : Package) (has : HasMethods p) where
     t = table_of w c
 
     as_many : (length x.interfaces == length t.maps) ≡ true
-    as_many = number_same_number (length x.interfaces) (length t.maps) (length_mapped (implemented (class_ref p)) t.maps)
+    as_many = number_same_number (length x.interfaces) (length t.maps) (length_mapped (implemented (class_ref p))
+        t.maps)
 
     class_none : class_spots q at x c ≡ []
     class_none =
@@ -144,9 +147,12 @@ module _ (p : Package) (has : HasMethods p) where
         && (length x.interfaces == length t.maps)) (in_info 6 at) (both_hold (like_number x.flags) as_many))
         (passes (same_class x.superclass (pairs.class_ref q (superclass c))) (in_info 6 (at + 1)) (same_ref (superclass
         c)))) (passes (instance_cells fields == instance_cells fields) (in_info 6 (at + 3)) (like_number (instance_cells
-        fields)))) (passes (first_reference_token fields == first_reference_token fields) (in_info 6 (at + 4)) (like_number
-        (first_reference_token fields)))) (passes (reference_count fields == reference_count fields) (in_info 6 (at + 5))
-        (like_number (reference_count fields)))) (none_of_all map_size (map_interface q) (implemented (class_ref p)) t.maps
+        fields)))) (passes (first_reference_token fields == first_reference_token fields) (in_info 6 (at + 4))
+        (like_number
+        (first_reference_token fields)))) (passes (reference_count fields == reference_count fields) (in_info 6 (at +
+        5))
+        (like_number (reference_count fields)))) (none_of_all map_size (map_interface q) (implemented (class_ref p))
+        t.maps
         (λ n k m e. map_named n m) (maps_begin at x))
 
     public_alike : map (public_entry q) t.public ≡ x.public_methods
@@ -160,12 +166,14 @@ module _ (p : Package) (has : HasMethods p) where
         let behind = at + 10 + 2 * length x.public_methods in
         let counted = passes (length x.interfaces == length t.maps) (in_info 6 at) as_many in
         let base = passes (x.public_base == x.public_base) (in_info 6 (at + 6)) (like_number x.public_base) in
-        let public = passes (length x.public_methods == length t.public) (in_info 6 (at + 7)) (number_same_number (length
+        let public = passes (length x.public_methods == length t.public) (in_info 6 (at + 7)) (number_same_number
+        (length
         x.public_methods) (length t.public) (length_mapped (table_entry p) t.public)) in
         let hidden = passes (x.package_base == x.package_base) (in_info 6 (at + 8)) (like_number x.package_base) in
         let visible = passes (length x.package_methods == length t.«package») (in_info 6 (at + 9)) (number_same_number
         (length x.package_methods) (length t.«package») (length_mapped (method_offset p) t.«package»)) in
-        let one : entries_differ (at + 10) x.public_methods (map (public_entry q) t.public) ≡ [] = ap (entries_differ (at +
+        let one : entries_differ (at + 10) x.public_methods (map (public_entry q) t.public) ≡ [] = ap (entries_differ
+        (at +
         10) x.public_methods) public_alike ∙ numbers_alike 2 6 (at + 10) x.public_methods in
         let two : entries_differ behind x.package_methods (map (pairs.method_offset q) t.«package») ≡ [] =
         ap (entries_differ behind x.package_methods) package_alike ∙ numbers_alike 2 6 behind x.package_methods in
@@ -190,7 +198,8 @@ module _ (p : Package) (has : HasMethods p) where
   by_kinds : (broken : ℕ → Info → Class → List ComponentPlace)
       → ((at : ℕ) (c : Class) → is_interface c.flags ≡ true → broken at (front c) c ≡ [])
       → ((at : ℕ) (c : Class) → is_interface c.flags ≡ false → broken at (back c) c ≡ [])
-      → beside info_size broken first_interface (map IsInterface (map (interface_entry (class_ref p) w) (in_order w true))
+      → beside info_size broken first_interface (map IsInterface (map (interface_entry (class_ref p) w) (in_order w
+      true))
       ++ map IsClass (map (class_entry (class_ref p) p) (in_order w false))) (class_order w) ≡ []
   unfolding class_order
   by_kinds broken interfaces classes =
@@ -198,15 +207,18 @@ module _ (p : Package) (has : HasMethods p) where
       let cs = in_order w false in
       ap (λ xs. beside info_size broken first_interface (xs ++ map IsClass (map (class_entry (class_ref p) p) cs)) (is
       ++ cs)) (map_map IsInterface (interface_entry (class_ref p) w) is)
-      ∙ none_beside info_size broken front is (map IsClass (map (class_entry (class_ref p) p) cs)) cs (λ at k c e. let r = all_at
+      ∙ none_beside info_size broken front is (map IsClass (map (class_entry (class_ref p) p) cs)) cs (λ at k c e. let
+      r = all_at
       (IsPlaced true []) is k c (order_placed true) e in interfaces at c r.kind) (λ at. ap (λ xs. beside info_size
-      broken at xs cs) (map_map IsClass (class_entry (class_ref p) p) cs) ∙ none_of_all info_size broken back cs (λ n k c
-      e. let r = all_at (IsPlaced false []) cs k c (order_placed false) e in classes n c (not_true (is_interface c.flags)
+      broken at xs cs) (map_map IsClass (class_entry (class_ref p) p) cs) ∙ none_of_all info_size broken back cs (λ n
+      k c
+      e. let r = all_at (IsPlaced false []) cs k c (order_placed false) e in classes n c (not_true (is_interface
+      c.flags)
       r.kind)) at) first_interface
 
   pub infos_none : all_info_spots q ≡ []
-  infos_none = by_kinds (info_spots q) (λ at c e. ap (λ b. if b then interface_spots q at (interface_entry (class_ref p) w
-      c) c else in_info 6 at ∷ []) e ∙ interface_none at c) (λ at c e. ap (λ b. if b then in_info 6 at ∷ []
+  infos_none = by_kinds (info_spots q) (λ at c e. ap (λ b. if b then interface_spots q at (interface_entry (class_ref
+      p) w c) c else in_info 6 at ∷ []) e ∙ interface_none at c) (λ at c e. ap (λ b. if b then in_info 6 at ∷ []
       else class_spots q at (class_entry (class_ref p) p c) c) e ∙ class_none at c)
 
   pub tables_are : all_table_spots q ≡ []

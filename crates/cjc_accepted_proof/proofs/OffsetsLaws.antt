@@ -95,7 +95,8 @@ member_same f m own e =
 -- ---- methods of the package
 
 -- a member that is none of the methods stands nowhere
-stands_nowhere : (f : Found) (at k : ℕ) (ms : List LaidMethod) → AreOwn (map (λ (m : LaidMethod). m.member) ms) → list_any (λ (g : Found). same_found g f) (map (λ (m : LaidMethod). m.member) ms) ≡ false → extent_from at k ms f
+stands_nowhere : (f : Found) (at k : ℕ) (ms : List LaidMethod) → AreOwn (map (λ (m : LaidMethod). m.member) ms) →
+    list_any (λ (g : Found). same_found g f) (map (λ (m : LaidMethod). m.member) ms) ≡ false → extent_from at k ms f
     ≡ nowhere
 stands_nowhere f at k [] own e = refl
 stands_nowhere f at k (m ∷ ms) own e = by (same_found m.member f) refl (is_member f m) refl e (stands_nowhere f (at +
@@ -170,7 +171,8 @@ module _ (p : Package) where
         by : (o : Option Described) → find (λ (d : Described). same_found d.member f) ds ≡ o
             → unwrap_or (option_map (λ (d : Described). let m = d.method in m.offset) o) 0 ≡ method_offset p f
         by None e = sym (ap (λ (x : Extent). x.offset) (elsewhere f (ap (list_any (λ (g : Found). same_found g f))
-            (sym (all_members (class_order w))) ∙ not_found (λ (g : Found). same_found g f) (λ (d : Described). d.member)
+            (sym (all_members (class_order w))) ∙ not_found (λ (g : Found). same_found g f) (λ (d : Described).
+            d.member)
             ds e)))
         by (Some d) e =
             let r = find_got (λ (d : Described). same_found d.member f) ds d e in

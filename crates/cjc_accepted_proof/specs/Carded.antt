@@ -27,7 +27,8 @@ pub record HasCardTypes (p : Package) : Type 0 where
   pub fields : (k : ℕ) (c : Class) → slice_get (class_order (world p)) k ≡ Some c → (i : ℕ) (f : FieldTree)
       → slice_get (fields_of p.files c) i ≡ Some f → IsOnCard f.desc
   pub methods : (k : ℕ) (c : Class) → slice_get (class_order (world p)) k ≡ Some c → (i : ℕ) (f : Found)
-      → slice_get (methods_of_class (world p) c) i ≡ Some f → (let m = method_in (world p) c f.member in IsOnCard m.desc)
+      → slice_get (methods_of_class (world p) c) i ≡ Some f → (let m = method_in (world p) c f.member in IsOnCard
+      m.desc)
   pub entries : (k : ℕ) (key : PoolKey) → slice_get (pool p) k ≡ Some key → AllByRecursion IsOnCard (desc_of_key key)
 
 -- Each entry of the constant pool names a member of the descriptor of its key.
