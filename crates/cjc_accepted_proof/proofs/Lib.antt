@@ -1,0 +1,13 @@
+pub mod ArraysLaws
+pub mod NamesLaws
+pub mod OffsetsLaws
+pub mod InfosLaws
+pub mod DescribedLaws
+pub mod BelowLaws
+pub mod RowsLaws
+pub mod TypesLaws
+pub mod KindsLaws
+pub mod AcceptedLaws
+pub mod SubtypesLaws
+pub mod PairsLaws
+pub mod CardedLaws

@@ -1,0 +1,12 @@
+-- Class_refs in types, read back.
+use Rattle.std.specs.Prelude.{◌≡◌, ℕ, true, List, Some}
+use Rattle.cjc_world.specs.Classes.{Class}
+use Rattle.cjc_card_acts.specs.CardTypes.{class_by}
+use Rattle.cjc_ncode.specs.Lowering.Naming.{Naming}
+use Rattle.cjc_components.specs.Types.{ref_nibbles}
+use Rattle.cjc_token_proof.specs.ByToken.Supers.{has_class}
+
+-- the nibbles of a class_ref of a class that some file has are those of the class
+abbrev pub RefsAreRead : List Class → Naming → Type 0
+RefsAreRead w n = (c : List ℕ) → has_class w c ≡ true → class_by n.loaded (ref_nibbles (n.class_ref c))
+    ≡ Some (n.class c)

@@ -1,0 +1,10 @@
+-- Tables of types of frames that break no rule.
+use Rattle.std.specs.Prelude.{ℕ, List, Option}
+use Rattle.cjc_card_acts.specs.Types.declared.state.State.{State}
+use Rattle.cjc_card_acts.specs.Frames.Acts.{Subtype}
+use Rattle.cjc_card_acts.specs.Frames.Flow.{Body}
+use Rattle.cjc_card_acts.specs.Frames.Tables.{Breach}
+
+-- no instruction that the table reaches breaks a rule
+abbrev pub BreaksNone : Subtype → Body → List (Option State) → Type 0
+BreaksNone is_of b rows = (place rule : ℕ) → Breach is_of b rows place rule → ⊥

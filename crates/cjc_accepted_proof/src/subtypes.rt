@@ -1,0 +1,15 @@
+//! Types on the card: a subtype by name is one by token.
+ghost use Rattle.std.specs.Prelude.{List};
+ghost use Rattle.cjc_card_acts.specs.CardTypes.{is_type_of};
+ghost use Rattle.cjc_ncode.specs.Lowering.Naming.{Naming};
+ghost use Rattle.cjc_token_proof.specs.ByToken.Supers.{KindsAgree};
+ghost use Rattle.cjc_world.specs.Classes.{Class};
+ghost use Rattle.cjc_accepted_proof.specs.Frames.{SubtypesAgree, type_named};
+ghost use Rattle.cjc_accepted_proof.specs.Read.{RefsAreRead};
+
+/// A type that is a subtype of another by name is of it by token, where types are of each other by token as they are by
+/// name, and class_refs are read back as the classes that they name.
+pub fn subtypes_are_read()
+    ensures { (w : List Class) (n : Naming) → KindsAgree w n → RefsAreRead w n
+        → SubtypesAgree (type_named w n.class_ref) (is_type_of n.loaded) w }
+{}
