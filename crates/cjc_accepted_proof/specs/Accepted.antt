@@ -3,8 +3,8 @@
 use Rattle.std.specs.Prelude.{◌≡◌, ℕ, List, [], length, flat_map, slice_get, Option, Some}
 use Rattle.cjc_card_acts.specs.CardTypes.{is_type_of}
 use Rattle.cjc_card_acts.specs.Frames.Flow.{frame_flow}
-use Rattle.cjc_card_acts.specs.Types.Fixpoint.Tables.{IsClosed}
-use Rattle.cjc_card_acts.specs.Types.declared.state.State.{State}
+use Rattle.cjc_types.specs.Fixpoint.Tables.{IsClosed}
+use Rattle.cjc_types.specs.declared.state.State.{State}
 use Rattle.cjc_components.specs.Package.{Package}
 use Rattle.cjc_token_proof.specs.Tables.Loading.{components}
 use Rattle.cjc_verify.specs.Bodies.{Body, bodies, frames_of}

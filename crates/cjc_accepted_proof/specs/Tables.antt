@@ -1,6 +1,6 @@
 -- Tables of types of frames that break no rule.
 use Rattle.std.specs.Prelude.{ℕ, List, Option}
-use Rattle.cjc_card_acts.specs.Types.declared.state.State.{State}
+use Rattle.cjc_types.specs.declared.state.State.{State}
 use Rattle.cjc_card_acts.specs.Frames.Acts.{Subtype}
 use Rattle.cjc_card_acts.specs.Frames.Flow.{Body}
 use Rattle.cjc_card_acts.specs.Frames.Tables.{Breach}
