@@ -156,7 +156,8 @@ module _ (f : Frame) (r : Resolution) where
   from_below [] offset k i e le = absurd cc
   from_below (x ∷ reached) offset zero i e le =
       let same : x ≡ i = cc in
-      let at : (let n = x.insn in n.at) ≡ (let n = i.insn in n.at) = ap (λ (y : Reached). (let n = y.insn in n.at)) same in
+      let at : (let n = x.insn in n.at) ≡ (let n = i.insn in n.at) =
+      ap (λ (y : Reached). (let n = y.insn in n.at)) same in
       let sized : size f r x ≡ size f r i = ap (size f r) same in
       let j = x.insn in
       let first = none_there j.at offset (size f r x) (omega (arith, at, le)) in

@@ -6,8 +6,8 @@ use Rattle.std.specs.List.{list_any}
 use Rattle.std.proofs.lemmas.Bool.{leb-true}
 use Rattle.cjc_ncode.specs.Bytes.declared.fault.MemberId.{MemberId}
 use Rattle.cjc_ncode.specs.Script.Sorts.{Sort, Boolean, Byte, Short, Int, Reference, NoValue, Shape, OfClass, OfNumbers}
-use Rattle.cjc_ncode.specs.Script.Sorts.{OfReferences, Booleans, Bytes, Shorts, Ints, Signature, field_sort, shape_named}
-use Rattle.cjc_ncode.specs.Script.Sorts.{signature_of}
+use Rattle.cjc_ncode.specs.Script.Sorts.{OfReferences, Booleans, Bytes, Shorts, Ints, Signature, field_sort}
+use Rattle.cjc_ncode.specs.Script.Sorts.{shape_named, signature_of}
 use Rattle.cjc_ncode.specs.CardSemantics.Bytecode.Arguments.{widths}
 use Rattle.cjc_ncode.specs.CardSemantics.Bytecode.Meanings.{Use, Uses, meaning}
 use Rattle.cjc_ncode.specs.ClassFile.Code.{CodeTree}
@@ -17,18 +17,19 @@ use Rattle.cjc_ncode.specs.Bytecode.declared.insn.JOp.{JOp}
 use Rattle.cjc_ncode.specs.Bytecode.declared.insn.JOp.TheVariants as jop
 use Rattle.cjc_ncode.specs.declared.narrow.NCase.{NCase}
 use Rattle.cjc_ncode.specs.declared.narrow.NInsn.{NInsn}
-use Rattle.cjc_ncode.specs.declared.narrow.NInsn.TheVariants.{Op, Push, Local, Inc, Words, Jump, Switch, Named, Interface}
-use Rattle.cjc_ncode.specs.declared.narrow.NInsn.TheVariants.{NewArray, TypeTest}
+use Rattle.cjc_ncode.specs.declared.narrow.NInsn.TheVariants.{Op, Push, Local, Inc, Words, Jump, Switch, Named}
+use Rattle.cjc_ncode.specs.declared.narrow.NInsn.TheVariants.{Interface, NewArray, TypeTest}
 use Rattle.cjc_ncode.specs.declared.narrow.PoolKey.{PoolKey}
 use Rattle.cjc_ncode.specs.declared.narrow.PoolKey.TheVariants as keys
-use Rattle.cjc_ncode.specs.Written.{Resolution, call_by, condition, element_number, field_access, is_byte, leaving, local}
-use Rattle.cjc_ncode.specs.Written.{nargs_of, pair_case, static_access, type_test}
+use Rattle.cjc_ncode.specs.Written.{Resolution, call_by, condition, element_number, field_access, is_byte, leaving}
+use Rattle.cjc_ncode.specs.Written.{local, nargs_of, pair_case, static_access, type_test}
 use Rattle.cjc_ncode.specs.IntCode.IntCode.{Before, Frame, Reached, called_with, copied, dropped, element_read}
 use Rattle.cjc_ncode.specs.IntCode.IntCode.{element_written, field_get, field_put, first_word, guard, handed_over}
-use Rattle.cjc_ncode.specs.IntCode.IntCode.{index_of_one, index_of_two, int_method, is_by_scratch, is_reference, is_short}
-use Rattle.cjc_ncode.specs.IntCode.IntCode.{jumped, loads, moved, moved_from, narrowed, on_stack, place_in, prologue, pushed}
-use Rattle.cjc_ncode.specs.IntCode.IntCode.{put_aside, returned, scratch, static_get, static_put, stores, table_cases}
-use Rattle.cjc_ncode.specs.IntCode.IntCode.{taken_back, widened, widened_result, words, written, written_from}
+use Rattle.cjc_ncode.specs.IntCode.IntCode.{index_of_one, index_of_two, int_method, is_by_scratch, is_reference}
+use Rattle.cjc_ncode.specs.IntCode.IntCode.{is_short, jumped, loads, moved, moved_from, narrowed, on_stack, place_in}
+use Rattle.cjc_ncode.specs.IntCode.IntCode.{prologue, pushed, put_aside, returned, scratch, static_get, static_put}
+use Rattle.cjc_ncode.specs.IntCode.IntCode.{stores, table_cases, taken_back, widened, widened_result, words, written}
+use Rattle.cjc_ncode.specs.IntCode.IntCode.{written_from}
 use Rattle.cjc_layout.specs.Forms.{HasForm, IsTest, a_class, numbers, references, bare, push, increase, jump, range}
 use Rattle.cjc_layout.specs.Forms.{lookup, named, by_interface, new_array, casts, asks}
 use Rattle.cjc_layout.specs.Forms as forms

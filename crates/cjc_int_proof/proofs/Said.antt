@@ -10,15 +10,15 @@ use Rattle.std.proofs.lemmas.List.Sums.{sum_by-cons}
 use Rattle.cjc_bytes.proofs.Bools.{both_front}
 use Rattle.cjc_bytes.proofs.Integers.{le_true}
 use Rattle.cjc_ncode.specs.Bytes.declared.fault.MemberId.{MemberId}
-use Rattle.cjc_ncode.specs.Script.Sorts.{Sort, Boolean, Byte as ByteSort, Short, Int, Reference, NoValue, Shape, OfClass}
-use Rattle.cjc_ncode.specs.Script.Sorts.{OfNumbers, OfReferences, Booleans, Bytes, Shorts, Ints, Signature, field_sort}
-use Rattle.cjc_ncode.specs.Script.Sorts.{shape_named, signature_of}
+use Rattle.cjc_ncode.specs.Script.Sorts.{Sort, Boolean, Byte as ByteSort, Short, Int, Reference, NoValue, Shape}
+use Rattle.cjc_ncode.specs.Script.Sorts.{OfClass, OfNumbers, OfReferences, Booleans, Bytes, Shorts, Ints, Signature}
+use Rattle.cjc_ncode.specs.Script.Sorts.{field_sort, shape_named, signature_of}
 use Rattle.cjc_ncode.specs.CardSemantics.Bytecode.Arguments.{width, widths}
 use Rattle.cjc_ncode.specs.CardSemantics.Bytecode.Meanings.{meaning}
 use Rattle.cjc_ncode.specs.ClassFile.Code.{CodeTree}
 use Rattle.cjc_ncode.specs.CapRead.Card as card
-use Rattle.cjc_ncode.specs.CapRead.Decode.{AllFit, IsWithin, below, matches_ascend, more, negative, none, pairs, positive}
-use Rattle.cjc_ncode.specs.CapRead.Decode.{up_to}
+use Rattle.cjc_ncode.specs.CapRead.Decode.{AllFit, IsWithin, below, matches_ascend, more, negative, none, pairs}
+use Rattle.cjc_ncode.specs.CapRead.Decode.{positive, up_to}
 use Rattle.cjc_ncode.specs.CapRead.Opcodes.{Byte, Fields, Lookup, Signed1, Signed2, Signed4, Table, form, forms}
 use Rattle.cjc_ncode.specs.Bytecode.Jvm as jvm
 use Rattle.cjc_ncode.specs.Bytecode.declared.insn.JCase.{JCase}
@@ -29,18 +29,18 @@ use Rattle.cjc_ncode.specs.Lowering.Naming.{Naming}
 use Rattle.cjc_ncode.specs.Lowering.Placed.{IsSpellable}
 use Rattle.cjc_ncode.specs.declared.narrow.NCase.{NCase}
 use Rattle.cjc_ncode.specs.declared.narrow.NInsn.{NInsn}
-use Rattle.cjc_ncode.specs.declared.narrow.NInsn.TheVariants.{Op, Push, Local, Inc, Words, Jump, Switch, Named, Interface}
-use Rattle.cjc_ncode.specs.declared.narrow.NInsn.TheVariants.{NewArray, TypeTest}
+use Rattle.cjc_ncode.specs.declared.narrow.NInsn.TheVariants.{Op, Push, Local, Inc, Words, Jump, Switch, Named}
+use Rattle.cjc_ncode.specs.declared.narrow.NInsn.TheVariants.{Interface, NewArray, TypeTest}
 use Rattle.cjc_ncode.specs.declared.narrow.PoolKey.TheVariants as keys
 use Rattle.cjc_ncode.specs.Written.{Resolution, arithmetic, call_by, condition, element_number, field_access, is_byte}
 use Rattle.cjc_ncode.specs.Written.{leaving, local, nargs_of, pair_case, static_access, type_test}
 use Rattle.cjc_ncode.specs.IntCode.IntCode.{Before, Frame, Reached, called_with, copied, dropped, element_read}
 use Rattle.cjc_ncode.specs.IntCode.IntCode.{element_written, field_get, field_put, first_word, guard, handed_over}
-use Rattle.cjc_ncode.specs.IntCode.IntCode.{index_of_one, index_of_two, int_method, is_by_scratch, is_reference, is_short}
-use Rattle.cjc_ncode.specs.IntCode.IntCode.{jumped, loads, moved, moved_from, nargs, narrowed, on_stack, place_in, prologue}
-use Rattle.cjc_ncode.specs.IntCode.IntCode.{pushed, put_aside, returned, scratch, scratch_pairs_by, static_get}
-use Rattle.cjc_ncode.specs.IntCode.IntCode.{static_put, stores, table_cases, taken_back, widened, widened_result}
-use Rattle.cjc_ncode.specs.IntCode.IntCode.{words, written, written_from}
+use Rattle.cjc_ncode.specs.IntCode.IntCode.{index_of_one, index_of_two, int_method, is_by_scratch, is_reference}
+use Rattle.cjc_ncode.specs.IntCode.IntCode.{is_short, jumped, loads, moved, moved_from, nargs, narrowed, on_stack}
+use Rattle.cjc_ncode.specs.IntCode.IntCode.{place_in, prologue, pushed, put_aside, returned, scratch, scratch_pairs_by}
+use Rattle.cjc_ncode.specs.IntCode.IntCode.{static_get, static_put, stores, table_cases, taken_back, widened}
+use Rattle.cjc_ncode.specs.IntCode.IntCode.{widened_result, words, written, written_from}
 use Rattle.cjc_int_proof.specs.Operands.{IsInt, MatchesRise, OperandsFit, TableFits, names_nothing}
 
 -- ---- opcodes by their forms
@@ -558,8 +558,8 @@ module _ (n : Naming) where
     writable = record {
       form = refl;
       operands = more (positive (omega arith)) (more fits.low_fits (more fits.high_fits none));
-      table = subst (λ k. AllFit (replicate k Signed2) (offsets n (λ label. 0) 0 cases)) (sym (span_is low (length cases)
-          fits.some)) (offsets_fit cases);
+      table = subst (λ k. AllFit (replicate k Signed2) (offsets n (λ label. 0) 0 cases))
+          (sym (span_is low (length cases) fits.some)) (offsets_fit cases);
       whole = le_true low ((low +ℤ pos (length cases)) -ℤ pos 1) (span_up low (length cases) fits.some);
     };
   }
