@@ -1,3 +1,4 @@
 pub mod Gathers
 pub mod Free
 pub mod OneAnswer
+pub mod Spelt

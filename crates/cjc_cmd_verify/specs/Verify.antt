@@ -22,6 +22,8 @@ use Rattle.cjc_judge.specs.World.declared.image.StaticImage.{StaticImage}
 use Rattle.cjc_pairing.specs.Components.Paired.Pairs.{ArePaired}
 use Rattle.cjc_verify.specs.Pairs.{pair_of}
 use Rattle.cjc_verify.specs.Verified.{Breaks, IsVerified}
+use Rattle.cjc_verify_theorem.specs.FairExports.Fair.{ExportsAreFair}
+use Rattle.cjc_verify_theorem.specs.NeverStuck.{IsNeverStuck}
 
 -- the list of this name, its files, and the components of the folder
 abbrev pub plan_of_verify : (name dir : List ℕ) → Plan Input
@@ -47,7 +49,7 @@ abbrev pub AnyBreaks : Input → Break → Type 0
 AnyBreaks input = OnLevels (by_token.AnyBreaks input []) (BreaksTyping input)
 
 -- The package and the components break none of the rules that `card` tests, the components are of the package, and they
--- break none of 721 to 729.
+-- break none of 721 to 729. So over export files that are fair no run of them by token is stuck.
 pub record AreTyped (input : Input) : Type 0 where
   pub ready : Ready
   pub is_ready : IsReady input [] ready
@@ -57,6 +59,8 @@ pub record AreTyped (input : Input) : Type 0 where
   pub is_image : (let judged = ready.judged in IsImage judged.world judged.codes image)
   pub paired : (let judged = ready.judged in ArePaired judged.world image whole)
   pub typed : (let judged = ready.judged in IsVerified (pair_of (has_applets input.list) judged.world image whole))
+  pub free : (let judged = ready.judged in let world = judged.world in ExportsAreFair world.exports
+      → IsNeverStuck (has_applets input.list) judged.world image whole)
 
 -- What is printed where no rule is broken, so that the components are typed, and else which rule is broken first.
 abbrev pub Verifies : Input → Result Todo Refusal → Type 0

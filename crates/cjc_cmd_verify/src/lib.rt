@@ -1,6 +1,7 @@
 //! The command verify.
 #![tactic(auto)]
 
+mod bytes;
 mod laws;
 mod reads;
 mod verifying;

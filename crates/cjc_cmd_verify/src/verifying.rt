@@ -11,13 +11,16 @@ ghost use Rattle.cjc_cmd_verify.specs.Working.{AreChecked};
 ghost use Rattle.cjc_judge.specs.Clinit.Image.{IsImage};
 ghost use Rattle.cjc_judge.specs.Rules.{IsFirstFault};
 ghost use Rattle.cjc_pairing.specs.Components.Paired.Pairs.{ArePaired};
+ghost use Rattle.cjc_verify_theorem.specs.Passed.{AreBytes};
 
+use crate::bytes::are_bytes;
 use crate::reads::gather_input;
 use cjc_card::check_index::lookup::{Parts, parts_of};
 use cjc_card::check_rules::consistent_where_unbroken;
 use cjc_cmd_card::running::{Input, Ready, make_ready};
 use cjc_cmd_check::check::Checked;
 use cjc_cmd_check::checking::print_ok;
+use cjc_cmd_check::folder::Parts as Folder;
 use cjc_cmd_jvm::shelf::Shelf;
 use cjc_cmd_jvm::shelf::command::{Status, Todo};
 use cjc_judge::bytes::{Fault, NoMemory};
@@ -25,7 +28,15 @@ use cjc_judge::world::StaticImage;
 use cjc_judge::{Judged, image_of, tokens_of};
 use cjc_pairing::test_pair;
 use cjc_verify::verify;
+use cjc_verify_theorem::never_stuck;
 use std::alloc::Global;
+
+// The files of a folder's components are bytes.
+fn parts_are_bytes(parts: &Folder)
+    ensures { AreBytes parts.now.others }
+{
+    are_bytes(&parts.others);
+}
 
 /// The components, of which none but Applet and Export is absent.
 fn parts_in<'a>(checked: &'a Checked<'_>) -> Parts<'a>
@@ -60,7 +71,7 @@ fn paired_image(
     Ok(image)
 }
 
-/// Tests the types of components that are of the package.
+/// Tests the types of components that are of the package; where they pass no run of them is stuck.
 fn test_types(
     alloc: Global,
     input: &Input,
@@ -76,6 +87,10 @@ fn test_types(
     ensures refused { IfErr result (IsFirstFault (AnyBreaks input.now)) }
 {
     consistent_where_unbroken();
+    never_stuck();
+    are_bytes(&input.files);
+    let parts = &input.parts;
+    parts_are_bytes(parts);
     let tokens = tokens_of(alloc, &input.list, &judged.world)?;
     verify(alloc, checked, &judged.world, &tokens, image)
 }

@@ -143,13 +143,13 @@ pub record MadeReported (number size : ℕ) (old new : Shelved) (from to : Sunk)
   pub printed : IsPrinted todo from to
 
 -- The list of this name, its files and the components in the folder were read, and break none of the rules that `card`
--- tests and none of 721 to 729.
+-- tests and none of 721 to 729. So no run of the components is stuck where the export files are fair.
 pub record IsTyped (name dir : List ℕ) (files : Files) : Type 0 where
   pub input : ComponentsInput
   pub read : verdict files (plan_of_verify name dir) ≡ complete input
   pub typed : AreTyped input
 
--- `ok` is printed, nothing is written, and the components are typed by token as the package is.
+-- `ok` is printed, nothing is written, and the components are typed by token as the package is, and never stuck.
 pub record Verified (name dir : List ℕ) (old new : Shelved) (from to : Sunk) : Type 0 where
   pub kept : IfSome old.files (λ files. new.files ≡ Some files)
   pub typed : IfSome old.files (IsTyped name dir)

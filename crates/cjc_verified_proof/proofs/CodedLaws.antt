@@ -1,10 +1,7 @@
 -- The program of a package that is checked, with the code of its methods.
-use Rattle.std.proofs.Common.{◌≡◌, ℕ, Bool, not, List, [], ◌++◌, length, Some, sym, ap, subst, ◌∙◌}
-use Rattle.std.specs.Prelude.{nat_lt, ◌+◌, ◌==◌, None, Contains}
-use Rattle.cjc_check_rules.specs.Spots.{along, in_info, unless}
-use Rattle.cjc_check_rules.specs.ClassRefs.{pool_count_at}
-use Rattle.cjc_check_rules.specs.Complete.{described_size}
-use Rattle.cjc_check_rules.specs.Described.{all_ascend, all_starts, classes_in_order, types_in_class, types_in_pool}
+use Rattle.std.proofs.Common.{◌≡◌, ℕ, Bool, not, [], length, Some, sym, ap, subst, ◌∙◌}
+use Rattle.std.specs.Prelude.{nat_lt, None, Contains}
+use Rattle.cjc_check_rules.specs.Described.{all_starts, classes_in_order}
 use Rattle.cjc_bytes.specs.declared.fault.MemberId.{MemberId}
 use Rattle.cjc_card_semantics.specs.Script.declared.script.Script.{Script}
 use Rattle.cjc_card_semantics.specs.Script.declared.report.Outcome.TheVariants.{Stuck}
@@ -17,7 +14,6 @@ use Rattle.cjc_card_semantics.specs.Machine.Methods.{Code}
 use Rattle.cjc_card_semantics.specs.Machine.Statics.{first_memory}
 use Rattle.cjc_components.specs.Package.{Package, world}
 use Rattle.cjc_token_proof.specs.WrittenSends.Named.{FaultsAreClasses}
-use Rattle.cjc_verify.specs.Instructions.{throwable}
 use Rattle.cjc_verify.specs.Pairs.{Pair}
 use Rattle.cjc_verify_proof.specs.Frames.{AreMethods, Program, Typing}
 use Rattle.cjc_verify_proof.specs.Memories.{AreDeclared, IsMemory}
@@ -28,10 +24,10 @@ use Rattle.cjc_verified_proof.specs.Checked.{Checked, HasCode, IsChecked, pair}
 use Rattle.cjc_verified_proof.specs.Programs.{CallsReach, IsProgramOf}
 use Rattle.cjc_verified_proof.specs.Selecting.{DispatchFits}
 use Rattle.cjc_verified_proof.specs.Suited.{AreStanding, HaveCode, HaveSorts}
-use Rattle.cjc_bytes.proofs.Lists.{none_left}
 use Rattle.cjc_verify_proof.proofs.RunLaws.{never_stuck}
 use Rattle.cjc_verified_proof.proofs.CheckedLaws as checked
 use Rattle.cjc_verified_proof.proofs.DispatchSuits.{all_calls}
+use Rattle.cjc_verified_proof.proofs.OrderedLaws.{ordered as in_order}
 use Rattle.cjc_verified_proof.proofs.ProgramLaws as programs
 use Rattle.cjc_verified_proof.proofs.ReachLaws as reaches
 use Rattle.cjc_verified_proof.proofs.StandingLaws as standing
@@ -50,18 +46,9 @@ module _ (c : Checked) (ok : IsChecked c) (has : HasCode c) where
   abbrev q : Package
   q = record { list = c.list; files = c.files; image = c.image; methods = [] }
 
-  ordered : (let q = c.components in let d = q.descriptor in classes_in_order d.classes (all_starts q.class)) ≡ []
-  ordered =
-      let q = c.components in
-      let d = q.descriptor in
-      let e = q.pool in
-      let order = classes_in_order d.classes (all_starts q.class) in
-      let methods = all_ascend q.class None 1 d.classes in
-      let types = along described_size (types_in_class d) 1 d.classes in
-      let many = unless (length d.pool_types == length e.entries) (in_info 11 (pool_count_at d)) in
-      let entries = types_in_pool d (pool_count_at d + 2) d.pool_types e.entries in
-      none_left order methods (none_left (order ++ methods) types (none_left (order ++ methods ++ types) many
-      (none_left (order ++ methods ++ types ++ many) entries ok.described)))
+  -- the order of the classes of Descriptor
+  abbrev ordered : (let q = c.components in let d = q.descriptor in classes_in_order d.classes (all_starts q.class)) ≡ []
+  ordered = in_order c.components ok.described
 
   -- descriptors of methods
   pub sorts : HaveSorts p
@@ -99,7 +86,7 @@ module _ (c : Checked) (ok : IsChecked c) (has : HasCode c) where
 
     -- entries of scripts that name a static method
     pub calls : HaveCode p → (id : MemberId) (m : Start Code) → called l id ≡ Some m → IsEntry l program None id.desc m
-    calls codes = reaches.calls applets c.files c.image c.components has.whole has.jumps ordered ok.paired ok.verified
+    calls codes = reaches.calls applets c.files c.image c.components has.whole ordered ok.paired ok.verified has.jumps
         has.refs has.counted program of codes
 
     -- the program of a package whose calls reach its methods

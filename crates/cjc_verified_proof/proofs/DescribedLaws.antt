@@ -99,7 +99,7 @@ find_filter {A} f g (x ∷ xs) = by (f x) (find_filter f g xs)
     by true e = ap (λ o. cond (g x) (Some x) o) e
     by false e = e
 
-find_there : {A : Type 0} (g : A → Bool) (xs : List A) (k : ℕ) (x : A) → slice_get xs k ≡ Some x → g x ≡ true
+pub find_there : {A : Type 0} (g : A → Bool) (xs : List A) (k : ℕ) (x : A) → slice_get xs k ≡ Some x → g x ≡ true
     → (y : A) × (find g xs ≡ Some y)
 find_there g [] k x e f = absurd cc
 find_there {A} g (y ∷ xs) zero x e f = (y, ap (λ b. cond b (Some y) (find g xs)) (ap g (same_some e) ∙ f))
@@ -109,7 +109,7 @@ find_there {A} g (y ∷ xs) (suc k) x e f = by (g y) (find_there g xs k x e f)
     by true r = (y, refl)
     by false r = r
 
-either_part : {A : Type 0} (xs ys : List A) (k : ℕ) (x : A) → slice_get (xs ++ ys) k ≡ Some x
+pub either_part : {A : Type 0} (xs ys : List A) (k : ℕ) (x : A) → slice_get (xs ++ ys) k ≡ Some x
     → (slice_get xs k ≡ Some x) ⊎ ((j : ℕ) × (slice_get ys j ≡ Some x))
 either_part [] ys k x e = inr (k, e)
 either_part (y ∷ xs) ys zero x e = inl e
@@ -183,7 +183,7 @@ in_class cl h (x ∷ fs) (m ∷ ms) e b f = by b f (in_class cl h fs ms (omega (
         ∷ filter is_plain (described_in cl h fs ms)) (filter is_plain (described_in cl h fs ms)))) g ∙ more
 
 -- what stands at a place among the methods of a class
-in_got : (cl : Class) (h : ClassRef) (fs : List Found) (ms : List MethodDescriptor) (k : ℕ) (d : Described)
+pub in_got : (cl : Class) (h : ClassRef) (fs : List Found) (ms : List MethodDescriptor) (k : ℕ) (d : Described)
     → slice_get (described_in cl h fs ms) k ≡ Some d → (f : Found) × (m : MethodDescriptor) × (slice_get fs k ≡ Some f)
     × (slice_get ms k ≡ Some m) × (record { class = cl; member = f; holder = h; method = m } ≡ d)
 in_got cl h [] ms k d e = absurd cc
@@ -326,6 +326,7 @@ module _ (applets : Bool) (files : Files) (image : StaticImage) (c : Complete) (
   pub record IsSaid (d : Described) : Type 0 where
     pub type : says p (let m = d.method in m.type_offset) (let m = member_of p d in m.desc) ≡ true
     pub flags : (let m = d.method in m.flags) ≡ method_flags (member_of p d)
+    pub token : (let m = d.method in m.token) ≡ member_token p d.member
 
   clean_method : (cl : Class) (h : ClassRef) (at : ℕ) (f : Found) (m : MethodDescriptor) → method_spots p cl at m f ≡ []
       → IsSaid (record { class = cl; member = f; holder = h; method = m })
@@ -338,6 +339,8 @@ module _ (applets : Bool) (files : Files) (image : StaticImage) (c : Complete) (
         type = unless_holds (says p m.type_offset x.desc) (in_info 11 (at + 4)) (none_right (token ++ flags) type e);
         flags = number_same m.flags (method_flags x) (unless_holds (m.flags == method_flags x) (in_info 11 (at + 1))
             (none_right token flags (none_left (token ++ flags) type e)));
+        token = number_same m.token (member_token p f) (unless_holds (m.token == member_token p f) (in_info 11 at)
+            (none_left token flags (none_left (token ++ flags) type e)));
       }
 
   -- the methods of a class of Descriptor
@@ -376,6 +379,13 @@ module _ (applets : Bool) (files : Files) (image : StaticImage) (c : Complete) (
       (λ b. all_said order xs (λ j q y f g. all (suc j) q y f g) b.0 d b.1)
       (either_part (described_in cl x.this_class (methods_of_class w cl) x.methods) (described_among w order xs) k d e)
 
+  -- each method that Descriptor lists
+  pub described_said : (k : ℕ) (d : Described) → slice_get (described p) k ≡ Some d → IsSaid d
+  described_said = all_said (class_order w) ds (λ j cl x h i. (let y = fits j x i in (
+    y.place,
+    ap (class_spots p y.place x) (same_some (sym h ∙ y.in_order)) ∙ y.clean,
+  )))
+
   -- a method of Method is one of the package
   pub record IsOwn (k : ℕ) (b : Body) : Type 0 where
     pub described : Described
@@ -409,11 +419,7 @@ module _ (applets : Bool) (files : Files) (image : StaticImage) (c : Complete) (
             ∙ ap (λ x. Some x) one;
         holder = is_holder;
         method = is_method;
-        said = all_said (class_order w) ds (λ j cl x h i. (let y = fits j x i in (
-          y.place,
-          ap (class_spots p y.place x)
-              (same_some (sym h ∙ y.in_order)) ∙ y.clean,
-        ))) there.0 r.0 there.1;
+        said = described_said there.0 r.0 there.1;
         there = r.1;
       }
     where

@@ -56,7 +56,7 @@ use Rattle.cjc_verified_proof.proofs.ThereLaws.{outside_there}
 
 -- ---- methods of export files
 
-each_after : {A : Type 0} (P : List A → A → Type 0) (before xs : List A) (k : ℕ) (x : A) → EachAfter P before xs
+pub each_after : {A : Type 0} (P : List A → A → Type 0) (before xs : List A) (k : ℕ) (x : A) → EachAfter P before xs
     → slice_get xs k ≡ Some x → (b : List A) × P b x
 each_after P before [] k x each is = cc
 each_after P before (y ∷ xs) zero x each is = let same : y ≡ x = cc in (before, subst (P before) same each.0)

@@ -30,3 +30,15 @@ pub mod CodedLaws
 pub mod ReachLaws
 pub mod DispatchSuits
 pub mod TokenLaws
+pub mod SpeltLaws
+pub mod FoundLaws
+pub mod SentLaws
+pub mod KeptLaws
+pub mod HoldsLaws
+pub mod KindLaws
+pub mod StaticFlags
+pub mod SelectedLaws
+pub mod ConcreteLaws
+pub mod ReachedLaws
+pub mod OrderedLaws
+pub mod FittingLaws

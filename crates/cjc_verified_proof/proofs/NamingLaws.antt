@@ -170,11 +170,11 @@ module _ (name : List ℕ) (list : ListTree) (files : Files) (image : StaticImag
   all_alike = sym (places.all_starts c.class) ∙ starts_alike ∙ infos_stand_alike (λ (x : List ℕ). Inside 0)
       (written_ref q) q ∙ places.all_starts (class_info (written_ref q) q)
 
-  number_alike : (offset : ℕ) → number_from 2 own_infos offset ≡ number_from 2 other_infos offset
+  pub number_alike : (offset : ℕ) → number_from 2 own_infos offset ≡ number_from 2 other_infos offset
   number_alike offset = sym (places.number_place 2 own_infos offset) ∙ ap (first_place (λ n. n == offset)) all_alike
       ∙ places.number_place 2 other_infos offset
 
-  offset_alike : (k : ℕ) → offset_from 2 own_infos k ≡ offset_from 2 other_infos k
+  pub offset_alike : (k : ℕ) → offset_from 2 own_infos k ≡ offset_from 2 other_infos k
   offset_alike k = sym (places.offset_place 2 own_infos k) ∙ ap (λ ss. slice_get ss k) all_alike
       ∙ places.offset_place 2 other_infos k
 
@@ -200,7 +200,7 @@ module _ (name : List ℕ) (list : ListTree) (files : Files) (image : StaticImag
       by (Some x) e = subst (λ (i : Import). imported_class l token i ≡ imported_class m token i) (sym (import_is 0
           files.exports import x e)) refl
 
-  named_alike : (x : List ℕ) → card.class_named l x ≡ card.class_named m x
+  pub named_alike : (x : List ℕ) → card.class_named l x ≡ card.class_named m x
   named_alike x = by (number_named (map (class_names files (let v = p in v.tokens)) order) x)
     where
       by : (o : Option ℕ) → or_else (or_else (option_and_then (λ (k : ℕ). option_map (Own 0) (offset_from 2 own_infos k))

@@ -86,7 +86,7 @@ module _ (name : List ℕ) (list : ListTree) (files : Files) (image : StaticImag
         known name q sound (λ f. omega arith) agree.exports k agree.are_supertypes agree.one_supertypes a.virtual_calls
         a.interface_calls a.tokens
 
-    tables_here : (x s : List ℕ) (k : Class) → class_named w x ≡ Some k → k.is_imported ≡ false
+    pub tables_here : (x s : List ℕ) (k : Class) → class_named w x ≡ Some k → k.is_imported ≡ false
         → is_interface k.flags ≡ false → k.supers ≡ s ∷ [] → SaysTables w n (offset_in p) x k s
     tables_here x s k e own class_here supers =
         let h = info_of_name name q sound x k e own in
@@ -124,7 +124,7 @@ module _ (name : List ℕ) (list : ListTree) (files : Files) (image : StaticImag
         entry_kept fit j (Some f) at = offset_kept (method_offset p f) (fit.public j f at)
 
     -- a class and its superclasses
-    tower_here : (h : ℕ) (x z : List ℕ) → SaysTower w (naming q) (written_offset q) h x z → (k : Class) → class_named w x
+    pub tower_here : (h : ℕ) (x z : List ℕ) → SaysTower w (naming q) (written_offset q) h x z → (k : Class) → class_named w x
         ≡ Some k → is_interface k.flags ≡ false → SaysTower w n (offset_in p) h x z
     tower_here _ _ _ (of_file d known imported file) k e class_here = of_file d known imported (record {
       tree = file.tree;

@@ -6,3 +6,4 @@ pub mod Suited
 pub mod Selecting
 pub mod ClassInfos
 pub mod Dispatching
+pub mod Kept

@@ -13,6 +13,7 @@ ghost use Rattle.cjc_token_proof.specs.WrittenSends.Named.{FaultsAreClasses};
 ghost use Rattle.cjc_verify_proof.specs.Frames.{AreMethods, Program, Typing};
 ghost use Rattle.cjc_verify_proof.specs.Runs.{AreSuited, IsEntry, IsProgram};
 ghost use Rattle.cjc_verify_proof.specs.Scripts.{HasExceptions};
+ghost use Rattle.cjc_verified_proof.specs.Kept.{KeepsCalls};
 ghost use Rattle.cjc_verified_proof.specs.Checked.{Checked, HasCode, IsChecked, pair};
 ghost use Rattle.cjc_verified_proof.specs.Programs.{CallsReach, IsProgramOf};
 ghost use Rattle.cjc_verified_proof.specs.Selecting.{DispatchFits};
@@ -70,10 +71,15 @@ pub fn programs_are_lawful()
         → HaveCode (pair c) → CallsReach (pair c) program → (let p = pair c in IsProgram p.loaded program) }
 {}
 
+/// Where the files keep what dispatch rests on, calls by dispatch and entries on receivers reach methods of the program.
+pub fn calls_reach()
+    ensures { (c : Checked) → IsChecked c → HasCode c → HaveCode (pair c) → KeepsCalls c → (program : Program)
+        → IsProgramOf (pair c) program → CallsReach (pair c) program }
+{}
+
 /// So no run of it by token is stuck, for any script and any length.
 pub fn checked_packages_are_never_stuck()
-    ensures { (c : Checked) → IsChecked c → HasCode c → (program : Program) → IsProgramOf (pair c) program
+    ensures { (c : Checked) → IsChecked c → HasCode c → HaveCode (pair c) → KeepsCalls c
         → FaultsAreClasses (world (record { list = c.list; files = c.files; image = c.image; methods = [] }))
-        → HaveCode (pair c) → CallsReach (pair c) program → (script : Script) (n at : ℕ)
-        → (let p = pair c in let r = run p.loaded script n in r.outcome) ≡ Stuck at → ⊥ }
+        → (script : Script) (n at : ℕ) → (let p = pair c in let r = run p.loaded script n in r.outcome) ≡ Stuck at → ⊥ }
 {}

@@ -23,8 +23,10 @@ ghost use Rattle.cjc_verify.specs.Verified.{IsVerified};
 ghost use Rattle.cjc_verify_proof.specs.Frames.{Program};
 ghost use Rattle.cjc_verified_proof.specs.Dispatching.{FilesAgree, IsHiddenBy, IsReachedBy, TablesFit, naming_of, offset_in};
 ghost use Rattle.cjc_verified_proof.specs.Dispatching.{package_of};
+ghost use Rattle.cjc_verified_proof.specs.Checked.{Checked, HasCode, IsChecked, pair};
 ghost use Rattle.cjc_verified_proof.specs.Entries.{AreRefs};
-ghost use Rattle.cjc_verified_proof.specs.Programs.{CallsSuit};
+ghost use Rattle.cjc_verified_proof.specs.Kept.{KeepsCalls};
+ghost use Rattle.cjc_verified_proof.specs.Programs.{CallsSuit, IsProgramOf};
 ghost use Rattle.cjc_verified_proof.specs.Selecting.{DispatchFits};
 ghost use Rattle.cjc_verified_proof.specs.Suited.{AreStanding, HaveSorts};
 
@@ -83,4 +85,11 @@ pub fn calls_suit()
         → pool_spots c files.exports ≡ [] → AreStanding (pair_of applets files image c) program
         → HaveSorts (pair_of applets files image c) → AreRefs c → DispatchFits (pair_of applets files image c) program
         → CallsSuit (pair_of applets files image c) program }
+{}
+
+/// Dispatch keeps the descriptors that entries of the constant pool and tokens of interfaces name, in a package that is
+/// checked, where the files keep what dispatch rests on.
+pub fn dispatch_fits()
+    ensures { (c : Checked) → IsChecked c → HasCode c → KeepsCalls c → (program : Program) → IsProgramOf (pair c) program
+        → DispatchFits (pair c) program }
 {}

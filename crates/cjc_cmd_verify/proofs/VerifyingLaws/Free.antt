@@ -27,6 +27,8 @@ use Rattle.cjc_judge.specs.World.declared.image.StaticImage.{StaticImage}
 use Rattle.cjc_pairing.specs.Components.Paired.Pairs.{ArePaired}
 use Rattle.cjc_verify.specs.Pairs.{Pair, pair_of}
 use Rattle.cjc_verify.specs.Verified.{Breaks, IsRefused, IsVerified}
+use Rattle.cjc_verify_theorem.specs.FairExports.Fair.{ExportsAreFair}
+use Rattle.cjc_verify_theorem.specs.NeverStuck.{IsNeverStuck}
 
 module _ (hold : SentencesHold) (input : Input) (ready : Ready) (is : IsReady input [] ready) (image : StaticImage)
     (is_image : (let judged = ready.judged in IsImage judged.world judged.codes image)) (whole : Complete)
@@ -111,12 +113,14 @@ paired_by tree c d world image a b paired = subst (ArePaired world image) (the_s
 pub are_typed : (input : Input) (ready : Ready) (is : IsReady input [] ready) (image : StaticImage)
     (is_image : (let judged = ready.judged in IsImage judged.world judged.codes image))
     (paired : (c : Complete) → complete ready.cap ≡ Some c → (let judged = ready.judged in ArePaired judged.world image
-    c)) (result : Result Unit Fault)
+    c)) (free : (let judged = ready.judged in IsVerified (pair_of (has_applets input.list) judged.world image is.whole)
+    → (let world = judged.world in ExportsAreFair world.exports) → IsNeverStuck (has_applets input.list) judged.world image
+    is.whole)) (result : Result Unit Fault)
     → OnOk result (let judged = ready.judged in IsVerified (pair_of (has_applets input.list) judged.world image
     is.whole))
     → OnOk result (AreTyped input)
-are_typed input ready is image is_image paired (Err e) typed = tt
-are_typed input ready is image is_image paired (Ok done) typed = record {
+are_typed input ready is image is_image paired free (Err e) typed = tt
+are_typed input ready is image is_image paired free (Ok done) typed = record {
   ready = ready;
   is_ready = is;
   whole = is.whole;
@@ -125,6 +129,7 @@ are_typed input ready is image is_image paired (Ok done) typed = record {
   is_image = is_image;
   paired = paired is.whole is.complete_is;
   typed = typed;
+  free = free typed;
 }
 
 -- the first of the rules that `card` tests is the first of all

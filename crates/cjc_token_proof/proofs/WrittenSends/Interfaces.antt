@@ -1045,7 +1045,7 @@ module _ (list : List ℕ) (p : Package) (sound : IsSound list p.files) (facts :
                       → (b : Bool) → card.same_class (n.class y) k ≡ b → (b || card.is_in (n.class y) ks) ≡ true
                       → (card.is_in (n.class y) ks ≡ true → place_in i ≡ None) → place_in i ≡ None
                   head_or y i known_i here true same h rest =
-                      let one : n.class y ≡ n.class o.name = Rattle.cjc_token_proof.proofs.ByToken.Slots.class_tells
+                      let one : n.class y ≡ n.class o.name = Rattle.cjc_card_semantics.proofs.MachineLaws.Upwards.class_tells
                       (n.class y) k same ∙ o.is in
                       let name : y ≡ o.name = kinds.once y o.name (ap is_some known_i) (ap is_some o.there) one in
                       let both : Some i ≡ Some o.interface = sym known_i ∙ ap (class_named w) name ∙ o.there in

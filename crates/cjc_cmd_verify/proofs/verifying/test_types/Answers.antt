@@ -1,7 +1,9 @@
 use Rattle.std.proofs.Common.{IsSome, refl, sym, subst}
 use Rattle.cjc_cmd_card.proofs.ReportLaws.Free.{few_cells, few_exported, has_tokens}
 use Rattle.cjc_cmd_check.proofs.CheckingLaws.Sizes.{small_cap}
+use Rattle.cjc_cmd_card.specs.Running.Ready.{tested}
 use Rattle.cjc_cmd_verify.proofs.VerifyingLaws.Free.{are_typed, types_fault}
+use Rattle.cjc_cmd_verify.proofs.VerifyingLaws.Spelt.{passed}
 use Rattle.cjc_cmd_verify.specs.Working.{ready_of}
 use Rattle.cjc_judge.specs.Rules.{has_applets}
 use Rattle.cjc_cmd_verify.proofs.verifying.test_types.Goals as goal
@@ -37,8 +39,12 @@ verify-requires-clause-tokens c = (has_applets c.args.input.now.list, c.in_ok-to
 pub returns-clause-typed : goal.returns-clause-typed
 returns-clause-typed c =
     let r = c.requires.checked in
-    are_typed c.args.input.now (ready_of c.args.judged.now c.args.checked.now.tree r.script) r.is_ready
-    c.args.image.now c.requires.image c.requires.paired c.verify.result
+    let ready = ready_of c.args.judged.now c.args.checked.now.tree r.script in
+    are_typed c.args.input.now ready r.is_ready c.args.image.now c.requires.image c.requires.paired
+    (λ typed. c.never_stuck.ensures c.args.input.now.list c.args.input.now.files tested c.args.judged.now
+    c.args.checked.now.tree r.is_ready.whole c.args.image.now (passed c.args.input.now ready r.is_ready c.requires.input
+    c.are_bytes.ensures c.parts_are_bytes.ensures c.args.image.now c.requires.image c.requires.paired typed))
+    c.verify.result
     (c.verify.ensures.verified (has_applets c.args.input.now.list) r.is_ready.whole c.in_ok-tokens.ensures
     r.is_ready.complete_is)
 
