@@ -6,3 +6,4 @@ pub mod Walks
 pub mod Pairs
 pub mod Whole
 pub mod Tables
+pub mod Stands

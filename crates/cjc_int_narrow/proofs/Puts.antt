@@ -1,7 +1,7 @@
 -- What is written as in short mode, or nearly so, and what is written for calls.
 use Rattle.std.proofs.Common.{◌≡◌, ℕ, ◌+◌, ◌-◌, ◌<◌, arith, refl, sym, ap, ◌∙◌, Bool, true, false, List, [], ◌∷◌, ◌++◌}
 use Rattle.std.proofs.Common.{map, append_assoc}
-use Rattle.std.specs.Prelude.{if◌then◌else◌, nat_le, Option, Some, None}
+use Rattle.std.specs.Prelude.{if◌then◌else◌, nat_le, Some, None}
 use Rattle.std.proofs.lemmas.Bool.{leb-true}
 use Rattle.cjc_bytes.specs.Descriptor.{Part, Parts}
 use Rattle.cjc_bytes.specs.declared.descriptor.Kind.{Kind}

@@ -1,9 +1,8 @@
 //! The instructions of a method in int mode, one after the other, and the places that they come from. Called by whoever
 //! selects code.
 
-ghost use Rattle.std.specs.Prelude.{◌≡◌, ◌+◌, ◌*◌, ◌<◌, ◌≤◌, ◌^◌, ◌++◌, ℕ, length, replicate, slice_get, Some, IfOk};
+ghost use Rattle.std.specs.Prelude.{◌≡◌, ◌+◌, ◌*◌, ◌<◌, ◌≤◌, ◌^◌, ◌++◌, length, replicate, Some, IfOk};
 ghost use Rattle.std.specs.Prelude.{OnOk};
-ghost use Rattle.cjc_ncode.specs.Bytecode.declared.insn.JInsn.{JInsn as Insn};
 ghost use Rattle.cjc_ncode.specs.IntCode.IntCode.{nargs, place_in, prologue, sources, written, written_from};
 ghost use Rattle.cjc_narrow.specs.Select.Working.Names.{resolution_of};
 ghost use Rattle.cjc_narrow.specs.Written.Labels.{place_of};

@@ -1,6 +1,6 @@
 //! What the least tables of a method say before each of its instructions. Called before code is selected.
 
-ghost use Rattle.std.specs.Prelude.{◌≡◌, ◌<◌, Option, ℤ, List, length, map, option_map, IfOk};
+ghost use Rattle.std.specs.Prelude.{◌≡◌, ◌<◌, Option, ℤ, List, map, option_map, IfOk};
 ghost use Rattle.cjc_bytes.specs.declared.fault.MemberId.{MemberId as Field};
 ghost use Rattle.cjc_flow.specs.Types.ClassFile.Code.{CodeTree};
 ghost use Rattle.cjc_flow.specs.Types.ClassFile.declared.tree.ClassTree.{ClassTree as ClassFile};

@@ -9,6 +9,7 @@ mod elements;
 mod frame;
 mod kinds;
 mod known;
+pub mod laws;
 mod method;
 mod names;
 mod numbers;

@@ -1,6 +1,6 @@
 //! The greatest number of scratch pairs of the instructions of a method. Called by whoever selects code.
 
-ghost use Rattle.std.specs.Prelude.{◌≡◌, length, max, IfOk};
+ghost use Rattle.std.specs.Prelude.{◌≡◌, length, IfOk};
 ghost use Rattle.cjc_ncode.specs.IntCode.IntCode.{scratch_pairs};
 ghost use Rattle.cjc_int_narrow.specs.Reached.{reached_by};
 ghost use Rattle.cjc_int_narrow.specs.Working.Walks.{pairs_if};

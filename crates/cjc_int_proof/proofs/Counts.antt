@@ -1,9 +1,11 @@
 -- How many instructions are written, and where.
 use Rattle.std.proofs.Common.{◌≡◌, ℕ, suc, ◌+◌, ◌-◌, ◌≤◌, arith, refl, ap, Bool, true, false}
-use Rattle.std.proofs.Common.{List, [], ◌∷◌, ◌++◌, length}
-use Rattle.std.specs.Prelude.{if◌then◌else◌, nat_lt, nat_le, ◌==◌}
+use Rattle.std.proofs.Common.{List, [], ◌∷◌, ◌++◌, ◌<◌, length, slice_get, zero}
+use Rattle.std.specs.Prelude.{if◌then◌else◌, nat_lt, nat_le, ◌==◌, Option, Some, None}
 use Rattle.std.proofs.lemmas.Bool.{ltb-true, ltb-false}
 use Rattle.std.proofs.lemmas.List.{length-append}
+use Rattle.cjc_types.specs.Steps.{goes_on}
+use Rattle.cjc_ncode.specs.Script.Sorts.{Sort, Boolean, Byte, Short, Int, Reference, NoValue}
 use Rattle.cjc_ncode.specs.ClassFile.Code.{CodeTree}
 use Rattle.cjc_ncode.specs.Bytecode.declared.insn.JOp.{JOp}
 use Rattle.cjc_ncode.specs.Bytecode.declared.insn.JOp.TheVariants as jop
@@ -11,10 +13,10 @@ use Rattle.cjc_ncode.specs.Bytecode.Jvm as jvm
 use Rattle.cjc_ncode.specs.CapRead.Card as card
 use Rattle.cjc_ncode.specs.declared.narrow.NInsn.{NInsn}
 use Rattle.cjc_ncode.specs.declared.narrow.NInsn.TheVariants.{Jump, Op}
-use Rattle.cjc_ncode.specs.Written.{Resolution, condition}
+use Rattle.cjc_ncode.specs.Written.{Resolution, condition, leaving}
 use Rattle.cjc_ncode.specs.IntCode.IntCode.{Before, Frame, Reached, element_read, element_written, guard, index_of_one}
 use Rattle.cjc_ncode.specs.IntCode.IntCode.{index_of_two, int_method, jumped, place_from, place_in, prologue, size}
-use Rattle.cjc_ncode.specs.IntCode.IntCode.{written, written_from}
+use Rattle.cjc_ncode.specs.IntCode.IntCode.{returned, written, written_from}
 
 -- ---- labels change no length
 
@@ -142,6 +144,52 @@ module _ (f : Frame) (r : Resolution) where
       let rest = from_order reached offset later le in
       omega (arith, first, rest)
 
+  none_there : (at offset n : ℕ) → offset ≤ at → (if nat_lt at offset then n else 0) ≡ 0
+  none_there at offset n le = go (nat_lt at offset) refl
+    where
+      go : (b : Bool) → nat_lt at offset ≡ b → (if b then n else 0) ≡ 0
+      go false e = refl
+      go true e = let lt = ltb-true at offset e in absurd (omega (arith, lt, le))
+
+  from_below : (reached : List Reached) (offset k : ℕ) (i : Reached) → slice_get reached k ≡ Some i
+      → offset ≤ (let n = i.insn in n.at) → place_from f r reached offset + size f r i ≤ all reached
+  from_below [] offset k i e le = absurd cc
+  from_below (x ∷ reached) offset zero i e le =
+      let same : x ≡ i = cc in
+      let at : (let n = x.insn in n.at) ≡ (let n = i.insn in n.at) =
+      ap (λ (y : Reached). (let n = y.insn in n.at)) same in
+      let sized : size f r x ≡ size f r i = ap (size f r) same in
+      let j = x.insn in
+      let first = none_there j.at offset (size f r x) (omega (arith, at, le)) in
+      let rest = from_within reached offset in
+      omega (arith, first, rest, sized)
+  from_below (x ∷ reached) offset (suc k) i e le =
+      let j = x.insn in
+      let first = some (nat_lt j.at offset) (size f r x) in
+      let rest = from_below reached offset k i e le in
+      omega (arith, first, rest)
+
+  from_between : (reached : List Reached) (a b : ℕ) → place_from f r reached a < place_from f r reached b → (k : ℕ)
+      × (i : Reached) × (slice_get reached k ≡ Some i) × (a ≤ (let n = i.insn in n.at)) × ((let n = i.insn in n.at) < b)
+  from_between [] a b lt = absurd (omega (arith, lt))
+  from_between (x ∷ reached) a b lt =
+      go (λ h. (let found = from_between reached a b h in (suc found.0, found.1, found.2, found.3, found.4)))
+      (nat_lt at a) refl (nat_lt at b) refl lt
+    where
+      at : ℕ
+      at = let j = x.insn in j.at
+
+      go : (place_from f r reached a < place_from f r reached b → (k : ℕ) × (i : Reached)
+          × (slice_get (x ∷ reached) k ≡ Some i) × (a ≤ (let n = i.insn in n.at)) × ((let n = i.insn in n.at) < b))
+          → (p : Bool) → nat_lt at a ≡ p → (q : Bool) → nat_lt at b ≡ q
+          → (if p then size f r x else 0) + place_from f r reached a < (if q then size f r x else 0) + place_from f r
+          reached b → (k : ℕ) × (i : Reached) × (slice_get (x ∷ reached) k ≡ Some i)
+          × (a ≤ (let n = i.insn in n.at)) × ((let n = i.insn in n.at) < b)
+      go later false e true g h = (0, x, refl, ltb-false at a e, ltb-true at b g)
+      go later true e true g h = later (omega (arith, h))
+      go later true e false g h = later (omega (arith, h))
+      go later false e false g h = later (omega (arith, h))
+
 pub behind : (f : Frame) (r : Resolution) (reached : List Reached) (offset : ℕ) → length (prologue f) ≤
     place_in f r reached offset
 behind f r reached offset = omega arith
@@ -158,3 +206,65 @@ within f r code reached places offset =
     let long = all_long f r p (length (prologue f)) reached in
     let le = from_within f r reached offset in
     omega (arith, both, long, le)
+
+-- Two places differ only where a reached instruction stands between their offsets.
+pub between : (f : Frame) (r : Resolution) (reached : List Reached) (a b : ℕ) → place_in f r reached a
+    < place_in f r reached b → (k : ℕ) × (i : Reached) × (slice_get reached k ≡ Some i) × (a ≤ (let n = i.insn in n.at))
+    × ((let n = i.insn in n.at) < b)
+between f r reached a b lt = from_between f r reached a b (omega (arith, lt))
+
+-- What is written for an instruction at an offset or behind it stands behind its place.
+pub below : (f : Frame) (r : Resolution) (code : CodeTree) (reached : List Reached) (places : List ℕ) (offset k : ℕ)
+    (i : Reached) → slice_get reached k ≡ Some i → offset ≤ (let n = i.insn in n.at)
+    → (let m = int_method f r code reached places in place_in f r reached offset + size f r i ≤ length m.insns)
+below f r code reached places offset k i e le =
+    let p = place_in f r reached in
+    let both = length-append (prologue f) (written_from f r p (length (prologue f)) reached) in
+    let long = all_long f r p (length (prologue f)) reached in
+    let there = from_below f r reached offset k i e le in
+    omega (arith, both, long, there)
+
+-- ---- what is not written
+
+returned_some : (result : Option Sort) → length (returned result) ≡ 0 → ⊥
+returned_some None e = cc
+returned_some (Some Boolean) e = cc
+returned_some (Some Byte) e = cc
+returned_some (Some Short) e = cc
+returned_some (Some Int) e = cc
+returned_some (Some (Reference shape)) e = cc
+returned_some (Some NoValue) e = cc
+
+left_some : (b : Bool) (result : Option Sort) (i : NInsn) → length (if b then returned result else i ∷ []) ≡ 0 → ⊥
+left_some true result i e = returned_some result e
+left_some false result i e = cc
+
+-- An instruction for which nothing is written goes on to the next.
+pub goes_on_unwritten : (f : Frame) (r : Resolution) (b : Before) (op : JOp) → length (written f r (λ o. 0) b 0 op) ≡ 0
+    → goes_on op ≡ true
+goes_on_unwritten f r b (jop.Goto target) e = absurd cc
+goes_on_unwritten f r b (jop.TableSwitch other low targets) e = absurd cc
+goes_on_unwritten f r b (jop.LookupSwitch other cases) e = absurd cc
+goes_on_unwritten f r b (jop.Return op) e = absurd (left_some (op == jvm.ireturn) f.result (Op (leaving op)) e)
+goes_on_unwritten f r b jop.Throw e = absurd cc
+goes_on_unwritten f r b jop.Nop e = refl
+goes_on_unwritten f r b jop.Null e = refl
+goes_on_unwritten f r b (jop.Number z) e = refl
+goes_on_unwritten f r b (jop.Load refs l) e = refl
+goes_on_unwritten f r b (jop.Store refs l) e = refl
+goes_on_unwritten f r b (jop.ArrayLoad op) e = refl
+goes_on_unwritten f r b (jop.ArrayStore op) e = refl
+goes_on_unwritten f r b (jop.Stack op) e = refl
+goes_on_unwritten f r b (jop.Arith op) e = refl
+goes_on_unwritten f r b (jop.Inc l by) e = refl
+goes_on_unwritten f r b (jop.Narrow op) e = refl
+goes_on_unwritten f r b (jop.If op target) e = refl
+goes_on_unwritten f r b (jop.Static put field) e = refl
+goes_on_unwritten f r b (jop.Field put field) e = refl
+goes_on_unwritten f r b (jop.Call op m) e = refl
+goes_on_unwritten f r b (jop.New class) e = refl
+goes_on_unwritten f r b (jop.NewArray kind) e = refl
+goes_on_unwritten f r b (jop.ANewArray class) e = refl
+goes_on_unwritten f r b jop.ArrayLength e = refl
+goes_on_unwritten f r b (jop.CheckCast class) e = refl
+goes_on_unwritten f r b (jop.InstanceOf class) e = refl

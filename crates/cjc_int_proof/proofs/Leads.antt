@@ -7,8 +7,8 @@ use Rattle.std.proofs.lemmas.List.{length-append}
 use Rattle.cjc_types.specs.Steps.{targets}
 use Rattle.cjc_ncode.specs.Bytes.declared.fault.MemberId.{MemberId}
 use Rattle.cjc_ncode.specs.Script.Sorts.{Sort, Boolean, Byte, Short, Int, Reference, NoValue, Shape, OfClass, OfNumbers}
-use Rattle.cjc_ncode.specs.Script.Sorts.{OfReferences, Booleans, Bytes, Shorts, Ints, Signature, field_sort, shape_named}
-use Rattle.cjc_ncode.specs.Script.Sorts.{signature_of}
+use Rattle.cjc_ncode.specs.Script.Sorts.{OfReferences, Booleans, Bytes, Shorts, Ints, Signature, field_sort}
+use Rattle.cjc_ncode.specs.Script.Sorts.{shape_named, signature_of}
 use Rattle.cjc_ncode.specs.CardSemantics.Bytecode.Arguments.{widths}
 use Rattle.cjc_ncode.specs.ClassFile.Code.{CodeTree}
 use Rattle.cjc_ncode.specs.CapRead.Card as card
@@ -23,10 +23,11 @@ use Rattle.cjc_ncode.specs.Written.{Resolution, call_by, condition, field_access
 use Rattle.cjc_ncode.specs.Written.{static_access, type_test}
 use Rattle.cjc_ncode.specs.IntCode.IntCode.{Before, Frame, Reached, called_with, copied, dropped, element_read}
 use Rattle.cjc_ncode.specs.IntCode.IntCode.{element_written, field_get, field_put, first_word, guard, handed_over}
-use Rattle.cjc_ncode.specs.IntCode.IntCode.{index_of_one, index_of_two, int_method, is_by_scratch, is_reference, is_short}
-use Rattle.cjc_ncode.specs.IntCode.IntCode.{jumped, loads, moved, moved_from, narrowed, on_stack, place_in, prologue, pushed}
-use Rattle.cjc_ncode.specs.IntCode.IntCode.{put_aside, returned, scratch, static_get, static_put, stores, table_cases}
-use Rattle.cjc_ncode.specs.IntCode.IntCode.{taken_back, widened, widened_result, words, written, written_from}
+use Rattle.cjc_ncode.specs.IntCode.IntCode.{index_of_one, index_of_two, int_method, is_by_scratch, is_reference}
+use Rattle.cjc_ncode.specs.IntCode.IntCode.{is_short, jumped, loads, moved, moved_from, narrowed, on_stack, place_in}
+use Rattle.cjc_ncode.specs.IntCode.IntCode.{prologue, pushed, put_aside, returned, scratch, static_get, static_put}
+use Rattle.cjc_ncode.specs.IntCode.IntCode.{stores, table_cases, taken_back, widened, widened_result, words, written}
+use Rattle.cjc_ncode.specs.IntCode.IntCode.{written_from}
 use Rattle.cjc_layout.specs.Sizes.{AllLead, CasesLead, Leads}
 use Rattle.cjc_int_proof.specs.Labels.{LabelsStand}
 
@@ -113,13 +114,15 @@ module _ (count : ℕ) where
       → Lead (index_of_one inside here ++ Op op ∷ [])
   by_one true here op le = (tt, (tt, (tt, (tt, tt))))
   by_one false here op le =
-      let target : here + 1 + 8 < count = omega (arith, le) in (tt, (tt, (tt, (tt, (tt, (tt, (target, (tt, (tt, (tt, (tt, (tt, tt))))))))))))
+      let target : here + 1 + 8 < count = omega (arith, le) in
+      (tt, (tt, (tt, (tt, (tt, (tt, (target, (tt, (tt, (tt, (tt, (tt, tt))))))))))))
 
   by_two : (inside : Bool) (here : ℕ) (op : ℕ) → here + length (index_of_two inside here ++ Op op ∷ []) ≤ count
       → Lead (index_of_two inside here ++ Op op ∷ [])
   by_two true here op le = (tt, (tt, (tt, (tt, tt))))
   by_two false here op le =
-      let target : here + 1 + 8 < count = omega (arith, le) in (tt, (tt, (tt, (tt, (tt, (tt, (target, (tt, (tt, (tt, (tt, (tt, tt))))))))))))
+      let target : here + 1 + 8 < count = omega (arith, le) in
+      (tt, (tt, (tt, (tt, (tt, (tt, (target, (tt, (tt, (tt, (tt, (tt, tt))))))))))))
 
   elements : (op : ℕ) (inside : Bool) (here : ℕ) → here + length (element_written op inside here) ≤ count
       → Lead (element_written op inside here)
@@ -136,7 +139,8 @@ module _ (count : ℕ) where
       go true b h = by_two inside here card.iastore h
       go false true h = by_one inside here card.aastore h
       go false false h =
-          let rest : (here + 1) + length (index_of_one inside (here + 1) ++ Op narrow ∷ []) ≤ count = omega (arith, h) in
+          let rest : (here + 1) + length (index_of_one inside (here + 1) ++ Op narrow ∷ []) ≤ count =
+          omega (arith, h) in
           (tt, by_one inside (here + 1) narrow rest)
 
   -- ---- the stack
@@ -237,8 +241,8 @@ module _ (count : ℕ) where
     calling op m = go (op == jvm.invokeinterface) (op == jvm.invokevirtual) (op == jvm.invokespecial)
       where
         go : (a b c : Bool) → Lead ((if a then Interface (nargs_of m) (r.interface m)
-            else (if b then Named card.invokevirtual (r.virtual m) else (if c then Named card.invokespecial (r.special m)
-            else Named card.invokestatic (r.static m)))) ∷ [])
+            else (if b then Named card.invokevirtual (r.virtual m) else (if c
+            then Named card.invokespecial (r.special m) else Named card.invokestatic (r.static m)))) ∷ [])
         go true b c = (tt, tt)
         go false true c = (tt, tt)
         go false false true = (tt, tt)
@@ -277,8 +281,8 @@ module _ (count : ℕ) where
     leading place b here (jop.Store refs l) le h = storing refs (first_word f l)
     leading place b here (jop.ArrayLoad op) le h =
         let long = length-append (guard b.is_index_inside here) (element_read op) in
-        join (guard b.is_index_inside here) (element_read op) (guarding b.is_index_inside here (omega (arith, le, long)))
-        (reading op)
+        join (guard b.is_index_inside here) (element_read op)
+        (guarding b.is_index_inside here (omega (arith, le, long))) (reading op)
     leading place b here (jop.ArrayStore op) le h = elements op b.is_index_inside here le
     leading place b here (jop.Stack op) le h = stacking op b.references
     leading place b here (jop.Arith op) le h = (tt, tt)

@@ -3,3 +3,5 @@ pub mod LongRuns
 pub mod Counts
 pub mod Sizes
 pub mod Leads
+pub mod Forms
+pub mod Said

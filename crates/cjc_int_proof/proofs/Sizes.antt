@@ -8,8 +8,8 @@ use Rattle.std.proofs.lemmas.List.Sums.{sum_by-cons}
 use Rattle.cjc_bytes.proofs.Lists.{length_mapped}
 use Rattle.cjc_bytes.specs.declared.fault.MemberId.{MemberId}
 use Rattle.cjc_ncode.specs.Script.Sorts.{Sort, Boolean, Byte, Short, Int, Reference, NoValue, Shape, OfClass, OfNumbers}
-use Rattle.cjc_ncode.specs.Script.Sorts.{OfReferences, Booleans, Bytes, Shorts, Ints, Signature, field_sort, shape_named}
-use Rattle.cjc_ncode.specs.Script.Sorts.{signature_of}
+use Rattle.cjc_ncode.specs.Script.Sorts.{OfReferences, Booleans, Bytes, Shorts, Ints, Signature, field_sort}
+use Rattle.cjc_ncode.specs.Script.Sorts.{shape_named, signature_of}
 use Rattle.cjc_ncode.specs.CardSemantics.Bytecode.Arguments.{widths}
 use Rattle.cjc_ncode.specs.CapRead.Card as card
 use Rattle.cjc_ncode.specs.CapRead.Opcodes.{form, forms}
@@ -19,18 +19,18 @@ use Rattle.cjc_ncode.specs.Bytecode.declared.insn.JOp.{JOp}
 use Rattle.cjc_ncode.specs.Bytecode.declared.insn.JOp.TheVariants as jop
 use Rattle.cjc_ncode.specs.declared.narrow.NCase.{NCase}
 use Rattle.cjc_ncode.specs.declared.narrow.NInsn.{NInsn}
-use Rattle.cjc_ncode.specs.declared.narrow.NInsn.TheVariants.{Op, Push, Local, Inc, Words, Jump, Switch, Named, Interface}
+use Rattle.cjc_ncode.specs.declared.narrow.NInsn.TheVariants.{Op, Push, Local, Inc, Words, Jump, Switch, Named}
+use Rattle.cjc_ncode.specs.declared.narrow.NInsn.TheVariants.{Interface}
 use Rattle.cjc_ncode.specs.declared.narrow.PoolKey.TheVariants as keys
 use Rattle.cjc_ncode.specs.Written.{Resolution, arithmetic, call_by, condition, field_access, is_byte, leaving, local}
 use Rattle.cjc_ncode.specs.Written.{nargs_of, pair_case, static_access, type_test}
 use Rattle.cjc_ncode.specs.IntCode.IntCode.{Before, Frame, Reached, called_with, copied, dropped, element_read}
 use Rattle.cjc_ncode.specs.IntCode.IntCode.{element_written, field_get, field_put, first_word, guard, handed_over}
-use Rattle.cjc_ncode.specs.IntCode.IntCode.{index_of_one, index_of_two, int_method, is_by_scratch, is_reference, is_short}
-use Rattle.cjc_ncode.specs.IntCode.IntCode.{jumped, loads, moved, moved_from, narrowed, on_stack, params_by, place_in}
-use Rattle.cjc_ncode.specs.IntCode.IntCode.{prologue, pushed, put_aside, returned, scratch, static_get, static_put}
-use Rattle.cjc_ncode.specs.IntCode.IntCode.{stores, table_cases, taken_back, widened, widened_result, widest, widest_get}
-use Rattle.cjc_ncode.specs.IntCode.IntCode.{words}
-use Rattle.cjc_ncode.specs.IntCode.IntCode.{written, written_from}
+use Rattle.cjc_ncode.specs.IntCode.IntCode.{index_of_one, index_of_two, int_method, is_by_scratch, is_reference}
+use Rattle.cjc_ncode.specs.IntCode.IntCode.{is_short, jumped, loads, moved, moved_from, narrowed, on_stack, params_by}
+use Rattle.cjc_ncode.specs.IntCode.IntCode.{place_in, prologue, pushed, put_aside, returned, scratch, static_get}
+use Rattle.cjc_ncode.specs.IntCode.IntCode.{static_put, stores, table_cases, taken_back, widened, widened_result}
+use Rattle.cjc_ncode.specs.IntCode.IntCode.{widest, widest_get, words, written, written_from}
 use Rattle.cjc_layout.specs.Sizes.{insn_size, size_by, widest_size}
 
 -- the bytes of instructions, with every jump wide
@@ -215,11 +215,13 @@ store_low inside here op = go (op == jvm.iastore) (op == jvm.aastore) (op == jvm
         let both = wide_append (index_of_two inside at) (Op o ∷ []) in omega (arith, h, front, both)
 
     cut : (o : ℕ) → bytes o ≤ 1 → wide_sum (Op card.i2s ∷ (index_of_one inside (here + 1) ++ Op o ∷ [])) ≤ 17
-    cut o h = let rest = one (here + 1) o h in let first : bytes card.i2s ≤ 1 = low _ 1 refl in omega (arith, rest, first)
+    cut o h =
+        let rest = one (here + 1) o h in
+        let first : bytes card.i2s ≤ 1 = low _ 1 refl in omega (arith, rest, first)
 
     go : (a b c : Bool) → wide_sum (if a then index_of_two inside here ++ Op card.iastore ∷ [] else (if b
-        then index_of_one inside here ++ Op card.aastore ∷ [] else Op card.i2s ∷ (index_of_one inside (here + 1) ++ Op (if c
-        then card.bastore else card.sastore) ∷ []))) ≤ (if a then 16 else (if b then 16 else 17))
+        then index_of_one inside here ++ Op card.aastore ∷ [] else Op card.i2s ∷ (index_of_one inside (here + 1)
+        ++ Op (if c then card.bastore else card.sastore) ∷ []))) ≤ (if a then 16 else (if b then 16 else 17))
     go true b c = two here card.iastore (low _ 1 refl)
     go false true c = one here card.aastore (low _ 1 refl)
     go false false true = cut card.bastore (low _ 1 refl)

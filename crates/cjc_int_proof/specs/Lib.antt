@@ -1,5 +1,6 @@
 pub mod Walks
 pub mod LongRuns
 pub mod Labels
+pub mod Operands
 
 -- Definitions of lower crates, for those above.

@@ -7,4 +7,5 @@
 #![tactic(auto)]
 
 pub mod lengths;
+pub mod operands;
 pub mod walks;

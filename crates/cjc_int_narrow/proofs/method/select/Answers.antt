@@ -7,7 +7,6 @@ use Rattle.cjc_flow.specs.Types.Flow.{body_of}
 use Rattle.cjc_int_mode.specs.Room.{many_arguments}
 use Rattle.cjc_int_mode.specs.Written.{argument_words, int_frame}
 use Rattle.cjc_int_narrow.specs.Reached.{places_by, reached_by}
-use Rattle.cjc_int_narrow.specs.Working.Frames.{frame_of}
 use Rattle.cjc_int_narrow.specs.Working.Whole.{Fits}
 use Rattle.cjc_int_narrow.proofs.Whole.{few_enough, fits, framed, written_whole}
 use Rattle.cjc_int_narrow.proofs.method.select.Goals as goal
