@@ -77,14 +77,14 @@ AreTrue ss = (k : ℕ) (s : Sentence) → slice_get ss k ≡ Some s → s.spots 
 
 are_true : (ss : List Sentence) → list_all (λ s. is_true s.spots) ss ≡ true → AreTrue ss
 are_true [] e k s f = absurd cc
-are_true (s ∷ ss) e k u f = by k f
+are_true (s ∷ ss) e k u f = by k f (are_true ss two.1)
   where
     two : (is_true s.spots ≡ true) × (list_all (λ s. is_true s.spots) ss ≡ true)
     two = and_true (is_true s.spots) (list_all (λ s. is_true s.spots) ss) e
 
-    by : (k : ℕ) → slice_get (s ∷ ss) k ≡ Some u → u.spots ≡ []
-    by zero g = subst (λ (x : Sentence). x.spots ≡ []) (same_some g) (none_there s.spots two.0)
-    by (suc j) g = are_true ss two.1 j u g
+    by : (k : ℕ) → slice_get (s ∷ ss) k ≡ Some u → AreTrue ss → u.spots ≡ []
+    by zero g more = subst (λ (x : Sentence). x.spots ≡ []) (same_some g) (none_there s.spots two.0)
+    by (suc j) g more = more j u g
 
 -- what was told of files beside one another
 pub record Told (files : Files) (list : List ℕ) (codes : List MethodCode) (settings : Settings) (q : Package) : Type 0
@@ -180,7 +180,7 @@ module _ (list : ListTree) (files : List (List ℕ)) (tested : List Group) (judg
     all k s e = are_true (sentences cap w.exports) is.consistent (suc (suc k)) s (ap (λ o.
         slice_get (where_complete o w.exports) k) is.is_complete ∙ e)
 
-    pub checked : Checked
+    abbrev pub checked : Checked
     checked = record {
       name = list.name;
       list = list;
