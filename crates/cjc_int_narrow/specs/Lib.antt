@@ -1,0 +1,4 @@
+pub mod Reached
+pub mod Operands
+pub mod Select
+pub mod Working
