@@ -9,47 +9,51 @@ use Rattle.std.specs.Str.{bytes_eq}
 use Rattle.std.proofs.lemmas.Bool.Decides.{nat_tests}
 use Rattle.std.proofs.lemmas.List.{length-map}
 use Rattle.std.proofs.lemmas.List.Concat.{flat_map-cons}
-use Rattle.cjc_bytes.specs.AccessFlags.{is_static}
-use Rattle.cjc_bytes.proofs.Bools.{both_back}
-use Rattle.cjc_bytes.proofs.Gets.{get_below, get_inside, get_mapped, position_there}
-use Rattle.cjc_bytes.proofs.Lists.{bytes_true, length_mapped, name_is, none_left, none_right}
-use Rattle.cjc_bytes.proofs.Numbers.{like_number, number_same_number}
-use Rattle.cjc_capread.specs.ClassRefs.{same_class}
-use Rattle.cjc_capread.specs.declared.tree.ClassDescriptor.{ClassDescriptor}
-use Rattle.cjc_capread.specs.declared.tree.FieldDescriptor.{FieldDescriptor}
-use Rattle.cjc_capread.specs.declared.tree.FieldPlace.TheVariants as places
-use Rattle.cjc_capread.specs.declared.tree.PoolEntry.{PoolEntry}
-use Rattle.cjc_capread.specs.declared.tree.TypeDescriptor.{TypeDescriptor}
-use Rattle.cjc_check_rules.specs.ClassRefs.{fields_begin, pool_count_at}
-use Rattle.cjc_check_rules.specs.Complete.{described_size, type_size}
-use Rattle.cjc_check_rules.specs.Described.{has_type, is_type, methods_begin, type_is_there, type_of_entry}
-use Rattle.cjc_check_rules.specs.Described.{type_of_field}
-use Rattle.cjc_check_rules.specs.Described.{type_of_method, types_in_class, types_in_pool}
-use Rattle.cjc_check_rules.specs.Spots.{Placed, along, begins, beside, in_info, item_at, placed, starts, unless}
-use Rattle.cjc_check_rules.specs.declared.spot.ComponentPlace.{ComponentPlace}
+use Rattle.cjc_types.specs.Bytes.AccessFlags.{is_static}
+use Rattle.cjc_types.proofs.BytesBools.{both_back}
+use Rattle.cjc_types.proofs.BytesGets.{get_below, get_inside, get_mapped, position_there}
+use Rattle.cjc_types.proofs.BytesLists.{bytes_true, length_mapped, name_is, none_left, none_right}
+use Rattle.cjc_types.proofs.BytesNumbers.{like_number, number_same_number}
+use Rattle.cjc_verify.specs.CapRead.ClassRefs.{same_class}
+use Rattle.cjc_verify.specs.CapRead.declared.tree.ClassDescriptor.{ClassDescriptor}
+use Rattle.cjc_verify.specs.CapRead.declared.tree.FieldDescriptor.{FieldDescriptor}
+use Rattle.cjc_verify.specs.CapRead.declared.tree.FieldPlace.TheVariants as places
+use Rattle.cjc_verify.specs.CapRead.declared.tree.PoolEntry.{PoolEntry}
+use Rattle.cjc_verify.specs.CapRead.declared.tree.TypeDescriptor.{TypeDescriptor}
+use Rattle.cjc_verify.specs.CheckRules.ClassRefs.{fields_begin, pool_count_at}
+use Rattle.cjc_verify.specs.CheckRules.Complete.{described_size, type_size}
+use Rattle.cjc_verify.specs.CheckRules.Described.{has_type, is_type, methods_begin, type_is_there, type_of_entry}
+use Rattle.cjc_verify.specs.CheckRules.Described.{type_of_field}
+use Rattle.cjc_verify.specs.CheckRules.Described.{type_of_method, types_in_class, types_in_pool}
+use Rattle.cjc_verify.specs.CheckRules.Spots.{Placed, along, begins, beside, in_info, item_at, placed, starts, unless}
+use Rattle.cjc_verify.specs.CheckRules.declared.spot.ComponentPlace.{ComponentPlace}
 use Rattle.cjc_check_proof.proofs.ClassesLaws.Lists.{begins_where, start_within}
-use Rattle.cjc_script.specs.Sorts.{Boolean, Booleans, Byte, Bytes, Int, Ints, NoValue, OfClass, OfNumbers, OfReferences}
-use Rattle.cjc_script.specs.Sorts.{Reference, Short, Shorts, Signature, Sort, field_sort, signature_of}
-use Rattle.cjc_world.specs.ClassFile.declared.tree.FieldTree.{FieldTree}
-use Rattle.cjc_world.specs.Classes.{Class}
-use Rattle.cjc_world.specs.Lookup.{member_at}
-use Rattle.cjc_world.specs.Order.{class_order, methods_of_class}
-use Rattle.cjc_world.specs.declared.found.Found.{Found}
-use Rattle.cjc_tokens.specs.Fields.{is_constant}
-use Rattle.cjc_clinit.specs.Image.{field_id}
-use Rattle.cjc_ncode.specs.Lowering.Naming.{entry_of}
-use Rattle.cjc_ncode.specs.declared.narrow.PoolKey.{PoolKey}
-use Rattle.cjc_ncode.specs.declared.narrow.PoolKey.TheVariants as keys
-use Rattle.cjc_components.specs.Class.{fields_of}
-use Rattle.cjc_components.specs.Descriptor.{class_descriptor, class_flags, descriptor, field_descriptor, field_flags}
-use Rattle.cjc_components.specs.Descriptor.{field_place, field_type, fields_from, method_descriptor, method_flags}
-use Rattle.cjc_components.specs.Descriptor.{method_in, pool_type}
-use Rattle.cjc_components.specs.Names.{class_ref, names}
-use Rattle.cjc_components.specs.Package.{Package, pool, world}
-use Rattle.cjc_components.specs.Statics.{cell_offset}
-use Rattle.cjc_components.specs.Types.{array_nibble, desc_of_key, nibbles_by, nibbles_of, ref_nibbles, result_nibbles}
-use Rattle.cjc_components.specs.Types.{sort_nibbles, type_descriptor, type_offset, type_starts, types_of}
-use Rattle.cjc_token_proof.proofs.ComponentsLaws.Tests.{none_in_both, passes}
+use Rattle.cjc_verify.specs.Script.Sorts.{Boolean, Booleans, Byte, Bytes, Int, Ints, NoValue, OfClass, OfNumbers}
+use Rattle.cjc_verify.specs.Script.Sorts.{OfReferences}
+use Rattle.cjc_verify.specs.Script.Sorts.{Reference, Short, Shorts, Signature, Sort, field_sort, signature_of}
+use Rattle.cjc_types.specs.ClassFile.declared.tree.FieldTree.{FieldTree}
+use Rattle.cjc_types.specs.World.Classes.{Class}
+use Rattle.cjc_types.specs.World.Lookup.{member_at}
+use Rattle.cjc_types.specs.World.Order.{class_order, methods_of_class}
+use Rattle.cjc_types.specs.World.declared.found.Found.{Found}
+use Rattle.cjc_check_proof.specs.Tokens.Fields.{is_constant}
+use Rattle.cjc_verify.specs.Clinit.Image.{field_id}
+use Rattle.cjc_check_proof.specs.NCode.Lowering.Naming.{entry_of}
+use Rattle.cjc_check_proof.specs.NCode.declared.narrow.PoolKey.{PoolKey}
+use Rattle.cjc_check_proof.specs.NCode.declared.narrow.PoolKey.TheVariants as keys
+use Rattle.cjc_verify.specs.Components.Class.{fields_of}
+use Rattle.cjc_verify.specs.Components.Descriptor.{class_descriptor, class_flags, descriptor, field_descriptor}
+use Rattle.cjc_verify.specs.Components.Descriptor.{field_flags}
+use Rattle.cjc_verify.specs.Components.Descriptor.{field_place, field_type, fields_from, method_descriptor}
+use Rattle.cjc_verify.specs.Components.Descriptor.{method_flags}
+use Rattle.cjc_verify.specs.Components.Descriptor.{method_in, pool_type}
+use Rattle.cjc_verify.specs.Components.Names.{class_ref, names}
+use Rattle.cjc_verify.specs.Components.Package.{Package, pool, world}
+use Rattle.cjc_verify.specs.Components.Statics.{cell_offset}
+use Rattle.cjc_verify.specs.Components.Types.{array_nibble, desc_of_key, nibbles_by, nibbles_of, ref_nibbles}
+use Rattle.cjc_verify.specs.Components.Types.{result_nibbles}
+use Rattle.cjc_verify.specs.Components.Types.{sort_nibbles, type_descriptor, type_offset, type_starts, types_of}
+use Rattle.cjc_check_proof.proofs.TokenProofTests.{none_in_both, passes}
 use Rattle.cjc_verify.specs.Described.{Numbered, are_nibbles, class_spots, class_token, described_spots, entry_spots}
 use Rattle.cjc_verify.specs.Described.{field_spots, is_entry_type, is_field_type, is_place, member_token, method_spots}
 use Rattle.cjc_verify.specs.Described.{nibbles_at, says, wanted_fields}

@@ -2,9 +2,9 @@
 ghost use Rattle.std.specs.Prelude.{ℕ, List, Option, length};
 ghost use Rattle.cjc_types.specs.declared.state.State.{State};
 ghost use Rattle.cjc_types.specs.Fixpoint.Tables.{IsClosed};
-ghost use Rattle.cjc_card_acts.specs.Frames.Acts.{Subtype};
-ghost use Rattle.cjc_card_acts.specs.Frames.Flow.{Body, frame_flow};
-ghost use Rattle.cjc_card_acts.specs.Frames.Tables.{IsLeastTable};
+ghost use Rattle.cjc_verify.specs.Frames.Acts.{Subtype};
+ghost use Rattle.cjc_verify.specs.Frames.Flow.{Body, frame_flow};
+ghost use Rattle.cjc_verify.specs.Frames.Tables.{IsLeastTable};
 ghost use Rattle.cjc_accepted_proof.specs.Tables.{BreaksNone};
 
 /// A closed table of types of frames that breaks no rule leaves the least table none to break: that one lies below it,

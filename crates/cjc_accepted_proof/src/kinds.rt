@@ -1,12 +1,12 @@
 //! Rows of fields, calls and handlers: what entries of the constant pool say of members is what the instructions of the
 //! class file name.
 ghost use Rattle.std.specs.Prelude.{◌≡◌, ℕ, List, Option, [], ◌==◌, false};
-ghost use Rattle.cjc_bytes.specs.declared.fault.MemberId.{MemberId};
-ghost use Rattle.cjc_capread.specs.declared.tree.ClassRef.{ClassRef};
-ghost use Rattle.cjc_card_acts.specs.CardTypes.{MemberType, ValueType};
-ghost use Rattle.cjc_card_acts.specs.Frames.Acts.{Subtype};
-ghost use Rattle.cjc_card_acts.specs.Frames.Flow.{caught};
-ghost use Rattle.cjc_card_acts.specs.Frames.declared.acts.Catch.{Catch};
+ghost use Rattle.cjc_types.specs.Bytes.declared.fault.MemberId.{MemberId};
+ghost use Rattle.cjc_verify.specs.CapRead.declared.tree.ClassRef.{ClassRef};
+ghost use Rattle.cjc_verify.specs.CardActs.CardTypes.{MemberType, ValueType};
+ghost use Rattle.cjc_verify.specs.Frames.Acts.{Subtype};
+ghost use Rattle.cjc_verify.specs.Frames.Flow.{caught};
+ghost use Rattle.cjc_verify.specs.Frames.declared.acts.Catch.{Catch};
 ghost use Rattle.cjc_types.specs.Bytecode.Jvm.{invokestatic};
 ghost use Rattle.cjc_types.specs.Bytecode.declared.insn.JOp.TheVariants.{Call, Field};
 ghost use Rattle.cjc_types.specs.ClassFile.declared.tree.Catch.{Catch as CatchByName};
@@ -16,10 +16,10 @@ ghost use Rattle.cjc_types.specs.States.{states};
 ghost use Rattle.cjc_types.specs.Steps.{takes};
 ghost use Rattle.cjc_types.specs.declared.cell.Cell.{Cell};
 ghost use Rattle.cjc_types.specs.declared.state.State.{State};
-ghost use Rattle.cjc_card_semantics.specs.Bytecode.Effects.{Letter};
-ghost use Rattle.cjc_components.specs.Narrow.Pairs.Open.{Open, closed};
+ghost use Rattle.cjc_verify.specs.CardSemantics.Bytecode.Effects.{Letter};
+ghost use Rattle.cjc_verify.specs.Narrow.Pairs.Open.{Open, closed};
 ghost use Rattle.cjc_verify.specs.Instructions.{calling, calling_on, getting};
-ghost use Rattle.cjc_world.specs.Classes.{Class};
+ghost use Rattle.cjc_types.specs.World.Classes.{Class};
 ghost use Rattle.cjc_accepted_proof.specs.Frames.{FieldFits, MethodFits, Mirrors, PassesFor, SubtypesAgree, card_state};
 
 /// A getfield is mirrored where its entry fits the field that it names.

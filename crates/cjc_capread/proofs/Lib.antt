@@ -8,5 +8,4 @@ pub use Rattle.cjc_bytes.proofs.Bools as BytesBools
 pub use Rattle.cjc_bytes.proofs.Firsts as BytesFirsts
 pub use Rattle.cjc_bytes.proofs.Gets as BytesGets
 pub use Rattle.cjc_bytes.proofs.Numbers as BytesNumbers
-pub use Rattle.cjc_bytes.proofs.Options as BytesOptions
-pub use Rattle.cjc_bytes.proofs.Plain as BytesPlain
+pub use Rattle.cjc_bytes.proofs.Writers as BytesWriters

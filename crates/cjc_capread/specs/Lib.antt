@@ -21,4 +21,4 @@ pub mod Kinds
 pub mod Working
 pub mod Decoder
 -- Definitions of lower crates, for those above.
-pub use Rattle.cjc_bytes.specs as Bytes
+pub mod Bytes

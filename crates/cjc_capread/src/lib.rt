@@ -2,7 +2,13 @@
 #![tactic(auto)]
 
 // Lower crates, for those above.
-pub use cjc_bytes as bytes;
+/// What crates above take of cjc_bytes.
+pub mod bytes {
+    pub use cjc_bytes::{
+        Break, Bytes, Fault, FileKey, NoMemory, Out, Part, PlaceRef, Row, RulePlace, answer, first,
+        has, is_static, refused,
+    };
+}
 
 pub mod card;
 mod class;

@@ -1,14 +1,15 @@
 pub mod Working
 pub mod Trees
 -- Definitions of lower crates, for those above.
-pub use Rattle.cjc_components.specs.List as List
-pub mod CapRead
-pub use Rattle.cjc_components.specs.CapWrite as CapWrite
-pub mod World
-pub use Rattle.cjc_components.specs.ClassOrder as ClassOrder
-pub use Rattle.cjc_components.specs.CheckRules as CheckRules
-pub use Rattle.cjc_components.specs.Layout as Layout
-pub mod Components
-pub mod Classes
-pub mod Pool
-pub mod Methods
+pub mod Bytes
+pub mod List
+pub mod ClassFile
+pub mod ExportFile
+pub mod CapWrite
+pub mod ClassOrder
+pub mod Tokens
+pub mod CheckRules
+pub mod NCode
+pub mod Layout
+pub mod LowerClasses
+pub mod LowerMethods

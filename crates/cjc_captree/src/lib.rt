@@ -2,9 +2,19 @@
 #![tactic(auto)]
 
 // Lower crates, for those above.
-/// What crates above take of cjc_classes.
-pub mod classes {
-    pub use cjc_classes::key_tokens;
+/// What crates above take of list.
+pub mod list {
+    pub use cjc_components::list::List;
+}
+
+/// What crates above take of export_file.
+pub mod export_file {
+    pub use cjc_world::export_file::write;
+}
+
+/// What crates above take of script.
+pub mod script {
+    pub use cjc_components::script::{Note, Report, Value};
 }
 
 /// What crates above take of capread.
@@ -12,15 +22,39 @@ pub mod capread {
     pub use cjc_classes::capread::{CapTree, readings};
 }
 
-pub use cjc_components::{capwrite, check_rules, class_order, list};
-/// What crates above take of cjc_methods.
-pub mod methods {
-    pub use cjc_methods::{component, layouts};
+/// What crates above take of capwrite.
+pub mod capwrite {
+    pub use cjc_components::capwrite::{CapFiles, write};
+}
+
+/// What crates above take of class_order.
+pub mod class_order {
+    pub use cjc_components::class_order::classes;
+}
+
+/// What crates above take of check_rules.
+pub mod check_rules {
+    pub use cjc_components::check_rules::consistent_where_unbroken;
+}
+
+/// What crates above take of ncode.
+pub mod ncode {
+    pub use cjc_components::ncode::{NMethod, PoolKey};
+}
+
+/// What crates above take of cjc_classes.
+pub mod classes {
+    pub use cjc_classes::key_tokens;
 }
 
 /// What crates above take of pool.
 pub mod pool {
     pub use cjc_methods::pool::{Pool, build};
+}
+
+/// What crates above take of cjc_methods.
+pub mod methods {
+    pub use cjc_methods::{component, layouts};
 }
 
 pub mod extents;

@@ -5,8 +5,8 @@ use Rattle.std.specs.List.{flat_map, AllByRecursion}
 use Rattle.std.proofs.lemmas.Bool.{lt-ltb}
 use Rattle.std.proofs.lemmas.List.{append-nil}
 use Rattle.std.proofs.lemmas.List.Concat.{flat_map-cons}
-use Rattle.cjc_bytes.proofs.Writers.{Writes, then_writes, last_writes, gives_writes, number1_writes, u1_writes}
-use Rattle.cjc_bytes.proofs.Writers.{repeated_writes, before_writes}
+use Rattle.cjc_capread.proofs.BytesWriters.{Writes, then_writes, last_writes, gives_writes, number1_writes, u1_writes}
+use Rattle.cjc_capread.proofs.BytesWriters.{repeated_writes, before_writes}
 use Rattle.cjc_capread.specs.declared.tree.Descriptor.{Descriptor}
 use Rattle.cjc_capread.specs.declared.tree.ClassDescriptor.{ClassDescriptor}
 use Rattle.cjc_capread.specs.declared.tree.FieldDescriptor.{FieldDescriptor}
@@ -17,7 +17,7 @@ use Rattle.cjc_capread.specs.declared.tree.FieldType.TheVariants as types
 use Rattle.cjc_capread.specs.declared.tree.MethodDescriptor.{MethodDescriptor}
 use Rattle.cjc_capread.specs.declared.tree.TypeDescriptor.{TypeDescriptor}
 use Rattle.cjc_capread.specs.Parts.{exactly}
-use Rattle.cjc_bytes.specs.AccessFlags.{is_static}
+use Rattle.cjc_capread.specs.Bytes.AccessFlags.{is_static}
 use Rattle.cjc_capread.specs.Descriptor.{field_place, type_of, field_descriptor, method_descriptor, class_descriptor}
 use Rattle.cjc_capread.specs.Descriptor.{two_nibbles, high_nibble, ended, type_descriptor, descriptor}
 use Rattle.cjc_capwrite.specs.Parts.{one, two, class_bytes}

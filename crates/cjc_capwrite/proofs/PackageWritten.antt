@@ -1,7 +1,7 @@
 -- What is written of Header, Directory, Applet and Import spells it.
 use Rattle.std.proofs.Common.{ℕ, length, refl, lit<}
-use Rattle.cjc_bytes.proofs.Writers.{Writes, then_writes, last_writes, number1_writes, number4_writes, u1_writes}
-use Rattle.cjc_bytes.proofs.Writers.{repeated_writes}
+use Rattle.cjc_capread.proofs.BytesWriters.{Writes, then_writes, last_writes, number1_writes, number4_writes, u1_writes}
+use Rattle.cjc_capread.proofs.BytesWriters.{repeated_writes}
 use Rattle.cjc_capread.specs.declared.tree.Header.{Header}
 use Rattle.cjc_capread.specs.declared.tree.Directory.{Directory}
 use Rattle.cjc_capread.specs.declared.tree.Applet.{Applet}

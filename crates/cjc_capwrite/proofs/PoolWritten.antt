@@ -1,6 +1,7 @@
 -- What is written of ConstantPool spells it.
 use Rattle.std.proofs.Common.{ℕ, length, refl}
-use Rattle.cjc_bytes.proofs.Writers.{Writes, then_writes, last_writes, number1_writes, u1_writes, repeated_writes}
+use Rattle.cjc_capread.proofs.BytesWriters.{Writes, then_writes, last_writes, number1_writes, u1_writes}
+use Rattle.cjc_capread.proofs.BytesWriters.{repeated_writes}
 use Rattle.cjc_capread.specs.declared.tree.ConstantPool.{ConstantPool}
 use Rattle.cjc_capread.specs.declared.tree.PoolEntry.{PoolEntry}
 use Rattle.cjc_capread.specs.declared.tree.PoolEntry.TheVariants as entries

@@ -3,8 +3,8 @@ use Rattle.std.proofs.Common.{◌≡◌, ℕ, ◌+◌, ◌-◌, ◌%◌, ◌<◌
 use Rattle.std.proofs.Common.{Some, refl, arith, length-append}
 use Rattle.std.specs.List.{flat_map}
 use Rattle.std.proofs.lemmas.Bool.Decides.{nat_tests}
-use Rattle.cjc_bytes.proofs.Writers.{Writes, then_writes, last_writes, here_writes, raw_writes, number1_writes}
-use Rattle.cjc_bytes.proofs.Writers.{repeated_writes}
+use Rattle.cjc_capread.proofs.BytesWriters.{Writes, then_writes, last_writes, here_writes, raw_writes, number1_writes}
+use Rattle.cjc_capread.proofs.BytesWriters.{repeated_writes}
 use Rattle.cjc_capread.specs.declared.tree.Method.{Method}
 use Rattle.cjc_capread.specs.declared.tree.Handler.{Handler}
 use Rattle.cjc_capread.specs.declared.tree.StaticField.{StaticField}

@@ -11,4 +11,4 @@ pub mod Files
 pub mod Writable
 pub mod Size
 -- Definitions of lower crates, for those above.
-pub use Rattle.cjc_capread.specs as CapRead
+pub mod CapRead

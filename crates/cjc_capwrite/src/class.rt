@@ -9,7 +9,7 @@ ghost use Rattle.cjc_capwrite.specs.Class.{class_info_bytes};
 use crate::parts::{
     put_bytes1, put_class_ref, put_class_refs, put_count1, put_nibbles, put_numbers, put_two,
 };
-use cjc_bytes::{NoMemory, Out};
+use cjc_capread::bytes::{NoMemory, Out};
 use cjc_capread::{ClassEntry, ClassInfo, ImplementedInterface, InterfaceEntry};
 
 /// Flags and the number of these items in the nibbles of a byte.

@@ -10,7 +10,7 @@ ghost use Rattle.cjc_capwrite.specs.Descriptor.{waits_after, packed, type_bytes,
 use crate::parts::{
     put_class_ref, put_class_refs, put_count1, put_count2, put_nibbles, put_numbers, put_two,
 };
-use cjc_bytes::{NoMemory, Out};
+use cjc_capread::bytes::{NoMemory, Out};
 use cjc_capread::{
     ClassDescriptor, Descriptor, FieldDescriptor, FieldPlace, FieldType, MethodDescriptor,
     TypeDescriptor,

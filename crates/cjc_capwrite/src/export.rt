@@ -5,7 +5,7 @@ ghost use Rattle.std.specs.List.{flat_map};
 ghost use Rattle.cjc_capwrite.specs.Export.{exported_class_bytes, export_bytes};
 
 use crate::parts::{put_count1, put_numbers, put_two};
-use cjc_bytes::{NoMemory, Out};
+use cjc_capread::bytes::{NoMemory, Out};
 use cjc_capread::{Export, ExportedClass};
 
 #[tactic(auto, unfolding(crate::specs::Export::exported_class_bytes))]

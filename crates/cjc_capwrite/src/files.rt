@@ -1,8 +1,8 @@
 //! Whole component files. Called by whoever converts a package; it knows the tree alone, and no class file.
 
 ghost use Rattle.std.specs.Prelude.{◌≡◌, ◌≤◌, ◌++◌, length, Some, None, is_some, IfOk, IfErr, OnOk, ◌⊎◌, ℕ};
-ghost use Rattle.cjc_bytes.specs.Refused.{refusal};
-ghost use Rattle.cjc_bytes.specs.declared.fault.Fault.TheVariants as faults;
+ghost use Rattle.cjc_capread.specs.Bytes.Refused.{refusal};
+ghost use Rattle.cjc_capread.specs.Bytes.declared.fault.Fault.TheVariants as faults;
 ghost use Rattle.cjc_capwrite.specs.Package.{header_bytes, directory_bytes, applet_bytes, import_bytes};
 ghost use Rattle.cjc_capwrite.specs.Pool.{pool_bytes};
 ghost use Rattle.cjc_capwrite.specs.Class.{class_info_bytes};
@@ -22,7 +22,7 @@ use crate::package::{put_applet, put_directory, put_header, put_import};
 use crate::parts::put_count2;
 use crate::pool::put_pool;
 use crate::statics::{put_reference_location, put_static_field};
-use cjc_bytes::{Bytes, Fault, NoMemory, Out, Row, refused};
+use cjc_capread::bytes::{Bytes, Fault, NoMemory, Out, Row, refused};
 use cjc_capread::{
     Applet, CapTree, ClassInfo, ConstantPool, Descriptor, Directory, Export, Header, Import,
     Method, ReferenceLocation, StaticField,

@@ -3,7 +3,10 @@
 #![tactic(auto)]
 
 // Lower crates, for those above.
-pub use cjc_capread as capread;
+/// What crates above take of cjc_capread.
+pub mod capread {
+    pub use cjc_capread::{ClassRef, Export, ExportedClass, Handler, Method, ReferenceLocation};
+}
 
 mod class;
 mod descriptor;

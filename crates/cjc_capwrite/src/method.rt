@@ -5,7 +5,7 @@ ghost use Rattle.std.specs.List.{flat_map};
 ghost use Rattle.cjc_capwrite.specs.Method.{range_bits, handler_bytes, method_bytes};
 
 use crate::parts::{put_count1, put_two};
-use cjc_bytes::{NoMemory, Out};
+use cjc_capread::bytes::{NoMemory, Out};
 use cjc_capread::{Handler, Method};
 
 /// The length of the handler's range, with the high bit where the search stops there.

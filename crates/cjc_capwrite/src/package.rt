@@ -7,7 +7,7 @@ ghost use Rattle.cjc_capwrite.specs.Package.{header_bytes, directory_bytes, appl
 ghost use Rattle.cjc_capwrite.specs.Package.{imported_package_bytes, import_bytes};
 
 use crate::parts::{put_bytes1, put_count1, put_numbers, put_two};
-use cjc_bytes::{NoMemory, Out};
+use cjc_capread::bytes::{NoMemory, Out};
 use cjc_capread::{Applet, AppletEntry, Directory, Header, Import, ImportedPackage};
 
 /// The content of a Header component of version 2.2.

@@ -6,7 +6,7 @@ ghost use Rattle.std.specs.List.{flat_map};
 ghost use Rattle.cjc_capwrite.specs.Parts.{one, two, bytes1, bytes2, class_bytes, static_bytes};
 ghost use Rattle.cjc_capwrite.specs.Class.{nibbles};
 
-use cjc_bytes::{NoMemory, Out};
+use cjc_capread::bytes::{NoMemory, Out};
 use cjc_capread::{ClassRef, StaticRef};
 
 /// The low byte of a number.

@@ -5,7 +5,7 @@ ghost use Rattle.std.specs.List.{flat_map};
 ghost use Rattle.cjc_capwrite.specs.Pool.{entry_bytes, pool_bytes};
 
 use crate::parts::{put_class_ref, put_count2, put_static_ref};
-use cjc_bytes::{NoMemory, Out};
+use cjc_capread::bytes::{NoMemory, Out};
 use cjc_capread::{ConstantPool, PoolEntry};
 
 #[tactic(auto, unfolding(crate::specs::Pool::entry_bytes))]

@@ -5,7 +5,7 @@ ghost use Rattle.std.specs.List.{flat_map};
 ghost use Rattle.cjc_capwrite.specs.Statics.{array_init_bytes, static_field_bytes, reference_location_bytes};
 
 use crate::parts::{put_bytes2, put_count2, put_two};
-use cjc_bytes::{NoMemory, Out};
+use cjc_capread::bytes::{NoMemory, Out};
 use cjc_capread::{ArrayInit, ReferenceLocation, StaticField};
 
 #[tactic(auto, unfolding(crate::specs::Statics::array_init_bytes))]

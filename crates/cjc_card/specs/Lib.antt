@@ -3,9 +3,7 @@ pub mod States
 pub mod Runs
 pub mod Ready
 -- Definitions of lower crates, for those above.
-pub mod ExportFile
-pub mod Script
-pub mod CheckRules
-pub mod CheckIndex
-pub mod CardSemantics
-pub mod CardFrame
+pub mod ClassFile
+pub mod Bytecode
+pub mod CapRead
+pub mod CardLink

@@ -4,7 +4,7 @@
 // Lower crates, for those above.
 /// What crates above take of cjc_frames.
 pub mod frames {
-    pub use cjc_frames::{Act, Given, Need, Read, Subtypes};
+    pub use cjc_frames::{Act, Catch, Given, Method, Need, Read, Step, Subtypes, first_broken};
 }
 
 pub mod described;

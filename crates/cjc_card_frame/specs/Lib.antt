@@ -5,8 +5,8 @@ pub mod Objects
 pub mod Cells
 pub mod Kinds
 -- Definitions of lower crates, for those above.
-pub mod ClassFile
-pub mod Script
-pub mod World
-pub mod CardSemantics
-pub mod JvmStep
+pub mod LowerClassFile
+pub mod Bytecode
+pub mod LowerScript
+pub mod LowerWorld
+pub mod LowerCardSemantics

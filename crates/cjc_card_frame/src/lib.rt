@@ -2,14 +2,14 @@
 #![tactic(auto)]
 
 // Lower crates, for those above.
-/// What crates above take of cjc_jvm_step.
-pub mod jvm_step {
-    pub use cjc_jvm_step::{frame, heap, step};
-}
-
 /// What crates above take of classfile.
 pub mod classfile {
     pub use cjc_jvm_step::classfile::{ClassTree, FieldTree, MethodTree};
+}
+
+/// What crates above take of cjc_jvm_step.
+pub mod jvm_step {
+    pub use cjc_jvm_step::{frame, heap, step};
 }
 
 pub mod fetch;

@@ -2,7 +2,7 @@
 use Rattle.std.proofs.Common.{◌≡◌, ℕ, suc, List, [], ◌∷◌, refl, sym, ap, ◌∙◌, map, Option, Some, None}
 use Rattle.std.specs.Prelude.{option_map, option_and_then, slice_get, if◌then◌else◌}
 use Rattle.std.specs.Str.{bytes_eq}
-use Rattle.cjc_capread.specs.declared.tree.ClassInfo.{ClassInfo}
+use Rattle.cjc_card_semantics.specs.CapRead.declared.tree.ClassInfo.{ClassInfo}
 use Rattle.cjc_card_semantics.specs.Machine.Classes.{Own, number_named, offset_from, offset_of, own_from}
 use Rattle.cjc_card_link.specs.declared.names.ClassNames.{ClassNames}
 use Rattle.cjc_card_link.specs.declared.tables.Tables.{Tables}

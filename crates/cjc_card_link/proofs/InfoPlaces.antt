@@ -4,10 +4,10 @@ use Rattle.std.proofs.Common.{◌∙◌, Bool, true, false, arith, Option, Some,
 use Rattle.std.specs.Prelude.{◌==◌, map, sum_by, option_map, slice_get, if◌then◌else◌, IfSome}
 use Rattle.std.proofs.lemmas.Bool.Decides.{nat_tests}
 use Rattle.std.proofs.lemmas.List.Sums.{sum_by-cons, sum_by-append}
-use Rattle.cjc_capread.specs.declared.tree.ClassInfo.{ClassInfo}
-use Rattle.cjc_capread.specs.declared.tree.ClassEntry.{ClassEntry}
-use Rattle.cjc_capread.specs.declared.tree.InterfaceEntry.{InterfaceEntry}
-use Rattle.cjc_capread.specs.declared.tree.ImplementedInterface.{ImplementedInterface}
+use Rattle.cjc_card_semantics.specs.CapRead.declared.tree.ClassInfo.{ClassInfo}
+use Rattle.cjc_card_semantics.specs.CapRead.declared.tree.ClassEntry.{ClassEntry}
+use Rattle.cjc_card_semantics.specs.CapRead.declared.tree.InterfaceEntry.{InterfaceEntry}
+use Rattle.cjc_card_semantics.specs.CapRead.declared.tree.ImplementedInterface.{ImplementedInterface}
 use Rattle.cjc_check_index.specs.CheckRules.Spots.{placed, starts}
 use Rattle.cjc_check_index.specs.CheckRules.Complete.{interface_size, class_size, map_size, class_info_size}
 use Rattle.cjc_check_index.specs.CheckRules.Classes.{first_class}
@@ -15,7 +15,7 @@ use Rattle.cjc_card_semantics.specs.Machine.Classes.{Info, IsInterface, IsClass,
 use Rattle.cjc_card_semantics.specs.Machine.Classes.{offset_from}
 use Rattle.cjc_card_link.specs.Indices.{first_place}
 use Rattle.cjc_card_link.specs.Infos.{infos_in}
-use Rattle.cjc_capread.proofs.BytesPlain.{none_is_some}
+use Rattle.cjc_check_index.proofs.BytesPlain.{none_is_some}
 
 map_bytes : (maps : List ImplementedInterface) → sum_by map_size maps ≡ map_sizes maps
 map_bytes [] = refl

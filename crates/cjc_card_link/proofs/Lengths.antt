@@ -2,11 +2,12 @@
 use Rattle.std.proofs.Common.{◌≡◌, ℕ, ◌<◌, ◌≤◌, ◌^◌, ◌+◌, List, [], ◌∷◌, length, get_or, drop, refl, sym, ap, ◌∙◌, Bool}
 use Rattle.std.proofs.Common.{true, false, Option, Some, None, subst, arith}
 use Rattle.std.specs.Prelude.{option_map, option_and_then, if◌then◌else◌, ◌==◌, slice_get}
-use Rattle.cjc_capread.specs.declared.tree.ClassDescriptor.{ClassDescriptor}
-use Rattle.cjc_capread.specs.declared.tree.ClassRef.{ClassRef}
-use Rattle.cjc_capread.specs.declared.tree.ClassRef.TheVariants.{Inside, Outside}
-use Rattle.cjc_capread.specs.declared.tree.MethodDescriptor.{MethodDescriptor}
-use Rattle.cjc_capread.specs.MethodHeader.{MethodHeader, method_header, extended_header, short_header, is_extended}
+use Rattle.cjc_card_semantics.specs.CapRead.declared.tree.ClassDescriptor.{ClassDescriptor}
+use Rattle.cjc_card_semantics.specs.CapRead.declared.tree.ClassRef.{ClassRef}
+use Rattle.cjc_card_semantics.specs.CapRead.declared.tree.ClassRef.TheVariants.{Inside, Outside}
+use Rattle.cjc_card_semantics.specs.CapRead.declared.tree.MethodDescriptor.{MethodDescriptor}
+use Rattle.cjc_card_semantics.specs.CapRead.MethodHeader.{MethodHeader, method_header, extended_header, short_header}
+use Rattle.cjc_card_semantics.specs.CapRead.MethodHeader.{is_extended}
 use Rattle.cjc_card_semantics.specs.Machine.Loaded.{Part, Loaded}
 use Rattle.cjc_card_frame.specs.Codes.{bytes_at}
 use Rattle.cjc_card_semantics.specs.Machine.Classes.{or_else}
@@ -16,7 +17,7 @@ use Rattle.cjc_card_link.specs.declared.indices.Numbers.{Numbers}
 use Rattle.cjc_card_link.specs.Indices.{number_under}
 use Rattle.cjc_card_link.proofs.OrElse.{note_more}
 use Rattle.cjc_card_link.specs.Described.{is_class_ref, bytes_of, bytes_among, started, AreSmall}
-use Rattle.cjc_capread.proofs.BytesNumbers.{number_same, some_same}
+use Rattle.cjc_check_index.proofs.BytesNumbers.{number_same, some_same}
 
 -- one method, then the others
 by_test : (b : Bool) (m : MethodDescriptor) (rest : Option MethodDescriptor)

@@ -1,7 +1,7 @@
 -- Static methods of imported packages.
 use Rattle.std.proofs.Common.{◌≡◌, ℕ, ◌+◌, refl, sym, ap, ◌∙◌, arith, Bool, Option, Some, None}
 use Rattle.std.specs.Prelude.{option_map, option_and_then, slice_get, List}
-use Rattle.cjc_capread.specs.declared.tree.StaticRef.TheVariants as statics
+use Rattle.cjc_card_semantics.specs.CapRead.declared.tree.StaticRef.TheVariants as statics
 use Rattle.cjc_check_index.specs.ExportFile.declared.tree.ExportClass.{ExportClass}
 use Rattle.cjc_check_index.specs.ExportFile.declared.tree.ExportTree.{ExportTree}
 use Rattle.cjc_card_semantics.specs.Machine.Loaded.{OfFile}

@@ -3,7 +3,7 @@
 
 ghost use Rattle.std.specs.Prelude.{◌≡◌, option_map, option_and_then};
 ghost use Rattle.std.specs.Option.{option_copied};
-ghost use Rattle.cjc_capread.specs.declared.tree.StaticRef.TheVariants.{Outside as OutsideRef};
+ghost use Rattle.cjc_card_semantics.specs.CapRead.declared.tree.StaticRef.TheVariants.{Outside as OutsideRef};
 ghost use Rattle.cjc_check_index.specs.ExportFile.Members.{is_unbound};
 ghost use Rattle.cjc_card_frame.specs.Meanings.{mode_of};
 ghost use Rattle.cjc_card_semantics.specs.Machine.Classes.{class_of as class_by_ref};
@@ -14,11 +14,11 @@ ghost use Rattle.cjc_card_frame.specs.Kinds.{callee_of, pool_of, token_of};
 ghost use Rattle.cjc_card_link.specs.Tables.{AreKept, loaded_of};
 
 use crate::tables::Tables;
-use cjc_capread::bytes::is_static;
-use cjc_capread::{ClassRef, PoolEntry, StaticRef};
 use cjc_card_frame::heap::Class;
 use cjc_card_frame::opcodes::Mode;
 use cjc_card_frame::parts::{Callee, ImportedMethod, Token};
+use cjc_card_semantics::capread::{ClassRef, PoolEntry, StaticRef};
+use cjc_check_index::bytes::is_static;
 use cjc_check_index::export_file::{ExportClass, ExportMethod};
 
 // Tokens of package-visible methods begin here.

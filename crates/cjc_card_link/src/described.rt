@@ -9,8 +9,8 @@ ghost use Rattle.cjc_card_link.specs.Indices.{number_under};
 
 use crate::indices::Numbers;
 use crate::infos::{Info, Infos};
-use cjc_capread::bytes::NoMemory;
-use cjc_capread::{ClassDescriptor, ClassRef, MethodDescriptor};
+use cjc_card_semantics::capread::{ClassDescriptor, ClassRef, MethodDescriptor};
+use cjc_check_index::bytes::NoMemory;
 use std::alloc::Global;
 
 // More bytes than a component has.

@@ -13,9 +13,9 @@ ghost use Rattle.cjc_card_link.specs.Tables.{AreKept, loaded_of};
 
 use crate::infos::Info;
 use crate::tables::Tables;
-use cjc_capread::bytes::Bytes;
-use cjc_capread::{ClassEntry, ImplementedInterface};
 use cjc_card_frame::heap::{Class, same_class};
+use cjc_card_semantics::capread::{ClassEntry, ImplementedInterface};
+use cjc_check_index::bytes::Bytes;
 
 // No method there: the superclass's.
 const NONE: u64 = 0xFFFF;

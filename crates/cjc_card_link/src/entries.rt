@@ -8,9 +8,9 @@ ghost use Rattle.cjc_card_frame.specs.Kinds.{cell_by, cell_of, field_by, pool_of
 ghost use Rattle.cjc_card_link.specs.Tables.{AreKept, loaded_of};
 
 use crate::tables::Tables;
-use cjc_capread::{ClassRef, PoolEntry, StaticRef};
 use cjc_card_frame::heap::{Class, Field};
 use cjc_card_frame::parts::StaticCell;
+use cjc_card_semantics::capread::{ClassRef, PoolEntry, StaticRef};
 
 // The entry of an index.
 fn entry(pool: &[PoolEntry], index: i32) -> Option<PoolEntry>

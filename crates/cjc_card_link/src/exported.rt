@@ -11,8 +11,8 @@ ghost use Rattle.cjc_card_link.specs.Exported.{exported_class};
 ghost use Rattle.cjc_card_link.specs.Indices.{class_under};
 
 use crate::indices::Classes;
-use cjc_capread::bytes::{NoMemory, Row};
 use cjc_card_frame::heap::Class;
+use cjc_check_index::bytes::{NoMemory, Row};
 use cjc_check_index::export_file::{ExportClass, ExportTree};
 use cjc_check_index::lookup::tokens_of;
 use std::alloc::Global;

@@ -10,10 +10,10 @@ ghost use Rattle.cjc_card_link.specs.Tables.{AreKept, loaded_of};
 
 use crate::infos::Info;
 use crate::tables::Tables;
-use cjc_capread::ClassEntry;
-use cjc_capread::bytes::NoMemory;
 use cjc_card_frame::heap::{Class, Field, Slot};
+use cjc_card_semantics::capread::ClassEntry;
 use cjc_card_semantics::script::Value;
+use cjc_check_index::bytes::NoMemory;
 use std::alloc::Global;
 
 // Whether a token is in the span of references.

@@ -9,8 +9,8 @@ ghost use Rattle.cjc_card_frame.specs.Objects.{class_of};
 ghost use Rattle.cjc_card_link.specs.Indices.{class_under, data_under, fed, names-equivalence, same-fed, number_under};
 ghost use Rattle.cjc_card_link.specs.Indices.{place_under};
 
-use cjc_capread::bytes::NoMemory;
 use cjc_card_frame::heap::Class;
+use cjc_check_index::bytes::NoMemory;
 use std::alloc::Global;
 use std::collections::HashMap;
 use std::hash::{Hash, Hasher};

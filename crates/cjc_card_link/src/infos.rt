@@ -9,8 +9,8 @@ ghost use Rattle.cjc_card_link.specs.Indices.{number_under, first_place};
 ghost use Rattle.cjc_card_link.specs.Infos.{AreInfos, info_by, infos_in};
 
 use crate::indices::Numbers;
-use cjc_capread::bytes::{NoMemory, Row};
-use cjc_capread::{ClassEntry, ClassInfo, InterfaceEntry};
+use cjc_card_semantics::capread::{ClassEntry, ClassInfo, InterfaceEntry};
+use cjc_check_index::bytes::{NoMemory, Row};
 use cjc_check_index::lookup::{first_class, starts};
 use std::alloc::Global;
 use std::marker::Model;
@@ -33,7 +33,7 @@ pub(crate) struct Infos<'a> {
 }
 
 impl<'a> Model for Infos<'a> {
-    ghost use Rattle.cjc_capread.specs.declared.tree.ClassInfo.{ClassInfo as Entries};
+    ghost use Rattle.cjc_card_semantics.specs.CapRead.declared.tree.ClassInfo.{ClassInfo as Entries};
     ghost use Rattle.cjc_card_link.specs.Infos.{AreInfos};
 
     ghost Value = { Entries };

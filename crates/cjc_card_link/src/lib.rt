@@ -4,24 +4,14 @@
 #![tactic(auto)]
 
 // Lower crates, for those above.
-/// What crates above take of cjc_capread.
-pub mod capread {
-    pub use cjc_capread::{ClassInfo, Descriptor, StaticField};
-}
-
-/// What crates above take of cjc_card_frame.
-pub mod card_frame {
-    pub use cjc_card_frame::parts;
-}
-
 /// What crates above take of classfile.
 pub mod classfile {
     pub use cjc_card_frame::classfile::{ClassTree, FieldTree, MethodTree};
 }
 
-/// What crates above take of cjc_check_index.
-pub mod check_index {
-    pub use cjc_check_index::lookup;
+/// What crates above take of export_file.
+pub mod export_file {
+    pub use cjc_check_index::export_file::may_be_constant;
 }
 
 /// What crates above take of check_rules.
@@ -29,9 +19,14 @@ pub mod check_rules {
     pub use cjc_check_index::check_rules::consistent_where_unbroken;
 }
 
-/// What crates above take of export_file.
-pub mod export_file {
-    pub use cjc_check_index::export_file::may_be_constant;
+/// What crates above take of cjc_check_index.
+pub mod check_index {
+    pub use cjc_check_index::lookup;
+}
+
+/// What crates above take of cjc_card_frame.
+pub mod card_frame {
+    pub use cjc_card_frame::parts;
 }
 
 mod calls;

@@ -10,8 +10,8 @@ ghost use Rattle.cjc_card_link.specs.Tables.{AreKept, loaded_of};
 
 use crate::part::Part;
 use crate::tables::Tables;
-use cjc_capread::PoolEntry;
 use cjc_card_frame::heap::Class;
+use cjc_card_semantics::capread::PoolEntry;
 use cjc_check_index::export_file::ExportTree;
 
 impl<'a> Tables<'a> {

@@ -6,8 +6,8 @@ ghost use Rattle.cjc_card_semantics.specs.Machine.Classes.{Class as ByToken, or_
 ghost use Rattle.cjc_card_frame.specs.Objects.{class_of};
 ghost use Rattle.cjc_card_link.specs.MetClasses.{classes-equivalence, fed, is_met, kept_under, number_in, same-fed};
 
-use cjc_capread::bytes::NoMemory;
 use cjc_card_frame::heap::{Class, same_class};
+use cjc_check_index::bytes::NoMemory;
 use std::alloc::Global;
 use std::collections::HashMap;
 use std::hash::{Hash, Hasher};

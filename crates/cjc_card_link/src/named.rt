@@ -12,8 +12,8 @@ ghost use Rattle.cjc_card_link.specs.Tables.{AreKept, loaded_of};
 use crate::infos::Info;
 use crate::names::ClassNames;
 use crate::tables::Tables;
-use cjc_capread::bytes::is_interface;
 use cjc_card_frame::heap::Class;
+use cjc_check_index::bytes::is_interface;
 
 impl<'a> Tables<'a> {
     /// The names of a class of a package.

@@ -1,7 +1,7 @@
 //! Names beside components: of each class info its class, methods and fields, in the order of the components. A
 //! CAP file has no names, so whoever runs one gives them.
 
-use cjc_capread::bytes::{Bytes, Row};
+use cjc_check_index::bytes::{Bytes, Row};
 
 /// The name and descriptor of a method.
 #[derive(Drop)]

@@ -2,8 +2,10 @@
 //! use for what these hold.
 
 use crate::names::ClassNames;
-use cjc_capread::{ClassDescriptor, ClassInfo, ExportedClass, Method, PoolEntry, StaticField};
 use cjc_card_frame::parts::CellName;
+use cjc_card_semantics::capread::{
+    ClassDescriptor, ClassInfo, ExportedClass, Method, PoolEntry, StaticField,
+};
 
 /// The components of a package that are looked into when it runs, and names.
 #[derive(Clone, Copy)]

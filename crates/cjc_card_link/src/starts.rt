@@ -2,7 +2,7 @@
 //! Specification 2.2.2, section 6.9).
 
 ghost use Rattle.std.specs.Prelude.{◌≡◌, ◌≤◌, ◌<◌, ◌+◌, ◌^◌, ℕ, List, option_map, IfSome};
-ghost use Rattle.cjc_capread.specs.Decoder.Decoded.{IsAtFront, header_of, instruction_of};
+ghost use Rattle.cjc_card_semantics.specs.CapRead.Decoder.Decoded.{IsAtFront, header_of, instruction_of};
 ghost use Rattle.cjc_card_frame.specs.Codes.{bytes_at};
 ghost use Rattle.cjc_card_semantics.specs.Machine.Methods.{fetch, fetched_as, start_of as start_by_offset};
 ghost use Rattle.cjc_card_frame.specs.Kinds.{code_of, pool_of, start_of, IsDecoded};
@@ -10,9 +10,9 @@ ghost use Rattle.cjc_card_link.specs.Described.{started};
 ghost use Rattle.cjc_card_link.specs.Tables.{AreKept, loaded_of};
 
 use crate::tables::Tables;
-use cjc_capread::decoder::{Header, Insn, method_header};
 use cjc_card_frame::fetch::{Code as Bytes, fetched_by_bytes, insn_at};
 use cjc_card_frame::parts::{Code, Start};
+use cjc_card_semantics::capread::decoder::{Header, Insn, method_header};
 
 // The bytes of methods from an offset on, where the first of them has another.
 fn bytes_at<'a>(methods: &'a [u8], begin: u32, at: u64) -> &'a [u8]

@@ -7,8 +7,8 @@ ghost use Rattle.cjc_card_link.specs.Infos.{infos_in};
 ghost use Rattle.cjc_card_link.specs.Tables.{AreKept, loaded_of};
 
 use crate::tables::Tables;
-use cjc_capread::bytes::NoMemory;
-use cjc_capread::{ClassEntry, ClassInfo, InterfaceEntry};
+use cjc_card_semantics::capread::{ClassEntry, ClassInfo, InterfaceEntry};
+use cjc_check_index::bytes::NoMemory;
 use cjc_check_index::export_file::{ExportClass, ExportTree};
 
 // No memory is there for 2^64 steps.

@@ -13,10 +13,10 @@ ghost use Rattle.cjc_card_link.specs.Tables.{AreKept, loaded_of};
 use crate::infos::Info;
 use crate::met::Met;
 use crate::tables::Tables;
-use cjc_capread::bytes::{Bytes, NoMemory, Row};
-use cjc_capread::{ClassEntry, ClassRef, ImplementedInterface};
 use cjc_card_frame::heap::Class;
 use cjc_card_frame::jvm_step::frame::Pile;
+use cjc_card_semantics::capread::{ClassEntry, ClassRef, ImplementedInterface};
+use cjc_check_index::bytes::{Bytes, NoMemory, Row};
 use std::alloc::Global;
 
 /// On the way upwards: the classes that were met, in their order, and those that are left to be looked at.

@@ -18,9 +18,9 @@ use crate::indices::{Numbers, Places};
 use crate::infos::{Info, Infos};
 use crate::names::ClassNames;
 use crate::part::Part;
-use cjc_capread::bytes::NoMemory;
-use cjc_capread::{ClassRef, Method};
 use cjc_card_frame::heap::Class;
+use cjc_card_semantics::capread::{ClassRef, Method};
+use cjc_check_index::bytes::NoMemory;
 use cjc_check_index::export_file::{ExportClass, ExportTree};
 use std::alloc::Global;
 

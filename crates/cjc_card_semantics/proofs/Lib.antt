@@ -4,7 +4,6 @@ pub mod MachineLaws
 pub use Rattle.cjc_export.proofs.BytesBools as BytesBools
 pub use Rattle.cjc_export.proofs.BytesGets as BytesGets
 pub use Rattle.cjc_export.proofs.BytesIntegers as BytesIntegers
-pub use Rattle.cjc_export.proofs.BytesLists as BytesLists
 pub use Rattle.cjc_export.proofs.BytesNumbers as BytesNumbers
 pub use Rattle.cjc_export.proofs.BytesPlain as BytesPlain
 pub use Rattle.cjc_range.proofs.WordsLaws.Words as RangeWords

@@ -8,6 +8,11 @@ pub mod export_file {
     pub use cjc_check_rules::export_file::{ExportTree, read};
 }
 
+/// What crates above take of check_index.
+pub mod check_index {
+    pub use cjc_check_tables::check_index::lookup;
+}
+
 mod checked;
 mod coded;
 pub mod codes;

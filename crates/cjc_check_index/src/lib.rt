@@ -2,8 +2,20 @@
 #![tactic(auto)]
 
 // Lower crates, for those above.
-pub use cjc_check_rules as check_rules;
-pub use cjc_export as export_file;
+/// What crates above take of bytes.
+pub mod bytes {
+    pub use cjc_export::bytes::{Bytes, NoMemory, Row, is_interface, is_static};
+}
+
+/// What crates above take of cjc_export.
+pub mod export_file {
+    pub use cjc_export::{ExportClass, ExportMethod, ExportTree, may_be_constant};
+}
+
+/// What crates above take of cjc_check_rules.
+pub mod check_rules {
+    pub use cjc_check_rules::consistent_where_unbroken;
+}
 
 pub mod imported;
 pub mod lookup;

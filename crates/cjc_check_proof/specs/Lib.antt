@@ -6,4 +6,12 @@ pub mod Consistent
 pub mod Made
 pub mod Limits
 -- Definitions of lower crates, for those above.
-pub mod Pool
+pub mod CapRead
+pub mod Tokens
+pub mod VTable
+pub mod CheckRules
+pub mod Intervals
+pub mod NCode
+pub mod WorldProof
+pub mod TokenProof
+pub mod NarrowProof

@@ -2,6 +2,12 @@
 //! components.
 #![tactic(auto)]
 
+// Lower crates, for those above.
+/// What crates above take of cjc_token_proof.
+pub mod token_proof {
+    pub use cjc_token_proof::{calls, tables, written_calls};
+}
+
 pub mod classes;
 pub mod code;
 pub mod consistent;

@@ -4,5 +4,7 @@ pub mod Firsts
 pub mod Numbered
 pub mod Starts
 -- Lemmas of lower crates, for those above.
+pub use Rattle.cjc_export.proofs.BytesGets as BytesGets
+pub use Rattle.cjc_export.proofs.BytesLists as BytesLists
 pub use Rattle.cjc_export.proofs.BytesNumbers as BytesNumbers
-pub use Rattle.cjc_capread.proofs.Headers as CapReadHeaders
+pub use Rattle.cjc_export.proofs.BytesPlain as BytesPlain

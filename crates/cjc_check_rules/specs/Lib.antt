@@ -17,5 +17,5 @@ pub mod Described
 pub mod Consistent
 pub mod Example
 -- Definitions of lower crates, for those above.
-pub use Rattle.cjc_export.specs as ExportFile
-pub use Rattle.cjc_capread.specs as CapRead
+pub mod ExportFile
+pub mod CapRead

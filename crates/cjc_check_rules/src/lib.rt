@@ -4,9 +4,25 @@
 #![tactic(auto)]
 
 // Lower crates, for those above.
-pub use cjc_capread as capread;
-pub use cjc_export as export_file;
-pub use cjc_export::bytes;
+/// What crates above take of bytes.
+pub mod bytes {
+    pub use cjc_export::bytes::{Bytes, NoMemory, Row};
+}
+
+/// What crates above take of cjc_export.
+pub mod export_file {
+    pub use cjc_export::{ExportTree, read};
+}
+
+/// What crates above take of cjc_capread.
+pub mod capread {
+    pub use cjc_capread::{
+        Applet, AppletEntry, ArrayInit, CapTree, ClassDescriptor, ClassEntry, ClassInfo, ClassRef,
+        ConstantPool, Descriptor, Export, ExportedClass, FieldDescriptor, Handler, Header,
+        ImplementedInterface, Import, ImportedPackage, InterfaceEntry, Method, MethodDescriptor,
+        PoolEntry, ReferenceLocation, StaticField, TypeDescriptor,
+    };
+}
 
 mod laws;
 mod spot;

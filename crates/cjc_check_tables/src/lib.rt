@@ -2,7 +2,10 @@
 #![tactic(auto)]
 
 // Lower crates, for those above.
-pub use cjc_check_index as check_index;
+/// What crates above take of cjc_check_index.
+pub mod check_index {
+    pub use cjc_check_index::lookup;
+}
 
 pub mod counts;
 pub mod exported;

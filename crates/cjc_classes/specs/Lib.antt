@@ -5,11 +5,21 @@ pub mod Descriptor
 pub mod Entries
 pub mod Walks
 -- Definitions of lower crates, for those above.
-pub mod Bytes
-pub mod CapRead
-pub mod World
-pub use Rattle.cjc_components.specs.ClassOrder as ClassOrder
-pub use Rattle.cjc_components.specs.Subset as Subset
-pub mod Tokens
-pub use Rattle.cjc_components.specs.Clinit as Clinit
-pub mod Components
+pub mod List
+pub mod ClassFile
+pub mod LowerCapRead
+pub mod CapWrite
+pub mod ClassOrder
+pub mod Subset
+pub mod LowerTokens
+pub mod VTable
+pub mod Clinit
+pub mod CheckRules
+pub mod Types
+pub mod CardSemantics
+pub mod NCode
+pub mod JvmSemantics
+pub mod Narrow
+pub mod Layout
+pub mod Emit
+pub mod LowerComponents

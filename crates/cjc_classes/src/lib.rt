@@ -14,20 +14,24 @@ pub mod bytes {
 /// What crates above take of cjc_capread.
 pub mod capread {
     pub use cjc_capread::{
-        CapTree, ClassRef, ConstantPool, Descriptor, Directory, Export, Header, Method,
-        ReferenceLocation, readings,
+        CapTree, ClassInfo, ClassRef, ConstantPool, Descriptor, Directory, Export, Header, Method,
+        ReferenceLocation, StaticField, readings,
     };
-}
-
-pub use cjc_components::class_order;
-/// What crates above take of cjc_tokens.
-pub mod tokens {
-    pub use cjc_tokens::{Slot, Tokens, interface_methods};
 }
 
 /// What crates above take of cjc_world.
 pub mod world {
     pub use cjc_world::{Found, Known, StaticImage, ValueCell, World};
+}
+
+/// What crates above take of class_order.
+pub mod class_order {
+    pub use cjc_components::class_order::classes;
+}
+
+/// What crates above take of cjc_tokens.
+pub mod tokens {
+    pub use cjc_tokens::{Slot, Tokens, interface_methods};
 }
 
 pub mod class_info;

@@ -2,14 +2,64 @@
 #![tactic(auto)]
 
 // Lower crates, for those above.
-/// What crates above take of cjc_cmd_jvm.
-pub mod cmd_jvm {
-    pub use cjc_cmd_jvm::{report, running};
+/// What crates above take of bytes.
+pub mod bytes {
+    pub use cjc_judge::bytes::{Bytes, Fault, NoMemory, Row};
+}
+
+/// What crates above take of shelf.
+pub mod shelf {
+    pub use cjc_cmd_jvm::shelf::{Shelf, command};
+}
+
+/// What crates above take of list.
+pub mod list {
+    pub use cjc_judge::list::{List, read_list};
 }
 
 /// What crates above take of script_text.
 pub mod script_text {
     pub use cjc_cmd_jvm::script_text::print;
+}
+
+/// What crates above take of world.
+pub mod world {
+    pub use cjc_judge::world::StaticImage;
+}
+
+/// What crates above take of check_rules.
+pub mod check_rules {
+    pub use cjc_card::check_rules::consistent_where_unbroken;
+}
+
+/// What crates above take of check_index.
+pub mod check_index {
+    pub use cjc_card::check_index::lookup;
+}
+
+/// What crates above take of check.
+pub mod check {
+    pub use cjc_cmd_check::check::Checked;
+}
+
+/// What crates above take of cjc_pairing.
+pub mod pairing {
+    pub use cjc_pairing::test_pair;
+}
+
+/// What crates above take of cjc_judge.
+pub mod judge {
+    pub use cjc_judge::{Judged, image_of, tokens_of};
+}
+
+/// What crates above take of cjc_cmd_jvm.
+pub mod cmd_jvm {
+    pub use cjc_cmd_jvm::{report, running};
+}
+
+/// What crates above take of cjc_cmd_check.
+pub mod cmd_check {
+    pub use cjc_cmd_check::{checking, folder};
 }
 
 pub mod report;

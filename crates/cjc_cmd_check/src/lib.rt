@@ -2,6 +2,16 @@
 #![tactic(auto)]
 
 // Lower crates, for those above.
+/// What crates above take of cjc_shelf.
+pub mod shelf {
+    pub use cjc_shelf::{Shelf, command};
+}
+
+/// What crates above take of cjc_list.
+pub mod list {
+    pub use cjc_list::{List, read_list};
+}
+
 /// What crates above take of cjc_capread.
 pub mod capread {
     pub use cjc_capread::{CapTree, Export, ExportedClass};
@@ -10,11 +20,6 @@ pub mod capread {
 /// What crates above take of cjc_check.
 pub mod check {
     pub use cjc_check::{Checked, check};
-}
-
-/// What crates above take of cjc_shelf.
-pub mod shelf {
-    pub use cjc_shelf::{Shelf, command};
 }
 
 pub mod checking;

@@ -13,7 +13,7 @@ use Rattle.cjc_compat.proofs.OneRank.{breaks_once}
 use Rattle.cjc_compat.specs.Rules.{new_file}
 use Rattle.cjc_compat.specs.ExportFile.ExportFile.{export_file}
 use Rattle.cjc_compat.specs.ExportFile.declared.tree.ExportTree.{ExportTree}
-use Rattle.cjc_cmd_check.specs.Shelf.declared.command.status.Todo.{Todo}
+use Rattle.cjc_cmd_check.specs.LowerShelf.declared.command.status.Todo.{Todo}
 use Rattle.cjc_compat.proofs.BytesBrokenRules.{none_among}
 
 in_file : (f : FilePlace) (r : Result ExportTree ℕ) (b : Break) → Among b (break_in 104 f r) → (k : ℕ) × (r ≡ Err k)

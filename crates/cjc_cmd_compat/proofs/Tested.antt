@@ -16,8 +16,8 @@ use Rattle.cjc_compat.specs.References.{KeepsReferences}
 use Rattle.cjc_compat.specs.Rules.{breaks, new_file}
 use Rattle.cjc_compat.specs.ExportFile.ExportFile.{export_file}
 use Rattle.cjc_compat.specs.ExportFile.declared.tree.ExportTree.{ExportTree}
-use Rattle.cjc_cmd_check.specs.Shelf.Command.Gather.{Judged, status_of_fault}
-use Rattle.cjc_cmd_check.specs.Shelf.declared.command.status.Todo.{Todo}
+use Rattle.cjc_cmd_check.specs.LowerShelf.Command.Gather.{Judged, status_of_fault}
+use Rattle.cjc_cmd_check.specs.LowerShelf.declared.command.status.Todo.{Todo}
 use Rattle.cjc_compat.proofs.BytesBrokenRules.{none_among}
 
 -- the breaks by what reading each version gives

@@ -12,8 +12,8 @@ use Rattle.cjc_compat.specs.References.{KeepsReferences}
 use Rattle.cjc_compat.specs.Rules.{breaks, new_file}
 use Rattle.cjc_compat.specs.ExportFile.ExportFile.{export_file}
 use Rattle.cjc_compat.specs.ExportFile.declared.tree.ExportTree.{ExportTree}
-use Rattle.cjc_cmd_check.specs.Shelf.Command.Plan.{Plan, has, read, ◌>>=◌}
-use Rattle.cjc_cmd_check.specs.Shelf.declared.command.status.Todo.{Todo}
+use Rattle.cjc_cmd_check.specs.LowerShelf.Command.Plan.{Plan, has, read, ◌>>=◌}
+use Rattle.cjc_cmd_check.specs.LowerShelf.declared.command.status.Todo.{Todo}
 
 -- the bytes of the new version, behind those of the old one
 abbrev pub plan_of_new : (new bytes : List ℕ) → Plan (List ℕ × List ℕ)

@@ -2,7 +2,6 @@
 #![tactic(auto)]
 
 // Lower crates, for those above.
-pub use cjc_convert::check_rules;
 /// What crates above take of bytecode.
 pub mod bytecode {
     pub use cjc_theorem::bytecode::jvm;
@@ -10,7 +9,12 @@ pub mod bytecode {
 
 /// What crates above take of script.
 pub mod script {
-    pub use cjc_theorem::script::{Note, Report, Value};
+    pub use cjc_convert::script::{Note, Report, Value};
+}
+
+/// What crates above take of check_rules.
+pub mod check_rules {
+    pub use cjc_convert::check_rules::consistent_where_unbroken;
 }
 
 pub mod conversion;

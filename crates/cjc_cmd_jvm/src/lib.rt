@@ -2,14 +2,14 @@
 #![tactic(auto)]
 
 // Lower crates, for those above.
-/// What crates above take of cjc_script_text.
-pub mod script_text {
-    pub use cjc_script_text::{print, read};
-}
-
 /// What crates above take of cjc_shelf.
 pub mod shelf {
     pub use cjc_shelf::{Shelf, command};
+}
+
+/// What crates above take of cjc_script_text.
+pub mod script_text {
+    pub use cjc_script_text::{print, read};
 }
 
 pub mod report;

@@ -1,3 +1,5 @@
 pub mod Package
 pub mod Laws
 pub mod Report
+-- Definitions of lower crates, for those above.
+pub mod CmdConvert

@@ -4,7 +4,7 @@ ghost use Rattle.std.specs.Prelude.{◌<◌, List};
 ghost use Rattle.std.specs.List.{AllByRecursion};
 ghost use Rattle.cjc_verify_theorem.specs.Passed.{AreBytes};
 
-use cjc_judge::bytes::{Bytes, Row};
+use cjc_cmd_card::bytes::{Bytes, Row};
 
 fn are_numbers_of_bytes(bytes: &[u8])
     ensures { AllByRecursion (λ b. b < 256) bytes.now }

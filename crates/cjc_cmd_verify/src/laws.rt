@@ -2,11 +2,11 @@
 
 ghost use Rattle.std.specs.Prelude.{◌≡◌, Ok, Err};
 ghost use Rattle.cjc_cmd_card.specs.declared.running.input.Input.{Input};
-ghost use Rattle.cjc_cmd_jvm.specs.Shelf.declared.command.status.Todo.{Todo};
+ghost use Rattle.cjc_cmd_card.specs.Shelf.declared.command.status.Todo.{Todo};
 ghost use Rattle.cjc_cmd_verify.specs.Verify.{Verifies};
-ghost use Rattle.cjc_judge.specs.Bytes.declared.fault.Refusal.{Refusal};
+ghost use Rattle.cjc_cmd_card.specs.Bytes.declared.fault.Refusal.{Refusal};
 
-use cjc_card::check_rules::consistent_where_unbroken;
+use cjc_cmd_card::check_rules::consistent_where_unbroken;
 
 /// What was read decides one answer: one refusal, or that all is well, and not both.
 pub fn one_answer()

@@ -2,17 +2,17 @@
 
 ghost use Rattle.std.specs.Prelude.{◌<◌, ◌^◌, IfOk, length};
 ghost use Rattle.cjc_cmd_card.specs.Running.Reads.{IsInput};
-ghost use Rattle.cjc_cmd_jvm.specs.Shelf.Command.Gather.{Gathers, IsSame};
+ghost use Rattle.cjc_cmd_card.specs.Shelf.Command.Gather.{Gathers, IsSame};
 ghost use Rattle.cjc_cmd_verify.specs.Reads.{plan_behind_list, plan_behind_text, plan_of_input};
-ghost use Rattle.cjc_judge.specs.Spelt.{IsRead};
+ghost use Rattle.cjc_verify_theorem.specs.Judge.Spelt.{IsRead};
 
+use cjc_cmd_card::bytes::{Fault, NoMemory, Row};
+use cjc_cmd_card::cmd_check::folder::gather_parts;
+use cjc_cmd_card::cmd_jvm::running::names_of;
+use cjc_cmd_card::list::{List, read_list};
 use cjc_cmd_card::running::Input;
-use cjc_cmd_check::folder::gather_parts;
-use cjc_cmd_jvm::running::names_of;
-use cjc_cmd_jvm::shelf::Shelf;
-use cjc_cmd_jvm::shelf::command::{Status, fetch, fetch_each};
-use cjc_judge::bytes::{Fault, NoMemory, Row};
-use cjc_judge::list::{List, read_list};
+use cjc_cmd_card::shelf::Shelf;
+use cjc_cmd_card::shelf::command::{Status, fetch, fetch_each};
 use std::alloc::Global;
 
 /// Reads the files of a list, and then the components of a folder.

@@ -2,33 +2,33 @@
 //! of a list is. The program's top call calls it; it knows no instruction. Nothing here writes.
 
 ghost use Rattle.std.specs.Prelude.{◌≡◌, Some, IfErr, IfOk, OnOk};
-ghost use Rattle.cjc_card.specs.CheckIndex.Lookup.Parts.{complete_of};
-ghost use Rattle.cjc_card.specs.CheckRules.Complete.{AreSmall, Complete, complete};
+ghost use Rattle.cjc_cmd_card.specs.CheckIndex.Lookup.Parts.{complete_of};
+ghost use Rattle.cjc_cmd_card.specs.CheckRules.Complete.{AreSmall, Complete, complete};
 ghost use Rattle.cjc_cmd_card.specs.Running.Reads.{IsInput};
-ghost use Rattle.cjc_cmd_jvm.specs.Shelf.Command.Gather.{Gathers, Judged as JudgedBy};
+ghost use Rattle.cjc_cmd_card.specs.Shelf.Command.Gather.{Gathers, Judged as JudgedBy};
 ghost use Rattle.cjc_cmd_verify.specs.Verify.{AnyBreaks, AreTyped, Verifies, plan_of_verify};
 ghost use Rattle.cjc_cmd_verify.specs.Working.{AreChecked};
-ghost use Rattle.cjc_judge.specs.Clinit.Image.{IsImage};
-ghost use Rattle.cjc_judge.specs.Rules.{IsFirstFault};
-ghost use Rattle.cjc_pairing.specs.Components.Paired.Pairs.{ArePaired};
+ghost use Rattle.cjc_cmd_card.specs.Clinit.Image.{IsImage};
+ghost use Rattle.cjc_verify_theorem.specs.Judge.Rules.{IsFirstFault};
+ghost use Rattle.cjc_cmd_card.specs.Components.Paired.Pairs.{ArePaired};
 ghost use Rattle.cjc_verify_theorem.specs.Passed.{AreBytes};
 
 use crate::bytes::are_bytes;
 use crate::reads::gather_input;
-use cjc_card::check_index::lookup::{Parts, parts_of};
-use cjc_card::check_rules::consistent_where_unbroken;
+use cjc_cmd_card::bytes::{Fault, NoMemory};
+use cjc_cmd_card::check::Checked;
+use cjc_cmd_card::check_index::lookup::{Parts, parts_of};
+use cjc_cmd_card::check_rules::consistent_where_unbroken;
+use cjc_cmd_card::cmd_check::checking::print_ok;
+use cjc_cmd_card::cmd_check::folder::Parts as Folder;
+use cjc_cmd_card::judge::{Judged, image_of, tokens_of};
+use cjc_cmd_card::pairing::test_pair;
 use cjc_cmd_card::running::{Input, Ready, make_ready};
-use cjc_cmd_check::check::Checked;
-use cjc_cmd_check::checking::print_ok;
-use cjc_cmd_check::folder::Parts as Folder;
-use cjc_cmd_jvm::shelf::Shelf;
-use cjc_cmd_jvm::shelf::command::{Status, Todo};
-use cjc_judge::bytes::{Fault, NoMemory};
-use cjc_judge::world::StaticImage;
-use cjc_judge::{Judged, image_of, tokens_of};
-use cjc_pairing::test_pair;
-use cjc_verify::verify;
+use cjc_cmd_card::shelf::Shelf;
+use cjc_cmd_card::shelf::command::{Status, Todo};
+use cjc_cmd_card::world::StaticImage;
 use cjc_verify_theorem::never_stuck;
+use cjc_verify_theorem::verify::verify;
 use std::alloc::Global;
 
 // The files of a folder's components are bytes.

@@ -10,8 +10,7 @@ pub mod ReadLaws
 -- Lemmas of lower crates, for those above.
 pub use Rattle.cjc_bytes.proofs.Bools as BytesBools
 pub use Rattle.cjc_bytes.proofs.Gets as BytesGets
+pub use Rattle.cjc_bytes.proofs.Lists as BytesLists
 pub use Rattle.cjc_bytes.proofs.Numbers as BytesNumbers
-pub use Rattle.cjc_range.proofs.Order as RangeOrder
-pub use Rattle.cjc_range.proofs.Rounding as RangeRounding
 pub use Rattle.cjc_range.proofs.WordsLaws.Words as RangeWords
 pub use Rattle.cjc_classfile.proofs.Fitting as ClassFileFitting

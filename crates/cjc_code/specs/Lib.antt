@@ -12,6 +12,6 @@ pub mod Rules
 pub mod PackageCodes
 pub mod ReadLaws
 -- Definitions of lower crates, for those above.
-pub use Rattle.cjc_bytes.specs as Bytes
-pub use Rattle.cjc_range.specs as Range
-pub use Rattle.cjc_classfile.specs as ClassFile
+pub mod Bytes
+pub mod Range
+pub mod ClassFile

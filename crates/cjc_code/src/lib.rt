@@ -3,8 +3,17 @@
 #![tactic(auto)]
 
 // Lower crates, for those above.
-pub use cjc_bytes as bytes;
-pub use cjc_classfile as classfile;
+/// What crates above take of cjc_bytes.
+pub mod bytes {
+    pub use cjc_bytes::{
+        Bytes, Desc, Fault, Kind, MemberId, NoMemory, Part, PlaceRef, Row, is_static, refused_at,
+    };
+}
+
+/// What crates above take of cjc_classfile.
+pub mod classfile {
+    pub use cjc_classfile::{Catch, ClassTree, Code, FieldTree, ItemKind, MethodTree, PoolItem};
+}
 
 mod cutting;
 mod decoding;

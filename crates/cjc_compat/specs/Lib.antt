@@ -2,5 +2,5 @@ pub mod Rules
 pub mod References
 pub mod Working
 -- Definitions of lower crates, for those above.
-pub use Rattle.cjc_bytes.specs as Bytes
-pub use Rattle.cjc_export.specs as ExportFile
+pub mod Bytes
+pub mod ExportFile

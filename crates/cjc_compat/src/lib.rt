@@ -3,8 +3,15 @@
 #![tactic(auto)]
 
 // Lower crates, for those above.
-pub use cjc_bytes as bytes;
-pub use cjc_export as export_file;
+/// What crates above take of cjc_bytes.
+pub mod bytes {
+    pub use cjc_bytes::{Fault, NoMemory};
+}
+
+/// What crates above take of cjc_export.
+pub mod export_file {
+    pub use cjc_export::read;
+}
 
 mod laws;
 mod names;

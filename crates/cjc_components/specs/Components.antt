@@ -16,11 +16,11 @@ use Rattle.cjc_capwrite.specs.Size.{info_of}
 use Rattle.cjc_check_rules.specs.ExportFile.declared.tree.ExportTree.{ExportTree}
 use Rattle.cjc_check_rules.specs.Locations.{distances, catch_places}
 use Rattle.cjc_check_rules.specs.Listed.{array_bytes, applet_count}
-use Rattle.cjc_vtable.specs.World.Lookup.{find_method}
-use Rattle.cjc_vtable.specs.World.Classes.{Class}
-use Rattle.cjc_vtable.specs.Subset.Types.{is_int_desc}
-use Rattle.cjc_narrow.specs.NCode.Lowering.Placed.{Placed}
-use Rattle.cjc_narrow.specs.NCode.Lowering.Package.{all_bytes, all_handlers}
+use Rattle.cjc_clinit.specs.World.Lookup.{find_method}
+use Rattle.cjc_clinit.specs.World.Classes.{Class}
+use Rattle.cjc_clinit.specs.Subset.Types.{is_int_desc}
+use Rattle.cjc_emit.specs.NCode.Lowering.Placed.{Placed}
+use Rattle.cjc_emit.specs.NCode.Lowering.Package.{all_bytes, all_handlers}
 use Rattle.cjc_emit.specs.Emitted.{code_places}
 use Rattle.cjc_components.specs.Package.{Package, world, has_applets}
 use Rattle.cjc_components.specs.Methods.{placed_methods}

@@ -5,53 +5,31 @@
 #![tactic(auto)]
 
 // Lower crates, for those above.
-/// What crates above take of cjc_capwrite.
-pub mod capwrite {
-    pub use cjc_capwrite::{CapFiles, broken_limit, size, write};
-}
-
-/// What crates above take of capread.
-pub mod capread {
-    pub use cjc_capwrite::capread::{
-        ClassDescriptor, ClassEntry, ClassRef, Export, ExportedClass, FieldPlace, MethodDescriptor,
-    };
-}
-
-/// What crates above take of cjc_check_rules.
-pub mod check_rules {
-    pub use cjc_check_rules::consistent_where_unbroken;
-}
-
-/// What crates above take of cjc_emit.
-pub mod emit {
-    pub use cjc_emit::{MethodBytes, PoolLookup, emit};
-}
-
-/// What crates above take of layout.
-pub mod layout {
-    pub use cjc_emit::layout::{
-        Handler, Layout, lay, layouts_are_laid_out, order_changes_no_search,
-    };
-}
-
 /// What crates above take of cjc_list.
 pub mod list {
     pub use cjc_list::List;
 }
 
-/// What crates above take of cjc_narrow.
-pub mod narrow {
-    pub use cjc_narrow::{keys, select};
+/// What crates above take of bytecode.
+pub mod bytecode {
+    pub use cjc_vtable::bytecode::MethodCode;
 }
 
-/// What crates above take of ncode.
-pub mod ncode {
-    pub use cjc_narrow::ncode::PoolKey;
+/// What crates above take of script.
+pub mod script {
+    pub use cjc_narrow::script::{Note, Report, Value};
 }
 
-/// What crates above take of cjc_vtable.
-pub mod vtable {
-    pub use cjc_vtable::{ClassTable, ClassTables, InterfaceMap, tables};
+/// What crates above take of capread.
+pub mod capread {
+    pub use cjc_capwrite::capread::{
+        ClassRef, Export, ExportedClass, Handler, Method, ReferenceLocation,
+    };
+}
+
+/// What crates above take of cjc_capwrite.
+pub mod capwrite {
+    pub use cjc_capwrite::{CapFiles, broken_limit, size, write};
 }
 
 /// What crates above take of class_order.
@@ -67,6 +45,43 @@ pub mod subset {
 /// What crates above take of tokens.
 pub mod tokens {
     pub use cjc_vtable::tokens::Tokens;
+}
+
+/// What crates above take of cjc_vtable.
+pub mod vtable {
+    pub use cjc_vtable::{ClassTable, ClassTables, InterfaceMap, tables};
+}
+
+/// What crates above take of cjc_check_rules.
+pub mod check_rules {
+    pub use cjc_check_rules::consistent_where_unbroken;
+}
+
+/// What crates above take of types.
+pub mod types {
+    pub use cjc_narrow::types::{Method, TypeTable, TypeWalk};
+}
+
+/// What crates above take of ncode.
+pub mod ncode {
+    pub use cjc_narrow::ncode::{NMethod, PoolKey};
+}
+
+/// What crates above take of cjc_narrow.
+pub mod narrow {
+    pub use cjc_narrow::{keys, select};
+}
+
+/// What crates above take of layout.
+pub mod layout {
+    pub use cjc_emit::layout::{
+        Handler, Layout, lay, layouts_are_laid_out, order_changes_no_search,
+    };
+}
+
+/// What crates above take of cjc_emit.
+pub mod emit {
+    pub use cjc_emit::{MethodBytes, PoolLookup, emit};
 }
 
 pub mod paired;

@@ -2,11 +2,11 @@
 //! the package's files stands until the end.
 
 ghost use Rattle.std.specs.Prelude.{◌≡◌, ◌⊎◌, ◌≤◌, ◌^◌, length, All, IfOk, IfErr};
-ghost use Rattle.cjc_shape_proof.specs.Bytes.declared.fault.Fault.TheVariants as faults;
-ghost use Rattle.cjc_shape_proof.specs.Bytes.declared.fault.Refusal.{Refusal as Broken};
+ghost use Rattle.cjc_captree.specs.Bytes.declared.fault.Fault.TheVariants as faults;
+ghost use Rattle.cjc_captree.specs.Bytes.declared.fault.Refusal.{Refusal as Broken};
 ghost use Rattle.cjc_convert.specs.Conversion.{IsConverted};
-ghost use Rattle.cjc_shape_proof.specs.Judge.Spelt.{IsRead};
-ghost use Rattle.cjc_shape_proof.specs.Shape.Whole.Conversion.{IsRefused};
+ghost use Rattle.cjc_shape_proof.specs.LowerJudge.Spelt.{IsRead};
+ghost use Rattle.cjc_shape_proof.specs.LowerShape.Whole.Conversion.{IsRefused};
 
 use crate::building::build;
 use crate::files::are_bytes;
@@ -64,6 +64,6 @@ pub fn convert(alloc: Global, list: &List, files: &Row<Bytes>) -> Result<Convert
         let cap = build(alloc, &judged, &shaped)?;
         cjc_captree::capwrite::write(alloc, list.name.items(), &cap)?
     };
-    let export = cjc_shape_proof::export_file::write(alloc, &shaped.export)?;
+    let export = cjc_captree::export_file::write(alloc, &shaped.export)?;
     Ok(Converted { caps, export })
 }

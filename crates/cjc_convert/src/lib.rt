@@ -4,12 +4,30 @@
 #![tactic(auto)]
 
 // Lower crates, for those above.
+/// What crates above take of list.
+pub mod list {
+    pub use cjc_captree::list::List;
+}
+
+/// What crates above take of script.
+pub mod script {
+    pub use cjc_captree::script::{Note, Report, Value};
+}
+
 /// What crates above take of capread.
 pub mod capread {
     pub use cjc_captree::capread::readings;
 }
 
-pub use cjc_captree::{capwrite, check_rules, list};
+/// What crates above take of capwrite.
+pub mod capwrite {
+    pub use cjc_captree::capwrite::CapFiles;
+}
+
+/// What crates above take of check_rules.
+pub mod check_rules {
+    pub use cjc_captree::check_rules::consistent_where_unbroken;
+}
 
 mod building;
 mod conversion;

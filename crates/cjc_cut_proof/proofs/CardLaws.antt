@@ -1,19 +1,21 @@
 -- The methods of components as the card runs them: what begins at an offset, and which instruction is fetched.
 use Rattle.std.proofs.Common.{◌≡◌, ℕ, suc, ◌+◌, ◌-◌, ◌<◌, ◌≤◌, ◌==◌, refl, sym, ap, subst, ◌∙◌, arith, Bool, true}
-use Rattle.std.proofs.Common.{false, List, [], ◌∷◌, ◌++◌, length, drop, map, slice_get, Option, Some, None, Result, Ok, Err}
-use Rattle.std.specs.Prelude.{◌*◌, if◌then◌else◌, ◌||◌, cond, filter, flat_map, nat_le, option_and_then, option_map, sum_by}
+use Rattle.std.proofs.Common.{false, List, [], ◌∷◌, ◌++◌, length, drop, map, slice_get, Option, Some, None, Result, Ok}
+use Rattle.std.proofs.Common.{Err}
+use Rattle.std.specs.Prelude.{◌*◌, if◌then◌else◌, ◌||◌, cond, filter, flat_map, nat_le, option_and_then, option_map}
+use Rattle.std.specs.Prelude.{sum_by}
 use Rattle.std.proofs.lemmas.List.{drop-drop}
 use Rattle.std.proofs.lemmas.List.Concat.{flat_map-cons}
 use Rattle.std.proofs.lemmas.List.Sums.{sum_by-cons}
-use Rattle.cjc_capread.specs.declared.tree.ClassEntry.{ClassEntry}
-use Rattle.cjc_capread.specs.declared.tree.ClassRef.{ClassRef}
-use Rattle.cjc_capread.specs.declared.tree.ClassRef.TheVariants.{Inside, Outside}
-use Rattle.cjc_capread.specs.declared.tree.ClassDescriptor.{ClassDescriptor}
-use Rattle.cjc_capread.specs.declared.tree.ImplementedInterface.{ImplementedInterface}
-use Rattle.cjc_capread.specs.declared.tree.InterfaceEntry.{InterfaceEntry}
-use Rattle.cjc_capread.specs.declared.tree.MethodDescriptor.{MethodDescriptor}
-use Rattle.cjc_capread.specs.Decode.{Instruction, decode, size}
-use Rattle.cjc_capread.specs.MethodHeader.{MethodHeader, method_header}
+use Rattle.cjc_check_rules.specs.CapRead.declared.tree.ClassEntry.{ClassEntry}
+use Rattle.cjc_check_rules.specs.CapRead.declared.tree.ClassRef.{ClassRef}
+use Rattle.cjc_check_rules.specs.CapRead.declared.tree.ClassRef.TheVariants.{Inside, Outside}
+use Rattle.cjc_check_rules.specs.CapRead.declared.tree.ClassDescriptor.{ClassDescriptor}
+use Rattle.cjc_check_rules.specs.CapRead.declared.tree.ImplementedInterface.{ImplementedInterface}
+use Rattle.cjc_check_rules.specs.CapRead.declared.tree.InterfaceEntry.{InterfaceEntry}
+use Rattle.cjc_check_rules.specs.CapRead.declared.tree.MethodDescriptor.{MethodDescriptor}
+use Rattle.cjc_check_rules.specs.CapRead.Decode.{Instruction, decode, size}
+use Rattle.cjc_check_rules.specs.CapRead.MethodHeader.{MethodHeader, method_header}
 use Rattle.cjc_check_rules.specs.Spots.{Placed, begins, placed}
 use Rattle.cjc_check_rules.specs.Classes.{first_class, is_own_class}
 use Rattle.cjc_check_rules.specs.Codes.{Code as Cut, codes, cut, instructions, whole_spots}
@@ -21,12 +23,13 @@ use Rattle.cjc_check_rules.specs.Codes as check
 use Rattle.cjc_check_rules.specs.Complete.{Complete, class_size, interface_size, map_size}
 use Rattle.cjc_check_rules.specs.Members.{class_methods}
 use Rattle.cjc_card_semantics.specs.Bytecode.Machine.{Start}
-use Rattle.cjc_card_semantics.specs.Machine.Classes.{Info, IsClass, IsInterface, info_size, map_sizes, number_from, or_else}
+use Rattle.cjc_card_semantics.specs.Machine.Classes.{Info, IsClass, IsInterface, info_size, map_sizes, number_from}
+use Rattle.cjc_card_semantics.specs.Machine.Classes.{or_else}
 use Rattle.cjc_card_semantics.specs.Machine.Loaded.{Loaded, Part}
 use Rattle.cjc_card_semantics.specs.Machine.Methods.{Code, bytes_from, described, fetch, fetched_as, fetched_in}
 use Rattle.cjc_card_semantics.specs.Machine.Methods.{fetched_within, is_class_at, is_class_info, method_among}
 use Rattle.cjc_card_semantics.specs.Machine.Methods.{methods_begin, start_at, start_in}
-use Rattle.cjc_bytes.proofs.Numbers.{at_most, number_same, other_number}
+use Rattle.cjc_check_rules.proofs.BytesNumbers.{at_most, number_same, other_number}
 use Rattle.cjc_cut_proof.specs.Cuts.{AreOf, IsCut, IsMethodAt}
 use Rattle.cjc_cut_proof.proofs.CutLaws.{AreCut, code_beside, cut_from, first_of_offset}
 use Rattle.cjc_cut_proof.proofs.CutLaws.{found_by_offset, next_begins, stands}
@@ -108,7 +111,8 @@ class_refs_agree part c same (Inside offset) = by part.class same
     by : (x : _) → x ≡ c.class → is_class_info (option_and_then (slice_get (map IsInterface x.interfaces
         ++ map IsClass x.classes)) (number_from 2 (map IsInterface x.interfaces ++ map IsClass x.classes) offset))
         ≡ is_own_class c.class (Inside offset)
-    by x e = class_stands 2 x.interfaces x.classes offset ∙ ap (λ y. begins (placed class_size (first_class y) y.classes)
+    by x e = class_stands 2 x.interfaces x.classes offset ∙ ap (λ y. begins (placed class_size
+        (first_class y) y.classes)
         offset) e
 
 -- ---- methods by offset
@@ -126,7 +130,8 @@ among_both (m ∷ xs) ys offset = by (m.offset == offset) (among_both xs ys offs
 
 -- the methods of some of the classes
 abbrev methods_of : (ClassRef → Bool) → List ClassDescriptor → List MethodDescriptor
-methods_of own ds = flat_map (λ (d : ClassDescriptor). d.methods) (filter (λ (d : ClassDescriptor). own d.this_class) ds)
+methods_of own ds = flat_map (λ (d : ClassDescriptor). d.methods) (filter (λ
+    (d : ClassDescriptor). own d.this_class) ds)
 
 described_flat : (part : Part) (own : ClassRef → Bool) → ((r : ClassRef) → is_class_at part r ≡ own r)
     → (ds : List ClassDescriptor) (offset : ℕ) → described part ds offset ≡ method_among (methods_of own ds) offset
@@ -223,7 +228,8 @@ module _ (c : Complete) (whole : whole_spots c ≡ []) where
 
     -- the instructions of a method are fetched
     pub instruction_fetched : (l : Loaded) (p room : ℕ) → slice_get l.parts p ≡ Some part → (m : MethodDescriptor)
-        (code : Cut) (at : IsMethodAt c m code) → (k : ℕ) (i : Placed Instruction) → slice_get code.instructions k ≡ Some i
+        (code : Cut) (at : IsMethodAt c m code) → (k : ℕ) (i : Placed Instruction) → slice_get code.instructions k
+        ≡ Some i
         → (let h = (let x = at.is_cut in x.header) in fetch l (record {
           part = p;
           room = room;
@@ -270,5 +276,6 @@ follows_next c m code at k i j e f =
     let is = at.is_cut in
     let h = is.header in
     let x = c.method in
-    next_begins m.bytecode_count m.bytecode_count (m.offset + h.size) (drop h.size (drop (m.offset - check.methods_begin c)
+    next_begins m.bytecode_count m.bytecode_count (m.offset + h.size) (drop h.size (drop
+    (m.offset - check.methods_begin c)
     x.methods)) code.instructions is.cut k i j e f

@@ -1,16 +1,18 @@
 -- Methods that are cut into headers and whole instructions: where each instruction stands, and what follows it.
-use Rattle.std.proofs.Common.{◌≡◌, ℕ, zero, suc, ◌+◌, ◌-◌, ◌<◌, ◌≤◌, ◌==◌, refl, sym, ap, subst, ◌∙◌, arith, Bool, true, false}
+use Rattle.std.proofs.Common.{◌≡◌, ℕ, zero, suc, ◌+◌, ◌-◌, ◌<◌, ◌≤◌, ◌==◌, refl, sym, ap, subst, ◌∙◌, arith, Bool, true}
+use Rattle.std.proofs.Common.{false}
 use Rattle.std.proofs.Common.{List, [], ◌∷◌, take, drop, slice_get, Option, Some, None, Result, Ok, Err}
 use Rattle.std.specs.Prelude.{if◌then◌else◌}
 use Rattle.std.proofs.lemmas.List.{take-append-drop, drop-drop, length-take}
-use Rattle.cjc_capread.specs.declared.tree.MethodDescriptor.{MethodDescriptor}
-use Rattle.cjc_capread.specs.Decode.{Instruction, decode, size}
-use Rattle.cjc_capread.specs.MethodHeader.{MethodHeader, extended_header, is_extended, method_header, short_header}
+use Rattle.cjc_check_rules.specs.CapRead.declared.tree.MethodDescriptor.{MethodDescriptor}
+use Rattle.cjc_check_rules.specs.CapRead.Decode.{Instruction, decode, size}
+use Rattle.cjc_check_rules.specs.CapRead.MethodHeader.{MethodHeader, extended_header, is_extended, method_header}
+use Rattle.cjc_check_rules.specs.CapRead.MethodHeader.{short_header}
 use Rattle.cjc_check_rules.specs.Spots.{Placed}
 use Rattle.cjc_check_rules.specs.Codes.{Code, codes_from, instructions, onto, with_code, with_header, with_instruction}
 use Rattle.cjc_card_semantics.specs.Machine.Methods.{method_among}
-use Rattle.cjc_bytes.proofs.Numbers.{number_same, number_same_number, other_number}
-use Rattle.cjc_bytes.proofs.Plain.{same_some}
+use Rattle.cjc_check_rules.proofs.BytesNumbers.{number_same, number_same_number, other_number}
+use Rattle.cjc_check_rules.proofs.BytesPlain.{same_some}
 use Rattle.cjc_cut_proof.specs.Cuts.{IsCut, Stands}
 use Rattle.cjc_cut_proof.proofs.DecodeLaws.{decode_more}
 

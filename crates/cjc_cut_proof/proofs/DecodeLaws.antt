@@ -2,12 +2,14 @@
 use Rattle.std.proofs.Common.{◌≡◌, ℕ, ◌+◌, refl, ap, subst, ◌∙◌, arith, Bool, true, false, List, [], ◌∷◌, ◌++◌}
 use Rattle.std.proofs.Common.{length, Option, Some, None}
 use Rattle.std.specs.Prelude.{if◌then◌else◌}
-use Rattle.cjc_capread.specs.Opcodes.{Operand, Byte, Signed1, Signed2, Signed4, Index1, Index2, Form, width, widths}
-use Rattle.cjc_capread.specs.Opcodes.{form}
-use Rattle.cjc_capread.specs.Decode.{Instruction, First, Front, operand, operands_of, put_first, first_and}
-use Rattle.cjc_capread.specs.Decode.{before_table, in_table, is_whole, with_table, with_operands, decode_as, decode}
-use Rattle.cjc_capread.specs.Decode.{size, size_as, size_by}
-use Rattle.cjc_bytes.proofs.Plain.{same_some}
+use Rattle.cjc_check_rules.specs.CapRead.Opcodes.{Operand, Byte, Signed1, Signed2, Signed4, Index1, Index2, Form, width}
+use Rattle.cjc_check_rules.specs.CapRead.Opcodes.{widths}
+use Rattle.cjc_check_rules.specs.CapRead.Opcodes.{form}
+use Rattle.cjc_check_rules.specs.CapRead.Decode.{Instruction, First, Front, operand, operands_of, put_first, first_and}
+use Rattle.cjc_check_rules.specs.CapRead.Decode.{before_table, in_table, is_whole, with_table, with_operands, decode_as}
+use Rattle.cjc_check_rules.specs.CapRead.Decode.{decode}
+use Rattle.cjc_check_rules.specs.CapRead.Decode.{size, size_as, size_by}
+use Rattle.cjc_check_rules.proofs.BytesPlain.{same_some}
 
 -- what is read of more bytes, with so many of them read
 abbrev ReadsMore : Operand → (xs ys : List ℕ) → First → Type 0

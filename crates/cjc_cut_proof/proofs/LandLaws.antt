@@ -1,13 +1,14 @@
 -- Jumps and handlers of codes that are consistent lead to instructions of the same code.
 use Rattle.std.proofs.Common.{◌≡◌, ◌⊎◌, ℕ, zero, suc, ◌+◌, ◌≤◌, ◌<◌, ◌==◌, refl, sym, ap, subst, ◌∙◌, arith, Bool}
-use Rattle.std.proofs.Common.{true, false, inl, inr, ⊎_elim, List, [], ◌∷◌, map, slice_get, Option, Some, None, ℤ, pos, negsuc}
+use Rattle.std.proofs.Common.{true, false, inl, inr, ⊎_elim, List, [], ◌∷◌, map, slice_get, Option, Some, None, ℤ, pos}
+use Rattle.std.proofs.Common.{negsuc}
 use Rattle.std.specs.Prelude.{◌+ℤ◌, ◌&&◌, ◌||◌, Contains, not}
 use Rattle.std.specs.List.{find, list_all, list_any}
 use Rattle.std.specs.Ordering.{int_eq}
 use Rattle.std.proofs.lemmas.Bool.Decides.{Decides-int_eq}
 use Rattle.std.proofs.lemmas.Int.{ints}
-use Rattle.cjc_capread.specs.declared.tree.Handler.{Handler}
-use Rattle.cjc_capread.specs.Decode.{Instruction}
+use Rattle.cjc_check_rules.specs.CapRead.declared.tree.Handler.{Handler}
+use Rattle.cjc_check_rules.specs.CapRead.Decode.{Instruction}
 use Rattle.cjc_check_rules.specs.declared.spot.ComponentPlace.{ComponentPlace}
 use Rattle.cjc_check_rules.specs.Spots.{Placed, along, begins, in_info, unless}
 use Rattle.cjc_check_rules.specs.Complete.{Complete}
@@ -17,10 +18,10 @@ use Rattle.cjc_check_rules.specs.Instructions.{lands, is_empty}
 use Rattle.cjc_check_rules.specs.Handlers.{handler_spots, handler_stands, is_classref, targets_from}
 use Rattle.cjc_check_rules.specs.Handlers as handlers
 use Rattle.cjc_card_semantics.specs.Machine.Operations.{moved}
-use Rattle.cjc_bytes.proofs.Lists.{none_left, none_right}
-use Rattle.cjc_bytes.proofs.Gets.{contains_at, find_got, none_each}
-use Rattle.cjc_bytes.proofs.Numbers.{number_same, number_same_number}
-use Rattle.cjc_bytes.proofs.Plain.{same_some}
+use Rattle.cjc_check_rules.proofs.BytesLists.{none_left, none_right}
+use Rattle.cjc_check_rules.proofs.BytesGets.{contains_at, find_got, none_each}
+use Rattle.cjc_check_rules.proofs.BytesNumbers.{number_same, number_same_number}
+use Rattle.cjc_check_rules.proofs.BytesPlain.{same_some}
 use Rattle.cjc_cut_proof.specs.Cuts.{EndBehind, Jumps, Leads, StandApart}
 
 -- ---- tests
@@ -52,7 +53,8 @@ land_among (i ∷ is) at by e = go (int_eq (pos i.at) (pos at +ℤ by)) refl e (
         → (b || list_any (λ j. int_eq (pos j.at) (pos at +ℤ by)) is) ≡ true
         → (list_any (λ j. int_eq (pos j.at) (pos at +ℤ by)) is ≡ true → begins is (moved at by) ≡ true)
         → begins (i ∷ is) (moved at by) ≡ true
-    go true h f more = ap (λ t. t || begins is (moved at by)) (number_same_number i.at (moved at by) (moves i.at at by h))
+    go true h f more = ap (λ t. t || begins is (moved at by)) (number_same_number i.at (moved at by)
+        (moves i.at at by h))
     go false h f more = ap (λ t. (i.at == moved at by) || t) (more f) ∙ after (i.at == moved at by)
 
 -- each far that an instruction jumps leads to an instruction
@@ -166,7 +168,8 @@ handler_leads c e k h f =
     (unless (h.catch_index == 0 || is_classref (slice_get p.entries h.catch_index)) (in_info 7 (s.0 + 6))) s.1)
 
 -- a handler that covers an instruction leads to one of the same code
-pub covered_lands : (all : List Code) → StandApart all → EndBehind all → (h : Handler) → Leads all h → (k : ℕ) (code : Code)
+pub covered_lands : (all : List Code) → StandApart all → EndBehind all → (h : Handler) → Leads all h → (k : ℕ)
+    (code : Code)
     → slice_get all k ≡ Some code → (at : ℕ) → has_start code at ≡ true → h.start ≤ at → at < h.start + h.length
     → has_start code h.handler ≡ true
 covered_lands all apart ends h l k code f at starts low high =

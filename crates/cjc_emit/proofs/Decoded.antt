@@ -1,8 +1,8 @@
 -- Decoding what is emitted.
 use Rattle.std.proofs.Common.{◌≡◌, ℕ, ◌+◌, ap, ◌∙◌, arith, Bool, List, ◌++◌, length, drop, append_assoc}
 use Rattle.std.specs.Prelude.{Some, slice_get}
-use Rattle.cjc_capread.specs.Decode.{decode}
-use Rattle.cjc_capread.proofs.Decoding.{decode_emitted}
+use Rattle.cjc_layout.specs.CapRead.Decode.{decode}
+use Rattle.cjc_ncode.proofs.CapReadDecoding.{decode_emitted}
 use Rattle.cjc_ncode.specs.declared.narrow.NInsn.{NInsn}
 use Rattle.cjc_ncode.specs.declared.narrow.NMethod.{NMethod}
 use Rattle.cjc_ncode.specs.Lowering.Naming.{Naming}
@@ -11,7 +11,7 @@ use Rattle.cjc_ncode.specs.Lowering.Placed.{Placed, bytes_before, bytes_of, code
 use Rattle.cjc_ncode.proofs.LoweringLaws.Bytes.{code_at, length_spelt, spelt_as}
 use Rattle.cjc_ncode.proofs.LoweringLaws.Places.{size_same}
 use Rattle.cjc_emit.specs.Emitted.{CanBeWritten, emitted_bytes, header_bytes, placed_at}
-use Rattle.cjc_capread.proofs.BytesGets.{get_drop_past}
+use Rattle.cjc_ncode.proofs.BytesGets.{get_drop_past}
 
 sized : (n : Naming) (p : Placed) → CanBeWritten n p → (k : ℕ) (i : NInsn) (w : Bool) → slice_get p.method.insns k
     ≡ Some i → slice_get p.wide k ≡ Some w → length (bytes_of (laid n (offset_of n p) (offset_of n p k) w i))

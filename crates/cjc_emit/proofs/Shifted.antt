@@ -4,9 +4,9 @@ use Rattle.std.proofs.Common.{true, false, List, [], ◌∷◌, ◌++◌, length
 use Rattle.std.specs.Prelude.{nat_le, nat_lt, if◌then◌else◌, ◌+ℤ◌, ◌-ℤ◌, ◌&&◌}
 use Rattle.std.proofs.lemmas.Bool.{cases_lt}
 use Rattle.std.proofs.lemmas.Bool.Decides.{nat_tests}
-use Rattle.cjc_ncode.specs.CardSemantics.Bytecode.Meanings.{Meaning, Ranged, meaning}
-use Rattle.cjc_capread.specs.Decode.{Instruction}
-use Rattle.cjc_capread.proofs.Headers.{short_read}
+use Rattle.cjc_layout.specs.CardSemantics.Bytecode.Meanings.{Meaning, Ranged, meaning}
+use Rattle.cjc_layout.specs.CapRead.Decode.{Instruction}
+use Rattle.cjc_ncode.proofs.CapReadHeaders.{short_read}
 use Rattle.cjc_ncode.specs.declared.narrow.NCase.{NCase}
 use Rattle.cjc_ncode.specs.declared.narrow.NInsn.{NInsn}
 use Rattle.cjc_ncode.specs.declared.narrow.NInsn.TheVariants as insns
@@ -16,8 +16,8 @@ use Rattle.cjc_ncode.specs.Lowering.Laid.{distance, laid, matches, offsets, swit
 use Rattle.cjc_ncode.specs.Lowering.Placed.{bytes_before, bytes_of, code_bytes, extended_header, insn_size, IsHeader}
 use Rattle.cjc_ncode.specs.Lowering.Placed.{method_bytes, offset_of, short_header}
 use Rattle.cjc_emit.specs.Emitted.{emitted_bytes, header_bytes, is_short, placed_at}
-use Rattle.cjc_capread.proofs.BytesBools.{and_true}
-use Rattle.cjc_capread.proofs.BytesNumbers.{number_below}
+use Rattle.cjc_ncode.proofs.BytesBools.{and_true}
+use Rattle.cjc_ncode.proofs.BytesNumbers.{number_below}
 
 pub distance_shift : (b x y : ℕ) → distance (b + x) (b + y) ≡ distance x y
 distance_shift b x y = ⊎_elim

@@ -7,20 +7,23 @@ use Rattle.std.specs.Prelude.{if◌then◌else◌, ◌+ℤ◌, ◌-ℤ◌}
 use Rattle.std.proofs.lemmas.Bool.{cases_lt}
 use Rattle.std.proofs.lemmas.Bool.Decides.{nat_tests}
 use Rattle.std.proofs.lemmas.Int.{ints}
-use Rattle.cjc_capread.specs.Bytes.declared.fault.MemberId.{MemberId}
-use Rattle.cjc_capread.specs.Opcodes.{Operand, Byte, Signed1, Signed2, Signed4, Index1, Index2, Form, Fields, Table}
-use Rattle.cjc_capread.specs.Opcodes.{Lookup, form, forms, info, op_info, width}
-use Rattle.cjc_capread.specs.Decode.{Instruction, operand_bytes, operands_bytes, two_bytes, four_bytes, before_table}
-use Rattle.cjc_capread.specs.Decode.{up_to, pairs, emitted, below, IsWithin, positive, negative, Fits, AllFit, none}
-use Rattle.cjc_capread.specs.Decode.{more, IsWritable}
-use Rattle.cjc_ncode.specs.CardSemantics.Bytecode.Meanings.{Meaning, Branches, Ranged, Paired, meaning}
+use Rattle.cjc_layout.specs.Bytes.declared.fault.MemberId.{MemberId}
+use Rattle.cjc_layout.specs.CapRead.Opcodes.{Operand, Byte, Signed1, Signed2, Signed4, Index1, Index2, Form, Fields}
+use Rattle.cjc_layout.specs.CapRead.Opcodes.{Table}
+use Rattle.cjc_layout.specs.CapRead.Opcodes.{Lookup, form, forms, info, op_info, width}
+use Rattle.cjc_layout.specs.CapRead.Decode.{Instruction, operand_bytes, operands_bytes, two_bytes, four_bytes}
+use Rattle.cjc_layout.specs.CapRead.Decode.{before_table}
+use Rattle.cjc_layout.specs.CapRead.Decode.{up_to, pairs, emitted, below, IsWithin, positive, negative, Fits, AllFit}
+use Rattle.cjc_layout.specs.CapRead.Decode.{none}
+use Rattle.cjc_layout.specs.CapRead.Decode.{more, IsWritable}
+use Rattle.cjc_layout.specs.CardSemantics.Bytecode.Meanings.{Meaning, Branches, Ranged, Paired, meaning}
 use Rattle.cjc_ncode.specs.declared.narrow.NCase.{NCase}
 use Rattle.cjc_ncode.specs.declared.narrow.NInsn.{NInsn}
 use Rattle.cjc_ncode.specs.declared.narrow.NInsn.TheVariants as insns
 use Rattle.cjc_ncode.specs.declared.narrow.PoolKey.{PoolKey}
 use Rattle.cjc_ncode.specs.declared.narrow.PoolKey.TheVariants as keys
 use Rattle.cjc_ncode.specs.Lowering.Naming.{Naming}
-use Rattle.cjc_capread.specs.Card.{invokeinterface, newarray}
+use Rattle.cjc_layout.specs.CapRead.Card.{invokeinterface, newarray}
 use Rattle.cjc_ncode.specs.Lowering.Laid.{distance, laid, matches, offsets, switch_as, untabled, wide_jump}
 use Rattle.cjc_ncode.specs.Lowering.Placed.{bytes_by, bytes_of, IsSpellable}
 use Rattle.cjc_layout.specs.Forms.{HasForm, bare, push, local, increase, words, jump, range, lookup, named}
@@ -31,8 +34,8 @@ use Rattle.cjc_emit.specs.Working.{bits, index_in, jump_opcode, known, last_bits
 use Rattle.cjc_emit.specs.Working.{match_bytes, offset_bytes, range_bytes, switch_bytes, table_bytes, with_one}
 use Rattle.cjc_emit.specs.Working.{with_two, written}
 use Rattle.cjc_emit.proofs.EmitLaws.Forms.{below as known_below}
-use Rattle.cjc_capread.proofs.BytesBools.{and_true}
-use Rattle.cjc_capread.proofs.BytesNumbers.{number_same}
+use Rattle.cjc_ncode.proofs.BytesBools.{and_true}
+use Rattle.cjc_ncode.proofs.BytesNumbers.{number_same}
 
 -- ---- numbers
 

@@ -2,11 +2,11 @@
 use Rattle.std.proofs.Common.{◌≡◌, ℕ, ◌+◌, ◌<◌, sym, ap, ◌∙◌, arith, Bool, false, List, ◌∷◌, ◌++◌}
 use Rattle.std.proofs.Common.{length, get_or, drop, append_assoc}
 use Rattle.std.specs.Prelude.{Option, slice_index}
-use Rattle.cjc_capread.specs.Bytes.declared.fault.MemberId.{MemberId}
+use Rattle.cjc_layout.specs.Bytes.declared.fault.MemberId.{MemberId}
 use Rattle.cjc_ncode.specs.declared.narrow.NInsn.{NInsn}
 use Rattle.cjc_ncode.specs.declared.narrow.PoolKey.{PoolKey}
 use Rattle.cjc_emit.specs.Working.{all_written, written}
-use Rattle.cjc_capread.proofs.BytesGets.{from_index}
+use Rattle.cjc_ncode.proofs.BytesGets.{from_index}
 
 pub step_written : (keys : List PoolKey) (token_of : MemberId → Option ℕ) (to : ℕ
     → ℕ) (places : List ℕ) (insns : List NInsn) (wide : List Bool) (k : ℕ) (i : NInsn) (front now old : List ℕ)

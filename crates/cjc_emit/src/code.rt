@@ -8,9 +8,9 @@ use crate::numbers::{distance_bits, put_low};
 use crate::operands::{jump_opcode, put_with_one, put_with_two};
 use crate::pool::PoolLookup;
 use crate::switches::{label_at, put_switch};
-use cjc_capread::bytes::{Bytes, MemberId, NoMemory};
-use cjc_capread::card;
 use cjc_ncode::NInsn;
+use cjc_ncode::bytes::{Bytes, MemberId, NoMemory};
+use cjc_ncode::capread::card;
 
 fn known_index(found: Option<u16>) -> u32
     ensures { result ≡ known found }

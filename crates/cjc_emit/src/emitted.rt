@@ -1,6 +1,6 @@
 //! What is emitted of a method. Whoever writes Method and ReferenceLocation reads it.
 
-use cjc_capread::bytes::{Bytes, Row};
+use cjc_ncode::bytes::{Bytes, Row};
 
 /// A method's bytes, its header included, and the places of its indices into the constant pool, in bytes from the
 /// start of the header.

@@ -5,8 +5,8 @@ ghost use Rattle.std.specs.Prelude.{◌≡◌, ◌<◌, IfOk};
 ghost use Rattle.cjc_ncode.specs.Lowering.Placed.{extended_header, short_header};
 ghost use Rattle.cjc_emit.specs.Emitted.{header_bytes};
 
-use cjc_capread::bytes::{Bytes, NoMemory, Row};
 use cjc_ncode::NMethod;
+use cjc_ncode::bytes::{Bytes, NoMemory, Row};
 use std::alloc::Global;
 
 fn short_header(alloc: Global, method: &NMethod) -> Result<Bytes, NoMemory>

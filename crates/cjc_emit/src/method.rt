@@ -10,9 +10,9 @@ use crate::emitted::MethodBytes;
 use crate::head::header;
 use crate::places::mark_all;
 use crate::pool::PoolLookup;
-use cjc_capread::bytes::{NoMemory, Row};
 use cjc_layout::Layout;
 use cjc_ncode::NMethod;
+use cjc_ncode::bytes::{NoMemory, Row};
 use std::alloc::Global;
 
 /// The bytes of a method with code, its header included, at the layout that was chosen for it, and the places of

@@ -4,7 +4,7 @@ ghost use Rattle.std.specs.Prelude.{◌≡◌, ◌∷◌, [], ◌++◌, OnOk};
 ghost use Rattle.cjc_ncode.specs.Lowering.Laid.{distance};
 ghost use Rattle.cjc_emit.specs.Working.{bits, last_bits, low_bytes};
 
-use cjc_capread::bytes::{Bytes, NoMemory};
+use cjc_ncode::bytes::{Bytes, NoMemory};
 
 fn put_pair(out: &mut Bytes, high: u8, low: u8) -> Result<(), NoMemory>
     ensures { OnOk result (out.new ≡ out.old ++ high ∷ low ∷ []) }

@@ -2,12 +2,12 @@
 //! instructions. It knows no pool and no label.
 
 ghost use Rattle.std.specs.Prelude.{◌≡◌, ◌++◌, OnOk};
-ghost use Rattle.cjc_capread.specs.Opcodes.{op_info};
+ghost use Rattle.cjc_layout.specs.CapRead.Opcodes.{op_info};
 ghost use Rattle.cjc_emit.specs.Working.{jump_opcode, length_by, with_one, with_two};
 
 use crate::numbers::put_low;
-use cjc_capread::bytes::{Bytes, NoMemory};
-use cjc_capread::op;
+use cjc_ncode::bytes::{Bytes, NoMemory};
+use cjc_ncode::capread::op;
 
 /// The bytes of an instruction of an opcode.
 fn length_of(opcode: u8) -> u8

@@ -5,9 +5,9 @@ ghost use Rattle.std.specs.Prelude.{◌≡◌, ◌++◌, ◌≤◌, length, OnOk
 ghost use Rattle.cjc_emit.specs.Emitted.{index_place, insn_places};
 ghost use Rattle.cjc_emit.specs.Working.{all_marked};
 
-use cjc_capread::bytes::{NoMemory, Row};
-use cjc_capread::{OpInfo, card, op};
 use cjc_ncode::NInsn;
+use cjc_ncode::bytes::{NoMemory, Row};
+use cjc_ncode::capread::{OpInfo, card, op};
 
 /// Puts the place of the index of an instruction into that of its two lists that its width has.
 fn mark_index(

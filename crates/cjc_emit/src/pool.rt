@@ -1,13 +1,13 @@
 //! What emitting asks of a constant pool. Whoever has a pool implements it.
 
 ghost use Rattle.std.specs.Prelude.{◌≡◌, ℕ, List, Option, position};
-ghost use Rattle.cjc_capread.specs.Bytes.declared.fault.MemberId.{MemberId as Member};
+ghost use Rattle.cjc_layout.specs.Bytes.declared.fault.MemberId.{MemberId as Member};
 ghost use Rattle.cjc_ncode.specs.declared.narrow.PoolKey.{PoolKey as Key};
 ghost use Rattle.cjc_ncode.specs.declared.narrow.PoolKey.TheVariants as keys;
 ghost use Rattle.cjc_ncode.specs.PoolOrder.{same_key};
 
-use cjc_capread::bytes::MemberId;
 use cjc_ncode::PoolKey;
+use cjc_ncode::bytes::MemberId;
 
 /// A constant pool (Java Card Virtual Machine Specification 2.2.2, section 6.7), with the tokens of interfaces'
 /// methods. A look-up is not to search the pool, since each instruction that names something makes one.

@@ -7,9 +7,9 @@ ghost use Rattle.cjc_emit.specs.Working.{bits, low_bytes, label_at, lookup_bytes
 ghost use Rattle.cjc_emit.specs.Working.{range_bytes, switch_bytes, table_bytes};
 
 use crate::numbers::{distance_bits, last_bits, put_low};
-use cjc_capread::bytes::{Bytes, NoMemory};
-use cjc_capread::card;
 use cjc_ncode::NCase;
+use cjc_ncode::bytes::{Bytes, NoMemory};
+use cjc_ncode::capread::card;
 
 /// The offset of a label in bytes from the first instruction, or the end.
 pub(crate) fn label_at(places: &[u16], end: u16, label: u32) -> u16

@@ -14,4 +14,4 @@ pub mod Lookup
 pub mod Tokens
 pub mod Supers
 -- Definitions of lower crates, for those above.
-pub use Rattle.cjc_bytes.specs as Bytes
+pub mod Bytes

@@ -3,7 +3,12 @@
 #![tactic(auto)]
 
 // Lower crates, for those above.
-pub use cjc_bytes as bytes;
+/// What crates above take of cjc_bytes.
+pub mod bytes {
+    pub use cjc_bytes::{
+        Bytes, Desc, Kind, MemberId, NoMemory, Row, has, is_interface, is_private, is_static,
+    };
+}
 
 mod constants;
 mod file;

@@ -10,4 +10,4 @@ pub mod Tables
 pub mod Walks
 pub mod Working
 -- Definitions of lower crates, for those above.
-pub use Rattle.cjc_bytes.specs as Bytes
+pub mod Bytes

@@ -5,7 +5,10 @@
 #![tactic(auto)]
 
 // Lower crates, for those above.
-pub use cjc_bytes as bytes;
+/// What crates above take of cjc_bytes.
+pub mod bytes {
+    pub use cjc_bytes::{BrokenAt, Bytes, Kind, MemberId, NoMemory, Row, is_static};
+}
 
 mod flow;
 mod handed;

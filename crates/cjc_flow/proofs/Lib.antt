@@ -11,4 +11,5 @@ pub mod Searching
 pub mod Least
 pub mod TestsLaws
 -- Lemmas of lower crates, for those above.
+pub use Rattle.cjc_range.proofs.Order as RangeOrder
 pub use Rattle.cjc_types.proofs.Least as TypesLeast

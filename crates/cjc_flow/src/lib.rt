@@ -6,8 +6,7 @@
 /// What crates above take of cjc_types.
 pub mod types {
     pub use cjc_types::{
-        Cell, Frame, InferError, Method, Operands, TypeTable, TypeWalk, bytecode, infer_method,
-        world,
+        Cell, Frame, InferError, Method, Operands, TypeTable, TypeWalk, infer_method,
     };
 }
 

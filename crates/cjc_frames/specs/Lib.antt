@@ -5,5 +5,3 @@ pub mod Flow
 pub mod Tables
 pub mod Search
 pub mod Working
--- Definitions of lower crates, for those above.
-pub mod LowerTypes

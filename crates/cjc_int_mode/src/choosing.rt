@@ -1,25 +1,25 @@
 //! Which mode a method is in.
 
 ghost use Rattle.std.specs.Prelude.{◌≡◌, true, Option, ℤ, IfOk};
-ghost use Rattle.cjc_bytes.specs.declared.fault.MemberId.{MemberId as Field};
-ghost use Rattle.cjc_flow.specs.Types.ClassFile.Code.{CodeTree};
-ghost use Rattle.cjc_flow.specs.Types.ClassFile.declared.tree.ClassTree.{ClassTree as ClassFile};
-ghost use Rattle.cjc_flow.specs.Types.ClassFile.declared.tree.MethodTree.{MethodTree as ClassMethod};
-ghost use Rattle.cjc_flow.specs.Types.World.Classes.{all_classes};
-ghost use Rattle.cjc_flow.specs.Types.Flow.{body_of};
-ghost use Rattle.cjc_flow.specs.Types.Tables.{IsMethodOf, IsOfPackage, IsTypeTable, rows_of};
+ghost use Rattle.cjc_subset.specs.Bytes.declared.fault.MemberId.{MemberId as Field};
+ghost use Rattle.cjc_flow.specs.ClassFile.Code.{CodeTree};
+ghost use Rattle.cjc_flow.specs.ClassFile.declared.tree.ClassTree.{ClassTree as ClassFile};
+ghost use Rattle.cjc_flow.specs.ClassFile.declared.tree.MethodTree.{MethodTree as ClassMethod};
+ghost use Rattle.cjc_flow.specs.World.Classes.{all_classes};
+ghost use Rattle.cjc_flow.specs.LowerTypes.Flow.{body_of};
+ghost use Rattle.cjc_flow.specs.LowerTypes.Tables.{IsMethodOf, IsOfPackage, IsTypeTable, rows_of};
 ghost use Rattle.cjc_flow.specs.Constants.{AreNumbers, values_of};
 ghost use Rattle.cjc_flow.specs.Tables.{IsRangeTable, ranges_of};
 ghost use Rattle.cjc_int_mode.specs.Modes.{IsModeOf, names_int};
 
 use crate::modes::Mode;
-use cjc_bytes::NoMemory;
 use cjc_flow::tests::{Tested, first_broken};
 use cjc_flow::types::TypeTable;
-use cjc_flow::types::bytecode::MethodCode;
-use cjc_flow::types::world::World;
 use cjc_flow::{RangeTable, Ranging};
 use cjc_subset::any_works_on_int;
+use cjc_subset::bytecode::MethodCode;
+use cjc_subset::bytes::NoMemory;
+use cjc_subset::world::World;
 use std::alloc::Global;
 use std::slice;
 

@@ -7,6 +7,15 @@
 #![tactic(auto)]
 
 // Lower crates, for those above.
+/// What crates above take of world.
+pub mod world {
+    pub use cjc_subset::world::World;
+}
+
+/// What crates above take of cjc_flow.
+pub mod flow {
+    pub use cjc_flow::{RangeTable, Ranges, Ranging};
+}
 
 mod choosing;
 pub mod descriptors;

@@ -2,13 +2,13 @@
 
 ghost use Rattle.std.specs.Prelude.{◌≡◌, ◌≤◌, List, max, option_map, IfOk};
 ghost use Rattle.std.specs.List.{list_any};
-ghost use Rattle.cjc_flow.specs.Types.ClassFile.Code.{CodeTree};
-ghost use Rattle.cjc_flow.specs.Types.ClassFile.declared.tree.ClassTree.{ClassTree as ClassFile};
-ghost use Rattle.cjc_flow.specs.Types.ClassFile.declared.tree.MethodTree.{MethodTree as ClassMethod};
-ghost use Rattle.cjc_flow.specs.Types.World.Classes.{Class, all_classes};
-ghost use Rattle.cjc_flow.specs.Types.Flow.{body_of};
-ghost use Rattle.cjc_flow.specs.Types.Steps.{operand};
-ghost use Rattle.cjc_flow.specs.Types.Tables.{IsMethodOf, IsOfPackage, IsTypeTable, rows_of, state_of};
+ghost use Rattle.cjc_flow.specs.ClassFile.Code.{CodeTree};
+ghost use Rattle.cjc_flow.specs.ClassFile.declared.tree.ClassTree.{ClassTree as ClassFile};
+ghost use Rattle.cjc_flow.specs.ClassFile.declared.tree.MethodTree.{MethodTree as ClassMethod};
+ghost use Rattle.cjc_flow.specs.World.Classes.{Class, all_classes};
+ghost use Rattle.cjc_flow.specs.LowerTypes.Flow.{body_of};
+ghost use Rattle.cjc_flow.specs.LowerTypes.Steps.{operand};
+ghost use Rattle.cjc_flow.specs.LowerTypes.Tables.{IsMethodOf, IsOfPackage, IsTypeTable, rows_of, state_of};
 ghost use Rattle.cjc_int_mode.specs.declared.modes.Mode.TheVariants as modes;
 ghost use Rattle.cjc_int_mode.specs.Room.{IsRoom};
 ghost use Rattle.cjc_int_mode.specs.Written.{argument_words};
@@ -16,10 +16,10 @@ ghost use Rattle.cjc_int_mode.specs.Working.Pairs.{is_unusable, pairs_at, pairs_
 
 use crate::descriptors::{argument_words, scratch_pairs_of};
 use crate::modes::Mode;
-use cjc_bytes::NoMemory;
-use cjc_flow::types::bytecode::{JOp, MethodCode};
-use cjc_flow::types::world::World;
 use cjc_flow::types::{Cell, Frame, Method, Operands, TypeTable, TypeWalk};
+use cjc_subset::bytecode::{JOp, MethodCode};
+use cjc_subset::bytes::NoMemory;
+use cjc_subset::world::World;
 use std::alloc::Global;
 
 fn is_unusable(cell: &Cell) -> bool

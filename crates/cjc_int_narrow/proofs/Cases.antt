@@ -4,7 +4,7 @@ use Rattle.std.proofs.Common.{append_assoc, append-nil}
 use Rattle.std.specs.Prelude.{ℤ, pos, ◌+ℤ◌}
 use Rattle.std.proofs.Math.IntN.{+ℤ_assoc}
 use Rattle.std.proofs.lemmas.List.{drop_all}
-use Rattle.cjc_bytes.proofs.Gets.{from_index}
+use Rattle.cjc_ncode.proofs.BytesGets.{from_index}
 use Rattle.cjc_ncode.specs.declared.narrow.NCase.{NCase}
 use Rattle.cjc_ncode.specs.IntCode.IntCode.{table_cases}
 

@@ -2,15 +2,15 @@
 
 ghost use Rattle.std.specs.Prelude.{◌≡◌, ◌+◌, ◌*◌, ◌≤◌, ◌++◌, length, map, true, OnOk};
 ghost use Rattle.std.specs.List.{list_any};
-ghost use Rattle.cjc_ncode.specs.Script.Sorts.{sort_of};
+ghost use Rattle.cjc_int_mode.specs.Script.Sorts.{sort_of};
 ghost use Rattle.cjc_ncode.specs.IntCode.IntCode.{is_by_scratch, is_short};
 ghost use Rattle.cjc_int_narrow.specs.Working.Moves.{aside_all, back_all, handed};
 
 use crate::kinds::{kept_of, put_narrowed};
 use crate::numbers::{load, store};
-use cjc_bytes::{Desc, NoMemory, Row};
 use cjc_int_mode::descriptors::{has_short_before, is_short};
 use cjc_ncode::NInsn;
+use cjc_ncode::bytes::{Desc, NoMemory, Row};
 use cjc_ncode::capread::card;
 
 /// Whether a parameter has one word.

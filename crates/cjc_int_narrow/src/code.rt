@@ -15,11 +15,11 @@ ghost use Rattle.cjc_int_narrow.specs.Working.Walks.{count, source_if, starts, w
 use crate::frame::Frame;
 use crate::known::Before;
 use crate::put::put;
-use cjc_bytes::{NoMemory, Row};
 use cjc_narrow::select::{Names, put_source};
 use cjc_narrow::written::Places;
 use cjc_ncode::NInsn;
 use cjc_ncode::bytecode::{JInsn, JOp};
+use cjc_ncode::bytes::{NoMemory, Row};
 use std::alloc::Global;
 
 /// What is written for a method.

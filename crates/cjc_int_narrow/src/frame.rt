@@ -1,8 +1,8 @@
 //! The frame of a method in int mode: where its locals stand, and what goes before its first instruction.
 
 ghost use Rattle.std.specs.Prelude.{◌≡◌, ◌+◌, ◌*◌, ◌<◌, ◌≤◌, ◌++◌, ◌∷◌, [], length, map, IfOk, OnOk};
-ghost use Rattle.cjc_ncode.specs.Script.Sorts.{signature_of, sort_of};
-ghost use Rattle.cjc_ncode.specs.CardSemantics.Bytecode.Arguments.{widths};
+ghost use Rattle.cjc_int_mode.specs.Script.Sorts.{signature_of, sort_of};
+ghost use Rattle.cjc_int_mode.specs.CardSemantics.Bytecode.Arguments.{widths};
 ghost use Rattle.cjc_ncode.specs.IntCode.IntCode.{first_word, nargs, prologue, scratch};
 ghost use Rattle.cjc_int_narrow.specs.Working.Frames.{frame_of};
 ghost use Rattle.cjc_int_mode.specs.Written.{params_by};
@@ -10,10 +10,10 @@ ghost use Rattle.cjc_int_narrow.specs.Working.Moves.{is_int, loaded, moved_all, 
 
 use crate::kinds::{Kept, kept_of, params_of, put_widened, returns_int};
 use crate::numbers::{load, store};
-use cjc_bytes::{Desc, NoMemory, Row, is_static};
 use cjc_int_mode::descriptors::parsed;
 use cjc_narrow::written::local;
 use cjc_ncode::NInsn;
+use cjc_ncode::bytes::{Desc, NoMemory, Row, is_static};
 use cjc_ncode::capread::card;
 use std::marker::Model;
 

@@ -2,10 +2,10 @@
 //! word are cut before and widened behind. Knows no label.
 
 ghost use Rattle.std.specs.Prelude.{◌≡◌, ◌<◌, ◌++◌, ◌∷◌, [], if◌then◌else◌, true, OnOk};
-ghost use Rattle.cjc_ncode.specs.Bytecode.Jvm as jvm;
+ghost use Rattle.cjc_int_mode.specs.Bytecode.Jvm as jvm;
 ghost use Rattle.cjc_ncode.specs.declared.narrow.NInsn.TheVariants.{Named};
 ghost use Rattle.cjc_ncode.specs.declared.narrow.PoolKey.TheVariants as keys;
-ghost use Rattle.cjc_ncode.specs.Script.Sorts.{field_sort, signature_by, signature_of};
+ghost use Rattle.cjc_int_mode.specs.Script.Sorts.{field_sort, signature_by, signature_of};
 ghost use Rattle.cjc_ncode.specs.Written.{nargs_of, static_access};
 ghost use Rattle.cjc_ncode.specs.IntCode.IntCode.{called_with, field_get, field_put, scratch, scratch_pairs_by};
 ghost use Rattle.cjc_ncode.specs.IntCode.IntCode.{static_get, static_put};
@@ -16,11 +16,11 @@ use crate::calls::put_handed;
 use crate::frame::Frame;
 use crate::kinds::{is_short_field, put_narrowed, put_widened};
 use crate::numbers::pushed;
-use cjc_bytes::{Desc, MemberId, NoMemory, Row};
 use cjc_int_mode::descriptors::{is_short, parsed};
 use cjc_narrow::rows::{constant_named, resolved_field};
 use cjc_narrow::select::{self, Names};
 use cjc_narrow::written::static_access;
+use cjc_ncode::bytes::{Desc, MemberId, NoMemory, Row};
 use cjc_ncode::{NInsn, PoolKey};
 use std::alloc::Global;
 

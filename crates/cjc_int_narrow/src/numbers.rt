@@ -4,9 +4,9 @@ ghost use Rattle.std.specs.Prelude.{◌≡◌, ◌++◌, ◌∷◌, [], map, OnO
 ghost use Rattle.cjc_ncode.specs.declared.narrow.NInsn.TheVariants.{Op};
 ghost use Rattle.cjc_ncode.specs.IntCode.IntCode.{loads, pushed, stores};
 
-use cjc_bytes::{NoMemory, Row};
 use cjc_narrow::written::local;
 use cjc_ncode::NInsn;
+use cjc_ncode::bytes::{NoMemory, Row};
 use cjc_ncode::capread::card;
 
 /// The instruction that pushes a number as two words.

@@ -1,9 +1,9 @@
 //! What is written for an instruction of a method in int mode. Called by whoever selects code.
 
 ghost use Rattle.std.specs.Prelude.{◌≡◌, ◌+◌, ◌++◌, ◌∷◌, [], ◌==◌, if◌then◌else◌, ℕ, true, length, OnOk};
-ghost use Rattle.cjc_ncode.specs.CapRead.Card as card;
-ghost use Rattle.cjc_ncode.specs.Bytecode.Jvm as jvm;
-ghost use Rattle.cjc_ncode.specs.Bytecode.declared.insn.JOp.TheVariants as jop;
+ghost use Rattle.cjc_int_mode.specs.CapRead.Card as card;
+ghost use Rattle.cjc_int_mode.specs.Bytecode.Jvm as jvm;
+ghost use Rattle.cjc_int_mode.specs.Bytecode.declared.insn.JOp.TheVariants as jop;
 ghost use Rattle.cjc_ncode.specs.declared.narrow.NInsn.TheVariants.{Inc, Op};
 ghost use Rattle.cjc_ncode.specs.IntCode.IntCode.{Before as TableRow, Frame as Words, returned, written};
 ghost use Rattle.cjc_ncode.specs.Written.{Resolution, arithmetic, is_byte, leaving};
@@ -20,11 +20,11 @@ use crate::names::{put_call, put_field, put_static};
 use crate::numbers::{load, pushed, put_ops, store};
 use crate::stack::put_stack;
 use crate::switches::{put_comparison, put_lookup, put_table};
-use cjc_bytes::{NoMemory, Row};
 use cjc_narrow::select::Names;
 use cjc_narrow::written::{Places, arithmetic, is_byte, put_plain};
 use cjc_ncode::NInsn;
 use cjc_ncode::bytecode::{JOp, jvm};
+use cjc_ncode::bytes::{NoMemory, Row};
 use cjc_ncode::capread::card;
 use std::alloc::Global;
 

@@ -6,9 +6,9 @@ ghost use Rattle.cjc_int_narrow.specs.Reached.{reached_by};
 ghost use Rattle.cjc_int_narrow.specs.Working.Walks.{pairs_if};
 
 use crate::known::Before;
-use cjc_bytes::NoMemory;
 use cjc_int_mode::descriptors::scratch_pairs_of;
 use cjc_ncode::bytecode::{JInsn, JOp};
+use cjc_ncode::bytes::NoMemory;
 
 /// So many pairs, or those of an instruction where it is reached and has more.
 fn pairs_if(before: &Option<Before>, pairs: u32, op: &JOp) -> Result<u32, NoMemory>

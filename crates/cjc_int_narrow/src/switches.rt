@@ -1,16 +1,16 @@
 //! Switches, every case of which is kept, and jumps that compare numbers. Called by whoever selects code.
 
 ghost use Rattle.std.specs.Prelude.{◌≡◌, ◌≤◌, ◌++◌, ◌∷◌, [], map, pos, ◌+ℤ◌, IfOk, OnOk};
-ghost use Rattle.cjc_ncode.specs.CapRead.Card as card;
+ghost use Rattle.cjc_int_mode.specs.CapRead.Card as card;
 ghost use Rattle.cjc_ncode.specs.declared.narrow.NInsn.TheVariants.{Switch};
 ghost use Rattle.cjc_ncode.specs.Written.{pair_case};
 ghost use Rattle.cjc_ncode.specs.IntCode.IntCode.{jumped, table_cases};
 ghost use Rattle.cjc_narrow.specs.Written.Labels.{place_of};
 
 use crate::numbers::put_ops;
-use cjc_bytes::{NoMemory, Row};
 use cjc_narrow::written::Places;
 use cjc_ncode::bytecode::{JCase, jvm};
+use cjc_ncode::bytes::{NoMemory, Row};
 use cjc_ncode::capread::card;
 use cjc_ncode::{NCase, NInsn};
 use std::alloc::Global;

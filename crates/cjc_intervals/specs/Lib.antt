@@ -5,3 +5,7 @@ pub mod Flow
 pub mod Bounds
 pub mod Tables
 pub mod RangeLaws
+-- Definitions of lower crates, for those above.
+pub mod Fixpoint
+pub mod Bytecode
+pub mod Types

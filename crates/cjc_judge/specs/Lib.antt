@@ -7,9 +7,7 @@ pub mod Judged
 pub mod Working
 pub mod OutOfRange
 -- Definitions of lower crates, for those above.
-pub mod Bytes
-pub mod List
-pub mod Bytecode
-pub mod World
-pub mod Clinit
-pub mod Flow
+pub mod Tokens
+pub mod LowerClinit
+pub mod LowerFlow
+pub mod Narrow

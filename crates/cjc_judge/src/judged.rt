@@ -2,7 +2,7 @@
 //! class files.
 
 ghost use Rattle.std.specs.Prelude.{◌≡◌, [], length, All, IfOk, IfErr, OnOk};
-ghost use Rattle.cjc_flow.specs.Types.Tables.{IsOfPackage};
+ghost use Rattle.cjc_narrow.specs.Types.Tables.{IsOfPackage};
 ghost use Rattle.cjc_world.specs.Rules.{breaks};
 ghost use Rattle.cjc_bytes.specs.Breaks.{Break as Broken, IsFirstRefusal};
 ghost use Rattle.cjc_judge.specs.Judged.{IsJudged, IsStopped};
@@ -13,12 +13,12 @@ use crate::groups::Group;
 use crate::judging::test;
 use crate::reading::{Trees, read_files};
 use cjc_bytes::{Bytes, Fault, FileLine, NoMemory, Row};
-use cjc_code::Codes;
-use cjc_code::classfile::ClassTree;
 use cjc_flow::types::TypeTable;
 use cjc_list::List;
+use cjc_vtable::bytecode::Codes;
 use cjc_vtable::subset::names;
 use cjc_world::World;
+use cjc_world::classfile::ClassTree;
 use cjc_world::export_file::ExportTree;
 use std::alloc::Global;
 

@@ -5,11 +5,11 @@ ghost use Rattle.std.specs.Prelude.{◌≡◌, ◌≤◌, All, IfOk, IfErr, IfNo
 ghost use Rattle.std.specs.Prelude.{option_map};
 ghost use Rattle.cjc_bytes.specs.Told.{break_of};
 ghost use Rattle.cjc_bytes.specs.Breaks.{Among, IsFirstOf, Break as Broken};
-ghost use Rattle.cjc_code.specs.ClassFile.Code.{CodeTree};
-ghost use Rattle.cjc_code.specs.ClassFile.declared.tree.ClassTree.{ClassTree};
-ghost use Rattle.cjc_code.specs.ClassFile.declared.tree.MethodTree.{MethodTree};
-ghost use Rattle.cjc_flow.specs.Types.Tables.{IsMethodOf, IsOfPackage};
-ghost use Rattle.cjc_vtable.specs.Tokens.Rules.{tested_breaks};
+ghost use Rattle.cjc_world.specs.ClassFile.Code.{CodeTree};
+ghost use Rattle.cjc_world.specs.ClassFile.declared.tree.ClassTree.{ClassTree};
+ghost use Rattle.cjc_world.specs.ClassFile.declared.tree.MethodTree.{MethodTree};
+ghost use Rattle.cjc_narrow.specs.Types.Tables.{IsMethodOf, IsOfPackage};
+ghost use Rattle.cjc_vtable.specs.LowerTokens.Rules.{tested_breaks};
 ghost use Rattle.cjc_judge.specs.Rules.{unsupported_break, unsupported_breaks, settings_of, method_break, BreaksType};
 ghost use Rattle.cjc_judge.specs.Rules.{BreaksAnyType, BreaksRange, BreaksAnyRange, IsFirstIn, IsFirstFault};
 ghost use Rattle.cjc_judge.specs.Rules.{IsOfThirdHundred};
@@ -24,9 +24,9 @@ use crate::reading::UnsupportedInsn;
 use cjc_bytes::{
     AppletLine, Break, BrokenAt, Bytes, Fault, NoMemory, Row, Settings, answer, file_of, first,
 };
-use cjc_code::{Codes, MethodCode};
 use cjc_flow::types::{InferError, TypeTable, infer_method};
 use cjc_list::List;
+use cjc_vtable::bytecode::{Codes, MethodCode};
 use cjc_vtable::subset::{class_spot, first_broken, method_spot};
 use cjc_vtable::tokens::first_high;
 use cjc_world::World;

@@ -2,14 +2,14 @@
 //! file, or breaks a rule by itself.
 
 ghost use Rattle.std.specs.Prelude.{◌≡◌, ◌<◌, length, true};
-ghost use Rattle.cjc_code.specs.Decoded.{HasCode};
-ghost use Rattle.cjc_code.specs.ClassFile.Fits.{ClassFits};
+ghost use Rattle.cjc_clinit.specs.Bytecode.Decoded.{HasCode};
+ghost use Rattle.cjc_world.specs.ClassFile.Fits.{ClassFits};
 ghost use Rattle.cjc_judge.specs.Spelt.{AreFiles};
 ghost use Rattle.cjc_judge.specs.Working.Reading.{DecodesMethod, DecodesClass, ReadsFile, ReadsFiles};
 
 use cjc_bytes::{Bytes, Fault, FileLine, Row};
-use cjc_code::classfile::ClassTree;
-use cjc_code::{Codes, DecodeError, MethodCode, refusal_of};
+use cjc_vtable::bytecode::{Codes, DecodeError, MethodCode, refusal_of};
+use cjc_world::classfile::ClassTree;
 use cjc_world::export_file::ExportTree;
 use std::alloc::Global;
 
@@ -48,7 +48,7 @@ fn decode_method(
     ensures { DecodesMethod file.now number class.now method codes.old codes.new unsupported_insns.old
         unsupported_insns.new result }
 {
-    match cjc_code::decode_method(alloc, class, method) {
+    match cjc_vtable::bytecode::decode_method(alloc, class, method) {
         Ok(insns) => {
             codes.push(MethodCode {
                 class: number,
@@ -113,7 +113,7 @@ fn read_class<'a>(
     requires room { length trees.old.classes < 4294967296 }
     ensures { ReadsFile (record { class_file = true; name = name.now }) bytes.now trees.old trees.new result }
 {
-    let class = cjc_code::classfile::read(alloc, name, bytes)?;
+    let class = cjc_world::classfile::read(alloc, name, bytes)?;
     let number = trees.classes.items().len() as u32;
     decode_class(
         alloc,

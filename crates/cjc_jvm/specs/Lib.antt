@@ -2,4 +2,6 @@ pub mod Acts
 pub mod States
 pub mod Runs
 -- Definitions of lower crates, for those above.
-pub mod JvmSemantics
+pub mod Bytecode
+pub mod World
+pub mod JvmStep

@@ -8,9 +8,10 @@ pub mod Worked
 pub mod Wallet
 pub mod Group
 -- Definitions of lower crates, for those above.
-pub mod Range
-pub mod ClassFile
-pub mod Bytecode
-pub mod Script
-pub mod World
-pub mod CardSemantics
+pub mod LowerRange
+pub mod LowerClassFile
+pub mod LowerBytecode
+pub mod LowerScript
+pub mod CapRead
+pub mod LowerWorld
+pub mod LowerCardSemantics

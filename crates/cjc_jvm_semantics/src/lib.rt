@@ -4,6 +4,21 @@
 #![tactic(auto)]
 
 // Lower crates, for those above.
+/// What crates above take of classfile.
+pub mod classfile {
+    pub use cjc_code::classfile::{Catch, ClassTree, FieldTree, MethodTree};
+}
+
+/// What crates above take of cjc_code.
+pub mod bytecode {
+    pub use cjc_code::{JCase, JInsn, JOp, MethodCode, jvm};
+}
+
+/// What crates above take of cjc_script.
+pub mod script {
+    pub use cjc_script::{FieldValue, Note, Report, Value};
+}
+
 ghost use Rattle.std.specs.Prelude.{◌≡◌, ◌≢◌, ◌≤◌, ℕ, ℤ, codes, pos, negsuc, replicate, slice_get, length, take};
 ghost use Rattle.std.specs.Prelude.{reverse, nat_le, nat_lt, ◌++◌, false, true, List, Option, Some, None, [], ◌∷◌};
 ghost use Rattle.cjc_code.specs.Bytes.declared.fault.MemberId.{MemberId};
@@ -35,26 +50,6 @@ ghost use Rattle.cjc_jvm_semantics.specs.Worked.{id, object, call, send, answer,
 ghost use Rattle.cjc_jvm_semantics.specs.Worked.{both, app_package, a_b, an_a, r, r_image, cell, roomy, two_arrays};
 ghost use Rattle.cjc_jvm_semantics.specs.Worked.{arrays_with};
 ghost use Rattle.cjc_jvm_semantics.specs.Wallet.{wallet_package, wallet_script, wallet_report};
-
-/// What crates above take of cjc_code.
-pub mod bytecode {
-    pub use cjc_code::{JCase, JInsn, JOp, MethodCode, jvm};
-}
-
-/// What crates above take of classfile.
-pub mod classfile {
-    pub use cjc_code::classfile::{Catch, ClassTree, FieldTree, MethodTree};
-}
-
-/// What crates above take of cjc_script.
-pub mod script {
-    pub use cjc_script::{FieldValue, Value};
-}
-
-/// What crates above take of cjc_world.
-pub mod world {
-    pub use cjc_world::{Found, Known, World};
-}
 
 /// For every record of look-ups and every script: a run that is over stays as it is, however many instructions
 /// it is given, and no note is taken back.

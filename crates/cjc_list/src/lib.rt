@@ -3,7 +3,13 @@
 #![tactic(auto)]
 
 // Lower crates, for those above.
-pub use cjc_bytes as bytes;
+/// What crates above take of cjc_bytes.
+pub mod bytes {
+    pub use cjc_bytes::{
+        Bytes, Desc, Fault, Line, MemberId, NoMemory, Out, Row, Stop, Word, kept_lines, refused,
+        short_decimal, words,
+    };
+}
 
 mod line;
 mod listing;

@@ -16,6 +16,5 @@ pub mod ComponentLaws
 -- Lemmas of lower crates, for those above.
 pub use Rattle.cjc_components.proofs.ClassOrderDeclared as ClassOrderDeclared
 pub use Rattle.cjc_components.proofs.ClassOrderStanding as ClassOrderStanding
-pub use Rattle.cjc_types.proofs.Least as TypesLeast
 pub use Rattle.cjc_components.proofs.LayoutPlaces as LayoutPlaces
 pub use Rattle.cjc_pool.proofs.PoolLaws.Keys as PoolKeys

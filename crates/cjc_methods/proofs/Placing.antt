@@ -8,12 +8,12 @@ use Rattle.cjc_bytes.proofs.Gets.{head_at}
 use Rattle.cjc_world.specs.ClassFile.Code.{CodeTree}
 use Rattle.cjc_world.specs.ClassFile.declared.tree.ClassTree.{ClassTree}
 use Rattle.cjc_world.specs.ClassFile.declared.tree.MethodTree.{MethodTree}
-use Rattle.cjc_types.specs.Bytecode.Decoded.{decoding, of_code, of_method}
-use Rattle.cjc_types.specs.Bytecode.PackageCodes.{code_with, of_classes, of_methods, where_code}
-use Rattle.cjc_types.specs.Bytecode.declared.insn.JInsn.{JInsn}
-use Rattle.cjc_types.specs.Bytecode.declared.method_code.MethodCode.{MethodCode}
-use Rattle.cjc_components.specs.Tokens.Tokens.{joined}
-use Rattle.cjc_types.specs.declared.table.TypeTable.{TypeTable}
+use Rattle.cjc_components.specs.Bytecode.Decoded.{decoding, of_code, of_method}
+use Rattle.cjc_components.specs.Bytecode.PackageCodes.{code_with, of_classes, of_methods, where_code}
+use Rattle.cjc_components.specs.Bytecode.declared.insn.JInsn.{JInsn}
+use Rattle.cjc_components.specs.Bytecode.declared.method_code.MethodCode.{MethodCode}
+use Rattle.cjc_pool.specs.Tokens.Tokens.{joined}
+use Rattle.cjc_pool.specs.Types.declared.table.TypeTable.{TypeTable}
 use Rattle.cjc_world.specs.Files.{Files}
 use Rattle.cjc_methods.specs.Ready.{AreReady, IsDecoded}
 use Rattle.cjc_methods.specs.Working.Places.{behind, behind_all, class_places, code_places, place_if, place_in}

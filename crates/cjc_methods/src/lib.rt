@@ -4,10 +4,9 @@
 #![tactic(auto)]
 
 // Lower crates, for those above.
-pub use cjc_components::class_order;
-/// What crates above take of cjc_ncode.
-pub mod ncode {
-    pub use cjc_ncode::{NMethod, PoolKey};
+/// What crates above take of class_order.
+pub mod class_order {
+    pub use cjc_components::class_order::classes;
 }
 
 /// What crates above take of cjc_pool.

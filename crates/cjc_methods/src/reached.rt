@@ -4,14 +4,14 @@ ghost use Rattle.std.specs.Prelude.{◌≡◌, List, IfOk};
 ghost use Rattle.cjc_world.specs.ClassFile.Code.{CodeTree};
 ghost use Rattle.cjc_world.specs.ClassFile.declared.tree.ClassTree.{ClassTree as ClassFile};
 ghost use Rattle.cjc_world.specs.ClassFile.declared.tree.MethodTree.{MethodTree as ClassMethod};
-ghost use Rattle.cjc_types.specs.Flow.{body_of};
-ghost use Rattle.cjc_types.specs.Tables.{IsMethodOf, IsOfPackage, IsTypeTable, rows_of};
+ghost use Rattle.cjc_pool.specs.Types.Flow.{body_of};
+ghost use Rattle.cjc_pool.specs.Types.Tables.{IsMethodOf, IsOfPackage, IsTypeTable, rows_of};
 ghost use Rattle.cjc_world.specs.Classes.{Class, all_classes};
-ghost use Rattle.cjc_components.specs.Narrow.Written.Rows.{has_rows};
+ghost use Rattle.cjc_pool.specs.Narrow.Written.Rows.{has_rows};
 
 use cjc_bytes::{NoMemory, Row};
-use cjc_types::bytecode::MethodCode;
-use cjc_types::{Method, TypeTable, TypeWalk};
+use cjc_components::bytecode::MethodCode;
+use cjc_components::types::{Method, TypeTable, TypeWalk};
 use cjc_world::World;
 use std::alloc::Global;
 

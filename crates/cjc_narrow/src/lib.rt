@@ -2,14 +2,24 @@
 #![tactic(auto)]
 
 // Lower crates, for those above.
-/// What crates above take of cjc_bytes.
+/// What crates above take of bytes.
 pub mod bytes {
-    pub use cjc_bytes::{Fault, MemberId, NoMemory, Row, RulePlace, answer, broken};
+    pub use cjc_types::bytes::{Fault, MemberId, NoMemory, Row, RulePlace, answer, broken};
+}
+
+/// What crates above take of script.
+pub mod script {
+    pub use cjc_jvm_semantics::script::{Note, Report, Value};
 }
 
 /// What crates above take of world.
 pub mod world {
-    pub use cjc_jvm_semantics::world::World;
+    pub use cjc_types::world::World;
+}
+
+/// What crates above take of cjc_types.
+pub mod types {
+    pub use cjc_types::{Cell, Frame, Method, Operands, State, TypeTable, TypeWalk};
 }
 
 /// What crates above take of cjc_ncode.

@@ -2,9 +2,9 @@
 #![tactic(auto)]
 
 // Lower crates, for those above.
-/// What crates above take of cjc_emit.
-pub mod emit {
-    pub use cjc_emit::emit_laws;
+/// What crates above take of cjc_subset.
+pub mod subset {
+    pub use cjc_subset::any_works_on_int;
 }
 
 /// What crates above take of cjc_intervals.
@@ -12,14 +12,14 @@ pub mod intervals {
     pub use cjc_intervals::range_laws;
 }
 
-/// What crates above take of cjc_subset.
-pub mod subset {
-    pub use cjc_subset::any_works_on_int;
+/// What crates above take of cjc_ncode.
+pub mod ncode {
+    pub use cjc_ncode::lowering;
 }
 
-/// What crates above take of cjc_types.
-pub mod types {
-    pub use cjc_types::State;
+/// What crates above take of cjc_emit.
+pub mod emit {
+    pub use cjc_emit::emit_laws;
 }
 
 pub mod laws;

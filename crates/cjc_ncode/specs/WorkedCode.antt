@@ -8,14 +8,14 @@ use Rattle.cjc_code.specs.ClassFile.declared.tree.Catch.{Catch}
 use Rattle.cjc_code.specs.declared.insn.JInsn.{JInsn}
 use Rattle.cjc_code.specs.declared.insn.JOp.{JOp}
 use Rattle.cjc_code.specs.declared.insn.JOp.TheVariants as jop
-use Rattle.cjc_script.specs.declared.value.Value.{Value}
-use Rattle.cjc_script.specs.declared.script.Entry.{Entry}
-use Rattle.cjc_script.specs.declared.script.Script.{Script}
-use Rattle.cjc_script.specs.declared.report.Note.{Note}
-use Rattle.cjc_script.specs.declared.report.Outcome.{Outcome}
-use Rattle.cjc_script.specs.declared.report.Report.{Report}
-use Rattle.cjc_script.specs.declared.report.Thing.{Thing}
-use Rattle.cjc_script.specs.Sorts.{Shape, OfClass}
+use Rattle.cjc_card_semantics.specs.Script.declared.value.Value.{Value}
+use Rattle.cjc_card_semantics.specs.Script.declared.script.Entry.{Entry}
+use Rattle.cjc_card_semantics.specs.Script.declared.script.Script.{Script}
+use Rattle.cjc_card_semantics.specs.Script.declared.report.Note.{Note}
+use Rattle.cjc_card_semantics.specs.Script.declared.report.Outcome.{Outcome}
+use Rattle.cjc_card_semantics.specs.Script.declared.report.Report.{Report}
+use Rattle.cjc_card_semantics.specs.Script.declared.report.Thing.{Thing}
+use Rattle.cjc_card_semantics.specs.Script.Sorts.{Shape, OfClass}
 use Rattle.cjc_card_semantics.specs.Bytecode.Calculations.{Fault, Arithmetic}
 use Rattle.cjc_card_semantics.specs.Bytecode.Machine.{Start, Reached, Nowhere, Within}
 use Rattle.cjc_ncode.specs.declared.narrow.NInsn.{NInsn}

@@ -12,8 +12,9 @@ use Rattle.cjc_code.specs.declared.insn.JCase.{JCase}
 use Rattle.cjc_code.specs.declared.insn.JOp.{JOp}
 use Rattle.cjc_code.specs.declared.insn.JOp.TheVariants as jop
 use Rattle.cjc_code.specs.Jvm as jvm
-use Rattle.cjc_script.specs.Sorts.{Sort, Boolean, Byte, Short, Int, Signature, Shape, OfClass, OfNumbers, OfReferences}
-use Rattle.cjc_script.specs.Sorts.{Booleans, Bytes, Shorts, Ints, field_sort, signature_of, shape_named}
+use Rattle.cjc_card_semantics.specs.Script.Sorts.{Sort, Boolean, Byte, Short, Int, Signature, Shape, OfClass, OfNumbers}
+use Rattle.cjc_card_semantics.specs.Script.Sorts.{OfReferences}
+use Rattle.cjc_card_semantics.specs.Script.Sorts.{Booleans, Bytes, Shorts, Ints, field_sort, signature_of, shape_named}
 use Rattle.cjc_card_semantics.specs.Bytecode.Arguments.{widths}
 use Rattle.cjc_card_semantics.specs.Bytecode.Numbers.{is_word}
 use Rattle.cjc_code.specs.Range.Words.{low_word}

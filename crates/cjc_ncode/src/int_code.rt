@@ -6,7 +6,8 @@ ghost use Rattle.std.specs.Prelude.{◌≡◌, ◌++◌, codes, pos, negsuc, fal
 ghost use Rattle.cjc_ncode.specs.declared.narrow.NInsn.TheVariants as insns;
 ghost use Rattle.cjc_ncode.specs.declared.narrow.PoolKey.TheVariants as keys;
 ghost use Rattle.cjc_ncode.specs.WorkedCode.{id, resolution};
-ghost use Rattle.cjc_ncode.specs.IntCode.IntCode.{element_written as stored, on_stack, pushed, written, scratch_pairs, widest};
+ghost use Rattle.cjc_ncode.specs.IntCode.IntCode.{element_written as stored, on_stack, pushed, written, scratch_pairs};
+ghost use Rattle.cjc_ncode.specs.IntCode.IntCode.{widest};
 ghost use Rattle.cjc_ncode.specs.IntCode.IntCode.{int_method};
 ghost use Rattle.cjc_ncode.specs.IntCode.Worked.{code, reached, is_less_frame, is_less, is_less_written, element_frame};
 ghost use Rattle.cjc_ncode.specs.IntCode.Worked.{element, element_written, loop_frame, loop, loop_written, call};

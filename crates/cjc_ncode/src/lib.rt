@@ -4,39 +4,36 @@
 #![tactic(auto)]
 
 // Lower crates, for those above.
-/// What crates above take of capread.
-pub mod capread {
-    pub use cjc_card_semantics::capread::{Handler, Method, ReferenceLocation, card, op};
-}
-
-/// What crates above take of export_file.
-pub mod export_file {
-    pub use cjc_card_semantics::export_file::{ExportClass, ExportTree, may_be_constant};
-}
-
-/// What crates above take of cjc_code.
-pub mod bytecode {
-    pub use cjc_code::{JCase, JInsn, JOp, jvm};
-}
-
 /// What crates above take of bytes.
 pub mod bytes {
-    pub use cjc_code::bytes::{Bytes, Fault, MemberId, NoMemory, Part, PlaceRef, Row, refused_at};
+    pub use cjc_code::bytes::{
+        Bytes, Desc, Fault, Kind, MemberId, NoMemory, Part, PlaceRef, Row, is_static, refused_at,
+    };
 }
 
 /// What crates above take of classfile.
 pub mod classfile {
-    pub use cjc_code::classfile::{Catch, ClassTree, Code, MethodTree};
+    pub use cjc_code::classfile::{ClassTree, Code, MethodTree};
+}
+
+/// What crates above take of cjc_code.
+pub mod bytecode {
+    pub use cjc_code::{JCase, JInsn, JOp, MethodCode, jvm};
+}
+
+/// What crates above take of capread.
+pub mod capread {
+    pub use cjc_card_semantics::capread::{OpInfo, card, op};
 }
 
 pub mod int_code;
 pub mod lowering;
 
 ghost use Rattle.std.specs.Prelude.{◌≡◌, ◌++◌, codes, pos, negsuc, Some, None, [], ◌∷◌, ℕ, List, Bool, true, false};
-ghost use Rattle.cjc_script.specs.declared.value.Value.TheVariants.{Num, Null, Obj};
-ghost use Rattle.cjc_script.specs.declared.report.Note.TheVariants.{Result};
-ghost use Rattle.cjc_script.specs.declared.report.Outcome.TheVariants.{Done, Stuck};
-ghost use Rattle.cjc_script.specs.declared.report.Thing.TheVariants as things;
+ghost use Rattle.cjc_card_semantics.specs.Script.declared.value.Value.TheVariants.{Num, Null, Obj};
+ghost use Rattle.cjc_card_semantics.specs.Script.declared.report.Note.TheVariants.{Result};
+ghost use Rattle.cjc_card_semantics.specs.Script.declared.report.Outcome.TheVariants.{Done, Stuck};
+ghost use Rattle.cjc_card_semantics.specs.Script.declared.report.Thing.TheVariants as things;
 ghost use Rattle.cjc_ncode.specs.declared.narrow.PoolKey.TheVariants as keys;
 ghost use Rattle.cjc_ncode.specs.PoolOrder.{pool_order};
 ghost use Rattle.cjc_ncode.specs.ByLabel.{run};
@@ -44,7 +41,7 @@ ghost use Rattle.cjc_ncode.specs.declared.narrow.NInsn.TheVariants as insns;
 ghost use Rattle.cjc_ncode.specs.declared.narrow.NInsn.{NInsn as NarrowInsn};
 ghost use Rattle.cjc_ncode.specs.declared.narrow.PairRole.{PairRole as Role};
 ghost use Rattle.cjc_code.specs.declared.insn.JOp.{JOp as JvmOp};
-ghost use Rattle.cjc_script.specs.Sorts.{field_sort};
+ghost use Rattle.cjc_card_semantics.specs.Script.Sorts.{field_sort};
 ghost use Rattle.cjc_ncode.specs.Written.{Access, Resolution, accessed, is_load, narrow_method, on_this, this_access};
 ghost use Rattle.cjc_ncode.specs.Written.{written, written_as};
 ghost use Rattle.cjc_ncode.specs.WorkedCode.{linked, methods, script, call, ends, id, resolution, code, one_more};

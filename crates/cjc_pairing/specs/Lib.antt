@@ -1,7 +1,12 @@
 pub mod Working
 pub mod CardNames
 -- Definitions of lower crates, for those above.
-pub use Rattle.cjc_classes.specs.Subset as Subset
-pub mod Tokens
-pub mod CardLink
-pub mod Components
+pub mod ExportFile
+pub mod Script
+pub mod CapWrite
+pub mod Subset
+pub mod Clinit
+pub mod CheckRules
+pub mod CheckIndex
+pub mod CardSemantics
+pub mod CardFrame

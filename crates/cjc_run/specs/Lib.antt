@@ -1,6 +1,5 @@
 -- What `run` says, in the order in which to read it, with the crates whose `specs` say it. docs/BELIEVE.md names each
 -- definition, and what to compare it with. None of them is passed on here: that would load the contracts of them all.
-
 -- Bytes: what a format is, and which bytes spell which value by it; descriptors, and the lines of a text (cjc_bytes).
 -- The list: the text that names a package and its files (cjc_list).
 -- The class file (Java Virtual Machine Specification, chapter 4; cjc_classfile).

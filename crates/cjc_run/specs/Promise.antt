@@ -1,38 +1,38 @@
 -- What a command that is done promises of the files before and after it.
 use Rattle.std.specs.Prelude.{◌≡◌, Bool, true, false, ℕ, List, [], ◌∷◌, ◌++◌, map, Option, Some, IfSome, IsSomeAnd}
 use Rattle.std.specs.FinMap.{get}
-use Rattle.cjc_bytes.specs.Format.{FileSpells}
-use Rattle.cjc_bytes.specs.declared.settings.FileLine.{FileLine}
+use Rattle.cjc_shelf.specs.Bytes.Format.{FileSpells}
+use Rattle.cjc_shelf.specs.Bytes.declared.settings.FileLine.{FileLine}
 use Rattle.cjc_shelf.specs.Shelf.{Files, Shelved}
 use Rattle.cjc_shelf.specs.Sink.{Sunk}
 use Rattle.cjc_shelf.specs.Command.Publish.{IsPrinted, Stand}
-use Rattle.cjc_list.specs.Listed.{ListTree}
-use Rattle.cjc_list.specs.Spelling.{IsSpelt as IsListSpelt}
-use Rattle.cjc_classfile.specs.ClassFile.{class_file}
-use Rattle.cjc_classfile.specs.declared.tree.ClassTree.{ClassTree}
-use Rattle.cjc_export.specs.declared.tree.ExportTree.{ExportTree}
-use Rattle.cjc_export.specs.ExportFile.{export_file}
-use Rattle.cjc_capread.specs.declared.tree.CapTree.{CapTree}
-use Rattle.cjc_capwrite.specs.Writable.{IsSpelt}
-use Rattle.cjc_cmd_convert.specs.Conversion.Conversion.{BehaveAlike, Conversion, ExportsAreFair}
-use Rattle.cjc_judge.specs.Rules.{world_files}
-use Rattle.cjc_check_rules.specs.Consistent.{Consistent}
-use Rattle.cjc_cmd_convert.specs.Publication.{files_made, below}
-use Rattle.cjc_cmd_check.specs.Check.{AreConsistent, check_breaks, ok_line, plan_of_check}
+use Rattle.cjc_cmd_compat.specs.List.Listed.{ListTree}
+use Rattle.cjc_cmd_compat.specs.List.Spelling.{IsSpelt as IsListSpelt}
+use Rattle.cjc_cmd_compat.specs.ClassFile.ClassFile.{class_file}
+use Rattle.cjc_cmd_compat.specs.ClassFile.declared.tree.ClassTree.{ClassTree}
+use Rattle.cjc_cmd_compat.specs.ExportFile.declared.tree.ExportTree.{ExportTree}
+use Rattle.cjc_cmd_compat.specs.ExportFile.ExportFile.{export_file}
+use Rattle.cjc_cmd_compat.specs.CapRead.declared.tree.CapTree.{CapTree}
+use Rattle.cjc_cmd_verify.specs.CapWrite.Writable.{IsSpelt}
+use Rattle.cjc_cmd_make.specs.CmdConvert.Conversion.Conversion.{BehaveAlike, Conversion, ExportsAreFair}
+use Rattle.cjc_cmd_verify.specs.Judge.Rules.{world_files}
+use Rattle.cjc_cmd_compat.specs.CheckRules.Consistent.{Consistent}
+use Rattle.cjc_cmd_make.specs.CmdConvert.Publication.{files_made, below}
+use Rattle.cjc_cmd_compat.specs.CmdCheck.Check.{AreConsistent, check_breaks, ok_line, plan_of_check}
 use Rattle.cjc_shelf.specs.Command.Plan.{complete, verdict}
 use Rattle.cjc_shelf.specs.declared.command.status.Todo.{Todo}
-use Rattle.cjc_cmd_check.specs.declared.folder.folder.Folder.{Folder}
+use Rattle.cjc_cmd_compat.specs.CmdCheck.declared.folder.folder.Folder.{Folder}
 use Rattle.cjc_cmd_compat.specs.Compat.{AreCompatible}
-use Rattle.cjc_cmd_card.specs.Report.Runs as by_token
-use Rattle.cjc_cmd_card.specs.Running.Ready as components
-use Rattle.cjc_cmd_card.specs.declared.running.input.Input.{Input as ComponentsInput}
-use Rattle.cjc_cmd_card.specs.declared.running.ready.Ready.{Ready as ComponentsReady}
-use Rattle.cjc_cmd_jvm.specs.Running.Ready.{IsReady}
-use Rattle.cjc_cmd_jvm.specs.declared.running.input.Input.{Input}
-use Rattle.cjc_cmd_jvm.specs.declared.running.ready.Ready.{Ready}
-use Rattle.cjc_script.specs.declared.report.Report.{Report}
-use Rattle.cjc_script_text.specs.Printed.{report_text}
-use Rattle.cjc_cmd_jvm.specs.Runs.{IsReport, plan_of_jvm}
+use Rattle.cjc_cmd_verify.specs.CmdCard.Report.Runs as by_token
+use Rattle.cjc_cmd_verify.specs.CmdCard.Running.Ready as components
+use Rattle.cjc_cmd_verify.specs.CmdCard.declared.running.input.Input.{Input as ComponentsInput}
+use Rattle.cjc_cmd_verify.specs.CmdCard.declared.running.ready.Ready.{Ready as ComponentsReady}
+use Rattle.cjc_cmd_verify.specs.CmdJvm.Running.Ready.{IsReady}
+use Rattle.cjc_cmd_verify.specs.CmdJvm.declared.running.input.Input.{Input}
+use Rattle.cjc_cmd_verify.specs.CmdJvm.declared.running.ready.Ready.{Ready}
+use Rattle.cjc_cmd_verify.specs.Script.declared.report.Report.{Report}
+use Rattle.cjc_cmd_verify.specs.ScriptText.Printed.{report_text}
+use Rattle.cjc_cmd_verify.specs.CmdJvm.Runs.{IsReport, plan_of_jvm}
 use Rattle.cjc_cmd_make.specs.Report.Runs.{IsMade}
 use Rattle.cjc_cmd_verify.specs.Verify.{AreTyped, plan_of_verify}
 use Rattle.cjc_run.specs.Request.{Request, card, check, compat, convert, jvm, make, verify}

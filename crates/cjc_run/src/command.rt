@@ -4,7 +4,7 @@ ghost use Rattle.std.specs.Prelude.{◌≡◌, ◌≤◌, option_and_then, optio
 ghost use Rattle.cjc_run.specs.Request.{count, make, number, request, size};
 ghost use Rattle.cjc_run.specs.Asked.{HasSize, asked};
 
-use cjc_bytes::{Bytes, short_decimal};
+use cjc_shelf::bytes::{Bytes, short_decimal};
 
 /// What is asked for.
 #[derive(Clone, Copy)]

@@ -3,15 +3,15 @@
 
 ghost use Rattle.std.specs.Prelude.{◌≡◌, ◌<◌, IfOk, length};
 ghost use Rattle.cjc_shelf.specs.Command.Gather.{AreShort};
-ghost use Rattle.cjc_judge.specs.Spelt.{IsRead};
+ghost use Rattle.cjc_cmd_verify.specs.Judge.Spelt.{IsRead};
 ghost use Rattle.cjc_shelf.specs.Command.Gather.{Gathers, Judged};
 ghost use Rattle.cjc_run.specs.Convert.{plan_of_convert, plan_of_list, plan_of_files, names_of, Makes};
 
-use cjc_bytes::{Bytes, Fault, NoMemory, Row};
-use cjc_cmd_convert::conversion::{Converted, convert};
-use cjc_cmd_convert::publication::publication;
-use cjc_list::{List, read_list};
+use cjc_cmd_compat::list::{List, read_list};
+use cjc_cmd_make::cmd_convert::conversion::{Converted, convert};
+use cjc_cmd_make::cmd_convert::publication::publication;
 use cjc_shelf::Shelf;
+use cjc_shelf::bytes::{Bytes, Fault, NoMemory, Row};
 use cjc_shelf::command::{Status, Todo, fetch, fetch_each};
 use std::alloc::Global;
 

@@ -4,8 +4,15 @@
 #![tactic(auto)]
 
 // Lower crates, for those above.
-pub use cjc_bytes as bytes;
-pub use cjc_shelf as shelf;
+/// What crates above take of bytes.
+pub mod bytes {
+    pub use cjc_shelf::bytes::{Bytes, NoMemory, Row};
+}
+
+/// What crates above take of cjc_shelf.
+pub mod shelf {
+    pub use cjc_shelf::{DiskShelf, MemShelf, MemSink, Sink, SinkFailed, StdSink, command};
+}
 
 mod command;
 mod converting;

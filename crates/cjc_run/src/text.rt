@@ -5,7 +5,7 @@ ghost use Rattle.std.specs.List.{concat};
 ghost use Rattle.cjc_shelf.specs.Sink.{Puts};
 ghost use Rattle.cjc_run.specs.Text.{shown_part, refusal_line, status_lines};
 
-use cjc_bytes::{Bytes, Refusal};
+use cjc_shelf::bytes::{Bytes, Refusal};
 use cjc_shelf::command::{Status, put_pieces};
 use cjc_shelf::{Sink, SinkFailed};
 use itoa::Buffer;

@@ -12,13 +12,13 @@ ghost use Rattle.cjc_run.specs.Promise.{Promised};
 
 use crate::command::{Asked, asked_by};
 use crate::converting::gather_convert;
-use cjc_bytes::Bytes;
-use cjc_cmd_card::report::gather_card;
-use cjc_cmd_check::checking::gather_check;
+use cjc_cmd_compat::cmd_check::checking::gather_check;
 use cjc_cmd_compat::gather_compat;
-use cjc_cmd_jvm::report::gather_run;
 use cjc_cmd_make::report::gather_make;
+use cjc_cmd_verify::cmd_card::report::gather_card;
+use cjc_cmd_verify::cmd_jvm::report::gather_run;
 use cjc_cmd_verify::gather_verify;
+use cjc_shelf::bytes::Bytes;
 use cjc_shelf::command::{Status, Todo, publish};
 use cjc_shelf::{Shelf, Sink};
 use std::alloc::Global;

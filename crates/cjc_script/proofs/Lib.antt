@@ -2,6 +2,7 @@
 pub use Rattle.cjc_bytes.proofs.Bools as BytesBools
 pub use Rattle.cjc_bytes.proofs.Gets as BytesGets
 pub use Rattle.cjc_bytes.proofs.Integers as BytesIntegers
+pub use Rattle.cjc_bytes.proofs.Lists as BytesLists
 pub use Rattle.cjc_bytes.proofs.Numbers as BytesNumbers
 pub use Rattle.cjc_bytes.proofs.Options as BytesOptions
 pub use Rattle.cjc_bytes.proofs.Plain as BytesPlain

@@ -3,12 +3,15 @@
 #![tactic(auto)]
 
 // Lower crates, for those above.
+/// What crates above take of cjc_bytes.
+pub mod bytes {
+    pub use cjc_bytes::{Bytes, Desc, Kind, MemberId, NoMemory, Row};
+}
+
 ghost use Rattle.std.specs.Prelude.{◌≡◌, codes, pos, negsuc, true, false, Some, None, [], ◌∷◌};
 ghost use Rattle.cjc_script.specs.declared.value.Value.TheVariants.{Num, Null, Obj};
 ghost use Rattle.cjc_script.specs.Sorts.{Bytes as OfBytes, Shorts, OfClass, OfNumbers, OfReferences, Boolean, Byte};
 ghost use Rattle.cjc_script.specs.Sorts.{Short, Int, Reference, NoValue, signature_of, field_sort, shape_named, fits};
-
-pub use cjc_bytes as bytes;
 
 mod report;
 mod script;

@@ -5,5 +5,5 @@ pub mod Spelling
 pub mod Words
 pub mod Working
 -- Definitions of lower crates, for those above.
-pub use Rattle.cjc_list.specs as List
-pub use Rattle.cjc_script.specs as Script
+pub mod List
+pub mod Script

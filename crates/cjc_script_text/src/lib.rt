@@ -3,8 +3,15 @@
 #![tactic(auto)]
 
 // Lower crates, for those above.
-pub use cjc_list as list;
-pub use cjc_script as script;
+/// What crates above take of cjc_list.
+pub mod list {
+    pub use cjc_list::{List, read_list};
+}
+
+/// What crates above take of cjc_script.
+pub mod script {
+    pub use cjc_script::{Answer, Entry, Report, Script};
+}
 
 mod item;
 mod partial_script;

@@ -2,6 +2,7 @@ pub mod JudgedLaws
 pub mod PreparedLaws
 pub mod WholeLaws
 -- Lemmas of lower crates, for those above.
+pub use Rattle.cjc_judge.proofs.FlowFirst as FlowFirst
 pub use Rattle.cjc_methods.proofs.Alike as MethodsAlike
 pub use Rattle.cjc_exported.proofs.ExportLaws.Own as ExportedOwn
 pub use Rattle.cjc_exported.proofs.ExportLaws.Tokens as ExportedTokens
@@ -9,3 +10,4 @@ pub use Rattle.cjc_judge.proofs.Each as JudgeEach
 pub use Rattle.cjc_judge.proofs.Firsts as JudgeFirsts
 pub use Rattle.cjc_judge.proofs.OneRefusal as JudgeOneRefusal
 pub use Rattle.cjc_judge.proofs.Places as JudgePlaces
+pub use Rattle.cjc_judge.proofs.RangesLaws.AreNumbers as JudgeAreNumbers

@@ -2,6 +2,10 @@ pub mod Judged
 pub mod Prepared
 pub mod Whole
 -- Definitions of lower crates, for those above.
-pub mod Methods
-pub mod Exported
-pub mod Judge
+pub mod World
+pub mod Flow
+pub mod Components
+pub mod Pool
+pub mod LowerMethods
+pub mod LowerExported
+pub mod LowerJudge

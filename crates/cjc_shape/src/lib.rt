@@ -2,6 +2,11 @@
 #![tactic(auto)]
 
 // Lower crates, for those above.
+/// What crates above take of cjc_methods.
+pub mod methods {
+    pub use cjc_methods::methods_can_be_laid_out;
+}
+
 /// What crates above take of cjc_exported.
 pub mod exported {
     pub use cjc_exported::{export_file, export_laws};
@@ -10,11 +15,6 @@ pub mod exported {
 /// What crates above take of cjc_judge.
 pub mod judge {
     pub use cjc_judge::{Group, Judged, judge};
-}
-
-/// What crates above take of cjc_methods.
-pub mod methods {
-    pub use cjc_methods::methods_can_be_laid_out;
 }
 
 pub mod judged;

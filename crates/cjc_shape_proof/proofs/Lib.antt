@@ -6,6 +6,7 @@ pub use Rattle.cjc_bytes.proofs.BrokenRules as BytesBrokenRules
 pub use Rattle.cjc_bytes.proofs.Gets as BytesGets
 pub use Rattle.cjc_vtable.proofs.Filed as VTableFiled
 pub use Rattle.cjc_vtable.proofs.Numbers as VTableNumbers
+pub use Rattle.cjc_shape.proofs.FlowFirst as FlowFirst
 pub use Rattle.cjc_check_proof.proofs.PoolEntries as PoolEntries
 pub use Rattle.cjc_check_proof.proofs.PoolKeys as PoolKeys
 pub use Rattle.cjc_shape.proofs.ExportedOwn as ExportedOwn
@@ -15,9 +16,11 @@ pub use Rattle.cjc_shape.proofs.JudgeEach as JudgeEach
 pub use Rattle.cjc_shape.proofs.JudgeFirsts as JudgeFirsts
 pub use Rattle.cjc_shape.proofs.JudgeOneRefusal as JudgeOneRefusal
 pub use Rattle.cjc_shape.proofs.JudgePlaces as JudgePlaces
+pub use Rattle.cjc_shape.proofs.JudgeAreNumbers as JudgeAreNumbers
 pub use Rattle.cjc_shape.proofs.JudgedLaws.Called as ShapeCalled
 pub use Rattle.cjc_shape.proofs.JudgedLaws.Selected as ShapeSelected
 pub use Rattle.cjc_shape.proofs.JudgedLaws.Tokens as ShapeTokens
+pub use Rattle.cjc_shape.proofs.PreparedLaws.Limited as ShapeLimited
 pub use Rattle.cjc_shape.proofs.PreparedLaws.Sound as ShapeSound
 pub use Rattle.cjc_shape.proofs.WholeLaws.Drafts as ShapeDrafts
 pub use Rattle.cjc_shape.proofs.WholeLaws.Ints as ShapeInts

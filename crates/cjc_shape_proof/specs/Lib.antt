@@ -1,13 +1,15 @@
 pub mod Whole
 pub mod Written
 -- Definitions of lower crates, for those above.
-pub mod Bytes
-pub mod ClassFile
-pub mod ExportFile
-pub mod Tokens
-pub mod NCode
-pub mod Classes
-pub mod Methods
-pub mod CheckProof
-pub mod Judge
-pub mod Shape
+pub mod CapRead
+pub mod World
+pub mod Intervals
+pub mod Flow
+pub mod WorldProof
+pub mod Components
+pub mod LowerClasses
+pub mod Pool
+pub mod LowerMethods
+pub mod LowerCheckProof
+pub mod LowerJudge
+pub mod LowerShape

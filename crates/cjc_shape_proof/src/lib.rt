@@ -12,24 +12,14 @@ pub mod check_proof {
     pub use cjc_check_proof::{consistent, flags};
 }
 
-/// What crates above take of cjc_export.
-pub mod export_file {
-    pub use cjc_export::write;
-}
-
-/// What crates above take of cjc_ncode.
-pub mod ncode {
-    pub use cjc_ncode::{NMethod, PoolKey};
+/// What crates above take of judge.
+pub mod judge {
+    pub use cjc_shape::judge::{Group, Judged, judge};
 }
 
 /// What crates above take of cjc_shape.
 pub mod shape {
     pub use cjc_shape::whole;
-}
-
-/// What crates above take of judge.
-pub mod judge {
-    pub use cjc_shape::judge::{Group, Judged, judge};
 }
 
 pub mod finds;

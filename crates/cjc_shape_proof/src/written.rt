@@ -5,51 +5,51 @@ mod fitting_laws;
 mod whole_laws;
 
 ghost use Rattle.std.specs.Prelude.{◌≡◌, ◌≢◌, ℕ, Bool, List};
-ghost use Rattle.cjc_token_proof.specs.WorldProof.Calls.Solid.{IsSolid};
-ghost use Rattle.cjc_ncode.specs.CardSemantics.Machine.ByToken.{run as run_by_token};
+ghost use Rattle.cjc_check_proof.specs.WorldProof.Calls.Solid.{IsSolid};
+ghost use Rattle.cjc_narrow_proof.specs.CardSemantics.Machine.ByToken.{run as run_by_token};
 ghost use Rattle.cjc_clinit.specs.Image.{IsImage};
-ghost use Rattle.cjc_token_proof.specs.WorldProof.Initialisers.Values.{StandOnce};
-ghost use Rattle.cjc_ncode.specs.Bytecode.PackageCodes.{all_codes};
+ghost use Rattle.cjc_check_proof.specs.WorldProof.Initialisers.Values.{StandOnce};
+ghost use Rattle.cjc_clinit.specs.Bytecode.PackageCodes.{all_codes};
 ghost use Rattle.cjc_check_proof.specs.Code.Caught.{HandlersLie};
 ghost use Rattle.cjc_check_proof.specs.Code.Ends.{AllStayInside};
 ghost use Rattle.cjc_check_proof.specs.Code.Kinds.{AllHaveKinds};
 ghost use Rattle.cjc_check_proof.specs.Code.Written.{AllWritable};
 ghost use Rattle.cjc_check_proof.specs.Made.{AllAreMade};
-ghost use Rattle.cjc_token_proof.specs.Components.Methods.{HasMethods};
-ghost use Rattle.cjc_token_proof.specs.Components.OwnNames.{HaveOwnNames};
+ghost use Rattle.cjc_check_proof.specs.TokenProof.Components.Methods.{HasMethods};
+ghost use Rattle.cjc_check_proof.specs.TokenProof.Components.OwnNames.{HaveOwnNames};
 ghost use Rattle.cjc_components.specs.Names.{names};
 ghost use Rattle.cjc_components.specs.Package.{Package, world};
-ghost use Rattle.cjc_shape.specs.Judge.declared.judged.Judged.{Judged};
-ghost use Rattle.cjc_components.specs.List.Listed.{ListTree};
-ghost use Rattle.cjc_components.specs.Narrow.Rows.Package.{run as run_by_label};
-ghost use Rattle.cjc_ncode.specs.ByLabel.{Callee};
-ghost use Rattle.cjc_ncode.specs.Script.declared.report.Outcome.TheVariants.{Stuck};
-ghost use Rattle.cjc_ncode.specs.Script.declared.script.Script.{Script};
-ghost use Rattle.cjc_token_proof.specs.WorldProof.Files.{AreReadFiles};
-ghost use Rattle.cjc_token_proof.specs.Tables.Loading.{loaded};
-ghost use Rattle.cjc_token_proof.specs.Tables.Sound.{AreTyped, IsSound};
+ghost use Rattle.cjc_shape.specs.LowerJudge.declared.judged.Judged.{Judged};
+ghost use Rattle.cjc_classes.specs.List.Listed.{ListTree};
+ghost use Rattle.cjc_classes.specs.Narrow.Rows.Package.{run as run_by_label};
+ghost use Rattle.cjc_narrow_proof.specs.NCode.ByLabel.{Callee};
+ghost use Rattle.cjc_narrow_proof.specs.Script.declared.report.Outcome.TheVariants.{Stuck};
+ghost use Rattle.cjc_narrow_proof.specs.Script.declared.script.Script.{Script};
+ghost use Rattle.cjc_check_proof.specs.WorldProof.Files.{AreReadFiles};
+ghost use Rattle.cjc_check_proof.specs.TokenProof.Tables.Loading.{loaded};
+ghost use Rattle.cjc_check_proof.specs.TokenProof.Tables.Sound.{AreTyped, IsSound};
 ghost use Rattle.cjc_vtable.specs.Kept.{Keeps};
 ghost use Rattle.cjc_world.specs.Order.{class_order};
-ghost use Rattle.cjc_token_proof.specs.WrittenCalls.Calls.{KeepsSubtypes, KeepsTokens, NoStaticMethods};
-ghost use Rattle.cjc_token_proof.specs.WrittenCalls.Standing.{AreMethods, AreReady, IsSmall, laid_code};
+ghost use Rattle.cjc_check_proof.specs.TokenProof.WrittenCalls.Calls.{KeepsSubtypes, KeepsTokens, NoStaticMethods};
+ghost use Rattle.cjc_check_proof.specs.TokenProof.WrittenCalls.Standing.{AreMethods, AreReady, IsSmall, laid_code};
 ghost use Rattle.cjc_shape_proof.specs.Written.Converted.{IsConverted};
 ghost use Rattle.cjc_shape_proof.specs.Written.Joined.{IsJoined, NamesAreThere};
 
 use cjc_check_proof::promises::{
     made_methods_are_consistent, packages_have_their_methods, written_methods_are_made,
 };
-use cjc_components::layout::order_changes_no_search;
-use cjc_ncode::lowering::runs_agree;
-use cjc_shape::judged::pooled_methods_are_emittable;
-use cjc_shape::methods::methods_can_be_laid_out;
-use cjc_token_proof::calls::methods_are_placed;
-use cjc_token_proof::tables::{
+use cjc_check_proof::token_proof::calls::methods_are_placed;
+use cjc_check_proof::token_proof::tables::{
     class_tables_agree, classes_keep_rules, fields_are_typed, memories_begin_alike,
     tables_agree_by_parts,
 };
-use cjc_token_proof::written_calls::{
+use cjc_check_proof::token_proof::written_calls::{
     calls_reach, calls_take_objects_alike, entries_are_called, methods_stand, sent_methods_stand,
 };
+use cjc_components::layout::order_changes_no_search;
+use cjc_narrow_proof::ncode::lowering::runs_agree;
+use cjc_shape::judged::pooled_methods_are_emittable;
+use cjc_shape::methods::methods_can_be_laid_out;
 use cjc_vtable::package_laws;
 pub use fitting_laws::{
     export_files_fit, exported_classes_stand, interfaces_and_applets_fit, laid_out_packages_fit,

@@ -6,4 +6,4 @@ pub mod MemSink
 pub mod Disk
 pub mod Command
 -- Definitions of lower crates, for those above.
-pub use Rattle.cjc_bytes.specs as Bytes
+pub mod Bytes

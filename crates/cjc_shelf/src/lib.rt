@@ -3,7 +3,13 @@
 #![tactic(auto)]
 
 // Lower crates, for those above.
-pub use cjc_bytes as bytes;
+/// What crates above take of cjc_bytes.
+pub mod bytes {
+    pub use cjc_bytes::{
+        ACC_PUBLIC, ACC_STATIC, ACC_SUPER, Bytes, Fault, FileLine, NoMemory, Out, Refusal, Row,
+        short_decimal,
+    };
+}
 
 pub mod command;
 mod disk;

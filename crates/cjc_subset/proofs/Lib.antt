@@ -7,4 +7,6 @@ pub mod Unmet
 pub mod Callees
 pub mod Fits
 -- Lemmas of lower crates, for those above.
+pub use Rattle.cjc_bytes.proofs.Gets as BytesGets
+pub use Rattle.cjc_bytes.proofs.Lists as BytesLists
 pub use Rattle.cjc_code.proofs.RangeWords as RangeWords

@@ -5,12 +5,9 @@
 // Lower crates, for those above.
 /// What crates above take of cjc_bytes.
 pub mod bytes {
-    pub use cjc_bytes::{Bytes, Fault, FileLine, NoMemory, Row, Settings};
-}
-
-/// What crates above take of cjc_code.
-pub mod bytecode {
-    pub use cjc_code::{Codes, JInsn, JOp, MethodCode, decode, jvm};
+    pub use cjc_bytes::{
+        BrokenAt, Bytes, Desc, Fault, FileLine, Kind, NoMemory, Row, Settings, is_static,
+    };
 }
 
 /// What crates above take of classfile.
@@ -18,14 +15,21 @@ pub mod classfile {
     pub use cjc_code::classfile::{ClassTree, FieldTree, MethodTree};
 }
 
-/// What crates above take of cjc_world.
-pub mod world {
-    pub use cjc_world::{ArrayCell, Found, StaticImage, ValueCell, World};
+/// What crates above take of cjc_code.
+pub mod bytecode {
+    pub use cjc_code::{
+        Codes, DecodeError, JInsn, JOp, MethodCode, decode, decode_method, jvm, refusal_of,
+    };
 }
 
 /// What crates above take of export_file.
 pub mod export_file {
     pub use cjc_world::export_file::{may_be_constant, read};
+}
+
+/// What crates above take of cjc_world.
+pub mod world {
+    pub use cjc_world::{ArrayCell, Found, StaticImage, ValueCell, World};
 }
 
 mod applets;

@@ -4,4 +4,16 @@ pub mod FairExports
 pub mod FairWriting
 pub mod AlikeLaws
 -- Lemmas of lower crates, for those above.
-pub use Rattle.cjc_judge.proofs.Firsts as JudgeFirsts
+pub use Rattle.cjc_code.proofs.ReadLaws.Members as BytecodeMembers
+pub use Rattle.cjc_vtable.proofs.Filed as VTableFiled
+pub use Rattle.cjc_vtable.proofs.Read as VTableRead
+pub use Rattle.cjc_narrow_proof.proofs.TablesLaws.Spelt as NarrowProofSpelt
+pub use Rattle.cjc_shape_proof.proofs.JudgeFirsts as JudgeFirsts
+pub use Rattle.cjc_shape_proof.proofs.ShapeLimited as ShapeLimited
+pub use Rattle.cjc_shape_proof.proofs.FindsLaws.Descs as ShapeProofDescs
+pub use Rattle.cjc_shape_proof.proofs.WrittenLaws.FittingLaws.Initialisers as ShapeProofInitialisers
+pub use Rattle.cjc_shape_proof.proofs.WrittenLaws.FittingLaws.Interfaces as ShapeProofInterfaces
+pub use Rattle.cjc_shape_proof.proofs.WrittenLaws.PackageNames as ShapeProofPackageNames
+pub use Rattle.cjc_shape_proof.proofs.WrittenLaws.Subtypes as ShapeProofSubtypes
+pub use Rattle.cjc_shape_proof.proofs.WrittenLaws.Tokens as ShapeProofTokens
+pub use Rattle.cjc_shape_proof.proofs.WrittenLaws.Worlds as ShapeProofWorlds

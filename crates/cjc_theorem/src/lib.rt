@@ -8,9 +8,9 @@ pub mod bytecode {
     pub use cjc_code::jvm;
 }
 
-/// What crates above take of cjc_script.
-pub mod script {
-    pub use cjc_script::{Note, Report, Value};
+/// What crates above take of cjc_vtable.
+pub mod vtable {
+    pub use cjc_vtable::{package_laws, slot_laws};
 }
 
 pub mod alike;

@@ -10,4 +10,4 @@ pub mod SlotRows
 pub mod Working
 pub mod TokenLaws
 -- Definitions of lower crates, for those above.
-pub mod Fixpoint
+pub mod LowerFixpoint

@@ -10,7 +10,8 @@ ghost use Rattle.cjc_world.specs.Lookup.{is_called, or_else};
 ghost use Rattle.cjc_tokens.specs.Members.{Signature, is_exposed, is_virtual_by, signature_of, signatures};
 ghost use Rattle.cjc_tokens.specs.Slots.{got, holds, own, token};
 ghost use Rattle.cjc_tokens.specs.declared.slot.Slot.{Slot as RowSlot};
-ghost use Rattle.cjc_tokens.specs.Working.{AreOwn, is_kind, is_of_kind, member_of, nearest, Offered, Renewed, signature_in};
+ghost use Rattle.cjc_tokens.specs.Working.{AreOwn, is_kind, is_of_kind, member_of, nearest, Offered, Renewed};
+ghost use Rattle.cjc_tokens.specs.Working.{signature_in};
 ghost use Rattle.cjc_tokens.specs.Working.{signs};
 
 use crate::growing::GrowingRow;

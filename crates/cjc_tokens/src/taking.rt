@@ -6,7 +6,8 @@ ghost use Rattle.cjc_world.specs.declared.found.Found.{Found as Method};
 ghost use Rattle.cjc_world.specs.Classes.{declared, method_of_class};
 ghost use Rattle.cjc_tokens.specs.Members.{Signature, has, signatures};
 ghost use Rattle.cjc_tokens.specs.Slots.{is_of_package, own, with_taken};
-ghost use Rattle.cjc_tokens.specs.Working.{AreMeant, AreOwn, is_of_kind, methods_in, signature_in, signs, Taken, token_under};
+ghost use Rattle.cjc_tokens.specs.Working.{AreMeant, AreOwn, is_of_kind, methods_in, signature_in, signs, Taken};
+ghost use Rattle.cjc_tokens.specs.Working.{token_under};
 
 use crate::indexed::Places;
 use crate::slot::{Slot, is_of_kind, own};

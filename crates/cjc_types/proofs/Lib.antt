@@ -21,4 +21,13 @@ pub mod Upper
 pub mod Wrong
 pub mod TypeLaws
 -- Lemmas of lower crates, for those above.
+pub use Rattle.cjc_bytes.proofs.Bools as BytesBools
+pub use Rattle.cjc_bytes.proofs.BrokenRules as BytesBrokenRules
+pub use Rattle.cjc_bytes.proofs.DescriptorTypes as BytesDescriptorTypes
+pub use Rattle.cjc_bytes.proofs.Gets as BytesGets
+pub use Rattle.cjc_bytes.proofs.Integers as BytesIntegers
+pub use Rattle.cjc_bytes.proofs.Lists as BytesLists
+pub use Rattle.cjc_bytes.proofs.Numbers as BytesNumbers
+pub use Rattle.cjc_bytes.proofs.Quantified as BytesQuantified
 pub use Rattle.cjc_fixpoint.proofs.AllMarked as FixpointAllMarked
+pub use Rattle.cjc_world.proofs.Walked as WorldWalked

@@ -17,7 +17,10 @@ pub mod Walks
 pub mod Among
 pub mod TypeLaws
 -- Definitions of lower crates, for those above.
-pub use Rattle.cjc_fixpoint.specs as Fixpoint
-pub use Rattle.cjc_classfile.specs as ClassFile
-pub use Rattle.cjc_code.specs as Bytecode
-pub use Rattle.cjc_world.specs as World
+pub mod Bytes
+pub mod Range
+pub mod Fixpoint
+pub mod ClassFile
+pub mod Bytecode
+pub mod ExportFile
+pub mod World

@@ -5,10 +5,38 @@
 #![tactic(auto)]
 
 // Lower crates, for those above.
-pub use cjc_classfile as classfile;
-pub use cjc_code as bytecode;
-pub use cjc_fixpoint as fixpoint;
-pub use cjc_world as world;
+/// What crates above take of cjc_bytes.
+pub mod bytes {
+    pub use cjc_bytes::{
+        Bytes, Desc, Fault, Kind, MemberId, NoMemory, Row, RulePlace, answer, broken, is_private,
+        is_static,
+    };
+}
+
+/// What crates above take of cjc_fixpoint.
+pub mod fixpoint {
+    pub use cjc_fixpoint::{Edge, Flow, Repeating, Walk, all_marks, is_marked, moved_on, solve};
+}
+
+/// What crates above take of cjc_classfile.
+pub mod classfile {
+    pub use cjc_classfile::{Catch, ClassTree, Code, MethodTree, read};
+}
+
+/// What crates above take of cjc_code.
+pub mod bytecode {
+    pub use cjc_code::{JCase, JInsn, JOp, MethodCode, jvm};
+}
+
+/// What crates above take of export_file.
+pub mod export_file {
+    pub use cjc_world::export_file::{ExportClass, ExportTree, may_be_constant};
+}
+
+/// What crates above take of cjc_world.
+pub mod world {
+    pub use cjc_world::{Found, Known, World};
+}
 
 mod cell;
 mod index;

@@ -15,16 +15,19 @@ use Rattle.cjc_card_semantics.specs.Bytecode.Effects.{Letter, Reference, Byte, S
 use Rattle.cjc_card_semantics.specs.Bytecode.Meanings.{Use, Gets, Puts, GetsStatic, PutsStatic, Calls, Makes}
 use Rattle.cjc_card_semantics.specs.Bytecode.Meanings.{MakesReferences, Virtual, Special, Static}
 use Rattle.cjc_card_semantics.specs.Machine.Operations.{moved}
-use Rattle.cjc_card_acts.specs.Frames.declared.acts.Act.{Act}
+use Rattle.cjc_verify.specs.Frames.declared.acts.Act.{Act}
 use Rattle.cjc_card_acts.specs.CardTypes.{MemberType, ValueType, numbers_type}
-use Rattle.cjc_card_acts.specs.Rows.{Row, Pushes, Loads, Stores, Increases, Pops, Copies, CopiesBelow, Swaps, Calculates}
+use Rattle.cjc_card_acts.specs.Rows.{Row, Pushes, Loads, Stores, Increases, Pops, Copies, CopiesBelow, Swaps}
+use Rattle.cjc_card_acts.specs.Rows.{Calculates}
 use Rattle.cjc_card_acts.specs.Rows.{LoadsItem, StoresItem, CountsItems, Throws, Jumps, Switches, Returns, Uses}
 use Rattle.cjc_card_acts.specs.Rows.{CallsInterface, MakesNumbers, Casts, Asks, Forbidden}
-use Rattle.cjc_card_acts.specs.Rows.{copying, copying_below, increasing, loading, storing, swapping, swapping_by, unknown}
+use Rattle.cjc_card_acts.specs.Rows.{copying, copying_below, increasing, loading, storing, swapping, swapping_by}
+use Rattle.cjc_card_acts.specs.Rows.{unknown}
 use Rattle.cjc_card_acts.specs.Rows.{with_local, with_number}
 use Rattle.cjc_verify.specs.ClassTypes.{class_type}
 use Rattle.cjc_verify.specs.Instructions.{act_by, asking, by_interface, calling_interface, calling_through, casting}
-use Rattle.cjc_verify.specs.Instructions.{class_in, making_numbers, tested_type, testing, using, using_entry, using_some}
+use Rattle.cjc_verify.specs.Instructions.{class_in, making_numbers, tested_type, testing, using, using_entry}
+use Rattle.cjc_verify.specs.Instructions.{using_some}
 use Rattle.cjc_verify.specs.Named.{entry_of, entry_type, interface_type}
 use Rattle.cjc_verify.specs.Pairs.{Pair}
 

@@ -10,8 +10,8 @@ use Rattle.cjc_check_rules.specs.ClassRefs.{pool_count_at}
 use Rattle.cjc_check_rules.specs.Complete.{array_size, described_size}
 use Rattle.cjc_check_rules.specs.Described.{all_ascend, all_starts, classes_in_order, types_in_class, types_in_pool}
 use Rattle.cjc_check_rules.specs.Statics.{in_array}
-use Rattle.cjc_card_semantics.specs.Script.declared.value.Value.{Value}
-use Rattle.cjc_card_acts.specs.Types.declared.cell.Cell.{Cell}
+use Rattle.cjc_script.specs.declared.value.Value.{Value}
+use Rattle.cjc_intervals.specs.Types.declared.cell.Cell.{Cell}
 use Rattle.cjc_card_semantics.specs.Bytecode.Effects.{Memory, effect}
 use Rattle.cjc_card_semantics.specs.Bytecode.Meanings.{Makes, Use}
 use Rattle.cjc_card_semantics.specs.Machine.Classes.{Class, Field}
@@ -21,7 +21,7 @@ use Rattle.cjc_card_semantics.specs.Machine.Operations as machine
 use Rattle.cjc_card_semantics.specs.Machine.Statics.{Image, first_memory}
 use Rattle.cjc_card_semantics.specs.Machine.ByToken.{classes}
 use Rattle.cjc_card_acts.specs.CardTypes.{MemberType, is_type_of}
-use Rattle.cjc_card_acts.specs.Frames.Acts.{stack_behind}
+use Rattle.cjc_verify.specs.Frames.Acts.{stack_behind}
 use Rattle.cjc_components.specs.Paired.Naming.{part_of}
 use Rattle.cjc_verify.specs.Instructions.{using}
 use Rattle.cjc_verify.specs.Named.{entry_of, entry_type, names_unmade}
@@ -68,7 +68,8 @@ module _ (c : Checked) (ok : IsChecked c) where
       (in_info 8 4) (none_right size few (none_left (size ++ few) (along array_size in_array 6 s.array_inits)
       ok.cells)))
 
-  pub counts : (let q = c.components in let d = q.descriptor in let e = q.pool in length d.pool_types ≡ length e.entries)
+  pub counts : (let q = c.components in let d = q.descriptor in let e = q.pool in length d.pool_types
+      ≡ length e.entries)
   counts =
       let q = c.components in
       let d = q.descriptor in
@@ -111,5 +112,6 @@ module _ (c : Checked) (ok : IsChecked c) where
       → Passes (is_type_of l) room (using p Makes t (Classref r)) lc cs
       → Goes l (field_types p) next (stack_behind (using p Makes t (Classref r)) lc cs) lc m
       (effect (classes l) (or_undone (machine.using l 0 Makes (Classref r))) room next lv m vs)
-  objects_go = makes_go applets c.name c.files c.image c.components ok.sound ok.typed ok.descs ok.static_ones ok.verified
+  objects_go = makes_go applets c.name c.files c.image c.components ok.sound ok.typed ok.descs ok.static_ones
+      ok.verified
       supers

@@ -3,8 +3,8 @@ use Rattle.std.proofs.Common.{◌≡◌, ℕ, Bool, not, [], length, Some, sym, 
 use Rattle.std.specs.Prelude.{nat_lt, None, Contains}
 use Rattle.cjc_check_rules.specs.Described.{all_starts, classes_in_order}
 use Rattle.cjc_bytes.specs.declared.fault.MemberId.{MemberId}
-use Rattle.cjc_card_semantics.specs.Script.declared.script.Script.{Script}
-use Rattle.cjc_card_semantics.specs.Script.declared.report.Outcome.TheVariants.{Stuck}
+use Rattle.cjc_script.specs.declared.script.Script.{Script}
+use Rattle.cjc_script.specs.declared.report.Outcome.TheVariants.{Stuck}
 use Rattle.cjc_card_semantics.specs.Bytecode.Machine.{Start}
 use Rattle.cjc_card_semantics.specs.Machine.ByToken.{run}
 use Rattle.cjc_card_semantics.specs.Machine.Calls.{called}
@@ -47,7 +47,8 @@ module _ (c : Checked) (ok : IsChecked c) (has : HasCode c) where
   q = record { list = c.list; files = c.files; image = c.image; methods = [] }
 
   -- the order of the classes of Descriptor
-  abbrev ordered : (let q = c.components in let d = q.descriptor in classes_in_order d.classes (all_starts q.class)) ≡ []
+  abbrev ordered : (let q = c.components in let d = q.descriptor in classes_in_order d.classes (all_starts q.class))
+      ≡ []
   ordered = in_order c.components ok.described
 
   -- descriptors of methods
@@ -68,11 +69,14 @@ module _ (c : Checked) (ok : IsChecked c) (has : HasCode c) where
 
     pub typed : AreMethods l program
     typed = programs.are_methods applets c.name c.files c.image c.components ok.sound ok.typed ok.descs ok.static_ones
-        ok.verified (checked.counts c ok) has.refs has.whole has.jumps has.handlers has.indices has.class_refs program of
+        ok.verified (checked.counts c ok) has.refs has.whole has.jumps has.handlers has.indices has.class_refs program
+        of
 
     first_made : (let first = first_memory l in AreMade program first.heap)
-    first_made = programs.first_made applets c.name c.files c.image c.components ok.sound ok.typed ok.descs ok.static_ones
-        ok.verified (checked.counts c ok) has.refs has.whole has.jumps has.handlers has.indices has.class_refs program of
+    first_made = programs.first_made applets c.name c.files c.image c.components ok.sound ok.typed ok.descs
+        ok.static_ones
+        ok.verified (checked.counts c ok) has.refs has.whole has.jumps has.handlers has.indices has.class_refs program
+        of
 
     pub suited : DispatchFits p program → (t : Typing) → Contains program.methods t → AreSuited l program t
     suited fits = programs.are_suited applets c.name c.files c.image c.components ok.sound ok.typed ok.descs

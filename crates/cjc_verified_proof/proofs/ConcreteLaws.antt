@@ -8,11 +8,11 @@ use Rattle.std.specs.Prelude.{◌&&◌, ◌||◌, if◌then◌else◌, option_ma
 use Rattle.std.specs.List.{range_with_len}
 use Rattle.std.proofs.lemmas.Bool.Decides.{nat_tests}
 use Rattle.std.proofs.lemmas.Option.{slice_get-map}
-use Rattle.cjc_capread.specs.Bytes.AccessFlags.{is_interface}
+use Rattle.cjc_bytes.specs.AccessFlags.{is_interface}
 use Rattle.cjc_check_rules.specs.Classes.{first_interface}
-use Rattle.cjc_check_rules.specs.ExportFile.declared.tree.ExportClass.{ExportClass}
-use Rattle.cjc_check_rules.specs.ExportFile.declared.tree.ExportMethod.{ExportMethod}
-use Rattle.cjc_check_rules.specs.ExportFile.Supers.{virtual_method}
+use Rattle.cjc_world.specs.ExportFile.declared.tree.ExportClass.{ExportClass}
+use Rattle.cjc_world.specs.ExportFile.declared.tree.ExportMethod.{ExportMethod}
+use Rattle.cjc_world.specs.ExportFile.Supers.{virtual_method}
 use Rattle.cjc_check_rules.specs.Spots.{beside, in_info}
 use Rattle.cjc_check_rules.specs.declared.spot.ComponentPlace.{ComponentPlace}
 use Rattle.cjc_world.specs.declared.found.Found.{Found}
@@ -28,15 +28,15 @@ use Rattle.cjc_tokens.specs.Slots.{hidden_row, hidden_slots, implementing, imple
 use Rattle.cjc_tokens.specs.Slots.{token}
 use Rattle.cjc_tokens.proofs.Held.{here-has_slot, token-slot}
 use Rattle.cjc_tokens.proofs.Walks.{supertypes-known}
-use Rattle.cjc_vtable.specs.Dispatch.{own_by_token}
-use Rattle.cjc_vtable.specs.Dispatch as tables
-use Rattle.cjc_vtable.specs.Laws.{Under, below, itself}
-use Rattle.cjc_vtable.specs.Naming.{named}
-use Rattle.cjc_vtable.specs.Tables.{base, entries, methods, of_package, table_of}
-use Rattle.cjc_vtable.proofs.Calls.{token-some}
-use Rattle.cjc_vtable.proofs.Once.{slots-once}
-use Rattle.cjc_vtable.proofs.SlotNames.{implementing-named, seen-line}
-use Rattle.cjc_vtable.proofs.Worlds.{told-class}
+use Rattle.cjc_token_proof.specs.VTable.Dispatch.{own_by_token}
+use Rattle.cjc_token_proof.specs.VTable.Dispatch as tables
+use Rattle.cjc_token_proof.specs.VTable.Laws.{Under, below, itself}
+use Rattle.cjc_token_proof.specs.VTable.Naming.{named}
+use Rattle.cjc_token_proof.specs.VTable.Tables.{base, entries, methods, of_package, table_of}
+use Rattle.cjc_components.proofs.VTableCalls.{token-some}
+use Rattle.cjc_components.proofs.VTableOnce.{slots-once}
+use Rattle.cjc_components.proofs.VTableSlotNames.{implementing-named, seen-line}
+use Rattle.cjc_components.proofs.VTableWorlds.{told-class}
 use Rattle.cjc_card_semantics.specs.Machine.Classes.{External, Info, IsClass, Own, external, info_size, offset_from}
 use Rattle.cjc_card_semantics.specs.Machine.Dispatch.{Hidden, NotFound, At, Open, Outward, Selection, Token, dispatched}
 use Rattle.cjc_card_semantics.specs.Machine.Dispatch.{dispatched_hidden, dispatched_open, dispatched_outward}
@@ -44,7 +44,7 @@ use Rattle.cjc_card_semantics.specs.Machine.Dispatch.{exported_line}
 use Rattle.cjc_card_semantics.specs.Machine.Dispatch.{in_files}
 use Rattle.cjc_card_semantics.specs.Machine.Dispatch.{outward, tower}
 use Rattle.cjc_card_semantics.specs.Machine.Loaded.{Loaded}
-use Rattle.cjc_components.specs.NCode.Lowering.Naming.{Naming}
+use Rattle.cjc_token_proof.specs.NCode.Lowering.Naming.{Naming}
 use Rattle.cjc_components.specs.Package.{Package}
 use Rattle.cjc_verify.specs.Infos.{abstract_spots, all_tokens, has_abstract_method, infos}
 use Rattle.cjc_verify.specs.Named.{is_abstract_selection, is_unmade}
@@ -58,7 +58,7 @@ use Rattle.cjc_bytes.proofs.Bools.{not_true}
 use Rattle.cjc_bytes.proofs.Gets.{any_off, get_behind, in_front, item_there, mapped_at}
 use Rattle.cjc_bytes.proofs.Lists.{none_left, none_right}
 use Rattle.cjc_bytes.proofs.Plain.{same_some}
-use Rattle.cjc_card_link.proofs.InfoPlaces.{all_starts as starts_of_infos}
+use Rattle.cjc_verify.proofs.CardLinkInfoPlaces.{all_starts as starts_of_infos}
 use Rattle.cjc_token_proof.proofs.TablesLaws.Above.{entry_of_name}
 use Rattle.cjc_token_proof.proofs.WrittenCalls.Facts.{Facts}
 use Rattle.cjc_token_proof.proofs.WrittenCalls.Files.{first_imported_found}

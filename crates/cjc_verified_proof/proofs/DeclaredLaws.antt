@@ -3,7 +3,7 @@ use Rattle.std.proofs.Common.{◌≡◌, ◌+◌, ℕ, zero, suc, Bool, true, fa
 use Rattle.std.proofs.Common.{slice_get, Option, Some, None, refl, sym, ap, subst, ◌∙◌, arith}
 use Rattle.std.specs.Prelude.{◌==◌, ◌&&◌, nat_le, nat_lt, position, option_and_then, option_map, if◌then◌else◌}
 use Rattle.cjc_bytes.specs.Descriptor.{Parts}
-use Rattle.cjc_capread.specs.Bytes.AccessFlags.{is_interface}
+use Rattle.cjc_bytes.specs.AccessFlags.{is_interface}
 use Rattle.cjc_capread.specs.declared.tree.ClassEntry.{ClassEntry}
 use Rattle.cjc_capread.specs.declared.tree.ClassRef.{ClassRef}
 use Rattle.cjc_capread.specs.declared.tree.ClassRef.TheVariants.{Inside, Outside}
@@ -31,9 +31,10 @@ use Rattle.cjc_card_semantics.specs.Machine.Classes.{Own, External, Info, IsInte
 use Rattle.cjc_card_semantics.specs.Machine.Classes.{is_reference_token, number_from}
 use Rattle.cjc_card_semantics.specs.Machine.Classes as card
 use Rattle.cjc_card_acts.specs.CardTypes.{ValueType, types_in}
-use Rattle.cjc_components.specs.Class.{fields_in, fields_of, first_reference_token, info_flags, reference_count, superclass}
+use Rattle.cjc_components.specs.Class.{fields_in, fields_of, first_reference_token, info_flags, reference_count}
+use Rattle.cjc_components.specs.Class.{superclass}
 use Rattle.cjc_components.specs.Types.{nibbles_by, sort_nibbles}
-use Rattle.cjc_components.specs.VTable.Tables.{table_of}
+use Rattle.cjc_token_proof.specs.VTable.Tables.{table_of}
 use Rattle.cjc_token_proof.specs.ByToken.Objects.{is_reference as is_reference_sort}
 use Rattle.cjc_token_proof.specs.Tables.Sound.{IsSound, AreTyped, AreFieldDescs, IsTyped, IsFieldDesc}
 use Rattle.cjc_verify.specs.Infos.{class_spots, info_spots, infos, interface_spots, map_interface}
@@ -47,8 +48,8 @@ use Rattle.cjc_verified_proof.specs.PackageTypes.{type_of_desc, type_said}
 use Rattle.cjc_bytes.proofs.Gets.{get_inside, mapped_at, position_there}
 use Rattle.cjc_bytes.proofs.Numbers.{number_same}
 use Rattle.cjc_tokens.proofs.Facts.{position-cons}
-use Rattle.cjc_vtable.proofs.Filed.{get-has}
-use Rattle.cjc_card_link.proofs.InfoPlaces.{all_starts}
+use Rattle.cjc_components.proofs.VTableFiled.{get-has}
+use Rattle.cjc_verify.proofs.CardLinkInfoPlaces.{all_starts}
 use Rattle.cjc_token_proof.proofs.TablesLaws.Filed.{own_filed}
 use Rattle.cjc_token_proof.proofs.TablesLaws.Order.{order_in}
 use Rattle.cjc_token_proof.proofs.TablesLaws.Spans.{token_below, span_is}
@@ -110,7 +111,8 @@ module _ (applets : Bool) (files : Files) (n : ℕ) (t : ClassTree)
   unfolding assigned
   place_of token i e =
       let r = class_row (all_classes files) applets 0 0 files.classes n t is_class in
-      sym (ap (option_and_then (λ (c : tokens.OfClass). position (λ (o : Option ℕ). has_token token o) c.instances)) r.1) ∙ e
+      sym (ap (option_and_then (λ (c : tokens.OfClass). position (λ
+      (o : Option ℕ). has_token token o) c.instances)) r.1) ∙ e
 
   field_there : (token : ℕ) (desc : List ℕ) → option_map (λ (f : Member). f.desc) (option_and_then
       (slice_get (map field_of_class t.fields)) (field_of_token (assigned applets files) n token)) ≡ Some desc
@@ -311,9 +313,11 @@ module _ (applets : Bool) (list : List ℕ) (files : Files) (image : StaticImage
       by n t is_class same =
           let f = field_there applets files n t is_class token desc (subst (λ (x : Class). own_field_desc p token x
           ≡ Some desc) same own) in
-          let i = has_info offset cl e (ap (λ (x : Class). is_interface x.flags) same ∙ plain (is_interface t.flags) refl f)
+          let i = has_info offset cl e (ap (λ (x : Class). is_interface x.flags) same ∙ plain
+          (is_interface t.flags) refl f)
           in
-          let fields : fields_of files cl ≡ t.fields = ap (λ (x : Class). fields_of files x) same ∙ ap fields_in is_class
+          let fields : fields_of files cl ≡ t.fields = ap (λ (x : Class). fields_of files x) same
+          ∙ ap fields_in is_class
           in
           let cells = i.cells ∙ ap instance_cells fields in
           let first = i.first ∙ ap first_reference_token fields in
@@ -328,7 +332,8 @@ module _ (applets : Bool) (list : List ℕ) (files : Files) (image : StaticImage
           + b)) count
           ∙ ap (λ (x : ℕ). nat_le (first_reference_token t.fields) x && nat_lt x (first_reference_token t.fields
           + reference_count t.fields)) token_is ∙ span in
-          let kind = kind_said p f.field.desc type (typed n f.place t f.field is_class f.there) (descs n f.place t f.field
+          let kind = kind_said p f.field.desc type (typed n f.place t f.field is_class f.there)
+          (descs n f.place t f.field
           is_class f.there) (ap (type_of_desc p) f.desc_is ∙ is_type) in
           record {
             part = 0;

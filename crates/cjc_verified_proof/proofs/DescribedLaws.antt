@@ -1,11 +1,12 @@
 -- The methods of Method are those of the package, class by class, and Descriptor gives each the package's type.
 use Rattle.std.proofs.Common.{◌≡◌, ◌⊎◌, ℕ, zero, suc, ◌+◌, ◌-◌, ◌<◌, ◌≤◌, ◌==◌, refl, sym, ap, subst, ◌∙◌, arith, Bool}
-use Rattle.std.proofs.Common.{true, false, inl, inr, ⊎_elim, drop, List, [], ◌∷◌, ◌++◌, length, length-append, map, slice_get, Option}
+use Rattle.std.proofs.Common.{true, false, inl, inr, ⊎_elim, drop, List, [], ◌∷◌, ◌++◌, length, length-append, map}
+use Rattle.std.proofs.Common.{slice_get, Option}
 use Rattle.std.proofs.Common.{Some, None, append_assoc}
 use Rattle.std.specs.Prelude.{◌&&◌, cond, filter, flat_map, if◌then◌else◌, not, option_and_then, option_map}
 use Rattle.std.specs.List.{find}
 use Rattle.std.proofs.lemmas.List.Concat.{flat_map-cons}
-use Rattle.cjc_capread.specs.Bytes.AccessFlags.{is_interface}
+use Rattle.cjc_bytes.specs.AccessFlags.{is_interface}
 use Rattle.cjc_capread.specs.declared.tree.ClassDescriptor.{ClassDescriptor}
 use Rattle.cjc_capread.specs.declared.tree.ClassRef.{ClassRef}
 use Rattle.cjc_capread.specs.declared.tree.ClassRef.TheVariants.{Inside, Outside}
@@ -33,7 +34,8 @@ use Rattle.cjc_components.specs.Paired.Naming.{part_of}
 use Rattle.cjc_components.specs.Paired.Pairs.{ArePaired, cell_spots, count_spots, head_of, info_count, methods_spots}
 use Rattle.cjc_components.specs.Paired.Pairs as pairing
 use Rattle.cjc_verify.specs.Bodies.{Body, bodies, type_of_body}
-use Rattle.cjc_verify.specs.Described.{class_spots, described_spots, entry_spots, field_spots, member_token, method_spots}
+use Rattle.cjc_verify.specs.Described.{class_spots, described_spots, entry_spots, field_spots, member_token}
+use Rattle.cjc_verify.specs.Described.{method_spots}
 use Rattle.cjc_verify.specs.Described.{says, wanted_fields, class_token}
 use Rattle.cjc_verify.specs.Infos.{all_info_spots, class_spots as info_class_spots, info_spots, infos, interface_spots}
 use Rattle.cjc_verify.specs.Pairs.{Described, Pair, described, described_among, described_in, is_method_at, member_of}
@@ -43,7 +45,7 @@ use Rattle.cjc_bytes.proofs.Gets.{find_got, get_below, get_inside, item_there, m
 use Rattle.cjc_bytes.proofs.Lists.{length_mapped, map_append, none_left, none_right}
 use Rattle.cjc_bytes.proofs.Numbers.{number_same, number_same_number}
 use Rattle.cjc_bytes.proofs.Plain.{same_some}
-use Rattle.cjc_card_link.proofs.InfoPlaces.{all_starts as starts_of_infos}
+use Rattle.cjc_verify.proofs.CardLinkInfoPlaces.{all_starts as starts_of_infos}
 use Rattle.cjc_verified_proof.proofs.BodyLaws.{Under, body_stands, method_has_body, under, under_in, under_methods}
 use Rattle.cjc_cut_proof.proofs.CardLaws.{all_cut, class_refs_agree}
 use Rattle.cjc_cut_proof.proofs.CutLaws.{AreCut, code_beside}
@@ -158,7 +160,8 @@ as_listed d = record { holder = d.holder; method = d.method }
 abbrev pub is_plain : Described → Bool
 is_plain d = let c = d.class in not (is_interface c.flags)
 
-in_class : (cl : Class) (h : ClassRef) (fs : List Found) (ms : List MethodDescriptor) → length ms ≡ length fs → (b : Bool)
+in_class : (cl : Class) (h : ClassRef) (fs : List Found) (ms : List MethodDescriptor) → length ms ≡ length fs →
+    (b : Bool)
     → not (is_interface cl.flags) ≡ b → map as_listed (filter is_plain (described_in cl h fs ms))
     ≡ (if b then map (λ (m : MethodDescriptor). record { holder = h; method = m }) ms else [])
 in_class cl h [] [] e true f = refl
@@ -260,7 +263,8 @@ module _ (applets : Bool) (files : Files) (image : StaticImage) (c : Complete) (
         holder = h.2;
         own = ap (is_own_class c.class) h.2
             ∙ sym (class_refs_agree (part_of applets files image c) c refl (Inside h.0))
-            ∙ ap (λ o. is_class_info (option_and_then (slice_get (infos c.class)) o)) (number_back 2 (infos c.class) k h.0
+            ∙ ap (λ o. is_class_info (option_and_then (slice_get (infos c.class)) o)) (number_back 2
+            (infos c.class) k h.0
             at)
             ∙ ap is_class_info info.1
             ∙ of_kind info.0 cl.0 kind.0 kind.1;
@@ -288,7 +292,8 @@ module _ (applets : Bool) (files : Files) (image : StaticImage) (c : Complete) (
   all_flat : (order : List Class) (xs : List ClassDescriptor) → ((k : ℕ) (d : ClassDescriptor) → slice_get xs k ≡ Some d
       → (cl : Class) × (slice_get order k ≡ Some cl) × (is_own_class c.class d.this_class
       ≡ not (is_interface cl.flags)) × (length d.methods ≡ length (methods_of_class w cl)))
-      → map as_listed (filter is_plain (described_among w order xs)) ≡ flat_map under_in (filter (λ (d : ClassDescriptor).
+      → map as_listed (filter is_plain (described_among w order xs)) ≡ flat_map under_in (filter (λ
+      (d : ClassDescriptor).
       is_own_class c.class d.this_class) xs)
   all_flat [] [] all = refl
   all_flat [] (d ∷ xs) all = let r = all 0 d refl in let no = r.1 in absurd cc
@@ -398,7 +403,8 @@ module _ (applets : Bool) (files : Files) (image : StaticImage) (c : Complete) (
   pub body_own : (k : ℕ) (b : Body) → slice_get (bodies c) k ≡ Some b → IsOwn k b
   body_own k b e =
       let s = body_stands c whole k b e in
-      let r = mapped_at as_listed plain_ones k (record { holder = b.holder; method = b.method }) (ap (λ xs. slice_get xs k)
+      let r = mapped_at as_listed plain_ones k (record { holder = b.holder; method = b.method }) (ap
+      (λ xs. slice_get xs k)
       listed_so ∙ s.listed) in
       let m = b.method in
       let is_holder : (r.0).holder ≡ b.holder = ap (λ (x : Under). x.holder) r.2 in

@@ -3,7 +3,7 @@ use Rattle.std.proofs.Common.{◌≡◌, ◌+◌, ◌==◌, ℕ, Bool, true, fal
 use Rattle.std.proofs.Common.{slice_get, Option, Some, None, refl, sym, ap, subst, ◌∙◌, arith, ℤ, pos, negsuc}
 use Rattle.std.specs.Prelude.{if◌then◌else◌, option_and_then, option_map}
 use Rattle.std.proofs.lemmas.Bool.Decides.{nat_tests}
-use Rattle.cjc_capread.specs.Bytes.AccessFlags.{is_static}
+use Rattle.cjc_bytes.specs.AccessFlags.{is_static}
 use Rattle.cjc_capread.specs.Opcodes.{Byte, Index2}
 use Rattle.cjc_capread.specs.declared.tree.ClassRef.{ClassRef}
 use Rattle.cjc_capread.specs.declared.tree.MethodDescriptor.{MethodDescriptor}
@@ -11,14 +11,14 @@ use Rattle.cjc_capread.specs.declared.tree.PoolEntry.{PoolEntry}
 use Rattle.cjc_capread.specs.declared.tree.PoolEntry.TheVariants.{Classref, InstanceFieldref}
 use Rattle.cjc_capread.specs.declared.tree.PoolEntry.TheVariants.{VirtualMethodref, SuperMethodref}
 use Rattle.cjc_capread.specs.declared.tree.PoolEntry.TheVariants.{StaticFieldref, StaticMethodref}
-use Rattle.cjc_check_rules.specs.ExportFile.Writable.{IsWritable}
-use Rattle.cjc_check_rules.specs.ExportFile.declared.tree.ExportTree.{ExportTree}
+use Rattle.cjc_world.specs.ExportFile.Writable.{IsWritable}
+use Rattle.cjc_world.specs.ExportFile.declared.tree.ExportTree.{ExportTree}
 use Rattle.cjc_check_rules.specs.Spots.{in_info}
 use Rattle.cjc_check_rules.specs.Complete.{Complete}
 use Rattle.cjc_check_rules.specs.PoolEntries.{pool_spots}
 use Rattle.cjc_world.specs.declared.image.StaticImage.{StaticImage}
 use Rattle.cjc_world.specs.Files.{Files}
-use Rattle.cjc_card_semantics.specs.Script.Sorts.{Shape, OfClass, signature_of}
+use Rattle.cjc_script.specs.Sorts.{Shape, OfClass, signature_of}
 use Rattle.cjc_card_semantics.specs.Bytecode.Effects.{Call}
 use Rattle.cjc_card_semantics.specs.Bytecode.Machine.{Start}
 use Rattle.cjc_card_semantics.specs.Bytecode.Meanings.{CallsInterface, Special, Virtual}
@@ -31,7 +31,8 @@ use Rattle.cjc_card_semantics.specs.Machine.Dispatch.{dispatched_interface}
 use Rattle.cjc_card_semantics.specs.Machine.Methods.{Code}
 use Rattle.cjc_card_semantics.specs.Machine.Operations.{OnInterface, OnObject, OnSuper, operation, or_undone, token_of}
 use Rattle.cjc_card_semantics.specs.Machine.Operations as machine
-use Rattle.cjc_card_acts.specs.CardTypes.{MemberType, ValueType, both_of, needs_of_all, shape_by, type_by, types_in, widths}
+use Rattle.cjc_card_acts.specs.CardTypes.{MemberType, ValueType, both_of, needs_of_all, shape_by, type_by, types_in}
+use Rattle.cjc_card_acts.specs.CardTypes.{widths}
 use Rattle.cjc_verify.specs.Bodies.{type_of_body}
 use Rattle.cjc_verify.specs.ClassTypes.{class_type}
 use Rattle.cjc_verify.specs.Described.{is_entry_type}
@@ -107,7 +108,8 @@ module _ (applets : Bool) (files : Files) (image : StaticImage) (c : Complete) (
         let x = stands offset start in
         let m = x.typed (sym (ap is_abstract_start x.starts) ∙ concrete) in
         let types = types_so offset x d at same plain in
-        subst (λ (o : Option (Start Code)). IsReached l program (Some kind) t.params t.result (with_code o)) (sym x.starts)
+        subst (λ (o : Option (Start Code)). IsReached l program (Some kind) t.params t.result (with_code o))
+        (sym x.starts)
         (within x.start m.0 (Some (class_type d.holder)) m.1 m.2 (subst (λ (o : Option Described). both_of l (Some kind)
         (shape_by l (holder_in o)) ≡ true) at on) (m.3 ∙ ap (λ h. argument_cells h (let y = type_of_body c x.body
         in y.params)) (holder_so offset x d at same plain) ∙ ap (λ (y : MemberType). argument_cells (Some (class_type
@@ -124,7 +126,8 @@ module _ (applets : Bool) (files : Files) (image : StaticImage) (c : Complete) (
         let s = x.start in
         let count = taken_counted (Some type) t.params in
         let nargs = words_so offset x d at same plain in
-        let total : s.nargs ≡ length (needs_of_all t.params ++ receiver_needs (Some type)) = omega (arith, count, nargs) in
+        let total : s.nargs ≡ length (needs_of_all t.params ++ receiver_needs (Some type)) = omega
+        (arith, count, nargs) in
         ap (option_map (λ (m : Start Code). m.nargs)) x.starts ∙ ap (λ n. Some n) total
     counted_so type _ (of_file id signature same signed) =
         let s = sorts desc nibbles signature said signed in
@@ -184,7 +187,8 @@ module _ (applets : Bool) (files : Files) (image : StaticImage) (c : Complete) (
         let sel = dispatched (above (tower l v.named)) v.chosen in
         let selected : super_selection l token (class_of l 0 class) ≡ sel = ap (super_selection l token) v.meant
         ∙ ap (selected_above l v.named) v.token_is in
-        let not_abstract : is_abstract_selection p sel ≡ false = ap (is_abstract_selection p) (sym selected) ∙ concrete in
+        let not_abstract : is_abstract_selection p sel ≡ false = ap (is_abstract_selection p) (sym selected)
+        ∙ concrete in
         let t = type_by (types_in e.nibbles) in
         subst (λ (x : MemberType). Suits l program result (calling_on x type misnames) (or_undone (machine.using l 0
         (meanings.Calls Special) item))) (sym e.type_is)
@@ -226,11 +230,13 @@ module _ (applets : Bool) (files : Files) (image : StaticImage) (c : Complete) (
 
       -- what the act says, by the class that the entry means
       abbrev through : Option Class → Option MemberType
-      through o = option_map (λ nibbles. type_by (types_in nibbles)) (option_and_then (nibbles_of p) (interface_desc l token
+      through o = option_map (λ nibbles. type_by (types_in nibbles)) (option_and_then (nibbles_of p)
+          (interface_desc l token
           o))
 
       interface_suits : IsRight (calling_interface (class_type class) nargs (interface_type p class token))
-          → Suits l program result (calling_interface (class_type class) nargs (interface_type p class token)) (or_undone
+          → Suits l program result (calling_interface (class_type class) nargs (interface_type p class token))
+          (or_undone
           (option_map (λ (x : Class). Call (OnInterface nargs x token)) (class_of l 0 class)))
       interface_suits right = by_class (class_of l 0 class) refl right
         where

@@ -2,7 +2,7 @@
 use Rattle.std.proofs.Common.{◌≡◌, ◌+◌, ℕ, zero, suc, Bool, true, false, List, [], ◌∷◌, ◌++◌, length, map, slice_get}
 use Rattle.std.proofs.Common.{get_or, Option, Some, None, refl, sym, ap, ◌∙◌, arith}
 use Rattle.std.specs.Prelude.{option_and_then, option_map}
-use Rattle.cjc_capread.specs.Bytes.Breaks.{Break, Among, foremost}
+use Rattle.cjc_bytes.specs.Breaks.{Break, Among, foremost}
 use Rattle.cjc_capread.specs.declared.tree.ClassRef.TheVariants as refs
 use Rattle.cjc_capread.specs.declared.tree.StaticRef.TheVariants as statics
 use Rattle.cjc_capread.specs.declared.tree.PoolEntry.{PoolEntry}
@@ -16,7 +16,7 @@ use Rattle.cjc_check_rules.specs.Complete.{described_size}
 use Rattle.cjc_check_rules.specs.Described.{types_at}
 use Rattle.cjc_card_semantics.specs.Machine.Classes.{Own}
 use Rattle.cjc_card_acts.specs.CardTypes.{MemberType, type_at, type_by, type_of, types_in}
-use Rattle.cjc_card_calls.specs.World.Order.{class_order}
+use Rattle.cjc_world.specs.Order.{class_order}
 use Rattle.cjc_verify.specs.Described.{are_nibbles, class_spots, described_spots, entry_spots, is_entry_type}
 use Rattle.cjc_verify.specs.Described.{says, all_array_spots}
 use Rattle.cjc_verify.specs.Infos.{all_abstract_spots, all_info_spots, all_table_spots}

@@ -1,5 +1,6 @@
 -- Instructions on fields of the package, and those that make objects, are what their acts say.
-use Rattle.std.proofs.Common.{◌≡◌, ◌<◌, ◌+◌, ◌==◌, ◌^◌, ℕ, zero, suc, Bool, true, false, not, List, [], ◌∷◌, ◌++◌, slice_get}
+use Rattle.std.proofs.Common.{◌≡◌, ◌<◌, ◌+◌, ◌==◌, ◌^◌, ℕ, zero, suc, Bool, true, false, not, List, [], ◌∷◌, ◌++◌}
+use Rattle.std.proofs.Common.{slice_get}
 use Rattle.std.proofs.Common.{Option, Some, None, refl, sym, ap, subst, ◌∙◌, append-nil, length}
 use Rattle.std.specs.Prelude.{◌&&◌, if◌then◌else◌, is_some, option_and_then, option_map}
 use Rattle.cjc_capread.specs.declared.tree.ClassRef.{ClassRef}
@@ -11,19 +12,20 @@ use Rattle.cjc_capread.specs.declared.tree.PoolEntry.TheVariants.{Classref, Inst
 use Rattle.cjc_check_rules.specs.Complete.{Complete}
 use Rattle.cjc_world.specs.declared.image.StaticImage.{StaticImage}
 use Rattle.cjc_world.specs.Files.{Files}
-use Rattle.cjc_card_semantics.specs.Script.Sorts.{OfClass}
+use Rattle.cjc_script.specs.Sorts.{OfClass}
 use Rattle.cjc_card_semantics.specs.Bytecode.Effects.{Get, GetStatic, Letter, New, Put, PutStatic}
 use Rattle.cjc_card_semantics.specs.Bytecode.Meanings.{Gets, GetsStatic, Makes, Puts, PutsStatic, Use}
 use Rattle.cjc_card_semantics.specs.Machine.Loaded.{Import, Loaded, OfFile}
-use Rattle.cjc_card_semantics.specs.Machine.Classes.{Class, External, Field, Own, class_of, imported_class, is_interface}
+use Rattle.cjc_card_semantics.specs.Machine.Classes.{Class, External, Field, Own, class_of, imported_class}
+use Rattle.cjc_card_semantics.specs.Machine.Classes.{is_interface}
 use Rattle.cjc_card_semantics.specs.Machine.Classes.{is_there}
 use Rattle.cjc_card_semantics.specs.Machine.Operations.{Resolved, or_undone}
 use Rattle.cjc_card_semantics.specs.Machine.Operations as machine
 use Rattle.cjc_card_semantics.specs.Machine.Statics.{StaticCell}
-use Rattle.cjc_card_acts.specs.Frames.declared.acts.Act.{Act}
-use Rattle.cjc_card_acts.specs.Frames.declared.acts.Need.{Need}
-use Rattle.cjc_card_acts.specs.Frames.declared.acts.Need.TheVariants.{OfType}
-use Rattle.cjc_card_acts.specs.Frames.declared.acts.Given.TheVariants as given
+use Rattle.cjc_verify.specs.Frames.declared.acts.Act.{Act}
+use Rattle.cjc_verify.specs.Frames.declared.acts.Need.{Need}
+use Rattle.cjc_verify.specs.Frames.declared.acts.Need.TheVariants.{OfType}
+use Rattle.cjc_verify.specs.Frames.declared.acts.Given.TheVariants as given
 use Rattle.cjc_card_acts.specs.CardTypes.{MemberType, ValueType, is_moved_by, needs_of, shape_by, words}
 use Rattle.cjc_card_acts.specs.Rows.{idle, reading}
 use Rattle.cjc_components.specs.Paired.Naming.{files_from}
@@ -107,7 +109,8 @@ module _ (applets : Bool) (list : List ℕ) (files : Files) (image : StaticImage
           reads = reading 0 (OfType (class_type (Inside offset))) ∷ [];
           gives = words (typed_as k);
           misfits = b;
-        }) (Get true letter f)) (sym fit) (suits.getfield_this f letter (typed_as k) (class_type (Inside offset)) in_program
+        }) (Get true letter f)) (sym fit) (suits.getfield_this f letter (typed_as k) (class_type
+        (Inside offset)) in_program
         (true_of (is_moved_by letter (typed_as k)) fit) named))
 
     written : (this : Bool) (letter : Letter) → not (is_moved_by letter (typed_as k)) ≡ false
@@ -125,11 +128,13 @@ module _ (applets : Bool) (list : List ℕ) (files : Files) (image : StaticImage
           takes = needs;
           reads = reading 0 (OfType (class_type (Inside offset))) ∷ [];
           misfits = not (is_moved_by letter (typed_as k));
-        }) (Put true letter f)) (sym (append-nil (needs_of (typed_as k)))) (subst (λ b. Suits l program result (record idle {
+        }) (Put true letter f)) (sym (append-nil (needs_of (typed_as k)))) (subst (λ b. Suits l program result
+        (record idle {
           takes = needs_of (typed_as k);
           reads = reading 0 (OfType (class_type (Inside offset))) ∷ [];
           misfits = b;
-        }) (Put true letter f)) (sym fit) (suits.putfield_this f letter (typed_as k) (class_type (Inside offset)) in_program
+        }) (Put true letter f)) (sym fit) (suits.putfield_this f letter (typed_as k) (class_type
+        (Inside offset)) in_program
         (true_of (is_moved_by letter (typed_as k)) fit) named)))
 
   module _ (k offset : ℕ) (is : entry_of p k ≡ Some (StaticFieldref (statics.Inside offset))) where
@@ -157,13 +162,15 @@ module _ (applets : Bool) (list : List ℕ) (files : Files) (image : StaticImage
 
   -- an instruction on an instance field
   pub field_suits : (this : Bool) (letter : Letter) (r : ClassRef) (token k : ℕ) → entry_of p k
-      ≡ Some (InstanceFieldref r token) → IsRight (using p (Gets this letter) (entry_type p k) (InstanceFieldref r token))
+      ≡ Some (InstanceFieldref r token) → IsRight (using p (Gets this letter) (entry_type p k)
+      (InstanceFieldref r token))
       → Suit (Gets this letter) k (InstanceFieldref r token)
   field_suits this letter (Inside offset) token k is right = got k offset token is this letter right.fit
   field_suits this letter (Outside import class) token k is right = absurd (let no = right.named in cc)
 
   pub field_put_suits : (this : Bool) (letter : Letter) (r : ClassRef) (token k : ℕ) → entry_of p k
-      ≡ Some (InstanceFieldref r token) → IsRight (using p (Puts this letter) (entry_type p k) (InstanceFieldref r token))
+      ≡ Some (InstanceFieldref r token) → IsRight (using p (Puts this letter) (entry_type p k)
+      (InstanceFieldref r token))
       → Suit (Puts this letter) k (InstanceFieldref r token)
   field_put_suits this letter (Inside offset) token k is right = written k offset token is this letter right.fit
   field_put_suits this letter (Outside import class) token k is right = absurd (let no = right.named in cc)
@@ -194,7 +201,8 @@ module _ (applets : Bool) (list : List ℕ) (files : Files) (image : StaticImage
   made_so (Outside import token) class e unmade plain = by (slice_get (files_from 0 files.exports) import) refl e
     where
       there : (n : ℕ) (b : Bool) → (if b then Some (External n token) else None) ≡ Some class → is_made p class ≡ true
-      there n true f = subst (λ x. is_interface l x ≡ false → is_made p x ≡ true) (same_some f) (λ no. ap (λ b. not b) no)
+      there n true f = subst (λ x. is_interface l x ≡ false → is_made p x ≡ true) (same_some f) (λ no. ap
+          (λ b. not b) no)
           plain
       there n false f = absurd cc
 

@@ -1,11 +1,12 @@
 -- Calls of static methods, of constructors and of private methods are what their acts say.
-use Rattle.std.proofs.Common.{◌≡◌, ◌+◌, ◌==◌, ◌&&◌, ◌||◌, ℕ, zero, suc, Bool, true, false, not, List, [], ◌∷◌, ◌++◌, length}
+use Rattle.std.proofs.Common.{◌≡◌, ◌+◌, ◌==◌, ◌&&◌, ◌||◌, ℕ, zero, suc, Bool, true, false, not, List, [], ◌∷◌, ◌++◌}
+use Rattle.std.proofs.Common.{length}
 use Rattle.std.proofs.Common.{slice_get, Option, Some, None, refl, sym, ap, subst, ◌∙◌, arith}
 use Rattle.std.specs.Prelude.{cond, if◌then◌else◌, map, option_and_then, option_map}
 use Rattle.std.specs.List.{find}
 use Rattle.cjc_bytes.specs.Descriptor.{Parts}
 use Rattle.cjc_bytes.specs.Spots.{desc_of}
-use Rattle.cjc_capread.specs.Bytes.AccessFlags.{is_interface, is_static}
+use Rattle.cjc_bytes.specs.AccessFlags.{is_interface, is_static}
 use Rattle.cjc_capread.specs.declared.tree.ClassRef.TheVariants as refs
 use Rattle.cjc_capread.specs.declared.tree.MethodDescriptor.{MethodDescriptor}
 use Rattle.cjc_capread.specs.declared.tree.PoolEntry.{PoolEntry}
@@ -15,18 +16,18 @@ use Rattle.cjc_capread.specs.declared.tree.PoolEntry.TheVariants.{VirtualMethodr
 use Rattle.cjc_capread.specs.declared.tree.PoolEntry.TheVariants.{StaticFieldref, StaticMethodref}
 use Rattle.cjc_capread.specs.declared.tree.StaticRef.{StaticRef}
 use Rattle.cjc_capread.specs.declared.tree.StaticRef.TheVariants.{Inside, Outside}
-use Rattle.cjc_check_rules.specs.ExportFile.Members.{is_unbound, same_bool}
-use Rattle.cjc_check_rules.specs.ExportFile.Writable.{ClassFits, EachAfter, IsWritable, MethodFits, MethodStands}
-use Rattle.cjc_check_rules.specs.ExportFile.declared.tree.ExportClass.{ExportClass}
-use Rattle.cjc_check_rules.specs.ExportFile.declared.tree.ExportMethod.{ExportMethod}
-use Rattle.cjc_check_rules.specs.ExportFile.declared.tree.ExportTree.{ExportTree}
+use Rattle.cjc_world.specs.ExportFile.Members.{is_unbound, same_bool}
+use Rattle.cjc_world.specs.ExportFile.Writable.{ClassFits, EachAfter, IsWritable, MethodFits, MethodStands}
+use Rattle.cjc_world.specs.ExportFile.declared.tree.ExportClass.{ExportClass}
+use Rattle.cjc_world.specs.ExportFile.declared.tree.ExportMethod.{ExportMethod}
+use Rattle.cjc_world.specs.ExportFile.declared.tree.ExportTree.{ExportTree}
 use Rattle.cjc_check_rules.specs.Spots.{in_info, unless}
 use Rattle.cjc_check_rules.specs.Classes.{class_with, imported}
 use Rattle.cjc_check_rules.specs.Complete.{Complete}
 use Rattle.cjc_check_rules.specs.PoolEntries.{names_member, pool_spots}
 use Rattle.cjc_world.specs.declared.image.StaticImage.{StaticImage}
 use Rattle.cjc_world.specs.Files.{Files}
-use Rattle.cjc_card_semantics.specs.Script.Sorts.{Signature, result_by, signature_by, signature_of, sort_of}
+use Rattle.cjc_script.specs.Sorts.{Signature, result_by, signature_by, signature_of, sort_of}
 use Rattle.cjc_card_semantics.specs.Bytecode.Effects.{Call}
 use Rattle.cjc_card_semantics.specs.Bytecode.Meanings.{Mode, Special, Static, Virtual}
 use Rattle.cjc_card_semantics.specs.Bytecode.Meanings as meanings
@@ -101,7 +102,8 @@ method_signed exports written import token x e k m is = by (slice_get exports im
         let got = find_got (λ (c : ExportClass). c.token == token) t.classes x h in
         let fits = each_after ClassFits [] t.classes got.0 x w.classes got.1 in
         let fit = fits.1 in
-        let stands = each_after (MethodStands (is_interface x.flags) (length x.methods)) [] x.methods k m fit.methods is in
+        let stands = each_after (MethodStands (is_interface x.flags)
+        (length x.methods)) [] x.methods k m fit.methods is in
         fits_signed m (method_fits (is_interface x.flags) (length x.methods) stands.0 m stands.1)
 
 -- the static method of a token, found in either way
@@ -186,9 +188,11 @@ module _ (applets : Bool) (files : Files) (image : StaticImage) (c : Complete) (
       static_so b e = ap (λ (m : MethodDescriptor). is_static m.flags) (sym there.method) ∙ sym (ap (holds
           is_static_described) there.is_described) ∙ e
 
-      counted : (b : Bool) → names_static p (Inside offset) ≡ b → (let m = there.start in m.nargs) ≡ (if b then 0 else 1)
+      counted : (b : Bool) → names_static p (Inside offset) ≡ b → (let m = there.start in m.nargs) ≡
+          (if b then 0 else 1)
           + widths t.params
-      counted b e = there.words ∙ ap (λ x. (if x then 0 else 1) + widths (let y = type_of_body c there.body in y.params))
+      counted b e = there.words ∙ ap (λ x. (if x then 0 else 1) + widths
+          (let y = type_of_body c there.body in y.params))
           (static_so b e) ∙ ap (λ (x : MemberType). (if b then 0 else 1) + widths x.params) types_alike
 
       holder_so : (b : Bool) → names_static p (Inside offset) ≡ b → holder_type there.body ≡ (if b then None
@@ -227,7 +231,8 @@ module _ (applets : Bool) (files : Files) (image : StaticImage) (c : Complete) (
           let m = there.typed (concrete both.1) in
           let count = taken_counted (Some type) t.params in
           let nargs = counted false both.0 in
-          call (fixed_calls l program (calling t (receiver_needs (Some type)) calls_other) (Some type) t.params t.result refl
+          call (fixed_calls l program (calling t (receiver_needs (Some type)) calls_other)
+          (Some type) t.params t.result refl
           refl refl refl 0 offset there.start there.starts (omega (arith, count, nargs)) m.0 m.1 m.2 (m.3
           ∙ ap (λ x. argument_cells x (let y = type_of_body c there.body in y.params)) (holder_so false both.0 ∙ ap
           (λ x. Some x) type_so) ∙ ap (λ (x : MemberType). argument_cells (Some type) x.params) types_alike) (m.4
@@ -260,7 +265,8 @@ module _ (applets : Bool) (files : Files) (image : StaticImage) (c : Complete) (
           at x f (Some m) g h =
               let same : m.desc ≡ e.desc = cc in
               let there = outside_there applets files image c import class x f in
-              let got = find_got (λ (y : ExportMethod). (y.token == token) && is_unbound y.flags y.name) x.methods m g in
+              let got = find_got (λ (y : ExportMethod). (y.token == token) && is_unbound y.flags y.name) x.methods m g
+              in
               let sig = method_signed files.exports written import class x f got.0 m got.1 in
               record {
                 holder = x;
@@ -271,17 +277,20 @@ module _ (applets : Bool) (files : Files) (image : StaticImage) (c : Complete) (
                 wanted = ap (nibbles_of p) same ∙ e.wanted;
                 type_is = e.type_is;
                 meant = λ on. ap (option_and_then (method_through l on class token)) there.through
-                    ∙ ap (option_and_then (λ (y : ExportClass). option_map (outer on y.name) (unbound_of y.methods token)))
+                    ∙ ap (option_and_then (λ (y : ExportClass). option_map (outer on y.name)
+                    (unbound_of y.methods token)))
                     there.external_is ∙ ap (option_map (outer on x.name)) (sym (unbound_found token x.methods) ∙ g);
               }
 
-          by : (o : Option ExportClass) → exported p import class ≡ o → method_desc (option_and_then (static_method token)
+          by : (o : Option ExportClass) → exported p import class ≡ o → method_desc (option_and_then
+              (static_method token)
               o) ≡ Some e.desc → IsImportedMethod
           by None f h = cc
           by (Some x) f h = at x f (static_method token x) refl h
 
       -- a call of it, on a receiver or on none
-      pub outside_call : (receiver : Option (List ℕ)) (misnames : Bool) → (let x = imported_method in Suits l program result
+      pub outside_call : (receiver : Option (List ℕ)) (misnames : Bool) →
+          (let x = imported_method in Suits l program result
           (calling (entry_type p k) (receiver_needs receiver) misnames) (Call (outer (has_receiver receiver)
           (let h = x.holder in h.name) x.method)))
       outside_call receiver misnames =
@@ -290,7 +299,8 @@ module _ (applets : Bool) (files : Files) (image : StaticImage) (c : Complete) (
           let s = sorts m.desc x.nibbles x.signature x.wanted x.signed in
           let t = entry_type p k in
           let sig = x.signature in
-          call (outer_calls l program (calling t (receiver_needs receiver) misnames) receiver t.params t.result refl refl refl
+          call (outer_calls l program (calling t (receiver_needs receiver) misnames) receiver t.params t.result refl
+          refl refl
           refl (record { class = (let h = x.holder in h.name); name = m.name; desc = m.desc }) x.signature x.signed
           (subst (λ (y : MemberType). AreSorts l sig.params y.params) (sym x.type_is) s.0) (subst (λ (y : MemberType).
           IsResult l sig.result y.result) (sym x.type_is) s.1))
@@ -299,7 +309,8 @@ module _ (applets : Bool) (files : Files) (image : StaticImage) (c : Complete) (
 
     -- it is what its act says, by its mode and its entry
     abbrev Suits_by : Mode → (k : ℕ) → PoolEntry → Type 0
-    Suits_by mode k item = Suits l program result (using p (meanings.Calls mode) (entry_type p k) item) (machine.or_undone
+    Suits_by mode k item = Suits l program result (using p (meanings.Calls mode) (entry_type p k) item)
+        (machine.or_undone
         (machine.using l 0 (meanings.Calls mode) item))
 
     -- an act names what it may
@@ -314,7 +325,8 @@ module _ (applets : Bool) (files : Files) (image : StaticImage) (c : Complete) (
     fixed_suits Special k (Inside offset) is e named = special_inside k offset is named
     fixed_suits Static k (Outside import class token) is e named =
         let x = imported_method k import class token is in
-        let misnames = not (names_static p (Outside import class token)) || names_abstract p (Outside import class token)
+        let misnames = not (names_static p (Outside import class token)) || names_abstract p
+        (Outside import class token)
         in
         subst (λ (o : Option Callee). Suits l program result (calling (entry_type p k) [] misnames) (machine.or_undone
         (option_map Call o))) (sym (x.meant false)) (outside_call k import class token is None misnames)
@@ -322,7 +334,8 @@ module _ (applets : Bool) (files : Files) (image : StaticImage) (c : Complete) (
         let x = imported_method k import class token is in
         let misnames = names_static p (Outside import class token) || names_abstract p (Outside import class token) in
         let type = class_type (refs.Outside import class) in
-        subst (λ (o : Option Callee). Suits l program result (calling (entry_type p k) (receiver_needs (Some type)) misnames)
+        subst (λ (o : Option Callee). Suits l program result (calling (entry_type p k) (receiver_needs
+        (Some type)) misnames)
         (machine.or_undone (option_map Call o))) (sym (x.meant true)) (outside_call k import class token is (Some type)
         misnames)
 

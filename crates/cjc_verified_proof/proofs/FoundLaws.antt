@@ -1,16 +1,17 @@
--- The token of a virtual method that a name finds in a class, or in a class above it, is that of the method's slot there.
+-- The token of a virtual method that a name finds in a class, or in a class above it, is that of the method's slot
+-- there.
 use Rattle.std.proofs.Common.{◌≡◌, ℕ, zero, suc, ◌+◌, ◌-◌, ◌^◌, ◌<◌, ◌≤◌, ◌==◌, refl, sym, ap, subst, ◌∙◌, arith, Bool}
 use Rattle.std.proofs.Common.{true, false, List, [], ◌∷◌, ◌++◌, length, map, slice_get, Option, Some, None, nat_lt}
 use Rattle.std.specs.Prelude.{◌||◌, ◌&&◌, not, if◌then◌else◌, is_some, option_map, unwrap_or}
 use Rattle.std.specs.Str.{bytes_eq}
 use Rattle.cjc_bytes.specs.declared.fault.MemberId.{MemberId}
-use Rattle.cjc_capread.specs.Bytes.AccessFlags.{has, is_interface, is_private, is_static}
+use Rattle.cjc_bytes.specs.AccessFlags.{has, is_interface, is_private, is_static}
 use Rattle.cjc_capread.specs.declared.tree.ClassDescriptor.{ClassDescriptor}
 use Rattle.cjc_capread.specs.declared.tree.MethodDescriptor.{MethodDescriptor}
 use Rattle.cjc_check_rules.specs.Codes.{whole_spots}
 use Rattle.cjc_check_rules.specs.Complete.{Complete}
 use Rattle.cjc_check_rules.specs.Described.{all_starts, classes_in_order}
-use Rattle.cjc_list.specs.Listed.{ListTree}
+use Rattle.cjc_verify.specs.List.Listed.{ListTree}
 use Rattle.cjc_world.specs.ExportFile.Supers as exports
 use Rattle.cjc_world.specs.ExportFile.Supers.{virtual_method}
 use Rattle.cjc_world.specs.ExportFile.declared.tree.ExportClass.{ExportClass}
@@ -29,9 +30,9 @@ use Rattle.cjc_tokens.specs.Lines.{Declared, line_in, line_of}
 use Rattle.cjc_tokens.specs.Members.{In, Signature, all_methods, is_constructor, is_hidden, is_initialiser, is_shown}
 use Rattle.cjc_tokens.specs.Members.{is_virtual, signature_of}
 use Rattle.cjc_tokens.specs.Slots.{hidden_slots, slots, token}
-use Rattle.cjc_vtable.specs.Calls.{any_method, finds_hidden, finds_shown, passes}
+use Rattle.cjc_token_proof.specs.VTable.Calls.{any_method, finds_hidden, finds_shown, passes}
 use Rattle.cjc_tokens.specs.Members.{chosen}
-use Rattle.cjc_vtable.specs.Laws.{Under, below, itself}
+use Rattle.cjc_token_proof.specs.VTable.Laws.{Under, below, itself}
 use Rattle.cjc_card_semantics.specs.Machine.Calls.{acc_constructor, described_token, found_token, listed_token}
 use Rattle.cjc_card_semantics.specs.Machine.Calls.{token_in_files, token_or}
 use Rattle.cjc_card_semantics.specs.Machine.Calls as machine
@@ -44,7 +45,7 @@ use Rattle.cjc_components.specs.Descriptor.{no_member}
 use Rattle.cjc_components.specs.Class.{interface_entry}
 use Rattle.cjc_components.specs.Methods.{method_offset as written_offset}
 use Rattle.cjc_components.specs.Names.{class_at}
-use Rattle.cjc_components.specs.NCode.Lowering.Naming.{Naming}
+use Rattle.cjc_token_proof.specs.NCode.Lowering.Naming.{Naming}
 use Rattle.cjc_components.specs.Package.{Package}
 use Rattle.cjc_components.specs.Paired.Pairs.{ArePaired}
 use Rattle.cjc_token_proof.specs.Calls.Dispatching.{SaysTower, of_file, of_package}
@@ -71,14 +72,16 @@ use Rattle.cjc_token_proof.proofs.WrittenCalls.Found as founds
 use Rattle.cjc_token_proof.proofs.WrittenCalls.Towers.{line_is}
 use Rattle.cjc_token_proof.proofs.WrittenSends.Found as sought
 use Rattle.cjc_token_proof.proofs.WrittenSends.Order.{class_token, classes_token, listed_is, upwards_token}
-use Rattle.cjc_token_proof.proofs.WrittenSends.Tokens.{bound_described, hidden_described, shown_described, virtual_kinds}
+use Rattle.cjc_token_proof.proofs.WrittenSends.Tokens.{bound_described, hidden_described, shown_described}
+use Rattle.cjc_token_proof.proofs.WrittenSends.Tokens.{virtual_kinds}
 use Rattle.cjc_verified_proof.proofs.DescribedLaws.{described_said, find_there}
 use Rattle.cjc_verified_proof.proofs.NamingLaws.{kinds, number_alike, own_info, ref_same}
 use Rattle.cjc_verified_proof.proofs.ReachLaws.{IsNamed, declared_named}
 
 -- ---- tokens of methods
 
--- The token is that of the method of a signature in a class: of its slot, or, of a package-visible method that an export
+-- The token is that of the method of a signature in a class: of its slot, or, of a package-visible method that an
+-- export
 -- file lists, the one of the file.
 pub data IsTokenOf (es : List ExportClass) (w : List Class) (y : List ℕ) (s : Signature) : Token → Type 0 where
   of_open : (t : ℕ) → token (slots (line_of w y)) s ≡ Some t → IsTokenOf es w y s (Open t)
@@ -113,12 +116,14 @@ pub listed_there : (ms : List ExportMethod) (id : MemberId) (t : ℕ) → listed
 listed_there [] id t e = absurd cc
 listed_there (m ∷ ms) id t e = by (bytes_eq m.name id.name && bytes_eq m.desc id.desc) refl e (listed_there ms id t)
   where
-    virtual : (b : Bool) → exports.is_virtual m ≡ b → (if b then Some m.token else None) ≡ Some t → (exports.is_virtual m
+    virtual : (b : Bool) → exports.is_virtual m ≡ b → (if b then Some m.token else None) ≡ Some t →
+        (exports.is_virtual m
         ≡ true) × (m.token ≡ t)
     virtual true is f = (is, same_some f)
     virtual false is f = absurd cc
 
-    by : (b : Bool) → (bytes_eq m.name id.name && bytes_eq m.desc id.desc) ≡ b → (if b then Some (if exports.is_virtual m
+    by : (b : Bool) → (bytes_eq m.name id.name && bytes_eq m.desc id.desc) ≡ b → (if b then Some
+        (if exports.is_virtual m
         then Some m.token else None) else listed_token ms id) ≡ Some (Some t) → (listed_token ms id ≡ Some (Some t)
         → IsListed ms id t) → IsListed (m ∷ ms) id t
     by true is f more =
@@ -263,7 +268,8 @@ module _ (name : List ℕ) (list : ListTree) (files : Files) (image : StaticImag
   -- ---- imported classes
 
   abbrev Told : List ℕ → Option Found → Option (Option Token) → Type 0
-  Told y o t = sought.Told name q sound facts tokens (says_kinds name q sound) (let a = agree.calls in a.imported_calls) id
+  Told y o t = sought.Told name q sound facts tokens (says_kinds name q sound)
+      (let a = agree.calls in a.imported_calls) id
       y o t
 
   told_found : (y : List ℕ) (o : Option Found) (r : Option (Option Token)) → Told y o r → (t : Token)
@@ -302,7 +308,8 @@ module _ (name : List ℕ) (list : ListTree) (files : Files) (image : StaticImag
 
     some_found : (f : Found) × (first finds (line w x) ≡ Some f)
     some_found = told_found x (first finds (line w x)) (found_token (loaded q) (suc j) (Some (n.class x)) id)
-        (sought.files_told name q sound facts tokens (says_kinds name q sound) (let a = agree.calls in a.imported_calls) id x
+        (sought.files_told name q sound facts tokens (says_kinds name q sound)
+        (let a = agree.calls in a.imported_calls) id x
         k e import class_here j) t (ap (λ y. found_token (loaded q) (suc j) (Some y) id) on_card
         ∙ sym (ap (λ y. found_token l (suc j) (Some y) id) on_card) ∙ h)
 
@@ -319,7 +326,8 @@ module _ (name : List ℕ) (list : ListTree) (files : Files) (image : StaticImag
       is = by (is_virtual r.method) refl;
     }
       where
-        r : sought.FirstOf name q sound facts tokens (says_kinds name q sound) (let a = agree.calls in a.imported_calls) id ds
+        r : sought.FirstOf name q sound facts tokens (says_kinds name q sound)
+            (let a = agree.calls in a.imported_calls) id ds
             some_found.0
         r = sought.classes_some name q sound facts tokens (says_kinds name q sound) (let a = agree.calls
             in a.imported_calls) id ds some_found.0 (subst (founds.AllNamed w) line_here (founds.line_named w x))
@@ -333,13 +341,15 @@ module _ (name : List ℕ) (list : ListTree) (files : Files) (image : StaticImag
             → IsTokenOf es w x s (Open (let m = r.method in m.token))
         token_here one true shown =
             let once = facts.tokens_once x x k k e class_here e itself in
-            of_open (let m = r.method in m.token) (ap (token (slots (line_of w x))) (sym r.names) ∙ once.listed k r.method
+            of_open (let m = r.method in m.token) (ap (token (slots (line_of w x))) (sym r.names)
+            ∙ once.listed k r.method
             e import r.among shown)
         token_here one false not_shown =
             let g = r.selected one in
             let u = entry in
             let given = line_given (u.entry ∷ exports.upwards es (let y = u.entry in y.supers)) id (let m = r.method
-            in m.token) (listed ∙ r.says ∙ ap (λ b. Some (if b then Some (let m = r.method in m.token) else None)) one) in
+            in m.token) (listed ∙ r.says ∙ ap (λ b. Some (if b then Some
+            (let m = r.method in m.token) else None)) one) in
             of_import u.number u.entry r.method (e ∙ ap (λ y. Some y) u.class) (subst (λ (y : Class). In r.method
             (y.methods ++ all_methods (upwards (supertypes w y.supers)))) u.class r.among) (virtual_kinds r.method one
             not_shown) r.names g.0 (ap (first selects) line_here ∙ g.1) given.0 given.1
@@ -372,7 +382,8 @@ module _ (name : List ℕ) (list : ListTree) (files : Files) (image : StaticImag
           let h = facts.own x k e own in
           let same : h.offset ≡ at = own_at h.offset at (sym h.on_card ∙ ap (class_at q) (class_named-name w x k e)
           ∙ on_card) in
-          let place : r.place ≡ h.number = same_some (sym r.at ∙ number_alike name list files image c sound paired verified
+          let place : r.place ≡ h.number = same_some (sym r.at
+          ∙ number_alike name list files image c sound paired verified
           at ∙ ap (card.number_from 2 (card.infos (part q))) (sym same) ∙ h.numbered) in
           same_some (sym r.in_order ∙ ap (slice_get (class_order w)) place ∙ h.ordered)
 
@@ -383,7 +394,8 @@ module _ (name : List ℕ) (list : ListTree) (files : Files) (image : StaticImag
 
       named_so : (i : ℕ) (y : Member) → slice_get k.methods i ≡ Some y → (let z = r.it in z.member)
           ≡ member_at k (length k.fields + i) → member_of p r.it ≡ y
-      named_so i y there is = ap (λ (z : Class). method_in w z (let v = r.it in let f = v.member in f.member)) class_same
+      named_so i y there is = ap (λ (z : Class). method_in w z
+          (let v = r.it in let f = v.member in f.member)) class_same
           ∙ ap (λ (f : Found). method_in w k f.member) is ∙ in_is i y there
 
       name_is : (let y = got.1 in y.name) ≡ id.name
@@ -410,7 +422,8 @@ module _ (name : List ℕ) (list : ListTree) (files : Files) (image : StaticImag
       abbrev other : MethodDescriptor
       other = method_descriptor q k (member_at k (length k.fields + first_one.1))
 
-      same_token : described_token (record { part = 0; method = m }) ≡ described_token (record { part = 0; method = other })
+      same_token : described_token (record { part = 0; method = m }) ≡ described_token
+          (record { part = 0; method = other })
       same_token =
           let said = described_said applets files image c whole ordered paired verified r.number r.it r.listed in
           let is = got.3 ∙ first_one.3 in
@@ -440,7 +453,8 @@ module _ (name : List ℕ) (list : ListTree) (files : Files) (image : StaticImag
               ∙ ap (λ o. passes is_shown o (finds_shown (line_in w (supertypes w k.supers)) s)) first_one.6 ∙ shown in
               let calls = facts.virtual_calls x x k k e class_here e itself in
               let z = calls.open_method s finds_it in
-              let told : described_token (record { part = 0; method = other }) ≡ Some (Open z.0) = shown_described name q
+              let told : described_token (record { part = 0; method = other }) ≡ Some
+              (Open z.0) = shown_described name q
               sound facts x k e own class_here first_one.1 first_one.0 first_one.2 one shown z.0
               (ap (token (slots (line_of w x))) names ∙ z.1) (tokens x k s z.0 e class_here z.1) in
               subst (IsTokenOf es w x s) (same_some (sym told ∙ is)) (of_open z.0 z.1)
@@ -450,18 +464,22 @@ module _ (name : List ℕ) (list : ListTree) (files : Files) (image : StaticImag
               ∙ virtual_kinds method one not_shown in
               let calls = facts.virtual_calls x x k k e class_here e itself in
               let z = calls.package_method s finds_it in
-              let told : described_token (record { part = 0; method = other }) ≡ Some (Hidden 0 z.0) = hidden_described name
+              let told : described_token (record { part = 0; method = other }) ≡ Some
+              (Hidden 0 z.0) = hidden_described name
               q sound facts x k e own class_here first_one.1 first_one.0 first_one.2 one not_shown z.0
               (ap (token (hidden_slots (line_of w x))) names ∙ z.1) in
-              let low = hidden_low (is_static m.flags || (is_private m.flags || has m.flags acc_constructor)) m.token z.0
+              let low = hidden_low (is_static m.flags || (is_private m.flags || has m.flags acc_constructor)) m.token
+              z.0
               (bytes r.at_class r.holder r.holder_is r.at_method m r.method_is) (same_token ∙ told) in
               subst (IsTokenOf es w x s) (same_some (sym told ∙ is)) (of_hidden z.0 low z.1)
 
           by : (b : Bool) → is_virtual method ≡ b → IsTokenOf es w x s t
           by true one = shown_token one (is_shown method) refl
           by false not_one = (let none : None ≡ Some t = sym (bound_described name q sound facts x k e own class_here
-              first_one.1 first_one.0 first_one.2 (fixed (is_static (let y = method in y.flags)) (is_private (let y = method
-              in y.flags)) (is_constructor (let y = method in y.name)) (is_initialiser (let y = method in y.name)) not_one
+              first_one.1 first_one.0 first_one.2 (fixed (is_static (let y = method in y.flags)) (is_private
+              (let y = method
+              in y.flags)) (is_constructor (let y = method in y.name)) (is_initialiser
+              (let y = method in y.name)) not_one
               plain)) ∙ is in absurd cc)
 
   -- ---- a class and those above it
@@ -469,16 +487,19 @@ module _ (name : List ℕ) (list : ListTree) (files : Files) (image : StaticImag
   -- one step upwards
   step : (x super : List ℕ) (k : Class) (j at : ℕ) → class_named w x ≡ Some k → k.is_imported ≡ false
       → is_interface k.flags ≡ false → k.supers ≡ super ∷ [] → n.class x ≡ Own 0 at → found_token l (suc (suc j))
-      (Some (n.class x)) id ≡ token_or (machine.declared l (Own 0 at) id) (found_token l (suc j) (Some (n.class super)) id)
+      (Some (n.class x)) id ≡ token_or (machine.declared l (Own 0 at) id) (found_token l (suc j) (Some
+      (n.class super)) id)
   step x super k j at e own class_here supers on_card =
       let h = facts.own x k e own in
-      let same : h.offset ≡ at = own_at h.offset at (sym h.on_card ∙ ap (class_at q) (class_named-name w x k e) ∙ on_card) in
+      let same : h.offset ≡ at = own_at h.offset at (sym h.on_card ∙ ap (class_at q) (class_named-name w x k e)
+      ∙ on_card) in
       let told = kinds name list files image c sound paired verified in
       let up = facts.super_there x super k e own supers in
       let above : superclass_by l 0 (card.info_of l 0 at) ≡ Some (n.class super) =
       ap (λ m. superclass_by l 0 (card.info_of l 0 m)) (sym same)
       ∙ ap (superclass_by l 0) (own_info name list files image c sound paired verified k h)
-      ∙ ap (λ b. superclass_by l 0 (Some (if b then card.IsInterface (interface_entry (class_ref p) w k) else card.IsClass
+      ∙ ap (λ b. superclass_by l 0 (Some (if b then card.IsInterface (interface_entry
+      (class_ref p) w k) else card.IsClass
       (wanted_class p k)))) class_here
       ∙ ap (λ ss. card.class_of l 0 (class_ref p (unwrap_or (slice_get ss 0) []))) supers
       ∙ ap (card.class_of l 0) (ref_same name list files image c sound paired verified super)
@@ -487,7 +508,8 @@ module _ (name : List ℕ) (list : ListTree) (files : Files) (image : StaticImag
       ∙ ap (λ o. token_or (machine.declared l (Own 0 at) id) (found_token l (suc j) o id)) above
 
   -- The method that is found from a class has a token there, or in a class above it.
-  pub found : {h : ℕ} {x z : List ℕ} → SaysTower w (naming q) (written_offset q) h x z → (k : Class) → class_named w x ≡ Some k
+  pub found : {h : ℕ} {x z : List ℕ} → SaysTower w (naming q) (written_offset q) h x z → (k : Class) → class_named w x
+      ≡ Some k
       → is_interface k.flags ≡ false → (j : ℕ) → h ≤ j → (t : Token) → found_token l (suc j) (Some (n.class x)) id
       ≡ Some (Some t) → HasToken es w x s t
   found {x = x} (of_file d known import file) k e class_here j low t h =
@@ -514,7 +536,8 @@ module _ (name : List ℕ) (list : ListTree) (files : Files) (image : StaticImag
         is = r.is;
       }
 
-      by : (o : Option machine.Described) → machine.declared l (Own 0 tables.at) id ≡ o → token_or o (found_token l (suc j)
+      by : (o : Option machine.Described) → machine.declared l (Own 0 tables.at) id ≡ o → token_or o (found_token l
+          (suc j)
           (Some (n.class super)) id) ≡ Some (Some t) → (found_token l (suc j) (Some (n.class super)) id ≡ Some (Some t)
           → HasToken es w super s t) → HasToken es w x s t
       by None f g more = lower (more g)

@@ -5,7 +5,7 @@ use Rattle.std.proofs.Common.{◌≡◌, [], ℕ, zero, suc, ◌+◌, ◌<◌, B
 use Rattle.std.proofs.Common.{Option, Some, None, refl, sym, ap, subst, ◌∙◌, arith}
 use Rattle.std.specs.Prelude.{◌&&◌, ◌||◌, not, codes, if◌then◌else◌, option_map, position}
 use Rattle.std.specs.Str.{bytes_eq}
-use Rattle.cjc_capread.specs.Bytes.AccessFlags.{is_interface, is_private, is_static}
+use Rattle.cjc_bytes.specs.AccessFlags.{is_interface, is_private, is_static}
 use Rattle.cjc_world.specs.declared.found.Found.{Found}
 use Rattle.cjc_world.specs.Added.{added}
 use Rattle.cjc_world.specs.Classes.{Class, Member, class_named}
@@ -21,7 +21,7 @@ use Rattle.cjc_tokens.specs.Members.{is_virtual}
 use Rattle.cjc_tokens.specs.Members.{signature_of}
 use Rattle.cjc_tokens.specs.Slots.{got, implementing, implementing_hidden, own}
 use Rattle.cjc_tokens.proofs.Facts.{same-true}
-use Rattle.cjc_vtable.specs.Laws.{Under, below, itself, selection}
+use Rattle.cjc_token_proof.specs.VTable.Laws.{Under, below, itself, selection}
 use Rattle.cjc_components.specs.Descriptor.{as_added, methods_with_added}
 use Rattle.cjc_components.specs.Package.{Package, world}
 use Rattle.cjc_bytes.proofs.Bools.{and_true}

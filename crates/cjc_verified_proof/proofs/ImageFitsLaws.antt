@@ -7,7 +7,7 @@ use Rattle.std.specs.Str.{bytes_eq}
 use Rattle.std.specs.List.{find}
 use Rattle.std.proofs.lemmas.List.Sums.{sum_by-cons, sum_by-append}
 use Rattle.cjc_bytes.specs.Spots.{after, bad_at, desc_of, parts_of, types_from}
-use Rattle.cjc_capread.specs.Bytes.declared.fault.MemberId.{MemberId}
+use Rattle.cjc_bytes.specs.declared.fault.MemberId.{MemberId}
 use Rattle.cjc_capread.specs.declared.tree.ClassRef.{ClassRef}
 use Rattle.cjc_capread.specs.declared.tree.ClassRef.TheVariants.{Inside, Outside}
 use Rattle.cjc_capread.specs.declared.tree.StaticField.{StaticField}
@@ -20,8 +20,9 @@ use Rattle.cjc_world.specs.declared.image.ValueCell.{ValueCell}
 use Rattle.cjc_world.specs.declared.image.StaticImage.{StaticImage}
 use Rattle.cjc_world.specs.Classes.{all_classes}
 use Rattle.cjc_world.specs.Files.{Files}
-use Rattle.cjc_ncode.specs.PoolOrder.{same_member}
-use Rattle.cjc_script.specs.Sorts.{Element, Booleans, Bytes, Shorts, Ints, Shape, OfClass, OfNumbers, OfReferences, Sort}
+use Rattle.cjc_token_proof.specs.NCode.PoolOrder.{same_member}
+use Rattle.cjc_script.specs.Sorts.{Element, Booleans, Bytes, Shorts, Ints, Shape, OfClass, OfNumbers, OfReferences}
+use Rattle.cjc_script.specs.Sorts.{Sort}
 use Rattle.cjc_script.specs.Sorts.{Boolean, Byte, Short, Int, Reference, NoValue, field_sort}
 use Rattle.cjc_card_semantics.specs.Machine.Loaded.{Loaded}
 use Rattle.cjc_card_semantics.specs.Machine.Statics.{StaticCell, element_of}
@@ -322,7 +323,8 @@ module _ (applets : Bool) (files : Files) (image : StaticImage) (c : Complete) (
                 at = o;
                 there = lt;
                 array = λ a e. (
-                    let b = beside_none array_size array_spots 6 st.array_inits (cell_order image) place a f arrays_none e
+                    let b = beside_none array_size array_spots 6 st.array_inits
+                    (cell_order image) place a f arrays_none e
                     ordered in
                     array_shape p.loaded (class_ref p) f.desc shape a.type_ g (unless_holds (is_number a.type_
                     (array_number f.desc)) (in_info 8 b.0) b.1)
@@ -352,5 +354,6 @@ module _ (applets : Bool) (files : Files) (image : StaticImage) (c : Complete) (
       by cell type false is h = cc
       by cell type true is h = (
         number_same cell.part 0 is,
-        in_order cell.offset type (find (λ (f : MemberId). cell_offset image f == cell.offset) (cell_order image)) refl h,
+        in_order cell.offset type (find (λ (f : MemberId). cell_offset image f == cell.offset)
+            (cell_order image)) refl h,
       )

@@ -3,7 +3,7 @@ use Rattle.std.proofs.Common.{◌≡◌, ◌+◌, ◌*◌, ◌==◌, ◌&&◌, �
 use Rattle.std.proofs.Common.{map, slice_get, Some, refl, sym, ap, subst, ◌∙◌, arith, length-append}
 use Rattle.std.specs.Prelude.{if◌then◌else◌}
 use Rattle.std.proofs.lemmas.List.{length-map, map-append, map-id}
-use Rattle.cjc_capread.specs.Bytes.AccessFlags.{is_interface}
+use Rattle.cjc_bytes.specs.AccessFlags.{is_interface}
 use Rattle.cjc_capread.specs.declared.tree.ClassEntry.{ClassEntry}
 use Rattle.cjc_capread.specs.declared.tree.ClassRef.{ClassRef}
 use Rattle.cjc_capread.specs.declared.tree.ClassRef.TheVariants.{Inside, Outside}
@@ -26,13 +26,14 @@ use Rattle.cjc_components.specs.Class.{fields_of, first_reference_token, impleme
 use Rattle.cjc_components.specs.Class.{reference_count, superclass}
 use Rattle.cjc_components.specs.Paired.Pairs.{ArePaired, cell_spots, count_spots, head_of as first_of, info_count}
 use Rattle.cjc_components.specs.Paired.Pairs.{method_spots as paired_methods}
-use Rattle.cjc_components.specs.VTable.Tables.{table_of}
-use Rattle.cjc_components.specs.VTable.declared.table.ClassTable.{ClassTable}
-use Rattle.cjc_components.specs.VTable.declared.table.InterfaceMap.{InterfaceMap}
+use Rattle.cjc_token_proof.specs.VTable.Tables.{table_of}
+use Rattle.cjc_token_proof.specs.VTable.declared.table.ClassTable.{ClassTable}
+use Rattle.cjc_token_proof.specs.VTable.declared.table.InterfaceMap.{InterfaceMap}
 use Rattle.cjc_token_proof.specs.Tables.Sound.{IsSound}
 use Rattle.cjc_verify.specs.Described.{all_array_spots, described_spots}
 use Rattle.cjc_verify.specs.Infos.{all_abstract_spots, all_info_spots, all_table_spots, class_spots, entries_differ}
-use Rattle.cjc_verify.specs.Infos.{head_of, info_spots, infos, interface_refs, interface_spots, map_interface, map_spots}
+use Rattle.cjc_verify.specs.Infos.{head_of, info_spots, infos, interface_refs, interface_spots, map_interface}
+use Rattle.cjc_verify.specs.Infos.{map_spots}
 use Rattle.cjc_verify.specs.Infos.{public_entry, refs_differ, table_items, table_spots}
 use Rattle.cjc_verify.specs.Pairs.{Pair, class_ref, method_offset, pair_of, world}
 use Rattle.cjc_verify.specs.Verified.{IsVerified, class_breaks, header_breaks, listed}
@@ -41,7 +42,7 @@ use Rattle.cjc_bytes.proofs.BrokenRules.{among_left, among_right}
 use Rattle.cjc_bytes.proofs.Bools.{and_true}
 use Rattle.cjc_bytes.proofs.Lists.{none_left, none_right}
 use Rattle.cjc_bytes.proofs.Numbers.{number_same}
-use Rattle.cjc_vtable.proofs.Filed.{Has, get-has}
+use Rattle.cjc_components.proofs.VTableFiled.{Has, get-has}
 use Rattle.cjc_token_proof.proofs.TablesLaws.Order.{kind-in}
 use Rattle.cjc_verified_proof.proofs.EntryLaws.{no_spots, unless_holds}
 
@@ -58,7 +59,8 @@ both_same size one two f h at (x ∷ xs) [] l d e = absurd (omega (arith, l))
 both_same size one two f h at (x ∷ xs) (y ∷ ys) l d e =
     let first = h at x y (none_left (one at x y) (beside size one (at + size x) xs ys) d) (none_left (two at x y)
     (beside size two (at + size x) xs ys) e) in
-    let rest = both_same size one two f h (at + size x) xs ys (omega (arith, l)) (none_right (one at x y) (beside size one
+    let rest = both_same size one two f h (at + size x) xs ys (omega (arith, l)) (none_right (one at x y)
+    (beside size one
     (at + size x) xs ys) d) (none_right (two at x y) (beside size two (at + size x) xs ys) e) in
     ap (λ z. z ∷ xs) first ∙ ap (λ zs. f y ∷ zs) rest
 
@@ -79,7 +81,8 @@ ref_same (Outside i a) (Inside b) e = cc
 refs_same : (at : ℕ) (refs wanted : List ClassRef) → length refs ≡ length wanted → refs_differ at refs wanted ≡ []
     → refs ≡ wanted
 refs_same at refs wanted l e = each_same (λ (r : ClassRef). 2) (λ (n : ℕ) (r w : ClassRef). unless (same_class r w)
-    (in_info 6 n)) (λ (w : ClassRef). w) (λ n r w h. ref_same r w (unless_holds (same_class r w) (in_info 6 n) h)) at refs
+    (in_info 6 n)) (λ (w : ClassRef). w) (λ n r w h. ref_same r w (unless_holds (same_class r w)
+    (in_info 6 n) h)) at refs
     wanted l e ∙ map-id wanted
 
 numbers_same : (n : ℕ) (broken : ℕ → ℕ → ℕ → List ComponentPlace) → ((at x y : ℕ) → broken at x y ≡ unless (x == y)
@@ -90,7 +93,8 @@ numbers_same n broken is at xs ys l e = each_same (λ (b : ℕ). n) broken (λ (
 
 -- ---- a class by its items
 
-entry_is : (x : ClassEntry) (flags : ℕ) (super : ClassRef) (size first count base hidden : ℕ) (public hidden_ones : List ℕ)
+entry_is : (x : ClassEntry) (flags : ℕ) (super : ClassRef) (size first count base hidden : ℕ)
+    (public hidden_ones : List ℕ)
     (maps : List ImplementedInterface) → x.flags ≡ flags → x.superclass ≡ super → x.declared_instance_size ≡ size
     → x.first_reference_token ≡ first → x.reference_count ≡ count → x.public_base ≡ base → x.package_base ≡ hidden
     → x.public_methods ≡ public → x.package_methods ≡ hidden_ones → x.interfaces ≡ maps → x ≡ record {
@@ -207,11 +211,13 @@ module _ (p : Pair) where
       let ab = none_left (a ++ b) differ e in
       let ref = ref_same m.interface (class_ref p w.interface) (unless_holds (same_class m.interface (class_ref p
       w.interface)) (in_info 6 at) (none_left a b ab)) in
-      let long = number_same (length m.index) (length w.index) (unless_holds (length m.index == length w.index) (in_info 6
+      let long = number_same (length m.index) (length w.index) (unless_holds (length m.index == length w.index)
+      (in_info 6
       (at + 2)) (none_right a b ab)) in
       let index = numbers_same 1 (λ (n x y : ℕ). unless (x == y) (in_info 6 n)) (λ n x y. refl) (at + 3) m.index w.index
       long (none_right (a ++ b) differ e) in
-      ap (λ v. record m { interface = v }) ref ∙ ap (λ v. record { interface = class_ref p w.interface; index = v }) index
+      ap (λ v. record m { interface = v }) ref ∙ ap (λ v. record { interface = class_ref p w.interface; index = v })
+      index
 
   module _ (at below : ℕ) (x : ClassEntry) (c : Class) (one : class_spots p at x c ≡ [])
       (two : table_items p below x (table_of (world p) c) ≡ []) where
@@ -222,7 +228,8 @@ module _ (p : Pair) where
     class_same =
         let fields = fields_of p.files c in
         let maps = beside map_size (map_interface p) (maps_begin at x) x.interfaces t.maps in
-        let s1 = unless ((x.flags == info_flags (world p) c) && (length x.interfaces == length t.maps)) (in_info 6 at) in
+        let s1 = unless ((x.flags == info_flags (world p) c) && (length x.interfaces == length t.maps))
+        (in_info 6 at) in
         let s2 = unless (same_class x.superclass (class_ref p (superclass c))) (in_info 6 (at + 1)) in
         let s3 = unless (x.declared_instance_size == instance_cells fields) (in_info 6 (at + 3)) in
         let s4 = unless (x.first_reference_token == first_reference_token fields) (in_info 6 (at + 4)) in
@@ -234,11 +241,13 @@ module _ (p : Pair) where
         let flags = and_true (x.flags == info_flags (world p) c) (length x.interfaces == length t.maps) (unless_holds
         ((x.flags == info_flags (world p) c) && (length x.interfaces == length t.maps)) (in_info 6 at) (none_left s1 s2
         e2)) in
-        let super = unless_holds (same_class x.superclass (class_ref p (superclass c))) (in_info 6 (at + 1)) (none_right s1
+        let super = unless_holds (same_class x.superclass (class_ref p (superclass c))) (in_info 6 (at + 1))
+        (none_right s1
         s2 e2) in
         let size = unless_holds (x.declared_instance_size == instance_cells fields) (in_info 6 (at + 3)) (none_right (s1
         ++ s2) s3 e3) in
-        let first = unless_holds (x.first_reference_token == first_reference_token fields) (in_info 6 (at + 4)) (none_right
+        let first = unless_holds (x.first_reference_token == first_reference_token fields) (in_info 6 (at + 4))
+        (none_right
         ((s1 ++ s2) ++ s3) s4 e4) in
         let count = unless_holds (x.reference_count == reference_count fields) (in_info 6 (at + 5)) (none_right (((s1
         ++ s2) ++ s3) ++ s4) s5 e5) in
@@ -272,10 +281,12 @@ module _ (p : Pair) where
         x.package_methods) (length t.«package») longer ∙ sym (length-map t.«package» (method_offset p))) (none_right
         (((((t1 ++ t2) ++ t3) ++ t4) ++ t5) ++ t6) t7 d7) in
         let mapped = each_same map_size (map_spots p) (implemented (class_ref p)) map_same (maps_begin below x)
-        x.interfaces t.maps (number_same (length x.interfaces) (length t.maps) flags.1) (none_right ((((((t1 ++ t2) ++ t3)
+        x.interfaces t.maps (number_same (length x.interfaces) (length t.maps) flags.1) (none_right ((((((t1 ++ t2)
+        ++ t3)
         ++ t4) ++ t5) ++ t6) ++ t7) t8 two) in
         entry_is x (info_flags (world p) c) (class_ref p (superclass c)) (instance_cells fields) (first_reference_token
-        fields) (reference_count fields) t.public_base t.package_base (map (public_entry p) t.public) (map (method_offset
+        fields) (reference_count fields) t.public_base t.package_base (map (public_entry p) t.public) (map
+        (method_offset
         p) t.«package») (map (implemented (class_ref p)) t.maps) (number_same x.flags (info_flags (world p) c) flags.0)
         (ref_same x.superclass (class_ref p (superclass c)) super) (number_same x.declared_instance_size (instance_cells
         fields) size) (number_same x.first_reference_token (first_reference_token fields) first) (number_same
@@ -291,19 +302,24 @@ module _ (p : Pair) where
       by (IsInterface e) true is h g =
           let spots : interface_spots p at e c ≡ [] = sym (ap (λ b. if b then interface_spots p at e c else in_info 6 at
           ∷ []) is) ∙ h in
-          ap IsInterface (interface_same at e c spots) ∙ sym (ap (λ b. if b then IsInterface (interface_entry (class_ref p)
+          ap IsInterface (interface_same at e c spots) ∙ sym (ap (λ b. if b then IsInterface (interface_entry
+          (class_ref p)
           (world p) c) else IsClass (wanted_class p c)) is)
-      by (IsInterface e) false is h g = let no : in_info 6 at ∷ [] ≡ [] = sym (ap (λ b. if b then interface_spots p at e c
+      by (IsInterface e) false is h g = let no : in_info 6 at ∷ [] ≡ [] = sym (ap
+          (λ b. if b then interface_spots p at e c
           else in_info 6 at ∷ []) is) ∙ h in cc
       by (IsClass e) true is h g = let no : in_info 6 at ∷ [] ≡ [] = sym (ap (λ b. if b then in_info 6 at ∷ []
           else class_spots p at e c) is) ∙ h in cc
       by (IsClass e) false is h g =
-          let spots : class_spots p at e c ≡ [] = sym (ap (λ b. if b then in_info 6 at ∷ [] else class_spots p at e c) is)
+          let spots : class_spots p at e c ≡ [] = sym (ap (λ b. if b then in_info 6 at ∷ [] else class_spots p at e c)
+          is)
           ∙ h in
           let tables : head_of (table_items p below e (table_of (world p) c)) ≡ [] = sym (ap (λ b. if b then []
           else head_of (table_items p below e (table_of (world p) c))) is) ∙ g in
-          ap IsClass (class_same at below e c spots (no_head (table_items p below e (table_of (world p) c)) tables)) ∙ sym
-          (ap (λ b. if b then IsInterface (interface_entry (class_ref p) (world p) c) else IsClass (wanted_class p c)) is)
+          ap IsClass (class_same at below e c spots (no_head (table_items p below e (table_of (world p) c)) tables))
+          ∙ sym
+          (ap (λ b. if b then IsInterface (interface_entry (class_ref p) (world p) c) else IsClass
+          (wanted_class p c)) is)
 
 -- ---- interfaces before classes
 
@@ -346,8 +362,10 @@ map_twice f g [] = refl
 map_twice f g (x ∷ xs) = ap (λ ys. f (g x) ∷ ys) (map_twice f g xs)
 
 -- infos by the order of classes
-pub infos_by_order : (list : List ℕ) (files : Files) (sound : IsSound list files) (w : List Class) → w ≡ all_classes files
-    → (interface : Class → InterfaceEntry) (class : Class → ClassEntry) → map IsInterface (map interface (in_order w true))
+pub infos_by_order : (list : List ℕ) (files : Files) (sound : IsSound list files) (w : List Class) → w
+    ≡ all_classes files
+    → (interface : Class → InterfaceEntry) (class : Class → ClassEntry) → map IsInterface (map interface
+    (in_order w true))
     ++ map IsClass (map class (in_order w false)) ≡ map (λ (c : Class). if is_interface c.flags then IsInterface
     (interface c) else IsClass (class c)) (class_order w)
 unfolding class_order
@@ -357,9 +375,11 @@ infos_by_order list files sound w same interface class =
     (in_order v b)) same h) in
     let front : map IsInterface (map interface (in_order w true)) ≡ map by (in_order w true) = map_twice IsInterface
     interface (in_order w true) ∙ mapped_kind (λ (c : Class). IsInterface (interface c)) by (in_order w true) (λ k c e.
-    sym (ap (λ b. if b then IsInterface (interface c) else IsClass (class c)) (kind_in true c (get-has c (in_order w true)
+    sym (ap (λ b. if b then IsInterface (interface c) else IsClass (class c)) (kind_in true c (get-has c
+    (in_order w true)
     k e)).2)) in
-    let back : map IsClass (map class (in_order w false)) ≡ map by (in_order w false) = map_twice IsClass class (in_order
+    let back : map IsClass (map class (in_order w false)) ≡ map by (in_order w false) = map_twice IsClass class
+    (in_order
     w false) ∙ mapped_kind (λ (c : Class). IsClass (class c)) by (in_order w false) (λ k c e. sym (ap (λ b. if b
     then IsInterface (interface c) else IsClass (class c)) (no_kind (is_interface c.flags) (kind_in false c (get-has c
     (in_order w false) k e)).2))) in
@@ -371,7 +391,8 @@ infos_by_order list files sound w same interface class =
     no_kind false h = refl
 
 module _ (list : List ℕ) (applets : Bool) (files : Files) (image : StaticImage) (c : Complete)
-    (sound : IsSound list files) (paired : ArePaired files image c) (verified : IsVerified (pair_of applets files image c))
+    (sound : IsSound list files) (paired : ArePaired files image c) (verified : IsVerified
+    (pair_of applets files image c))
   where
     abbrev p : Pair
     p = pair_of applets files image c
@@ -407,13 +428,16 @@ module _ (list : List ℕ) (applets : Bool) (files : Files) (image : StaticImage
         c.descriptor)) paired in
         let counted = none_left (count_spots (world p) c.class) (paired_methods (world p) c.descriptor) (none_right
         (cell_spots image c.statics) (count_spots (world p) c.class ++ paired_methods (world p) c.descriptor) none) in
-        let same = number_same (info_count c.class) (length (class_order (world p))) (unless_holds (info_count c.class ==
+        let same = number_same (info_count c.class) (length (class_order (world p))) (unless_holds
+        (info_count c.class ==
         length (class_order (world p))) (in_info 11 0) counted) in
-        length-append (map IsInterface i.interfaces) (map IsClass i.classes) ∙ ap (λ n. n + length (map IsClass i.classes))
+        length-append (map IsInterface i.interfaces) (map IsClass i.classes) ∙ ap (λ n. n + length
+        (map IsClass i.classes))
         (length-map i.interfaces IsInterface) ∙ ap (λ n. length i.interfaces + n) (length-map i.classes IsClass) ∙ same
 
     pub infos_are : infos c.class ≡ map (wanted_info p) (class_order (world p))
-    infos_are = both_same info_size (info_spots p) (table_spots p) (wanted_info p) (λ at i k one two. info_same p at at i k
+    infos_are = both_same info_size (info_spots p) (table_spots p) (wanted_info p)
+        (λ at i k one two. info_same p at at i k
         one two) first_interface (infos c.class) (class_order (world p)) as_many infos_clean tables_clean
 
     -- Class has the infos of the package

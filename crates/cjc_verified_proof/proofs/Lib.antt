@@ -42,3 +42,18 @@ pub mod ConcreteLaws
 pub mod ReachedLaws
 pub mod OrderedLaws
 pub mod FittingLaws
+-- Lemmas of lower crates, for those above.
+pub use Rattle.cjc_bytes.proofs.Bools as BytesBools
+pub use Rattle.cjc_bytes.proofs.BrokenRules as BytesBrokenRules
+pub use Rattle.cjc_bytes.proofs.Gets as BytesGets
+pub use Rattle.cjc_bytes.proofs.Numbers as BytesNumbers
+pub use Rattle.cjc_bytes.proofs.Plain as BytesPlain
+pub use Rattle.cjc_world.proofs.ClassFileFitting as ClassFileFitting
+pub use Rattle.cjc_world.proofs.Cycles as WorldCycles
+pub use Rattle.cjc_components.proofs.ClassOrderStanding as ClassOrderStanding
+pub use Rattle.cjc_token_proof.proofs.WorldProofSolid as WorldProofSolid
+pub use Rattle.cjc_token_proof.proofs.TablesLaws.Above as TokenProofAbove
+pub use Rattle.cjc_token_proof.proofs.TablesLaws.Clean as TokenProofClean
+pub use Rattle.cjc_token_proof.proofs.TablesLaws.Filed as TokenProofFiled
+pub use Rattle.cjc_token_proof.proofs.TablesLaws.Order as TokenProofOrder
+pub use Rattle.cjc_token_proof.proofs.TablesLaws.Typing as TokenProofTyping

@@ -3,22 +3,22 @@ use Rattle.std.proofs.Common.{◌≡◌, ◌<◌, ◌+◌, ◌*◌, ◌-◌, ◌
 use Rattle.std.proofs.Common.{slice_get, Option, Some, None, refl, sym, ap, subst, ◌∙◌, arith, nat_lt}
 use Rattle.std.specs.Prelude.{if◌then◌else◌, is_some, option_and_then, option_map}
 use Rattle.std.proofs.lemmas.Bool.Decides.{nat_tests}
-use Rattle.cjc_capread.specs.Bytes.AccessFlags.{acc_abstract, has}
-use Rattle.cjc_capread.specs.Bytes.AccessFlags as flags
+use Rattle.cjc_bytes.specs.AccessFlags.{acc_abstract, has}
+use Rattle.cjc_bytes.specs.AccessFlags as flags
 use Rattle.cjc_capread.specs.declared.tree.ClassRef.{ClassRef}
 use Rattle.cjc_capread.specs.declared.tree.ClassRef.TheVariants.{Inside, Outside}
 use Rattle.cjc_capread.specs.declared.tree.PoolEntry.TheVariants.{Classref}
 use Rattle.cjc_capread.specs.Parts as parts
-use Rattle.cjc_check_rules.specs.ExportFile.declared.tree.ExportClass.{ExportClass}
-use Rattle.cjc_check_rules.specs.ExportFile.declared.tree.ExportTree.{ExportTree}
+use Rattle.cjc_world.specs.ExportFile.declared.tree.ExportClass.{ExportClass}
+use Rattle.cjc_world.specs.ExportFile.declared.tree.ExportTree.{ExportTree}
 use Rattle.cjc_check_rules.specs.Classes.{class_with}
 use Rattle.cjc_check_rules.specs.Complete.{Complete}
 use Rattle.cjc_world.specs.declared.image.StaticImage.{StaticImage}
 use Rattle.cjc_world.specs.Classes as world
 use Rattle.cjc_world.specs.Files.{Files}
-use Rattle.cjc_card_semantics.specs.Script.declared.value.Value.{Value}
-use Rattle.cjc_card_semantics.specs.Script.Sorts.{OfClass}
-use Rattle.cjc_card_acts.specs.Types.declared.cell.Cell.{Cell}
+use Rattle.cjc_script.specs.declared.value.Value.{Value}
+use Rattle.cjc_script.specs.Sorts.{OfClass}
+use Rattle.cjc_intervals.specs.Types.declared.cell.Cell.{Cell}
 use Rattle.cjc_card_semantics.specs.Bytecode.Effects.{Memory, New, effect}
 use Rattle.cjc_card_semantics.specs.Bytecode.Meanings.{Makes}
 use Rattle.cjc_card_semantics.specs.Machine.Loaded.{Loaded, OfFile}
@@ -30,7 +30,7 @@ use Rattle.cjc_card_semantics.specs.Machine.Statics.{Image}
 use Rattle.cjc_card_semantics.specs.Machine.ByToken.{classes}
 use Rattle.cjc_components.specs.Paired.Naming.{files_from}
 use Rattle.cjc_components.specs.Types.{ref_nibbles}
-use Rattle.cjc_card_acts.specs.Frames.Acts.{stack_behind}
+use Rattle.cjc_verify.specs.Frames.Acts.{stack_behind}
 use Rattle.cjc_card_acts.specs.CardTypes.{MemberType, class_by, is_type_of, shape_by}
 use Rattle.cjc_token_proof.specs.Tables.Sound.{IsSound, AreTyped, AreFieldDescs}
 use Rattle.cjc_verify.specs.ClassTypes.{class_type}
@@ -86,11 +86,13 @@ module _ (applets : Bool) (list : List ℕ) (files : Files) (image : StaticImage
           let there : external l import token ≡ Some x = ap (option_and_then (λ (t : ExportTree). with_token t.classes
           token)) f ∙ g in
           let z : 0 + import ≡ import = omega arith in
-          let named : slice_get (files_from 0 files.exports) import ≡ Some (OfFile import) = import_there 0 files.exports
+          let named : slice_get (files_from 0 files.exports) import ≡ Some
+          (OfFile import) = import_there 0 files.exports
           import tree f ∙ ap (λ n. Some (OfFile n)) z in
           record {
             class = External import token;
-            meant = ap (option_and_then (imported_class l token)) named ∙ ap (λ b. if b then Some (External import token)
+            meant = ap (option_and_then (imported_class l token)) named ∙ ap (λ b. if b then Some
+                (External import token)
                 else None) (ap is_some there);
             plain = ap is_interface_file there ∙ or_left (flags.is_interface x.flags) (has x.flags acc_abstract) h;
           }

@@ -1,8 +1,10 @@
 -- The methods of components that the type checker passes are typed: their tables are closed and break no rule, their
 -- handlers are those of the package, and their instructions lead to instructions.
 use Rattle.std.proofs.Common.{◌≡◌, ◌⊎◌, ℕ, zero, suc, ◌+◌, ◌-◌, ◌<◌, ◌≤◌, ◌==◌, refl, sym, ap, subst, ◌∙◌, arith, Bool}
-use Rattle.std.proofs.Common.{true, false, inl, inr, ⊎_elim, List, [], ◌∷◌, drop, length, map, slice_get, Option, Some, None}
-use Rattle.std.specs.Prelude.{Contains, ◌&&◌, ◌||◌, nat_le, nat_lt, not, option_and_then, option_map, if◌then◌else◌, position}
+use Rattle.std.proofs.Common.{true, false, inl, inr, ⊎_elim, List, [], ◌∷◌, drop, length, map, slice_get, Option, Some}
+use Rattle.std.proofs.Common.{None}
+use Rattle.std.specs.Prelude.{Contains, ◌&&◌, ◌||◌, nat_le, nat_lt, not, option_and_then, option_map, if◌then◌else◌}
+use Rattle.std.specs.Prelude.{position}
 use Rattle.std.specs.List.{AllZip, list_all}
 use Rattle.std.proofs.lemmas.Bool.{leb-true, ltb-true}
 use Rattle.cjc_capread.specs.declared.tree.ClassRef.{ClassRef}
@@ -17,7 +19,7 @@ use Rattle.cjc_check_rules.specs.Complete.{Complete}
 use Rattle.cjc_check_rules.specs.Handlers.{handler_spots}
 use Rattle.cjc_check_rules.specs.Instructions.{ends_code, has_start, jump_spots, jumps, lands}
 use Rattle.cjc_check_rules.specs.Spots.{Placed, begins, in_info}
-use Rattle.cjc_check.specs.Jumps.Standing.{AreApart}
+use Rattle.cjc_verify.specs.Check.Jumps.Standing.{AreApart}
 use Rattle.cjc_world.specs.declared.image.StaticImage.{StaticImage}
 use Rattle.cjc_world.specs.Files.{Files}
 use Rattle.cjc_card_semantics.specs.Bytecode.Machine.{Fetched, Start}
@@ -26,13 +28,13 @@ use Rattle.cjc_card_semantics.specs.Machine.Classes.{Class, Field, class_of}
 use Rattle.cjc_card_semantics.specs.Machine.Statics.{StaticCell}
 use Rattle.cjc_card_semantics.specs.Machine.Operations.{Callee, class_at, class_by, moved}
 use Rattle.cjc_card_semantics.specs.Machine.Methods.{Code, fetch, fetched_as, start_at, start_of}
-use Rattle.cjc_card_semantics.specs.Script.Sorts.{OfClass}
-use Rattle.cjc_card_acts.specs.Types.declared.state.State.{State}
-use Rattle.cjc_card_acts.specs.Frames.declared.acts.Act.{Act}
-use Rattle.cjc_card_acts.specs.Frames.declared.acts.Catch.{Catch}
-use Rattle.cjc_card_acts.specs.Frames.declared.acts.Step.{Step}
-use Rattle.cjc_card_acts.specs.Frames.Flow.{covers, place_at}
-use Rattle.cjc_card_acts.specs.Frames.Tables.{Breach, IsLeastTable}
+use Rattle.cjc_script.specs.Sorts.{OfClass}
+use Rattle.cjc_intervals.specs.Types.declared.state.State.{State}
+use Rattle.cjc_verify.specs.Frames.declared.acts.Act.{Act}
+use Rattle.cjc_verify.specs.Frames.declared.acts.Catch.{Catch}
+use Rattle.cjc_verify.specs.Frames.declared.acts.Step.{Step}
+use Rattle.cjc_verify.specs.Frames.Flow.{covers, place_at}
+use Rattle.cjc_verify.specs.Frames.Tables.{Breach, IsLeastTable}
 use Rattle.cjc_card_acts.specs.CardTypes.{ValueType, is_type_of, shape_by}
 use Rattle.cjc_card_acts.specs.Rows.{row}
 use Rattle.cjc_components.specs.Paired.Naming.{part_of}
@@ -48,7 +50,7 @@ use Rattle.cjc_verified_proof.specs.Programs.{IsTypingOf, code_of}
 use Rattle.cjc_bytes.proofs.Gets.{contains_at, get_mapped, mapped_at}
 use Rattle.cjc_bytes.proofs.Numbers.{number_same_number, other_number}
 use Rattle.cjc_bytes.proofs.Plain.{same_some}
-use Rattle.cjc_check.proofs.JumpsLaws.Apart.{codes_apart}
+use Rattle.cjc_verify.proofs.CheckApart.{codes_apart}
 use Rattle.cjc_verified_proof.proofs.ActLaws.{act_leads, may_fall}
 use Rattle.cjc_verified_proof.proofs.BodyLaws.{StandsIn, body_stands, method_has_body}
 use Rattle.cjc_cut_proof.specs.Cuts.{AreOf, EndBehind, IsMethodAt, StandApart}
@@ -74,7 +76,11 @@ place_there {S} f at same (i ∷ is) offset e =
         → (k : ℕ) × (position (λ s. at s == offset) (map f is) ≡ Some k))
         → (k : ℕ) × ((if b then Some 0 else option_map suc (position (λ s. at s == offset) (map f is))) ≡ Some k)
     by true is_there e more = (0, refl)
-    by false is_there e more = let r = more (ap (λ t. t || begins is offset) is_there ∙ e) in (suc r.0, ap (option_map suc) r.1)
+    by false is_there e more = let r = more (ap (λ t. t || begins is offset) is_there ∙ e) in (
+      suc r.0,
+      ap
+          (option_map suc) r.1,
+    )
 
 -- ---- codes stand apart
 
@@ -232,7 +238,8 @@ module _ (applets : Bool) (files : Files) (image : StaticImage) (c : Complete) (
           room = h.max_stack;
           first = m.offset + x.size;
           end = m.offset + x.size + m.bytecode_count;
-        }) (r.0).at) (sym stands.header) ∙ instruction_fetched c whole part of l 0 h.max_stack refl m stands.code stands.at
+        }) (r.0).at) (sym stands.header) ∙ instruction_fetched c whole part of l 0 h.max_stack refl m stands.code
+            stands.at
             place r.0 (ap (λ is. slice_get is place) (sym stands.instructions) ∙ r.1);
         bytes = (item_decoded c b.method stands.code stands.at place r.0 (ap (λ is. slice_get is place)
             (sym stands.instructions) ∙ r.1)).0;
@@ -325,12 +332,14 @@ module _ (applets : Bool) (files : Files) (image : StaticImage) (c : Complete) (
           let hs = (let m = c.method in m.handlers) in
           let r = contains_at (map (catch p) hs) x among in
           let h = mapped_at (catch p) hs r.0 x r.1 in
-          let at : covers (catch p h.0) (let q = i.item in q.at) ≡ true = ap (λ y. covers y (let q = i.item in q.at)) h.2
+          let at : covers (catch p h.0) (let q = i.item in q.at) ≡ true = ap (λ y. covers y
+          (let q = i.item in q.at)) h.2
           ∙ ap (λ (y : Step). covers x y.at) i.is ∙ covered in
           let w = h.0 in
           let q = i.item in
           let t = both (nat_le w.start q.at) (nat_lt q.at (w.start + w.length)) at in
-          let starts : has_start standing.code q.at ≡ true = begins_there (let y = standing.code in y.instructions) place q
+          let starts : has_start standing.code q.at ≡ true = begins_there
+          (let y = standing.code in y.instructions) place q
           (ap (λ is. slice_get is place) (sym standing.instructions) ∙ i.is_item) in
           let leads = handler_leads c handled r.0 w h.1 in
           let to = covered_lands (codes c) apart ends w leads k standing.code standing.among q.at starts
@@ -347,7 +356,8 @@ module _ (applets : Bool) (files : Files) (image : StaticImage) (c : Complete) (
           let leads = act_leads p result q (row (let x = q.item in x.opcode)) in
           let here : Contains (let a = act p result q in a.targets) at = subst (λ (y : Step). Contains (let a = y.act
           in a.targets) at) (sym i.is) among in
-          let j = all_jumps c jump k standing.code standing.among place q (ap (λ is. slice_get is place) (sym standing.instructions) ∙ i.is_item) in
+          let j = all_jumps c jump k standing.code standing.among place q (ap (λ is. slice_get is place)
+          (sym standing.instructions) ∙ i.is_item) in
           place_of k b standing at (⊎_elim
           (λ none. absurd (no_target (subst (λ ts. Contains ts at) none here)))
           (λ some. jump_lands standing.code q.at (jumps q.item) j.land at (subst (λ ts. Contains ts at) some here))
@@ -365,7 +375,8 @@ module _ (applets : Bool) (files : Files) (image : StaticImage) (c : Complete) (
           let q = i.item in
           let op = (let x = q.item in x.opcode) in
           let leads = act_leads p result q (row op) in
-          let may : may_fall (row op) ≡ true = sym leads.falls ∙ ap (λ (y : Step). let a = y.act in a.falls) i.is ∙ falls in
+          let may : may_fall (row op) ≡ true = sym leads.falls ∙ ap (λ (y : Step). let a = y.act in a.falls) i.is
+          ∙ falls in
           let got = ap (λ is. slice_get is place) (sym standing.instructions) ∙ i.is_item in
           let j = all_jumps c jump k standing.code standing.among place q got in
           let next : f_next g ≡ q.at + size q.item = ap f_next (same_some (sym fetches ∙ ap (λ (y : Step).
@@ -393,7 +404,8 @@ module _ (applets : Bool) (files : Files) (image : StaticImage) (c : Complete) (
                 (
                   ap (slice_get (let f = frames_of p b in f.steps)) one ∙ get_mapped (step p result) b.instructions
                       (suc place) ∙ ap (option_map (step p result)) some,
-                  follows_next c m standing.code at place q z got (ap (λ is. slice_get is (suc place)) (sym standing.instructions) ∙ some) ∙ sym next,
+                  follows_next c m standing.code at place q z got (ap (λ is. slice_get is (suc place))
+                      (sym standing.instructions) ∙ some) ∙ sym next,
                 ),
               )
 
@@ -406,7 +418,8 @@ module _ (applets : Bool) (files : Files) (image : StaticImage) (c : Complete) (
             let i = step_there k b e place s f in
             let q = i.item in
             let leads = act_leads p result q (row (let x = q.item in x.opcode)) in
-            subst (λ (y : Step). (let a = y.act in a.ends) ≡ true → (let a = y.act in a.misnames) ≡ true) i.is leads.ends
+            subst (λ (y : Step). (let a = y.act in a.ends) ≡ true → (let a = y.act in a.misnames)
+            ≡ true) i.is leads.ends
             ended
             );
         catches = λ q f. subst (λ (y : Part). AllZip (IsCatch l 0 y.pool exceptions) (let m = y.method in m.handlers)

@@ -1,5 +1,6 @@
 -- What names of classes mean: the class_ref that is written for a name means the class that the card finds by it.
-use Rattle.std.proofs.Common.{◌≡◌, ℕ, zero, suc, ◌+◌, ◌<◌, ◌≤◌, ◌^◌, ◌==◌, refl, sym, ap, subst, ◌∙◌, arith, Bool, true, false}
+use Rattle.std.proofs.Common.{◌≡◌, ℕ, zero, suc, ◌+◌, ◌<◌, ◌≤◌, ◌^◌, ◌==◌, refl, sym, ap, subst, ◌∙◌, arith, Bool, true}
+use Rattle.std.proofs.Common.{false}
 use Rattle.std.proofs.Common.{List, [], ◌∷◌, ◌++◌, length, map, slice_get, Option, Some, None, position}
 use Rattle.std.specs.Prelude.{if◌then◌else◌, is_some, nat_le, option_and_then, option_map, unwrap_or}
 use Rattle.std.specs.Str.{bytes_eq}
@@ -8,8 +9,8 @@ use Rattle.cjc_capread.specs.ClassRefs.{is_inside}
 use Rattle.cjc_capread.specs.declared.tree.ClassDescriptor.{ClassDescriptor}
 use Rattle.cjc_capread.specs.declared.tree.ClassRef.{ClassRef}
 use Rattle.cjc_capread.specs.declared.tree.ClassRef.TheVariants.{Inside, Outside}
-use Rattle.cjc_check_rules.specs.ExportFile.declared.tree.ExportClass.{ExportClass}
-use Rattle.cjc_check_rules.specs.ExportFile.declared.tree.ExportTree.{ExportTree}
+use Rattle.cjc_world.specs.ExportFile.declared.tree.ExportClass.{ExportClass}
+use Rattle.cjc_world.specs.ExportFile.declared.tree.ExportTree.{ExportTree}
 use Rattle.cjc_check_rules.specs.declared.spot.ComponentPlace.{ComponentPlace}
 use Rattle.cjc_check_rules.specs.Complete.{Complete, described_size}
 use Rattle.cjc_check_rules.specs.Described.{all_starts, class_spots, classes_in_order, is_start_of}
@@ -18,9 +19,11 @@ use Rattle.cjc_world.specs.declared.image.StaticImage.{StaticImage}
 use Rattle.cjc_world.specs.Classes as world
 use Rattle.cjc_world.specs.Files.{Files}
 use Rattle.cjc_world.specs.Order.{class_order}
-use Rattle.cjc_card_semantics.specs.Machine.Classes.{Class, External, Info, IsClass, IsInterface, Own, class_named, class_of, external}
+use Rattle.cjc_card_semantics.specs.Machine.Classes.{Class, External, Info, IsClass, IsInterface, Own, class_named}
+use Rattle.cjc_card_semantics.specs.Machine.Classes.{class_of, external}
 use Rattle.cjc_card_semantics.specs.Machine.Classes.{external_from, external_named, imported_class, info_at, info_of}
-use Rattle.cjc_card_semantics.specs.Machine.Classes.{info_size, is_there, number_from, number_named, offset_from, or_else}
+use Rattle.cjc_card_semantics.specs.Machine.Classes.{info_size, is_there, number_from, number_named, offset_from}
+use Rattle.cjc_card_semantics.specs.Machine.Classes.{or_else}
 use Rattle.cjc_card_semantics.specs.Machine.Classes.{own_from, token_named, where_there, with_token}
 use Rattle.cjc_card_semantics.specs.Machine.Loaded.{ClassNames, Loaded, OfFile, Part}
 use Rattle.cjc_card_acts.specs.CardTypes.{class_by}
@@ -37,7 +40,7 @@ use Rattle.cjc_bytes.proofs.Lists.{none_left, none_right}
 use Rattle.cjc_bytes.proofs.Numbers.{number_same, number_same_number, other_number}
 use Rattle.cjc_bytes.proofs.Plain.{same_some}
 use Rattle.cjc_tokens.proofs.Facts.{position-cons}
-use Rattle.cjc_card_link.proofs.InfoPlaces.{all_starts as starts_of_infos}
+use Rattle.cjc_verify.proofs.CardLinkInfoPlaces.{all_starts as starts_of_infos}
 use Rattle.cjc_verified_proof.proofs.EntryLaws.{unless_holds}
 use Rattle.cjc_verified_proof.proofs.PlaceLaws.{all_read, import_there}
 
@@ -80,7 +83,8 @@ infos_have_bytes (IsInterface i) = omega arith
 infos_have_bytes (IsClass c) = omega arith
 
 -- the number of an info's offset
-pub number_back : (at : ℕ) (is : List Info) (k offset : ℕ) → offset_from at is k ≡ Some offset → number_from at is offset
+pub number_back : (at : ℕ) (is : List Info) (k offset : ℕ) → offset_from at is k ≡ Some offset
+    → number_from at is offset
     ≡ Some k
 number_back at [] k offset e = absurd cc
 number_back at (i ∷ is) zero offset e = ap (λ b. if b then Some 0 else option_map suc (number_from (at + info_size i) is
@@ -189,7 +193,8 @@ token_there (c ∷ cs) name token e = by (bytes_eq c.name name) e (token_there c
         }
 
 -- what is tested of items with their numbers
-numbered_none : {A : Type 0} (size : A → ℕ) (broken : (number at : ℕ) → A → List ComponentPlace) (n at : ℕ) (xs : List A)
+numbered_none : {A : Type 0} (size : A → ℕ) (broken : (number at : ℕ) → A → List ComponentPlace) (n at : ℕ)
+    (xs : List A)
     → numbered size broken n at xs ≡ [] → (k : ℕ) (x : A) → slice_get xs k ≡ Some x
     → (place : ℕ) × (broken (n + k) place x ≡ [])
 unfolding numbered
@@ -210,14 +215,16 @@ inside_is (Inside o) offset e = ap (λ n. Inside n) (number_same o offset e)
 inside_is (Outside import class) offset e = absurd cc
 
 -- Descriptor has the classes of Class in order
-pub holder_is : (c : Complete) → (let d = c.descriptor in classes_in_order d.classes (all_starts c.class)) ≡ [] → (k : ℕ)
+pub holder_is : (c : Complete) → (let d = c.descriptor in classes_in_order d.classes (all_starts c.class)) ≡ [] →
+    (k : ℕ)
     (d : ClassDescriptor) → slice_get (let x = c.descriptor in x.classes) k ≡ Some d
     → (offset : ℕ) × (slice_get (all_starts c.class) k ≡ Some offset) × (d.this_class ≡ Inside offset)
 holder_is c clean k d e =
     let x = c.descriptor in
     let first = numbered described_size (class_spots (all_starts c.class)) 0 1 x.classes in
     let many = unless (nat_le (length (all_starts c.class)) (length x.classes)) (in_info 11 0) in
-    let r = numbered_none described_size (class_spots (all_starts c.class)) 0 1 x.classes (none_left first many clean) k d e
+    let r = numbered_none described_size (class_spots (all_starts c.class)) 0 1 x.classes
+    (none_left first many clean) k d e
     in
     let z : 0 + k ≡ k = omega arith in
     let t = ap (λ n. is_start_of (slice_get (all_starts c.class) n) d.this_class) (sym z) ∙ unless_holds
@@ -237,7 +244,8 @@ holder_there c clean k offset e =
     let x = c.descriptor in
     let first = numbered described_size (class_spots (all_starts c.class)) 0 1 x.classes in
     let many = unless (nat_le (length (all_starts c.class)) (length x.classes)) (in_info 11 0) in
-    let le = leb-true (length (all_starts c.class)) (length x.classes) (unless_holds (nat_le (length (all_starts c.class))
+    let le = leb-true (length (all_starts c.class)) (length x.classes) (unless_holds (nat_le (length
+    (all_starts c.class))
     (length x.classes)) (in_info 11 0) (none_right first many clean)) in
     let lt = get_below (all_starts c.class) k offset e in
     let d = get_inside x.classes k (omega (arith, le, lt)) in
@@ -277,7 +285,8 @@ module _ (applets : Bool) (files : Files) (image : StaticImage) (c : Complete)
       else_none (Some x) = refl
 
       at : (n : ℕ) → offset_from 2 (infos c.class) n ≡ slice_get (pairs.starts p) n
-      at n = sym (starts_read 2 (infos c.class) n) ∙ sym (ap (λ (xs : List ℕ). slice_get xs n) (starts_of_infos c.class))
+      at n = sym (starts_read 2 (infos c.class) n) ∙ sym (ap (λ (xs : List ℕ). slice_get xs n)
+          (starts_of_infos c.class))
 
       by : (o : Option ℕ) → or_else (option_and_then (λ n. option_map (Own 0) (offset_from 2 (infos c.class) n)) o) None
           ≡ option_map (Own 0) (option_and_then (slice_get (pairs.starts p)) o)
@@ -318,7 +327,8 @@ module _ (applets : Bool) (files : Files) (image : StaticImage) (c : Complete)
 
   -- what nibbles say of a class_ref is the class of the name
   pub names_meant : (name : List ℕ) → class_by l (ref_nibbles (class_ref p name)) ≡ class_named l name
-  names_meant name = by (pairs.offset_of p name) refl ∙ sym (ap (λ o. or_else o (external_named l name)) (own_same name))
+  names_meant name = by (pairs.offset_of p name) refl ∙ sym (ap (λ o. or_else o (external_named l name))
+      (own_same name))
     where
       of_own : (offset : ℕ) → (o : Option ℕ) → option_and_then (slice_get (pairs.starts p)) o ≡ Some offset
           → class_by l (ref_nibbles (Inside offset)) ≡ Some (Own 0 offset)

@@ -9,7 +9,7 @@ use Rattle.std.proofs.lemmas.List.{length-map}
 use Rattle.std.proofs.lemmas.Option.{slice_get-map}
 use Rattle.cjc_bytes.proofs.Gets.{mapped_at}
 use Rattle.cjc_bytes.proofs.Lists.{sums_same}
-use Rattle.cjc_capread.specs.Bytes.AccessFlags.{is_interface}
+use Rattle.cjc_bytes.specs.AccessFlags.{is_interface}
 use Rattle.cjc_capread.specs.declared.tree.ClassRef.{ClassRef}
 use Rattle.cjc_capread.specs.declared.tree.ClassRef.TheVariants.{Inside, Outside}
 use Rattle.cjc_capread.specs.declared.tree.ImplementedInterface.{ImplementedInterface}
@@ -17,7 +17,7 @@ use Rattle.cjc_check_rules.specs.Spots.{placed, starts}
 use Rattle.cjc_check_rules.specs.Classes.{first_class, first_interface}
 use Rattle.cjc_check_rules.specs.Complete.{Complete, class_size, interface_size, map_size}
 use Rattle.cjc_check_rules.specs.Described.{all_starts}
-use Rattle.cjc_list.specs.Listed.{ListTree}
+use Rattle.cjc_verify.specs.List.Listed.{ListTree}
 use Rattle.cjc_world.specs.declared.image.StaticImage.{StaticImage}
 use Rattle.cjc_world.specs.Classes.{Class, all_classes}
 use Rattle.cjc_world.specs.Files.{Files}
@@ -28,17 +28,17 @@ use Rattle.cjc_card_semantics.specs.Machine.Classes.{external_named, imported_cl
 use Rattle.cjc_card_semantics.specs.Machine.Classes.{number_from, number_named, object_above, object_class, offset_from}
 use Rattle.cjc_card_semantics.specs.Machine.Classes.{or_else}
 use Rattle.cjc_card_semantics.specs.Machine.Classes as card
-use Rattle.cjc_card_link.specs.Indices.{first_place}
+use Rattle.cjc_verify.specs.CardLink.Indices.{first_place}
 use Rattle.cjc_components.specs.Class.{class_entry, class_info, implemented, interface_entry, interfaces_of, superclass}
 use Rattle.cjc_components.specs.Class.{table_entry}
 use Rattle.cjc_components.specs.Methods.{method_offset}
 use Rattle.cjc_components.specs.Names.{class_at, class_ref as written_ref, info_starts, ref_to}
-use Rattle.cjc_components.specs.NCode.Lowering.Naming.{Naming}
+use Rattle.cjc_token_proof.specs.NCode.Lowering.Naming.{Naming}
 use Rattle.cjc_components.specs.Package.{Package}
 use Rattle.cjc_components.specs.Paired.Naming.{class_names, files_from}
 use Rattle.cjc_components.specs.Paired.Pairs.{ArePaired}
-use Rattle.cjc_components.specs.VTable.Tables.{table_of}
-use Rattle.cjc_components.specs.VTable.declared.table.InterfaceMap.{InterfaceMap}
+use Rattle.cjc_token_proof.specs.VTable.Tables.{table_of}
+use Rattle.cjc_token_proof.specs.VTable.declared.table.InterfaceMap.{InterfaceMap}
 use Rattle.cjc_token_proof.specs.ByToken.Supers.{IsToldOf, SaysKinds, SaysSupers, above_each, listed_there, of_file}
 use Rattle.cjc_token_proof.specs.ByToken.Supers.{of_package}
 use Rattle.cjc_token_proof.specs.Tables.Infos.{HasInfo}
@@ -50,7 +50,7 @@ use Rattle.cjc_verify.specs.Pairs as pairs
 use Rattle.cjc_verify.specs.Verified.{IsVerified}
 use Rattle.cjc_verified_proof.specs.ClassInfos.{wanted_class, wanted_info, wanted_infos}
 use Rattle.cjc_verified_proof.specs.Dispatching.{naming_of, package_of}
-use Rattle.cjc_card_link.proofs.InfoPlaces as places
+use Rattle.cjc_verify.proofs.CardLinkInfoPlaces as places
 use Rattle.cjc_token_proof.proofs.ComponentsLaws.Starts.{infos_stand_alike}
 use Rattle.cjc_token_proof.proofs.TablesLaws.Above.{says_kinds}
 use Rattle.cjc_verified_proof.proofs.InfoLaws.{class_is, infos_are, infos_by_order, map_twice}
@@ -117,7 +117,8 @@ module _ (name : List ℕ) (list : ListTree) (files : Files) (image : StaticImag
         let t = table_of w k in
         let wanted = wanted_class p k in
         let entry = class_entry ref q k in
-        ap (λ n. 10 + 2 * n + 2 * length wanted.package_methods + sum_by map_size wanted.interfaces) (length-map t.public
+        ap (λ n. 10 + 2 * n + 2 * length wanted.package_methods + sum_by map_size wanted.interfaces)
+        (length-map t.public
         (public_entry p) ∙ sym (length-map t.public (table_entry q)))
         ∙ ap (λ n. 10 + 2 * length entry.public_methods + 2 * n + sum_by map_size wanted.interfaces) (length-map
         t.«package» (pairs.method_offset p) ∙ sym (length-map t.«package» (method_offset q)))
@@ -133,7 +134,8 @@ module _ (name : List ℕ) (list : ListTree) (files : Files) (image : StaticImag
         ∙ ap (λ n. starts interface_size first_interface (map (interface_entry ref w) is) ++ starts class_size
         (first_interface + n) (map (wanted_class p) cs)) (sums_same interface_size (interface_entry (class_ref p) w)
         (interface_entry ref w) interface_alike is)
-        ∙ ap (λ ss. starts interface_size first_interface (map (interface_entry ref w) is) ++ ss) (starts_same class_size
+        ∙ ap (λ ss. starts interface_size first_interface (map (interface_entry ref w) is) ++ ss)
+        (starts_same class_size
         (wanted_class p) (class_entry ref q) class_alike (first_class (class_info ref q)) cs)
 
   starts_alike : pairs.starts p ≡ info_starts q
@@ -156,7 +158,8 @@ module _ (name : List ℕ) (list : ListTree) (files : Files) (image : StaticImag
   other_infos = card.infos (written_part q)
 
   others_are : other_infos ≡ map (info_for q) order
-  others_are = infos_by_order name files sound w refl (interface_entry (written_ref q) w) (class_entry (written_ref q) q)
+  others_are = infos_by_order name files sound w refl (interface_entry (written_ref q) w) (class_entry
+      (written_ref q) q)
 
   own_are : own_infos ≡ map (wanted_info p) order
   own_are = infos_are name applets files image c sound paired verified
@@ -179,7 +182,8 @@ module _ (name : List ℕ) (list : ListTree) (files : Files) (image : StaticImag
       ∙ places.offset_place 2 other_infos k
 
   there_alike : (offset : ℕ) → is_some (info_of l 0 offset) ≡ is_some (info_of m 0 offset)
-  there_alike offset = ap (λ o. is_some (option_and_then (slice_get own_infos) o)) (number_alike offset) ∙ by (number_from
+  there_alike offset = ap (λ o. is_some (option_and_then (slice_get own_infos) o)) (number_alike offset) ∙ by
+      (number_from
       2 other_infos offset)
     where
       by : (o : Option ℕ) → is_some (option_and_then (slice_get own_infos) o) ≡ is_some (option_and_then (slice_get
@@ -203,8 +207,10 @@ module _ (name : List ℕ) (list : ListTree) (files : Files) (image : StaticImag
   pub named_alike : (x : List ℕ) → card.class_named l x ≡ card.class_named m x
   named_alike x = by (number_named (map (class_names files (let v = p in v.tokens)) order) x)
     where
-      by : (o : Option ℕ) → or_else (or_else (option_and_then (λ (k : ℕ). option_map (Own 0) (offset_from 2 own_infos k))
-          o) None) (external_named l x) ≡ or_else (or_else (option_and_then (λ (k : ℕ). option_map (Own 0) (offset_from 2
+      by : (o : Option ℕ) → or_else (or_else (option_and_then (λ (k : ℕ). option_map (Own 0)
+          (offset_from 2 own_infos k))
+          o) None) (external_named l x) ≡ or_else (or_else (option_and_then (λ (k : ℕ). option_map (Own 0)
+          (offset_from 2
           other_infos k)) o) None) (external_named m x)
       by None = refl
       by (Some k) = ap (λ o. or_else (or_else (option_map (Own 0) o) None) (external_named l x)) (offset_alike k)
@@ -230,7 +236,8 @@ module _ (name : List ℕ) (list : ListTree) (files : Files) (image : StaticImag
           i.interface) (λ (i : InterfaceMap). ref_same i.interface) (let t = table_of w k in t.maps) ∙ sym (map_twice
           (λ (x : ImplementedInterface). x.interface) (implemented (written_ref q)) (let t = table_of w k in t.maps))
 
-      by : (b : Bool) → info_supers (if b then IsInterface (interface_entry (class_ref p) w k) else IsClass (wanted_class p
+      by : (b : Bool) → info_supers (if b then IsInterface (interface_entry (class_ref p) w k) else IsClass
+          (wanted_class p
           k)) ≡ info_supers (if b then IsInterface (interface_entry (written_ref q) w k) else IsClass (class_entry
           (written_ref q) q k))
       by true = listed
@@ -269,7 +276,8 @@ module _ (name : List ℕ) (list : ListTree) (files : Files) (image : StaticImag
 
   -- the info of a class of the package
   pub own_info : (k : Class) → (h : HasInfo q k) → info_of l 0 h.offset ≡ Some (wanted_info p k)
-  own_info k h = ap (option_and_then (slice_get own_infos)) (number_alike h.offset ∙ h.numbered) ∙ ap (λ xs. slice_get xs
+  own_info k h = ap (option_and_then (slice_get own_infos)) (number_alike h.offset ∙ h.numbered) ∙ ap
+      (λ xs. slice_get xs
       h.number) own_are ∙ slice_get-map (wanted_info p) order h.number ∙ ap (option_map (wanted_info p)) h.ordered
 
   -- ---- kinds
@@ -282,11 +290,13 @@ module _ (name : List ℕ) (list : ListTree) (files : Files) (image : StaticImag
   written_kinds = says_kinds name q sound
 
   supers_by : (x : List ℕ) (k : Class) → SaysSupers w (naming q) x k → SaysSupers w n x k
-  supers_by x k (of_file tree token e on there supers interfaces named) = of_file tree token e on there supers interfaces
+  supers_by x k (of_file tree token e on there supers interfaces named) = of_file tree token e on there supers
+      interfaces
       named
   supers_by x k (of_package offset info listed on there are told all) =
       let i = info_alike offset info there in
-      let objects : option_to_list (object_class l) ≡ option_to_list (object_class m) = ap option_to_list objects_alike in
+      let objects : option_to_list (object_class l) ≡ option_to_list
+      (object_class m) = ap option_to_list objects_alike in
       let above : object_above l (Some (wanted_info p i.class)) ≡ object_above m (Some info) = above_alike i.class
       ∙ ap (λ z. object_above m (Some z)) i.there_is in
       of_package offset (wanted_info p i.class) listed on i.here_is (supers_alike i.class ∙ ap info_supers i.there_is
@@ -300,7 +310,8 @@ module _ (name : List ℕ) (list : ListTree) (files : Files) (image : StaticImag
       there_told info mine listed y objects above (above_each h) = above_each (sym above ∙ h ∙ objects)
 
       here_told : (info mine : Info) (listed : List (List ℕ)) (y : List ℕ) → option_to_list (object_class l)
-          ≡ option_to_list (object_class m) → object_above l (Some mine) ≡ object_above m (Some info) → IsToldOf (naming q)
+          ≡ option_to_list (object_class m) → object_above l (Some mine) ≡ object_above m (Some info) → IsToldOf
+          (naming q)
           info listed y → IsToldOf n mine listed y
       here_told info mine listed y objects above (listed_there h) = listed_there h
       here_told info mine listed y objects above (above_each h) = above_each (above ∙ h ∙ sym objects)

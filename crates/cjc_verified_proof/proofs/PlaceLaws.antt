@@ -1,5 +1,6 @@
 -- Items of components that stand one behind the other, and what class_refs and imports spell.
-use Rattle.std.proofs.Common.{◌≡◌, ◌<◌, ◌+◌, ◌*◌, ◌-◌, ◌/◌, ◌%◌, ◌^◌, ◌==◌, ℕ, zero, suc, Bool, true, false, List, [], ◌∷◌}
+use Rattle.std.proofs.Common.{◌≡◌, ◌<◌, ◌+◌, ◌*◌, ◌-◌, ◌/◌, ◌%◌, ◌^◌, ◌==◌, ℕ, zero, suc, Bool, true, false, List, []}
+use Rattle.std.proofs.Common.{◌∷◌}
 use Rattle.std.proofs.Common.{length, slice_get, Some, refl, sym, ap, ◌∙◌, arith, nat_lt}
 use Rattle.std.specs.Prelude.{cond, if◌then◌else◌, sum_by}
 use Rattle.std.specs.List.{find}
@@ -10,8 +11,8 @@ use Rattle.cjc_capread.specs.declared.tree.ClassRef.{ClassRef}
 use Rattle.cjc_capread.specs.declared.tree.ClassRef.TheVariants.{Inside, Outside}
 use Rattle.cjc_capread.specs.declared.tree.ImplementedInterface.{ImplementedInterface}
 use Rattle.cjc_capread.specs.Parts as parts
-use Rattle.cjc_check_rules.specs.ExportFile.declared.tree.ExportClass.{ExportClass}
-use Rattle.cjc_check_rules.specs.ExportFile.declared.tree.ExportTree.{ExportTree}
+use Rattle.cjc_world.specs.ExportFile.declared.tree.ExportClass.{ExportClass}
+use Rattle.cjc_world.specs.ExportFile.declared.tree.ExportTree.{ExportTree}
 use Rattle.cjc_check_rules.specs.declared.spot.ComponentPlace.{ComponentPlace}
 use Rattle.cjc_check_rules.specs.Spots.{along}
 use Rattle.cjc_check_rules.specs.Complete.{class_size, map_size}
@@ -25,7 +26,8 @@ use Rattle.cjc_bytes.proofs.Lists.{none_left, none_right}
 
 -- ---- items one behind the other
 
-pub along_none : {A : Type 0} (size : A → ℕ) (broken : ℕ → A → List ComponentPlace) (at : ℕ) (xs : List A) (k : ℕ) (x : A)
+pub along_none : {A : Type 0} (size : A → ℕ) (broken : ℕ → A → List ComponentPlace) (at : ℕ) (xs : List A) (k : ℕ)
+    (x : A)
     → along size broken at xs ≡ [] → slice_get xs k ≡ Some x → (place : ℕ) × (broken place x ≡ [])
 unfolding along
 along_none size broken at [] k x e f = cc
@@ -99,7 +101,8 @@ outside_ref import class lt less =
     let high : nat_lt (256 * (0x80 + import) + class) 0x8000 ≡ false = grind (arith, nat_tests, lt) in
     let first : (256 * (0x80 + import) + class) / 256 - 0x80 ≡ import = omega (arith, less) in
     let second : (256 * (0x80 + import) + class) % 256 ≡ class = omega (arith, less) in
-    ap (λ b. if b then Inside (256 * (0x80 + import) + class) else Outside ((256 * (0x80 + import) + class) / 256 - 0x80)
+    ap (λ b. if b then Inside (256 * (0x80 + import) + class) else Outside ((256 *
+    (0x80 + import) + class) / 256 - 0x80)
     ((256 * (0x80 + import) + class) % 256)) high
     ∙ ap (λ x. Outside x ((256 * (0x80 + import) + class) % 256)) first ∙ ap (Outside import) second
 

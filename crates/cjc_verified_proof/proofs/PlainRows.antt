@@ -1,7 +1,7 @@
 -- What the type checker takes plain rows for.
 use Rattle.std.proofs.Common.{◌≡◌, List, refl, ℤ}
-use Rattle.cjc_card_semantics.specs.CapRead.Opcodes.{Operand}
-use Rattle.cjc_card_semantics.specs.CapRead.Decode.{Instruction}
+use Rattle.cjc_capread.specs.Opcodes.{Operand}
+use Rattle.cjc_capread.specs.Decode.{Instruction}
 use Rattle.cjc_card_semantics.specs.Bytecode.Calculations.{Calculation}
 use Rattle.cjc_check_rules.specs.Spots.{Placed}
 use Rattle.cjc_card_acts.specs.CardTypes.{ValueType}

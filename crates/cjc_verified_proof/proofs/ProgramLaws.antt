@@ -1,4 +1,5 @@
--- The program of components that the type checker passes: its methods are typed, their instructions that are reached are
+-- The program of components that the type checker passes: its methods are typed, their instructions that are reached
+-- are
 -- what their acts say, and the first memory, fields and exceptions are those that runs ask for.
 use Rattle.std.proofs.Common.{◌≡◌, ℕ, zero, suc, ◌+◌, ◌==◌, refl, sym, ap, subst, ◌∙◌, Bool, true, false, not, List, []}
 use Rattle.std.proofs.Common.{◌∷◌, ◌++◌, append-nil, length, map, slice_get, Option, Some, None, ℤ, pos}
@@ -20,7 +21,8 @@ use Rattle.cjc_world.specs.declared.image.StaticImage.{StaticImage}
 use Rattle.cjc_world.specs.Files.{Files}
 use Rattle.cjc_card_semantics.specs.Bytecode.Effects.{HeapObject, NewReferences, Numbers, shape}
 use Rattle.cjc_card_semantics.specs.Bytecode.Machine.{Fetched}
-use Rattle.cjc_card_semantics.specs.Bytecode.Meanings.{Calls, Gets, GetsStatic, Makes, MakesReferences, Mode, Puts, PutsStatic}
+use Rattle.cjc_card_semantics.specs.Bytecode.Meanings.{Calls, Gets, GetsStatic, Makes, MakesReferences, Mode, Puts}
+use Rattle.cjc_card_semantics.specs.Bytecode.Meanings.{PutsStatic}
 use Rattle.cjc_card_semantics.specs.Bytecode.Meanings.{Use}
 use Rattle.cjc_card_semantics.specs.Bytecode.Meanings as meanings
 use Rattle.cjc_card_semantics.specs.Machine.Loaded.{Loaded, Part}
@@ -29,17 +31,17 @@ use Rattle.cjc_card_semantics.specs.Machine.Methods.{fetch, fetched_as}
 use Rattle.cjc_card_semantics.specs.Machine.Operations.{Callee, operation, or_undone}
 use Rattle.cjc_card_semantics.specs.Machine.Operations as machine
 use Rattle.cjc_card_semantics.specs.Machine.Statics.{StaticCell, first_array, first_memory}
-use Rattle.cjc_card_semantics.specs.Script.Sorts.{OfNumbers, Shape}
-use Rattle.cjc_card_acts.specs.Types.Fixpoint.Tables.{HasRow}
-use Rattle.cjc_card_acts.specs.Types.declared.cell.Cell.{Cell}
-use Rattle.cjc_card_acts.specs.Types.declared.state.Stack.{Stack}
-use Rattle.cjc_card_acts.specs.Types.declared.state.Stack.TheVariants.{Cells, Clash}
-use Rattle.cjc_card_acts.specs.Types.declared.state.State.{State}
-use Rattle.cjc_card_acts.specs.Frames.declared.acts.Act.{Act}
-use Rattle.cjc_card_acts.specs.Frames.declared.acts.Step.{Step}
-use Rattle.cjc_card_acts.specs.Frames.Acts.{Subtype, clash, has_wrong, has_wrong_local, misnamed, unknown, wrong}
-use Rattle.cjc_card_acts.specs.Frames.Flow as flow
-use Rattle.cjc_card_acts.specs.Frames.Tables.{Breach, IsLeastTable}
+use Rattle.cjc_script.specs.Sorts.{OfNumbers, Shape}
+use Rattle.cjc_intervals.specs.Fixpoint.Tables.{HasRow}
+use Rattle.cjc_intervals.specs.Types.declared.cell.Cell.{Cell}
+use Rattle.cjc_intervals.specs.Types.declared.state.Stack.{Stack}
+use Rattle.cjc_intervals.specs.Types.declared.state.Stack.TheVariants.{Cells, Clash}
+use Rattle.cjc_intervals.specs.Types.declared.state.State.{State}
+use Rattle.cjc_verify.specs.Frames.declared.acts.Act.{Act}
+use Rattle.cjc_verify.specs.Frames.declared.acts.Step.{Step}
+use Rattle.cjc_verify.specs.Frames.Acts.{Subtype, clash, has_wrong, has_wrong_local, misnamed, unknown, wrong}
+use Rattle.cjc_verify.specs.Frames.Flow as flow
+use Rattle.cjc_verify.specs.Frames.Tables.{Breach, IsLeastTable}
 use Rattle.cjc_card_acts.specs.CardTypes.{ValueType, is_type_of}
 use Rattle.cjc_card_acts.specs.Rows.{row}
 use Rattle.cjc_card_acts.specs.Rows as rows
@@ -114,7 +116,8 @@ module _ (is_of : Subtype) (b : flow.Body) (rows_of : List (Option State))
     is_step = is;
     state = record { stack = Cells cells; locals = locals };
     reached = r;
-    breaks = wrong cells locals (let a = s.act in ap (λ t. has_wrong is_of a.takes cells || has_wrong_local is_of a.reads
+    breaks = wrong cells locals (let a = s.act in ap (λ t. has_wrong is_of a.takes cells || has_wrong_local is_of
+        a.reads
         locals || t) e ∙ last_true (has_wrong is_of a.takes cells) (has_wrong_local is_of a.reads locals));
   }))
 
@@ -146,7 +149,8 @@ module _ (applets : Bool) (list : List ℕ) (files : Files) (image : StaticImage
   pub are_methods : AreMethods l program
   are_methods t among =
       let r = of.each t among in
-      subst (IsMethod l program.exceptions) (typing_is p r.1 t r.4) (typed_method applets files image c whole jump handled
+      subst (IsMethod l program.exceptions) (typing_is p r.1 t r.4)
+      (typed_method applets files image c whole jump handled
       refs verified program.exceptions of.exceptions r.0 r.1 r.2 t.rows (let x = r.4 in x.least))
 
   -- ---- the first memory
@@ -160,11 +164,13 @@ module _ (applets : Bool) (list : List ℕ) (files : Files) (image : StaticImage
       of_numbers : (a : ArrayInit) → Some (shape (first_array a)) ≡ Some kind → IsMade program kind
       of_numbers a f = subst (IsMade program) (same_some f) tt
 
-      by : (o : Option (HeapObject Class Field)) → slice_get (map first_array inits ++ []) k ≡ o → shape_in o ≡ Some kind
+      by : (o : Option (HeapObject Class Field)) → slice_get (map first_array inits ++ []) k ≡ o → shape_in o
+          ≡ Some kind
           → IsMade program kind
       by None f g = absurd cc
       by (Some thing) f g =
-          let r = mapped_at first_array inits k thing (ap (λ xs. slice_get xs k) (sym (append-nil (map first_array inits)))
+          let r = mapped_at first_array inits k thing (ap (λ xs. slice_get xs k) (sym (append-nil
+          (map first_array inits)))
           ∙ f) in
           of_numbers r.0 (ap (λ x. Some (shape x)) r.2 ∙ g)
 
@@ -183,13 +189,16 @@ module _ (applets : Bool) (list : List ℕ) (files : Files) (image : StaticImage
         → is_used_by how item ≡ true → IsRight (using p how (entry_type p k) item)
         → Suits l program result (using p how (entry_type p k) item) (or_undone (machine.using l 0 how item))
     use_suits result (Gets this letter) k (Classref class) is kind right = absurd cc
-    use_suits result (Gets this letter) k (InstanceFieldref class token) is kind right = field_suits applets list files image c sound typed descs static_ones verified counts refs program of result this letter class token k is right
+    use_suits result (Gets this letter) k (InstanceFieldref class token) is kind right = field_suits applets list files
+        image c sound typed descs static_ones verified counts refs program of result this letter class token k is right
     use_suits result (Gets this letter) k (VirtualMethodref class token) is kind right = absurd cc
     use_suits result (Gets this letter) k (SuperMethodref class token) is kind right = absurd cc
     use_suits result (Gets this letter) k (StaticFieldref field) is kind right = absurd cc
     use_suits result (Gets this letter) k (StaticMethodref method) is kind right = absurd cc
     use_suits result (Puts this letter) k (Classref class) is kind right = absurd cc
-    use_suits result (Puts this letter) k (InstanceFieldref class token) is kind right = field_put_suits applets list files image c sound typed descs static_ones verified counts refs program of result this letter class token k is right
+    use_suits result (Puts this letter) k (InstanceFieldref class token) is kind right = field_put_suits applets list
+        files image c sound typed descs static_ones verified counts refs program of result this letter class token k is
+        right
     use_suits result (Puts this letter) k (VirtualMethodref class token) is kind right = absurd cc
     use_suits result (Puts this letter) k (SuperMethodref class token) is kind right = absurd cc
     use_suits result (Puts this letter) k (StaticFieldref field) is kind right = absurd cc
@@ -198,16 +207,19 @@ module _ (applets : Bool) (list : List ℕ) (files : Files) (image : StaticImage
     use_suits result (GetsStatic letter) k (InstanceFieldref class token) is kind right = absurd cc
     use_suits result (GetsStatic letter) k (VirtualMethodref class token) is kind right = absurd cc
     use_suits result (GetsStatic letter) k (SuperMethodref class token) is kind right = absurd cc
-    use_suits result (GetsStatic letter) k (StaticFieldref field) is kind right = cell_suits applets list files image c sound typed descs static_ones verified counts refs program of result letter field k is right
+    use_suits result (GetsStatic letter) k (StaticFieldref field) is kind right = cell_suits applets list files image c
+        sound typed descs static_ones verified counts refs program of result letter field k is right
     use_suits result (GetsStatic letter) k (StaticMethodref method) is kind right = absurd cc
     use_suits result (PutsStatic letter) k (Classref class) is kind right = absurd cc
     use_suits result (PutsStatic letter) k (InstanceFieldref class token) is kind right = absurd cc
     use_suits result (PutsStatic letter) k (VirtualMethodref class token) is kind right = absurd cc
     use_suits result (PutsStatic letter) k (SuperMethodref class token) is kind right = absurd cc
-    use_suits result (PutsStatic letter) k (StaticFieldref field) is kind right = cell_put_suits applets list files image c sound typed descs static_ones verified counts refs program of result letter field k is right
+    use_suits result (PutsStatic letter) k (StaticFieldref field) is kind right = cell_put_suits applets list files
+        image c sound typed descs static_ones verified counts refs program of result letter field k is right
     use_suits result (PutsStatic letter) k (StaticMethodref method) is kind right = absurd cc
     use_suits result (Calls mode) k item is kind right = fit.calls result mode k item is kind right
-    use_suits result Makes k (Classref class) is kind right = new_suits applets list files image c sound typed descs static_ones verified counts refs program of result class k is right
+    use_suits result Makes k (Classref class) is kind right = new_suits applets list files image c sound typed descs
+        static_ones verified counts refs program of result class k is right
     use_suits result Makes k (InstanceFieldref class token) is kind right = absurd cc
     use_suits result Makes k (VirtualMethodref class token) is kind right = absurd cc
     use_suits result Makes k (SuperMethodref class token) is kind right = absurd cc
@@ -231,7 +243,8 @@ module _ (applets : Bool) (list : List ℕ) (files : Files) (image : StaticImage
 
       step_suits : (place : ℕ) (s : Step) (x : IsStep applets files image c whole jump b place s) → IsRight s.act
           → Suits l program result s.act (operation l 0 pool (let q = x.item in q.at) (meanings.meaning (let q = x.item
-          in let i = q.item in i.opcode)) (let q = x.item in let i = q.item in i.operands) (let q = x.item in let i = q.item
+          in let i = q.item in i.opcode)) (let q = x.item in let i = q.item in i.operands)
+          (let q = x.item in let i = q.item
           in i.table))
       step_suits place s x right =
           let q = x.item in
@@ -242,20 +255,24 @@ module _ (applets : Bool) (list : List ℕ) (files : Files) (image : StaticImage
           let in_pool : SuitPool applets files image c program of refs class_refs result q = record {
             uses = λ how is_row fine. (
                 let u = uses_indexed c indexed k stands.code stands.among place q got how is_row read in
-                by q.at (let i = q.item in i.table) how (let i = q.item in i.operands) u.index u.is u.entry u.there u.kind fine
+                by q.at (let i = q.item in i.table) how (let i = q.item in i.operands) u.index u.is u.entry u.there
+                u.kind fine
                 );
-            interface = λ are fine. fit.interface result q.at (let i = q.item in i.operands) (let i = q.item in i.table) are
+            interface = λ are fine. fit.interface result q.at (let i = q.item in i.operands)
+                (let i = q.item in i.table) are
                 fine;
           } in
           subst (λ (y : Step). Suits l program result y.act (operation l 0 pool q.at (meanings.meaning (let i = q.item
-          in i.opcode)) (let i = q.item in i.operands) (let i = q.item in i.table))) x.is (suits_of applets files image c
+          in i.opcode)) (let i = q.item in i.operands) (let i = q.item in i.table))) x.is
+          (suits_of applets files image c
           program of refs class_refs result q read in_pool here)
         where
           by : (at : ℕ) (table : List ℤ) (how : Use) (zs : List ℤ) (n : ℕ) → zs ≡ pos n ∷ [] → (item : PoolEntry)
               → slice_get pool n ≡ Some item → is_used_by how item ≡ true → IsRight (using_entry p how zs)
               → Suits l program result (using_entry p how zs) (operation l 0 pool at (meanings.Uses how) zs table)
           by at table how zs n is item there kind fine = subst (λ (ys : List ℤ). IsRight (using_entry p how ys)
-              → Suits l program result (using_entry p how ys) (operation l 0 pool at (meanings.Uses how) ys table)) (sym is)
+              → Suits l program result (using_entry p how ys) (operation l 0 pool at (meanings.Uses how) ys table))
+              (sym is)
               (subst (λ (o : Option PoolEntry). IsRight (using_some p how (entry_type p n) o) → Suits l program result
               (using_some p how (entry_type p n) o) (or_undone (option_and_then (machine.using l 0 how) o))) (sym there)
               (λ good. use_suits result how n item there kind good)) fine

@@ -4,7 +4,7 @@ use Rattle.std.proofs.Common.{◌∷◌, ◌++◌, length, slice_get, Option, So
 use Rattle.std.specs.Prelude.{◌&&◌, if◌then◌else◌, option_and_then, option_map}
 use Rattle.std.specs.Str.{bytes_eq}
 use Rattle.cjc_bytes.specs.declared.fault.MemberId.{MemberId}
-use Rattle.cjc_capread.specs.Bytes.AccessFlags.{is_static}
+use Rattle.cjc_bytes.specs.AccessFlags.{is_static}
 use Rattle.cjc_capread.specs.declared.tree.ClassDescriptor.{ClassDescriptor}
 use Rattle.cjc_capread.specs.declared.tree.ClassRef.{ClassRef}
 use Rattle.cjc_capread.specs.declared.tree.MethodDescriptor.{MethodDescriptor}
@@ -21,12 +21,13 @@ use Rattle.cjc_world.specs.Files.{Files}
 use Rattle.cjc_world.specs.Order.{class_order, methods_of_class, places, written}
 use Rattle.cjc_tokens.specs.Tokens.{assigned}
 use Rattle.cjc_card_semantics.specs.Bytecode.Machine.{Start}
-use Rattle.cjc_card_semantics.specs.Machine.Calls.{called, class_among, is_named, named_among, named_in_part, static_start}
+use Rattle.cjc_card_semantics.specs.Machine.Calls.{called, class_among, is_named, named_among, named_in_part}
+use Rattle.cjc_card_semantics.specs.Machine.Calls.{static_start}
 use Rattle.cjc_card_semantics.specs.Machine.Calls as machine
 use Rattle.cjc_card_semantics.specs.Machine.Classes.{Class, External, Own, class_named, number_from, offset_from}
 use Rattle.cjc_card_semantics.specs.Machine.Loaded.{ClassNames, Loaded, MethodName, Part}
 use Rattle.cjc_card_semantics.specs.Machine.Methods.{Code, start_at, start_of}
-use Rattle.cjc_card_semantics.specs.Script.Sorts.{signature_of}
+use Rattle.cjc_script.specs.Sorts.{signature_of}
 use Rattle.cjc_card_acts.specs.CardTypes.{MemberType}
 use Rattle.cjc_components.specs.Descriptor.{method_in}
 use Rattle.cjc_components.specs.Paired.Naming.{class_names, method_name, method_names, part_of}
@@ -49,7 +50,7 @@ use Rattle.cjc_bytes.proofs.Gets.{get_behind, in_front, mapped_at}
 use Rattle.cjc_bytes.proofs.Lists.{bytes_true}
 use Rattle.cjc_bytes.proofs.Numbers.{number_same}
 use Rattle.cjc_bytes.proofs.Plain.{same_some}
-use Rattle.cjc_card_link.proofs.InfoPlaces.{all_starts as starts_of_infos}
+use Rattle.cjc_verify.proofs.CardLinkInfoPlaces.{all_starts as starts_of_infos}
 use Rattle.cjc_verified_proof.proofs.DescribedLaws.{fits, own_found}
 use Rattle.cjc_verified_proof.proofs.MethodLaws.{body_starts}
 use Rattle.cjc_verified_proof.proofs.NameLaws.{number_back, starts_read}
@@ -98,7 +99,8 @@ in_there cl h (x ∷ fs) (y ∷ ms) zero f m e g = ap (λ q. Some (as_described 
     ∙ ap (λ q. Some (as_described cl h f q)) (same_some g)
 in_there cl h (x ∷ fs) (y ∷ ms) (suc j) f m e g = in_there cl h fs ms j f m e g
 
-pub among_there : (w order : List world.Class) (xs : List ClassDescriptor) (k : ℕ) (cl : world.Class) (x : ClassDescriptor)
+pub among_there : (w order : List world.Class) (xs : List ClassDescriptor) (k : ℕ) (cl : world.Class)
+    (x : ClassDescriptor)
     → slice_get order k ≡ Some cl → slice_get xs k ≡ Some x → (j : ℕ) (f : Found) (m : MethodDescriptor)
     → slice_get (methods_of_class w cl) j ≡ Some f → slice_get x.methods j ≡ Some m
     → (n : ℕ) × (slice_get (described_among w order xs) n ≡ Some (as_described cl x.this_class f m))
@@ -189,7 +191,8 @@ module _ (applets : Bool) (files : Files) (image : StaticImage) (c : Complete) (
       let listed : slice_get (method_names w f.class) n.0 ≡ Some n.1 = ap (λ (x : world.Class).
       slice_get (method_names w x) n.0) (sym cl) ∙ ap (λ (x : ClassNames). slice_get x.methods n.0) a.2 ∙ n.2 in
       let y = f.class in
-      let g = mapped_at (λ (x : Found). method_name (method_in w f.class x.member)) (written y (length y.fields) y.methods)
+      let g = mapped_at (λ (x : Found). method_name (method_in w f.class x.member)) (written y
+      (length y.fields) y.methods)
       n.0 n.1 listed in
       let here = in_front (written y (length y.fields) y.methods) (places y (length y.fields + length y.methods)
       (length (added w y))) n.0 g.0 g.1 in
@@ -226,7 +229,8 @@ module _ (applets : Bool) (files : Files) (image : StaticImage) (c : Complete) (
       of_method k number names there d among None named f = absurd cc
       of_method k number names there d among (Some x) named f = (
         ap (λ (y : machine.Described). y.part) (sym (same_some f)),
-        subst (IsNamed offset id) (ap (λ (y : machine.Described). y.method) (same_some f)) (by_name offset k number names
+        subst (IsNamed offset id) (ap (λ (y : machine.Described). y.method) (same_some f))
+            (by_name offset k number names
             there d among id x named),
       )
 
@@ -253,31 +257,37 @@ module _ (applets : Bool) (files : Files) (image : StaticImage) (c : Complete) (
   -- ---- entries of scripts
 
   module _ (jump : jump_spots c ≡ []) (refs : AreRefs c) (counted : AreCounted files) (program : Program)
-      (of : IsProgramOf (pair_of applets files image c) program) (codes : HaveCode (pair_of applets files image c)) where
+      (of : IsProgramOf (pair_of applets files image c) program) (codes : HaveCode
+      (pair_of applets files image c)) where
     -- a static method among all begins one of the program
-    entry : (j : ℕ) (d : Described) → slice_get (described p) j ≡ Some d → is_static (let m = d.method in m.flags) ≡ true
+    entry : (j : ℕ) (d : Described) → slice_get (described p) j ≡ Some d → is_static (let m = d.method in m.flags)
+        ≡ true
         → (desc : List ℕ) → (let x = member_of p d in x.desc) ≡ desc → (m : Start Code)
         → start_of l 0 (let m = d.method in m.offset) ≡ Some m → IsEntry l program None desc m
     entry j d e static desc same m starts =
-        let o = own_found applets files image c whole ordered paired verified j d e (ap not (codes.in_classes j d e static))
+        let o = own_found applets files image c whole ordered paired verified j d e (ap not
+        (codes.in_classes j d e static))
         in
         let b = o.1 in
         let at = ap (λ (x : MethodDescriptor). x.offset) o.3 in
-        let s = subst (StandsAt p program) at (stands_at applets files image c whole jump ordered paired verified refs counted
+        let s = subst (StandsAt p program) at (stands_at applets files image c whole jump ordered paired verified refs
+        counted
         program of o.0 b o.2) in
         let is : s.described ≡ d = same_some (sym s.is_described ∙ o.4) in
         let one : s.start ≡ m = same_some (sym s.starts ∙ starts) in
         let header : (let h = b.header in h.is_abstract) ≡ false = not_both (let h = b.header in h.is_abstract)
         (holds (has_code p) (method_at p (let x = b.method in x.offset))) (header_codes p verified o.0 b o.2)
         (ap (λ n. holds (has_code p) (method_at p n)) at ∙ ap (holds (has_code p)) o.4 ∙ codes.coded j d e static) in
-        let begun : start_at 0 (let x = b.method in x.offset) b.header b.method ≡ s.start = same_some (sym (body_starts applets
+        let begun : start_at 0 (let x = b.method in x.offset) b.header b.method ≡ s.start = same_some (sym
+        (body_starts applets
         files image c whole jump o.0 b o.2) ∙ ap (start_of l 0) at ∙ s.starts) in
         let concrete : (let x = s.start in x.is_abstract) ≡ false = ap (λ (x : Start Code). x.is_abstract) (sym begun)
         ∙ header in
         let t = s.typed concrete in
         let g = codes.signed j d e in
         let sorts = sorts_said applets files image c whole jump ordered paired verified refs counted
-        (let x = member_of p s.described in x.desc) s.nibbles g.0 s.said (ap (λ (x : Described). signature_of (let y = member_of p x in y.desc)) is
+        (let x = member_of p s.described in x.desc) s.nibbles g.0 s.said (ap (λ (x : Described). signature_of
+        (let y = member_of p x in y.desc)) is
         ∙ g.1) in
         let none : holder_type s.body ≡ None = ap (λ (f : MethodDescriptor). if is_static f.flags then None
         else Some (class_type (let y = s.body in y.holder))) (sym s.method ∙ ap (λ (x : Described). x.method) is)
@@ -298,7 +308,8 @@ module _ (applets : Bool) (files : Files) (image : StaticImage) (c : Complete) (
     pub calls : (id : MemberId) (m : Start Code) → called l id ≡ Some m → IsEntry l program None id.desc m
     calls id m e = of_class (class_named l id.class) e
       where
-        of_static : (offset : ℕ) (d : MethodDescriptor) → IsNamed offset id d → (b : Bool) → is_static d.flags ≡ b → (if b then start_of l 0 d.offset else None) ≡ Some m
+        of_static : (offset : ℕ) (d : MethodDescriptor) → IsNamed offset id d → (b : Bool) → is_static d.flags ≡ b →
+            (if b then start_of l 0 d.offset else None) ≡ Some m
             → IsEntry l program None id.desc m
         of_static offset d r true static f = entry r.number r.it r.listed
             (ap (λ (y : MethodDescriptor). is_static y.flags) r.method ∙ static) id.desc r.desc m
@@ -314,7 +325,8 @@ module _ (applets : Bool) (files : Files) (image : StaticImage) (c : Complete) (
             of_static offset d r.1 (is_static d.flags) refl (ap (λ n. if is_static d.flags then start_of l n d.offset
             else None) (sym r.0) ∙ f)
 
-        of_class : (o : Option Class) → option_and_then (λ c. option_and_then (static_start l) (machine.declared l c id)) o
+        of_class : (o : Option Class) → option_and_then (λ c. option_and_then (static_start l)
+            (machine.declared l c id)) o
             ≡ Some m → IsEntry l program None id.desc m
         of_class None f = absurd cc
         of_class (Some (External tree token)) f = absurd cc

@@ -4,20 +4,22 @@ use Rattle.std.proofs.Common.{map, slice_get, Option, Some, None}
 use Rattle.std.specs.Prelude.{◌||◌, not, if◌then◌else◌, is_some, option_and_then, option_map}
 use Rattle.std.specs.Str.{bytes_eq}
 use Rattle.cjc_bytes.specs.declared.fault.MemberId.{MemberId}
-use Rattle.cjc_capread.specs.Bytes.AccessFlags.{is_interface, is_private, is_static}
+use Rattle.cjc_bytes.specs.AccessFlags.{is_interface, is_private, is_static}
 use Rattle.cjc_capread.specs.declared.tree.MethodDescriptor.{MethodDescriptor}
 use Rattle.cjc_card_semantics.specs.Bytecode.Machine.{Start}
 use Rattle.cjc_card_semantics.specs.Machine.Calls.{dispatched_on, found_token, interface_token, is_named, listed_token}
-use Rattle.cjc_card_semantics.specs.Machine.Calls.{place_named, sent, sent_as, sent_by, sent_to, start_selected, through}
+use Rattle.cjc_card_semantics.specs.Machine.Calls.{place_named, sent, sent_as, sent_by, sent_to, start_selected}
+use Rattle.cjc_card_semantics.specs.Machine.Calls.{through}
 use Rattle.cjc_card_semantics.specs.Machine.Calls.{through_first}
 use Rattle.cjc_card_semantics.specs.Machine.Classes.{Class, External, Own, depth, external, is_in, is_kind_of, is_of}
 use Rattle.cjc_card_semantics.specs.Machine.Classes.{names_of, object_class, shape_class, upwards}
 use Rattle.cjc_card_semantics.specs.Machine.Classes as card
 use Rattle.cjc_card_semantics.specs.Machine.Dispatch.{NotFound, Selection, Token}
-use Rattle.cjc_card_semantics.specs.Machine.Dispatch.{dispatched_interface, interface_method, named_in, of_file, outward}
+use Rattle.cjc_card_semantics.specs.Machine.Dispatch.{dispatched_interface, interface_method, named_in, of_file}
+use Rattle.cjc_card_semantics.specs.Machine.Dispatch.{outward}
 use Rattle.cjc_card_semantics.specs.Machine.Loaded.{ClassNames, Loaded, MethodName}
 use Rattle.cjc_card_semantics.specs.Machine.Methods.{Code}
-use Rattle.cjc_card_semantics.specs.Script.Sorts.{OfClass, Shape, signature_of as types_of}
+use Rattle.cjc_script.specs.Sorts.{OfClass, Shape, signature_of as types_of}
 use Rattle.cjc_card_acts.specs.CardTypes.{MemberType, both_of, shape_by}
 use Rattle.cjc_world.specs.ExportFile.Supers.{virtual_method}
 use Rattle.cjc_world.specs.ExportFile.declared.tree.ExportClass.{ExportClass}
@@ -29,7 +31,7 @@ use Rattle.cjc_world.specs.Supertypes.{stands, supertypes}
 use Rattle.cjc_tokens.specs.Members.{Signature, is_initialiser, same, signature_of}
 use Rattle.cjc_tokens.specs.Methods.{interface_methods}
 use Rattle.cjc_tokens.proofs.Walks.{supertypes-known}
-use Rattle.cjc_components.specs.NCode.Lowering.Naming.{Naming}
+use Rattle.cjc_token_proof.specs.NCode.Lowering.Naming.{Naming}
 use Rattle.cjc_components.specs.Package.{Package}
 use Rattle.cjc_token_proof.specs.ByToken.Above.{IsAtOrAbove, itself, upwards as higher}
 use Rattle.cjc_token_proof.specs.ByToken.Supers.{SaysKinds}
@@ -46,7 +48,8 @@ use Rattle.cjc_verified_proof.specs.Checked.{Checked, HasCode, IsChecked, pair}
 use Rattle.cjc_verified_proof.specs.Dispatching.{naming_of, package_of}
 use Rattle.cjc_verified_proof.specs.Kept.{KeepsCalls}
 use Rattle.cjc_verified_proof.specs.Programs.{IsProgramOf}
-use Rattle.cjc_verified_proof.specs.Selecting.{DispatchFits, HasDesc, IsConcrete, IsOf, of_file as of_import, of_package}
+use Rattle.cjc_verified_proof.specs.Selecting.{DispatchFits, HasDesc, IsConcrete, IsOf, of_file as of_import}
+use Rattle.cjc_verified_proof.specs.Selecting.{of_package}
 use Rattle.cjc_verified_proof.specs.Suited.{HaveCode, holder_type}
 use Rattle.cjc_bytes.proofs.Bools.{and_true}
 use Rattle.cjc_bytes.proofs.Gets.{find_got, item_there, mapped_at}
@@ -151,7 +154,8 @@ module _ (c : Checked) (ok : IsChecked c) (has : HasCode c) (codes : HaveCode (p
 
   -- ---- what a script sends
 
-  module _ (keeps : KeepsCalls c) (facts : Facts (package_of c.list c.files c.image)) (fit : DispatchFits p program) where
+  module _ (keeps : KeepsCalls c) (facts : Facts (package_of c.list c.files c.image))
+      (fit : DispatchFits p program) where
     abbrev w : List world.Class
     w = all_classes c.files
 
@@ -171,7 +175,8 @@ module _ (c : Checked) (ok : IsChecked c) (has : HasCode c) (codes : HaveCode (p
 
     -- an interface of an export file
     module _ (tree number : ℕ) (e : ExportClass) (there : external l tree number ≡ Some e)
-        (here : is_interface e.flags ≡ true) (id : MemberId) (t : ℕ) (h : listed_token e.methods id ≡ Some (Some t)) where
+        (here : is_interface e.flags ≡ true) (id : MemberId) (t : ℕ) (h : listed_token e.methods id ≡ Some
+        (Some t)) where
       abbrev at : IsListed e.methods id t
       at = listed_there e.methods id t h
 
@@ -179,7 +184,8 @@ module _ (c : Checked) (ok : IsChecked c) (has : HasCode c) (codes : HaveCode (p
       method = let r = at in r.method
 
       known : (k : ℕ) × (world.class_named w e.name ≡ Some (imported k e)) × (n.class e.name ≡ External tree number)
-      known = named_external c.name c.list c.files c.image c.components ok.sound ok.paired ok.verified tree number e there
+      known = named_external c.name c.list c.files c.image c.components ok.sound ok.paired ok.verified tree number e
+          there
 
       -- it is no initialiser, which is static
       plain : is_initialiser method.name ≡ false
@@ -189,10 +195,12 @@ module _ (c : Checked) (ok : IsChecked c) (has : HasCode c) (codes : HaveCode (p
           ap (λ (d : world.Class). d.methods) file.class in
           let r = at in
           let other = mapped_at method_of_export (let y = file.entry in y.methods) r.place (method_of_export method)
-          (sym (ap (λ ms. slice_get ms r.place) methods) ∙ item_there method_of_export e.methods r.place method r.there) in
+          (sym (ap (λ ms. slice_get ms r.place) methods) ∙ item_there method_of_export e.methods r.place method r.there)
+          in
           not_static (is_static method.flags) (is_private method.flags) (bytes_eq method.name
           (Rattle.std.specs.Prelude.codes "<init>")) (is_initialiser method.name) r.virtual (λ init.
-          ap (λ (m : Member). is_static m.flags) (sym other.2) ∙ files_of.entry_plain q facts e.name (imported known.0 e)
+          ap (λ (m : Member). is_static m.flags) (sym other.2) ∙ files_of.entry_plain q facts e.name
+          (imported known.0 e)
           known.1 refl r.place other.0 other.1 (ap (λ (m : Member). is_initialiser m.name) other.2 ∙ init))
 
       abbrev asked : Signature
@@ -214,11 +222,13 @@ module _ (c : Checked) (ok : IsChecked c) (has : HasCode c) (codes : HaveCode (p
         → interface_desc l t (Some i) ≡ Some id.desc
     token_desc i here id t e = ap (λ b. if b then selection_desc (interface_method l i t) else None) here ∙ by i here e
       where
-        in_file : (tree number : ℕ) (o : Option ExportClass) → external l tree number ≡ o → card.is_interface_file o ≡ true
+        in_file : (tree number : ℕ) (o : Option ExportClass) → external l tree number ≡ o → card.is_interface_file o
+            ≡ true
             → option_and_then (λ (x : ExportClass). option_and_then (λ k. k) (listed_token x.methods id)) o ≡ Some t
             → selection_desc (of_file o t) ≡ Some id.desc
         in_file tree number None there f g = absurd cc
-        in_file tree number (Some x) there f g = external_desc tree number x there f id t (listed (listed_token x.methods id)
+        in_file tree number (Some x) there f g = external_desc tree number x there f id t (listed
+            (listed_token x.methods id)
             g)
           where
             listed : (o : Option (Option ℕ)) → option_and_then (λ k. k) o ≡ Some t → o ≡ Some (Some t)
@@ -271,7 +281,8 @@ module _ (c : Checked) (ok : IsChecked c) (has : HasCode c) (codes : HaveCode (p
         by false own =
             let h = facts.own y d known own in
             ap (card.is_interface l) (sym (ap n.class (class_named-name w y d known)) ∙ h.on_card)
-            ∙ ap card.is_interface_info (own_info c.name c.list c.files c.image c.components ok.sound ok.paired ok.verified d
+            ∙ ap card.is_interface_info (own_info c.name c.list c.files c.image c.components ok.sound ok.paired
+            ok.verified d
             h) ∙ info_kind (is_interface d.flags) _ _
 
     -- each interface is below java/lang/Object
@@ -304,7 +315,8 @@ module _ (c : Checked) (ok : IsChecked c) (has : HasCode c) (codes : HaveCode (p
       Enters s = (m : Start Code) → start_selected l s ≡ Some m → IsEntry l program (Some kind) id.desc m
 
       receives : Receives c.name c.list c.files c.image c.components ok.sound ok.paired ok.verified kind
-      receives = made_receives c.name c.list c.files c.image c.components ok.sound ok.paired ok.verified facts program of
+      receives = made_receives c.name c.list c.files c.image c.components ok.sound ok.paired ok.verified facts program
+          of
           kind made
 
       -- what it is of
@@ -317,7 +329,8 @@ module _ (c : Checked) (ok : IsChecked c) (has : HasCode c) (codes : HaveCode (p
 
       -- a method of an interface that it is of
       through_enters : (i : Class) → card.is_interface l i ≡ true → both_of l (Some kind) (Some (OfClass i)) ≡ true
-          → (o : Option ℕ) → interface_token l i id ≡ o → (other : Selection) → Enters other → Enters (through l receiving i
+          → (o : Option ℕ) → interface_token l i id ≡ o → (other : Selection) → Enters other → Enters
+          (through l receiving i
           o other)
       through_enters i here below None is other more = more
       through_enters i here below (Some t) is other more =
@@ -328,11 +341,13 @@ module _ (c : Checked) (ok : IsChecked c) (has : HasCode c) (codes : HaveCode (p
       first_enters : (ks : List Class) → ((k : Class) → is_in k ks ≡ true → both_of l (Some kind) (Some (OfClass k))
           ≡ true) → Enters (through_first l receiving ks id)
       first_enters [] below = none_enters
-      first_enters (k ∷ ks) below = by (card.is_interface l k) refl (first_enters ks (λ x h. below x (later_in x k ks h)))
+      first_enters (k ∷ ks) below = by (card.is_interface l k) refl (first_enters ks (λ x h. below x
+          (later_in x k ks h)))
         where
           by : (b : Bool) → card.is_interface l k ≡ b → Enters (through_first l receiving ks id) → Enters (through l
               receiving k (if b then interface_token l k id else None) (through_first l receiving ks id))
-          by true here more = through_enters k here (below k (head_in k ks)) (interface_token l k id) refl (through_first l
+          by true here more = through_enters k here (below k (head_in k ks)) (interface_token l k id) refl
+              (through_first l
               receiving ks id) more
           by false here more = more
 
@@ -376,10 +391,13 @@ module _ (c : Checked) (ok : IsChecked c) (has : HasCode c) (codes : HaveCode (p
               let card_here = interface_is id.class d e ∙ here in
               let o = facts.object_class in
               let of_object = kind_below asked_class (n.class object) below (interface_below id.class d e here) in
-              subst (λ b. Enters (sent_where b)) (sym card_here) (through_enters asked_class card_here below (interface_token l
-              asked_class id) refl (sent_by l receiving asked_class id by_object) (sent_enters asked_class below object o.0
+              subst (λ b. Enters (sent_where b)) (sym card_here) (through_enters asked_class card_here below
+              (interface_token l
+              asked_class id) refl (sent_by l receiving asked_class id by_object)
+              (sent_enters asked_class below object o.0
               o.1 o.3 of_object by_object (ap (λ x. found_token l (suc (depth l)) x id) (sym told.object_class))))
-          by false here = subst (λ b. Enters (sent_where b)) (sym (interface_is id.class d e ∙ here)) (sent_enters asked_class
+          by false here = subst (λ b. Enters (sent_where b)) (sym (interface_is id.class d e ∙ here))
+              (sent_enters asked_class
               below id.class d e here below by_name refl)
 
       -- What is sent to it begins a method of the program.
@@ -395,7 +413,8 @@ module _ (c : Checked) (ok : IsChecked c) (has : HasCode c) (codes : HaveCode (p
               of_class r.0 r.1 (is_of l kind (OfClass (n.class id.class))) refl (sym same ∙ g)
             where
               of_class : (d : world.Class) → world.class_named w id.class ≡ Some d → (b : Bool) → is_of l kind
-                  (OfClass (n.class id.class)) ≡ b → (if b then start_selected l (sent_to l receiving (n.class id.class) id)
+                  (OfClass (n.class id.class)) ≡ b → (if b then start_selected l (sent_to l receiving
+                  (n.class id.class) id)
                   else None) ≡ Some m → IsEntry l program (Some kind) id.desc m
               of_class d known true is h = to_enters d known is m h
               of_class d known false is h = absurd cc

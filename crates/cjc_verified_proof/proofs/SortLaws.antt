@@ -3,19 +3,19 @@ use Rattle.std.proofs.Common.{◌≡◌, ℕ, zero, suc, Bool, true, false, List
 use Rattle.std.proofs.Common.{refl, sym, ap, subst, ◌∙◌, inl, inr, append_assoc}
 use Rattle.std.specs.Prelude.{◌||◌, cond, filter}
 use Rattle.std.proofs.lemmas.List.Concat.{flat_map-cons}
-use Rattle.cjc_capread.specs.Bytes.declared.fault.MemberId.{MemberId}
+use Rattle.cjc_bytes.specs.declared.fault.MemberId.{MemberId}
 use Rattle.cjc_world.specs.ClassFile.declared.tree.ClassTree.{ClassTree}
 use Rattle.cjc_world.specs.ClassFile.declared.tree.FieldTree.{FieldTree}
 use Rattle.cjc_world.specs.declared.image.ArrayCell.{ArrayCell}
 use Rattle.cjc_world.specs.declared.image.ValueCell.{ValueCell}
-use Rattle.cjc_ncode.specs.Bytecode.declared.method_code.MethodCode.{MethodCode}
-use Rattle.cjc_ncode.specs.PoolOrder.{same_member}
+use Rattle.cjc_intervals.specs.Bytecode.declared.method_code.MethodCode.{MethodCode}
+use Rattle.cjc_token_proof.specs.NCode.PoolOrder.{same_member}
 use Rattle.cjc_script.specs.Sorts.{Sort, Boolean, Byte, Short, Int, Reference, NoValue, field_sort}
-use Rattle.cjc_clinit.specs.Fields.{is_cell}
-use Rattle.cjc_clinit.specs.Image.{IsImage, field_id}
+use Rattle.cjc_token_proof.specs.Clinit.Fields.{is_cell}
+use Rattle.cjc_token_proof.specs.Clinit.Image.{IsImage, field_id}
 use Rattle.cjc_components.specs.Package.{Package}
 use Rattle.cjc_components.specs.Statics.{cell_order}
-use Rattle.cjc_world_proof.specs.Initialisers.Values.{StandOnce}
+use Rattle.cjc_token_proof.specs.LowerWorldProof.Initialisers.Values.{StandOnce}
 use Rattle.cjc_token_proof.specs.ByToken.Cells.{HasCells, fields, is_number, is_one_of, letter_by}
 use Rattle.cjc_token_proof.specs.ByToken.Objects.{is_reference as is_reference_sort}
 use Rattle.cjc_token_proof.specs.Tables.Known.{order_of, statics_in, statics_of}
@@ -54,7 +54,8 @@ placed_in name (g ∷ fs) f e = by (is_cell g) e (placed_in name fs f)
         → (k : ℕ) × (h : FieldTree) × (slice_get (g ∷ fs) k ≡ Some h) × (h.desc ≡ f.desc)
     later r = (suc r.0, r.1, r.2, r.3)
 
-    one : (b : Bool) → same_member (field_id name g) f ≡ b → (b || is_one_of f (map (field_id name) (filter is_cell fs)))
+    one : (b : Bool) → same_member (field_id name g) f ≡ b → (b || is_one_of f (map (field_id name)
+        (filter is_cell fs)))
         ≡ true → (is_one_of f (map (field_id name) (filter is_cell fs)) ≡ true
         → (k : ℕ) × (h : FieldTree) × (slice_get fs k ≡ Some h) × (h.desc ≡ f.desc))
         → (k : ℕ) × (h : FieldTree) × (slice_get (g ∷ fs) k ≡ Some h) × (h.desc ≡ f.desc)
@@ -70,7 +71,8 @@ placed_in name (g ∷ fs) f e = by (is_cell g) e (placed_in name fs f)
 
 placed : (classes : List ClassTree) (f : MemberId) → is_one_of f (statics_of classes) ≡ true → IsPlaced classes f.desc
 placed [] f e = cc
-placed (t ∷ ts) f e = elim (one_either f (statics_in t) (statics_of ts) (sym (ap (is_one_of f) (flat_map-cons statics_in t
+placed (t ∷ ts) f e = elim (one_either f (statics_in t) (statics_of ts) (sym (ap (is_one_of f)
+    (flat_map-cons statics_in t
     ts)) ∙ e)) [
       | inl h ↦ (
           let r = placed_in t.name t.fields f h in

@@ -4,8 +4,8 @@ use Rattle.std.proofs.Common.{◌≡◌, ℕ, zero, suc, ◌+◌, ◌==◌, refl
 use Rattle.std.proofs.Common.{◌++◌, length, map, slice_get, Option, Some, None}
 use Rattle.std.specs.Prelude.{◌&&◌, Contains, cond, filter, flat_map, if◌then◌else◌, not}
 use Rattle.std.specs.List.{list_any}
-use Rattle.cjc_capread.specs.Bytes.AccessFlags.{is_static}
-use Rattle.cjc_capread.specs.Bytes.Breaks.{Among, Break}
+use Rattle.cjc_bytes.specs.AccessFlags.{is_static}
+use Rattle.cjc_bytes.specs.Breaks.{Among, Break}
 use Rattle.cjc_capread.specs.declared.tree.MethodDescriptor.{MethodDescriptor}
 use Rattle.cjc_check_rules.specs.Codes.{whole_spots}
 use Rattle.cjc_check_rules.specs.Complete.{Complete}
@@ -18,13 +18,13 @@ use Rattle.cjc_world.specs.declared.image.StaticImage.{StaticImage}
 use Rattle.cjc_world.specs.Files.{Files}
 use Rattle.cjc_card_semantics.specs.Bytecode.Machine.{Start}
 use Rattle.cjc_card_semantics.specs.Machine.Methods.{start_at, start_of}
-use Rattle.cjc_card_semantics.specs.Script.Sorts.{Signature, signature_of}
-use Rattle.cjc_card_acts.specs.Types.declared.state.State.{State}
-use Rattle.cjc_card_acts.specs.Frames.Acts.{given}
-use Rattle.cjc_card_acts.specs.Frames.declared.acts.Given.TheVariants.{AnObject}
-use Rattle.cjc_card_acts.specs.Frames.Flow.{frame_flow}
-use Rattle.cjc_card_acts.specs.Frames.Flow as flow
-use Rattle.cjc_card_acts.specs.Frames.Tables.{IsLeastTable}
+use Rattle.cjc_script.specs.Sorts.{Signature, signature_of}
+use Rattle.cjc_intervals.specs.Types.declared.state.State.{State}
+use Rattle.cjc_verify.specs.Frames.Acts.{given}
+use Rattle.cjc_verify.specs.Frames.declared.acts.Given.TheVariants.{AnObject}
+use Rattle.cjc_verify.specs.Frames.Flow.{frame_flow}
+use Rattle.cjc_verify.specs.Frames.Flow as flow
+use Rattle.cjc_verify.specs.Frames.Tables.{IsLeastTable}
 use Rattle.cjc_card_acts.specs.CardTypes.{MemberType, type_at, type_by, types_in, words}
 use Rattle.cjc_components.specs.Paired.Pairs.{ArePaired}
 use Rattle.cjc_verify.specs.Bodies.{Body, arguments, bodies, frames_of, receiver_of, type_of_body}
@@ -46,7 +46,7 @@ use Rattle.cjc_bytes.proofs.BrokenRules.{among_left, among_right}
 use Rattle.cjc_bytes.proofs.Gets.{any_at, contained, contains_at, mapped_at, item_there, none_each}
 use Rattle.cjc_bytes.proofs.Numbers.{number_same}
 use Rattle.cjc_bytes.proofs.Plain.{same_some}
-use Rattle.cjc_card_acts.specs.Frames.Working.FlowLaws.{frame_flow_stays, frame_laws}
+use Rattle.cjc_verify.specs.Frames.Working.FlowLaws.{frame_flow_stays, frame_laws}
 use Rattle.cjc_intervals.proofs.RangeLaws.Least.{least_exists}
 use Rattle.cjc_verified_proof.proofs.BodyLaws.{method_has_body}
 use Rattle.cjc_verified_proof.proofs.DescribedLaws.{body_own, body_says, filter_got, filter_has}
@@ -130,7 +130,8 @@ program_is p exceptions thrown = record {
 -- ---- headers
 
 headers_none : (p : Pair) → IsVerified p → flat_map (header_spots p) (bodies p.components) ≡ []
-headers_none p verified = no_spots 727 (flat_map (header_spots p) (bodies p.components)) (λ b among. verified b (listed b
+headers_none p verified = no_spots 727 (flat_map (header_spots p) (bodies p.components)) (λ b among. verified b
+    (listed b
     (among_left b (class_breaks p ++ header_breaks p ++ map (break_at 728) (all_array_spots p)) (map (break_at 721)
     (described_spots p)) (among_left b (class_breaks p ++ header_breaks p) (map (break_at 728) (all_array_spots p))
     (among_right b (class_breaks p) (header_breaks p) among)))))
@@ -141,7 +142,8 @@ pub header_counts : (p : Pair) → IsVerified p → (k : ℕ) (b : Body) → sli
 header_counts p verified k b e =
     let h = b.header in
     let m = b.method in
-    let fit = unless_holds (is_fit_header p b) (in_info 7 m.offset) (none_each (header_spots p) (bodies p.components) k b
+    let fit = unless_holds (is_fit_header p b) (in_info 7 m.offset) (none_each (header_spots p)
+    (bodies p.components) k b
     (headers_none p verified) e) in
     number_same h.nargs (argument_words p b) (both (h.nargs == argument_words p b) (not (h.is_abstract
     && holds (has_code p) (method_at p m.offset))) fit).0
@@ -152,7 +154,8 @@ pub header_codes : (p : Pair) → IsVerified p → (k : ℕ) (b : Body) → slic
 header_codes p verified k b e =
     let h = b.header in
     let m = b.method in
-    let fit = unless_holds (is_fit_header p b) (in_info 7 m.offset) (none_each (header_spots p) (bodies p.components) k b
+    let fit = unless_holds (is_fit_header p b) (in_info 7 m.offset) (none_each (header_spots p)
+    (bodies p.components) k b
     (headers_none p verified) e) in
     unturned (h.is_abstract && holds (has_code p) (method_at p m.offset)) (both (h.nargs == argument_words p b)
     (not (h.is_abstract && holds (has_code p) (method_at p m.offset))) fit).1
@@ -177,7 +180,8 @@ arguments_held c b = arguments_given (receiver_of b) (let t = type_of_body c b i
     ∙ ap (λ xs. xs ++ flat_map cells_of (let t = type_of_body c b in t.params)) (receiver_given b)
 
 module _ (applets : Bool) (files : Files) (image : StaticImage) (c : Complete) (whole : whole_spots c ≡ [])
-    (jump : jump_spots c ≡ []) (ordered : (let d = c.descriptor in classes_in_order d.classes (all_starts c.class)) ≡ [])
+    (jump : jump_spots c ≡ []) (ordered : (let d = c.descriptor in classes_in_order d.classes (all_starts c.class))
+    ≡ [])
     (paired : ArePaired files image c) (verified : IsVerified (pair_of applets files image c)) (refs : AreRefs c)
     (counted : AreCounted files) where
   abbrev p : Pair
@@ -186,7 +190,8 @@ module _ (applets : Bool) (files : Files) (image : StaticImage) (c : Complete) (
   -- a descriptor of a method has the types that its nibbles say
   pub sorts_said : HaveSorts p
   sorts_said desc nibbles s said is =
-      let h = have_sorts p.loaded (class_ref p) (names_meant applets files image c ordered refs counted) desc s is nibbles
+      let h = have_sorts p.loaded (class_ref p) (names_meant applets files image c ordered refs counted) desc s is
+      nibbles
       said in
       (h.params, h.result)
 
@@ -229,5 +234,6 @@ module _ (applets : Bool) (files : Files) (image : StaticImage) (c : Complete) (
         let a = any_at (λ (m : MethodDescriptor). m.offset == offset) (class_methods c) (both (not (offset == 0))
         (list_any (λ (m : MethodDescriptor). m.offset == offset) (class_methods c)) e).1 in
         let b = method_has_body c whole a.0 a.1 a.2 in
-        subst (StandsAt p program) (ap (λ (m : MethodDescriptor). m.offset) b.2 ∙ number_same _ offset a.3) (stands_at a.0
+        subst (StandsAt p program) (ap (λ (m : MethodDescriptor). m.offset) b.2 ∙ number_same _ offset a.3)
+        (stands_at a.0
         b.0 b.1)

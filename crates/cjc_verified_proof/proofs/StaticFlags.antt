@@ -1,8 +1,8 @@
 -- The flags that Descriptor gives a method say whether it is static as those of its class file do.
 use Rattle.std.proofs.Common.{◌≡◌, ℕ, ◌+◌, refl, Bool, true, false}
 use Rattle.std.specs.Prelude.{not, ◌&&◌, if◌then◌else◌}
-use Rattle.cjc_capread.specs.Bytes.AccessFlags.{acc_abstract, acc_final, acc_private, acc_protected, acc_public, has}
-use Rattle.cjc_capread.specs.Bytes.AccessFlags.{is_static}
+use Rattle.cjc_bytes.specs.AccessFlags.{acc_abstract, acc_final, acc_private, acc_protected, acc_public, has}
+use Rattle.cjc_bytes.specs.AccessFlags.{is_static}
 use Rattle.cjc_world.specs.Classes.{Member}
 use Rattle.cjc_components.specs.Descriptor.{method_flags}
 use Rattle.cjc_tokens.specs.Members.{is_constructor}

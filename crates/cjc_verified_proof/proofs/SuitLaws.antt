@@ -1,5 +1,6 @@
 -- Instructions of a package are what their acts say.
-use Rattle.std.proofs.Common.{◌≡◌, ◌==◌, ◌&&◌, ◌+◌, ℕ, zero, suc, Bool, true, false, List, [], ◌∷◌, map, slice_get, Option, Some}
+use Rattle.std.proofs.Common.{◌≡◌, ◌==◌, ◌&&◌, ◌+◌, ℕ, zero, suc, Bool, true, false, List, [], ◌∷◌, map, slice_get}
+use Rattle.std.proofs.Common.{Option, Some}
 use Rattle.std.proofs.Common.{None, refl, sym, ap, subst, ◌∙◌, ℤ, pos, negsuc}
 use Rattle.std.specs.Prelude.{flat_map, if◌then◌else◌, option_map}
 use Rattle.std.proofs.lemmas.List.Concat.{flat_map-append}
@@ -21,15 +22,15 @@ use Rattle.cjc_check_rules.specs.Instructions.{is_entry_for, is_needed_by, is_ty
 use Rattle.cjc_check_rules.specs.Instructions.{switch_offsets}
 use Rattle.cjc_world.specs.declared.image.StaticImage.{StaticImage}
 use Rattle.cjc_world.specs.Files.{Files}
-use Rattle.cjc_card_semantics.specs.Script.Sorts.{Shape, OfClass, OfNumbers, OfReferences}
+use Rattle.cjc_script.specs.Sorts.{Shape, OfClass, OfNumbers, OfReferences}
 use Rattle.cjc_card_semantics.specs.Bytecode.Effects.{Cast, Ask, Do, NewNumbers, Touch, Throw}
 use Rattle.cjc_card_semantics.specs.Bytecode.Meanings.{Meaning, Casts, Asks, MakesNumbers, Use, meaning}
 use Rattle.cjc_card_semantics.specs.Bytecode.Meanings as meanings
 use Rattle.cjc_card_semantics.specs.Machine.Loaded.{Loaded}
 use Rattle.cjc_card_semantics.specs.Machine.Classes.{Class, class_of}
 use Rattle.cjc_card_semantics.specs.Machine.Operations.{class_at, element_type, moved, operation, or_undone, type_by}
-use Rattle.cjc_card_semantics.specs.Script.Sorts.{Element}
-use Rattle.cjc_card_acts.specs.Frames.declared.acts.Need.{Need}
+use Rattle.cjc_script.specs.Sorts.{Element}
+use Rattle.cjc_verify.specs.Frames.declared.acts.Need.{Need}
 use Rattle.cjc_card_acts.specs.Rows.{Row, Jumps, Switches, idle, number_words, row, with_number}
 use Rattle.cjc_card_acts.specs.Rows as rows
 use Rattle.cjc_card_acts.specs.CardTypes.{ValueType, numbers_type, shape_by}
@@ -39,7 +40,8 @@ use Rattle.cjc_verify.specs.Instructions.{last, making_numbers, result_needs, te
 use Rattle.cjc_verify.specs.Instructions.{using_entry}
 use Rattle.cjc_verify.specs.Named.{entry_of}
 use Rattle.cjc_verify.specs.Pairs.{Pair, pair_of}
-use Rattle.cjc_verify_proof.specs.Beside.{Beside, AreRead, plain, jump, table, int_table, lookup, int_lookup, load, store}
+use Rattle.cjc_verify_proof.specs.Beside.{Beside, AreRead, plain, jump, table, int_table, lookup, int_lookup, load}
+use Rattle.cjc_verify_proof.specs.Beside.{store}
 use Rattle.cjc_verify_proof.specs.Beside.{arraylength, athrow, return, uses, invokeinterface, newarray, checkcast}
 use Rattle.cjc_verify_proof.specs.Beside.{instanceof, forbidden}
 use Rattle.cjc_verify_proof.specs.Frames.{Program}
@@ -51,7 +53,8 @@ use Rattle.cjc_verified_proof.specs.Entries.{IsRef, AreRefs}
 use Rattle.cjc_verified_proof.specs.Programs.{IsProgramOf}
 use Rattle.cjc_verified_proof.specs.Suited.{IsRight}
 use Rattle.cjc_verify_proof.proofs.OperandLaws.{operands_read}
-use Rattle.cjc_verify_proof.proofs.RowSuits.{jump_suits, jumps_jump, numbers_mean, pairs_suit, range_suits, return_suits}
+use Rattle.cjc_verify_proof.proofs.RowSuits.{jump_suits, jumps_jump, numbers_mean, pairs_suit, range_suits}
+use Rattle.cjc_verify_proof.proofs.RowSuits.{return_suits}
 use Rattle.cjc_verify_proof.proofs.RowSuits.{switches_jump_not, use_is}
 use Rattle.cjc_verify_proof.proofs.TableLaws.{beside}
 use Rattle.cjc_verified_proof.proofs.EntryLaws.{unless_holds}
@@ -134,7 +137,8 @@ module _ (c : Complete) (clean : index_spots c ≡ []) (j : ℕ) (code : Code) (
       indices x.instructions) (codes c) j code clean is_code) is_in
 
   found_entry : (x : IndexOperand) (o : Option PoolEntry) → slice_get (let q = c.pool in q.entries) x.index ≡ o
-      → x.opcode ≡ used → is_entry_for o x.opcode ≡ true → (entry : PoolEntry) × (slice_get (let q = c.pool in q.entries)
+      → x.opcode ≡ used → is_entry_for o x.opcode ≡ true → (entry : PoolEntry) × (slice_get
+      (let q = c.pool in q.entries)
       x.index ≡ Some entry) × (is_used_by how entry ≡ true)
   found_entry x None is same e = cc
   found_entry x (Some entry) is same e = (
@@ -219,7 +223,8 @@ module _ (applets : Bool) (files : Files) (image : StaticImage) (c : Complete) (
   }
 
   pub class_named : (k : ℕ) (r : ClassRef) → slice_get pool k ≡ Some (Classref r) → IsNamed r
-  class_named k r is = meaning_named r (refs.entries k (Classref r) is) (entry_meant applets files image c clean k (Classref r) r
+  class_named k r is = meaning_named r (refs.entries k (Classref r) is) (entry_meant applets files image c clean k
+      (Classref r) r
       is (λ at. refl))
 
   -- what a type test names
@@ -234,8 +239,14 @@ module _ (applets : Bool) (files : Files) (image : StaticImage) (c : Complete) (
       ≡ Some target) × (shape_by l type ≡ Some target))
   tested_by n k type true b (Some (Classref r)) is e =
       let s = class_named k r is in
-      let same : class_type r ≡ type = cc in
-      (OfClass s.class, (ap (option_map OfClass) s.meant, subst (λ t. shape_by l t ≡ Some (OfClass s.class)) same s.shape))
+      let same : class_type r ≡ type = cc in (
+        OfClass s.class,
+        (
+          ap (option_map OfClass) s.meant,
+          subst (λ t. shape_by l t ≡ Some
+              (OfClass s.class)) same s.shape,
+        ),
+      )
   tested_by n k type true b item is e = cc
   tested_by n k type false true (Some (Classref r)) is e =
       let s = class_named k r is in
@@ -248,7 +259,8 @@ module _ (applets : Bool) (files : Files) (image : StaticImage) (c : Complete) (
       let m = numbers_mean l n type e in
       (OfNumbers m.0, (ap (option_map OfNumbers) m.1.0, m.1.1))
 
-  tested : (n k : ℕ) (type : List ℕ) → tested_type n (class_in (entry_of p k)) ≡ Some type → IsTested n (slice_get pool k)
+  tested : (n k : ℕ) (type : List ℕ) → tested_type n (class_in (entry_of p k)) ≡ Some type → IsTested n
+      (slice_get pool k)
       type
   tested n k type e = tested_by n k type (n == 0) (n == 14) (slice_get pool k) refl e
 
@@ -270,12 +282,14 @@ module _ (applets : Bool) (files : Files) (image : StaticImage) (c : Complete) (
         go None e h = cc
         go (Some type) e h =
             let t = tested n k type e in
-            subst (λ (x : Option (Shape Class)). Suits l program result (casting (Some type)) (or_undone (option_map Cast
+            subst (λ (x : Option (Shape Class)). Suits l program result (casting (Some type)) (or_undone
+            (option_map Cast
             x))) (sym t.1.0) (suits.checkcast t.0 type t.1.1)
     cast_suits (x ∷ y ∷ z ∷ zs) rest r u = absurd r.1.1
 
     ask_suits : (operands rest : List ℤ) → AreRead (Byte ∷ Index2 ∷ []) operands
-        → (let a = testing p asking operands in a.is_unknown) ≡ false → Suits l program result (testing p asking operands)
+        → (let a = testing p asking operands in a.is_unknown) ≡ false → Suits l program result
+        (testing p asking operands)
         (operation l 0 pool at Asks operands rest)
     ask_suits [] rest r u = absurd r
     ask_suits (x ∷ []) rest r u = absurd r.1
@@ -369,7 +383,8 @@ module _ (applets : Bool) (files : Files) (image : StaticImage) (c : Complete) (
             takes = needs;
             falls = falls;
             targets = map (moved i.at) xs;
-          }) (operation l 0 pool i.at (meanings.Branches test) operands rest)) (sym (jumps_are needs falls is)) (jump_suits
+          }) (operation l 0 pool i.at (meanings.Branches test) operands rest)) (sym (jumps_are needs falls is))
+          (jump_suits
           l program result 0 i.at pool needs falls test k b operands rest (read (Fields (k ∷ [])) form_is))
       by_row _ _ _ table is form_is right = switched 1 (Table Signed2) (meanings.Ranged false) is form_is (range_suits
           l program result 0 i.at pool false Signed2 operands rest (read (Table Signed2) form_is))
@@ -383,11 +398,13 @@ module _ (applets : Bool) (files : Files) (image : StaticImage) (c : Complete) (
       by_row _ _ _ (store letter) is form_is right = suits.store letter
       by_row _ _ _ arraylength is form_is right = suits.arraylength
       by_row _ _ _ athrow is form_is right = throw_suits result i.at
-      by_row _ _ _ (return letter) is form_is right = return_suits l program result letter (result_needs letter) right.fit
+      by_row _ _ _ (return letter) is form_is right = return_suits l program result letter
+          (result_needs letter) right.fit
       by_row _ _ _ (uses {how = how}) is form_is right = in_pool.uses how is right
       by_row _ _ _ invokeinterface is form_is right = in_pool.interface (read (Fields (Byte ∷ Index2 ∷ Byte ∷ []))
           form_is) right
-      by_row _ _ _ newarray is form_is right = numbers_suit result i.at operands rest (read (Fields (Byte ∷ [])) form_is)
+      by_row _ _ _ newarray is form_is right = numbers_suit result i.at operands rest (read (Fields
+          (Byte ∷ [])) form_is)
           right.known
       by_row _ _ _ checkcast is form_is right = cast_suits result i.at operands rest (read (Fields (Byte ∷ Index2 ∷ []))
           form_is) right.known
@@ -395,6 +412,7 @@ module _ (applets : Bool) (files : Files) (image : StaticImage) (c : Complete) (
           form_is) right.known
       by_row _ _ _ forbidden is form_is right = let k : true ≡ false = right.known in cc
 
-      pub suits_of : IsRight (act p result i) → Suits l program result (act p result i) (operation l 0 pool i.at (meaning
+      pub suits_of : IsRight (act p result i) → Suits l program result (act p result i) (operation l 0 pool i.at
+          (meaning
           op) operands rest)
       suits_of right = by_row (row op) (meaning op) (form op) (beside op) refl refl right

@@ -11,8 +11,8 @@ use Rattle.cjc_capread.specs.declared.tree.ClassRef.{ClassRef}
 use Rattle.cjc_capread.specs.declared.tree.ClassRef.TheVariants.{Inside, Outside}
 use Rattle.cjc_capread.specs.declared.tree.ImplementedInterface.{ImplementedInterface}
 use Rattle.cjc_capread.specs.declared.tree.InterfaceEntry.{InterfaceEntry}
-use Rattle.cjc_check_rules.specs.ExportFile.declared.tree.ExportClass.{ExportClass}
-use Rattle.cjc_check_rules.specs.ExportFile.declared.tree.ExportTree.{ExportTree}
+use Rattle.cjc_world.specs.ExportFile.declared.tree.ExportClass.{ExportClass}
+use Rattle.cjc_world.specs.ExportFile.declared.tree.ExportTree.{ExportTree}
 use Rattle.cjc_check_rules.specs.declared.spot.ComponentPlace.{ComponentPlace}
 use Rattle.cjc_check_rules.specs.Spots.{along, begins, in_info, placed, unless}
 use Rattle.cjc_check_rules.specs.Classes.{class_with, first_class, first_interface}
@@ -23,9 +23,11 @@ use Rattle.cjc_check_rules.specs.Complete.{Complete, class_size, described_size,
 use Rattle.cjc_world.specs.declared.image.StaticImage.{StaticImage}
 use Rattle.cjc_world.specs.Files.{Files}
 use Rattle.cjc_card_semantics.specs.Machine.Loaded.{Import, OfFile, Loaded}
-use Rattle.cjc_card_semantics.specs.Machine.Classes.{Class, Own, External, Info, IsInterface, IsClass, class_of, external}
+use Rattle.cjc_card_semantics.specs.Machine.Classes.{Class, Own, External, Info, IsInterface, IsClass, class_of}
+use Rattle.cjc_card_semantics.specs.Machine.Classes.{external}
 use Rattle.cjc_card_semantics.specs.Machine.Classes.{external_from, external_named, imported_class, info_of}
-use Rattle.cjc_card_semantics.specs.Machine.Classes.{info_size, is_in, is_interface, is_interface_file, is_interface_info}
+use Rattle.cjc_card_semantics.specs.Machine.Classes.{info_size, is_in, is_interface, is_interface_file}
+use Rattle.cjc_card_semantics.specs.Machine.Classes.{is_interface_info}
 use Rattle.cjc_card_semantics.specs.Machine.Classes.{is_there, offset_of}
 use Rattle.cjc_card_semantics.specs.Machine.Classes.{map_sizes, number_from, object_class, or_else, some_of}
 use Rattle.cjc_card_semantics.specs.Machine.Classes.{supers, token_named, with_token}
@@ -36,7 +38,7 @@ use Rattle.cjc_bytes.proofs.Bools.{and_true}
 use Rattle.cjc_bytes.proofs.Gets.{mapped_at}
 use Rattle.cjc_bytes.proofs.Lists.{none_left, none_right}
 use Rattle.cjc_bytes.proofs.Numbers.{number_same}
-use Rattle.cjc_verify_proof.proofs.Upwards.{either_in, first_or_later}
+use Rattle.cjc_card_semantics.proofs.MachineLaws.Upwards.{either_in, first_or_later}
 use Rattle.cjc_verified_proof.specs.PackageTypes.{HasNoObject}
 use Rattle.cjc_verified_proof.proofs.PlaceLaws.{along_none, class_bytes, found_token, import_is}
 use Rattle.cjc_verified_proof.proofs.EntryLaws.{unless_holds}
@@ -330,7 +332,8 @@ module _ (applets : Bool) (files : Files) (image : StaticImage) (c : Complete)
     before = stands_before;
     interfaces = λ q offset info class is h. (
         let i = info_there q offset info is in
-        all_tested (interfaces_of info) (listed offset info i.1) class (ap (λ n. is_in class (some_of (map (class_of l n)
+        all_tested (interfaces_of info) (listed offset info i.1) class (ap (λ n. is_in class (some_of (map
+        (class_of l n)
         (interfaces_of info)))) (sym i.0) ∙ h)
         );
     outside = λ tree token q offset. outside_none tree token q offset;

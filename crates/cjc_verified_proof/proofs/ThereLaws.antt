@@ -8,8 +8,8 @@ use Rattle.cjc_capread.specs.declared.tree.ClassRef.{ClassRef}
 use Rattle.cjc_capread.specs.declared.tree.ClassRef.TheVariants.{Inside, Outside}
 use Rattle.cjc_capread.specs.declared.tree.InterfaceEntry.{InterfaceEntry}
 use Rattle.cjc_capread.specs.declared.tree.PoolEntry.{PoolEntry}
-use Rattle.cjc_check_rules.specs.ExportFile.declared.tree.ExportClass.{ExportClass}
-use Rattle.cjc_check_rules.specs.ExportFile.declared.tree.ExportTree.{ExportTree}
+use Rattle.cjc_world.specs.ExportFile.declared.tree.ExportClass.{ExportClass}
+use Rattle.cjc_world.specs.ExportFile.declared.tree.ExportTree.{ExportTree}
 use Rattle.cjc_check_rules.specs.Spots.{along, begins, in_info, placed, unless}
 use Rattle.cjc_check_rules.specs.Classes.{class_with, first_class, first_interface, imported, is_there}
 use Rattle.cjc_check_rules.specs.ClassRefs.{class_ref_spots, in_class, in_described, in_entry, in_interface, in_type}
@@ -41,7 +41,8 @@ module _ (offset : ℕ) where
   either true b c = refl
   either false b c = refl
 
-  infos_begin : (at : ℕ) (is : List InterfaceEntry) (cs : List ClassEntry) → (begins (placed interface_size at is) offset
+  infos_begin : (at : ℕ) (is : List InterfaceEntry) (cs : List ClassEntry) → (begins
+      (placed interface_size at is) offset
       || begins (placed class_size (at + sum_by interface_size is) cs) offset) ≡ begins (placed info_size at
       (map IsInterface is ++ map IsClass cs)) offset
   unfolding placed
@@ -51,7 +52,8 @@ module _ (offset : ℕ) where
       let s = sum_by-cons interface_size i is in
       let z : at + sum_by interface_size (i ∷ is) ≡ at + interface_size i + sum_by interface_size is =
       omega (arith, s) in
-      either (at == offset) (begins (placed interface_size (at + interface_size i) is) offset) (begins (placed class_size
+      either (at == offset) (begins (placed interface_size (at + interface_size i) is) offset) (begins
+      (placed class_size
       (at + sum_by interface_size (i ∷ is)) cs) offset)
       ∙ ap (λ b. (at == offset) || b) (ap (λ n. begins (placed interface_size (at + interface_size i) is) offset
       || begins (placed class_size n cs) offset) z ∙ infos_begin (at + interface_size i) is cs)
@@ -101,12 +103,14 @@ module _ (applets : Bool) (files : Files) (image : StaticImage) (c : Complete) w
           let there : external l import token ≡ Some x = ap (option_and_then (λ (t : ExportTree). with_token t.classes
           token)) f ∙ sym (found_token tree.classes token) ∙ h in
           let z : 0 + import ≡ import = omega arith in
-          let named : slice_get (files_from 0 files.exports) import ≡ Some (OfFile import) = import_there 0 files.exports
+          let named : slice_get (files_from 0 files.exports) import ≡ Some
+          (OfFile import) = import_there 0 files.exports
           import tree f ∙ ap (λ n. Some (OfFile n)) z in
           record {
             through = named;
             external_is = there;
-            meant = ap (option_and_then (imported_class l token)) named ∙ ap (λ b. if b then Some (External import token)
+            meant = ap (option_and_then (imported_class l token)) named ∙ ap (λ b. if b then Some
+                (External import token)
                 else None) (ap is_some there);
           }
 
@@ -115,7 +119,8 @@ module _ (applets : Bool) (files : Files) (image : StaticImage) (c : Complete) w
       ≡ Some class)
   there_meant (Inside offset) e =
       let i = c.class in
-      let there = begun_there offset 2 (map IsInterface i.interfaces ++ map IsClass i.classes) (sym (infos_begin offset 2
+      let there = begun_there offset 2 (map IsInterface i.interfaces ++ map IsClass i.classes) (sym
+      (infos_begin offset 2
       i.interfaces i.classes) ∙ e) in
       (Own 0 offset, ap (λ b. if b then Some (Own 0 offset) else None) there)
   there_meant (Outside import token) e = by (imported files.exports import token) refl e

@@ -1,11 +1,12 @@
 -- Exceptions of packages of read files that break no rule: java/lang/Throwable and the machine's own are there, each of
 -- these a class below that one; and no class of the package is java/lang/Object.
-use Rattle.std.proofs.Common.{◌≡◌, ◌⊎◌, ℕ, zero, suc, ◌+◌, refl, sym, ap, subst, ◌∙◌, arith, Bool, true, false, List, []}
+use Rattle.std.proofs.Common.{◌≡◌, ◌⊎◌, ℕ, zero, suc, ◌+◌, refl, sym, ap, subst, ◌∙◌, arith, Bool, true, false, List}
+use Rattle.std.proofs.Common.{[]}
 use Rattle.std.proofs.Common.{◌∷◌, Option, Some, None, slice_get}
 use Rattle.std.specs.Prelude.{◌&&◌, ◌||◌, codes, if◌then◌else◌, is_some, nat_lt, not, option_map, length}
 use Rattle.std.specs.Str.{bytes_eq}
 use Rattle.cjc_bytes.specs.AccessFlags as flags
-use Rattle.cjc_list.specs.Listed.{ListTree}
+use Rattle.cjc_verify.specs.List.Listed.{ListTree}
 use Rattle.cjc_check_rules.specs.Complete.{Complete}
 use Rattle.cjc_check_rules.specs.Described.{all_starts, classes_in_order}
 use Rattle.cjc_world.specs.ExportFile.declared.tree.ExportClass.{ExportClass}
@@ -24,7 +25,7 @@ use Rattle.cjc_card_semantics.specs.Machine.Classes.{Class, External, Own, exter
 use Rattle.cjc_card_semantics.specs.Machine.Classes.{fault_name, is_in, is_interface, is_interface_file, is_kind_of}
 use Rattle.cjc_card_semantics.specs.Machine.Classes.{number_named, supers}
 use Rattle.cjc_card_semantics.specs.Machine.Loaded.{Loaded, Part}
-use Rattle.cjc_card_semantics.specs.Script.Sorts.{OfClass}
+use Rattle.cjc_script.specs.Sorts.{OfClass}
 use Rattle.cjc_card_acts.specs.CardTypes.{shape_by}
 use Rattle.cjc_components.specs.Names.{ref_to}
 use Rattle.cjc_components.specs.Package.{Package, world}
@@ -45,7 +46,7 @@ use Rattle.cjc_bytes.proofs.Plain.{same_some}
 use Rattle.cjc_token_proof.proofs.TablesLaws.Clean.{language}
 use Rattle.cjc_token_proof.proofs.TablesLaws.Tables.{kinds_agree}
 use Rattle.cjc_token_proof.proofs.TablesLaws.Telling.{has_lang, has_object, says_names}
-use Rattle.cjc_verify_proof.proofs.Upwards.{Over, here, over_told, told_over, up}
+use Rattle.cjc_card_semantics.proofs.MachineLaws.Upwards.{Over, here, over_told, told_over, up}
 use Rattle.cjc_verified_proof.proofs.PlaceLaws.{all_read}
 use Rattle.cjc_verified_proof.proofs.NameLaws.{imported_meant}
 
@@ -171,7 +172,8 @@ module _ (name : List ℕ) (list : ListTree) (files : Files) (image : StaticImag
   no_object (suc k) x e = absurd cc
 
   module _ (stand : SupersStand l) (plain : FaultsAreClasses (world q))
-      (ordered : (let d = c.descriptor in classes_in_order d.classes (all_starts c.class)) ≡ []) (refs : AreRefs c) (counted : AreCounted files) (exceptions : List ℕ)
+      (ordered : (let d = c.descriptor in classes_in_order d.classes (all_starts c.class)) ≡ []) (refs : AreRefs c)
+      (counted : AreCounted files) (exceptions : List ℕ)
       (thrown : throwable p ≡ Some exceptions) where
     abbrev is_external : Class → Bool
     is_external (Own part offset) = false
@@ -202,7 +204,8 @@ module _ (name : List ℕ) (list : ListTree) (files : Files) (image : StaticImag
         record {
           thrown = External f.tree f.token;
           named = f.found;
-          means = ap (shape_by l) (sym type) ∙ ap (option_map OfClass) (all_read l (ref_to (External f.tree f.token)) m.ref
+          means = ap (shape_by l) (sym type) ∙ ap (option_map OfClass) (all_read l (ref_to
+              (External f.tree f.token)) m.ref
               ∙ m.meant);
           faults = λ fault. (
               let i = lang.faults fault in

@@ -1,13 +1,15 @@
--- The token of an entry of the constant pool reaches, on objects of the class that it names and of its subclasses, a method
+-- The token of an entry of the constant pool reaches, on objects of the class that it names and of its subclasses, a
+-- method
 -- with the descriptor of the entry.
-use Rattle.std.proofs.Common.{◌≡◌, ◌<◌, ◌-◌, ℕ, zero, suc, Bool, true, false, List, [], ◌∷◌, ◌++◌, length, map, slice_get}
+use Rattle.std.proofs.Common.{◌≡◌, ◌<◌, ◌-◌, ℕ, zero, suc, Bool, true, false, List, [], ◌∷◌, ◌++◌, length, map}
+use Rattle.std.proofs.Common.{slice_get}
 use Rattle.std.proofs.Common.{Option, Some, None, refl, sym, ap, ◌∙◌, arith, nat_lt}
 use Rattle.std.specs.Prelude.{if◌then◌else◌, option_and_then, option_map, unwrap_or}
 use Rattle.std.proofs.lemmas.Bool.Decides.{nat_tests}
 use Rattle.std.proofs.lemmas.Option.{slice_get-map}
-use Rattle.cjc_capread.specs.Bytes.AccessFlags.{is_interface}
+use Rattle.cjc_bytes.specs.AccessFlags.{is_interface}
 use Rattle.cjc_check_rules.specs.Complete.{Complete}
-use Rattle.cjc_list.specs.Listed.{ListTree}
+use Rattle.cjc_verify.specs.List.Listed.{ListTree}
 use Rattle.cjc_world.specs.declared.found.Found.{Found}
 use Rattle.cjc_world.specs.declared.image.StaticImage.{StaticImage}
 use Rattle.cjc_world.specs.Added.{added}
@@ -18,9 +20,9 @@ use Rattle.cjc_tokens.specs.Members.{Signature, signature_of}
 use Rattle.cjc_tokens.specs.Methods.{interface_row}
 use Rattle.cjc_tokens.specs.Slots.{implementing, meant_by, row, slots, token}
 use Rattle.cjc_tokens.specs.Tokens.{OfClass, assigned, joined, method_of_token}
-use Rattle.cjc_vtable.specs.Calls.{IsTold}
-use Rattle.cjc_vtable.specs.Laws.{Under}
-use Rattle.cjc_vtable.specs.Naming.{member_named, named}
+use Rattle.cjc_token_proof.specs.VTable.Calls.{IsTold}
+use Rattle.cjc_token_proof.specs.VTable.Laws.{Under}
+use Rattle.cjc_token_proof.specs.VTable.Naming.{member_named, named}
 use Rattle.cjc_components.specs.Descriptor.{as_added, method_in, no_member}
 use Rattle.cjc_components.specs.Package.{Package, world}
 use Rattle.cjc_components.specs.Paired.Pairs.{ArePaired}
@@ -32,10 +34,10 @@ use Rattle.cjc_verified_proof.specs.Dispatching.{FilesAgree, IsReachedBy, Tables
 use Rattle.cjc_tokens.proofs.Held.{here-has_slot, token-slot}
 use Rattle.cjc_tokens.proofs.Means.{kept-at}
 use Rattle.cjc_tokens.proofs.Walks.{supertypes-known}
-use Rattle.cjc_vtable.proofs.Calls.{token-some}
-use Rattle.cjc_vtable.proofs.Once.{slots-once}
-use Rattle.cjc_vtable.proofs.SlotNames.{implementing-named, seen-line}
-use Rattle.cjc_vtable.proofs.Worlds.{told-class}
+use Rattle.cjc_components.proofs.VTableCalls.{token-some}
+use Rattle.cjc_components.proofs.VTableOnce.{slots-once}
+use Rattle.cjc_components.proofs.VTableSlotNames.{implementing-named, seen-line}
+use Rattle.cjc_components.proofs.VTableWorlds.{told-class}
 use Rattle.cjc_token_proof.proofs.TablesLaws.Clean.{has_named}
 use Rattle.cjc_token_proof.proofs.TablesLaws.Filed.{own_filed}
 use Rattle.cjc_token_proof.proofs.WrittenCalls.Facts.{Facts}
@@ -171,7 +173,8 @@ module _ (name : List ℕ) (list : ListTree) (files : Files) (image : StaticImag
           let both : Some s.desc ≡ Some desc = sym (desc_is p (all_classes files) refl f s r.name) ∙ h in
           let same : s.desc ≡ desc = cc in (
             s,
-            open_reached name list files image c sound paired verified agree fits x y k d named_x class_x named_y under s t
+            open_reached name list files image c sound paired verified agree fits x y k d named_x class_x named_y under
+                s t
                 r.token_is,
             same,
           )

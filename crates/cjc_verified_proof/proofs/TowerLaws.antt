@@ -3,9 +3,9 @@ use Rattle.std.proofs.Common.{◌≡◌, ◌<◌, ◌≤◌, ℕ, suc, Bool, tru
 use Rattle.std.proofs.Common.{Some, None, refl, sym, ap, subst, ◌∙◌, arith, nat_lt}
 use Rattle.std.specs.Prelude.{if◌then◌else◌, is_some, unwrap_or}
 use Rattle.std.proofs.lemmas.Bool.Decides.{nat_tests}
-use Rattle.cjc_capread.specs.Bytes.AccessFlags.{is_interface}
+use Rattle.cjc_bytes.specs.AccessFlags.{is_interface}
 use Rattle.cjc_check_rules.specs.Complete.{Complete}
-use Rattle.cjc_list.specs.Listed.{ListTree}
+use Rattle.cjc_verify.specs.List.Listed.{ListTree}
 use Rattle.cjc_world.specs.declared.found.Found.{Found}
 use Rattle.cjc_world.specs.declared.image.StaticImage.{StaticImage}
 use Rattle.cjc_world.specs.Classes.{Class, all_classes, class_named}
@@ -14,17 +14,17 @@ use Rattle.cjc_world.proofs.Cycles.{class_named-name}
 use Rattle.cjc_tokens.specs.Lines.{line_of}
 use Rattle.cjc_tokens.specs.Members.{Signature}
 use Rattle.cjc_tokens.specs.Slots.{hidden_slots, slots, token}
-use Rattle.cjc_vtable.specs.Laws.{Under}
-use Rattle.cjc_vtable.specs.Tables.{table_of}
+use Rattle.cjc_token_proof.specs.VTable.Laws.{Under}
+use Rattle.cjc_token_proof.specs.VTable.Tables.{table_of}
 use Rattle.cjc_card_semantics.specs.Machine.Classes.{IsInterface, IsClass, class_of}
 use Rattle.cjc_card_semantics.specs.Machine.Dispatch.{At, Outward, tower}
 use Rattle.cjc_components.specs.Class.{implemented, interface_entry}
 use Rattle.cjc_components.specs.Methods.{method_offset as written_offset}
 use Rattle.cjc_components.specs.Names.{class_at}
-use Rattle.cjc_components.specs.NCode.Lowering.Naming.{Naming}
+use Rattle.cjc_token_proof.specs.NCode.Lowering.Naming.{Naming}
 use Rattle.cjc_components.specs.Package.{Package}
 use Rattle.cjc_components.specs.Paired.Pairs.{ArePaired}
-use Rattle.cjc_components.specs.VTable.declared.table.InterfaceMap.{InterfaceMap}
+use Rattle.cjc_token_proof.specs.VTable.declared.table.InterfaceMap.{InterfaceMap}
 use Rattle.cjc_token_proof.specs.Calls.Dispatching.{DispatchAgrees, SaysTables, SaysTower, of_file, of_package}
 use Rattle.cjc_token_proof.specs.Calls.Dispatching.{event, table_entry}
 use Rattle.cjc_token_proof.specs.Tables.Loading.{naming}
@@ -105,26 +105,31 @@ module _ (name : List ℕ) (list : ListTree) (files : Files) (image : StaticImag
               ∙ ap (class_of p.loaded 0) (ref_same name list files image c sound paired verified s)
               ∙ (let z = kinds name list files image c sound paired verified in z.class_ref s (ap is_some up.1));
           public_base = refl;
-          public_methods = mapped_places (public_entry p) (table_entry (offset_in p)) t.public (λ j o at. entry_kept fit j o
+          public_methods = mapped_places (public_entry p) (table_entry (offset_in p)) t.public
+              (λ j o at. entry_kept fit j o
               at);
           package_base = refl;
-          package_methods = mapped_places (method_offset p) (offset_in p) t.«package» (λ j f at. offset_kept (method_offset
+          package_methods = mapped_places (method_offset p) (offset_in p) t.«package» (λ j f at. offset_kept
+              (method_offset
               p f) (fit.«package» j f at));
           maps = mapped_same (implemented (class_ref p)) (λ (m : InterfaceMap). record {
             interface = n.class_ref m.interface;
             index = m.index;
-          }) (λ (m : InterfaceMap). ap (λ r. record { interface = r; index = m.index }) (ref_same name list files image c
+          }) (λ (m : InterfaceMap). ap (λ r. record { interface = r; index = m.index })
+              (ref_same name list files image c
               sound paired verified m.interface)) t.maps;
           mapped = there.mapped;
         }
       where
-        entry_kept : TablesFit p w k → (j : ℕ) (o : Option Found) → slice_get (let t = table_of w k in t.public) j ≡ Some o
+        entry_kept : TablesFit p w k → (j : ℕ) (o : Option Found) → slice_get (let t = table_of w k in t.public) j
+            ≡ Some o
             → public_entry p o ≡ table_entry (offset_in p) o
         entry_kept fit j None at = refl
         entry_kept fit j (Some f) at = offset_kept (method_offset p f) (fit.public j f at)
 
     -- a class and its superclasses
-    pub tower_here : (h : ℕ) (x z : List ℕ) → SaysTower w (naming q) (written_offset q) h x z → (k : Class) → class_named w x
+    pub tower_here : (h : ℕ) (x z : List ℕ) → SaysTower w (naming q) (written_offset q) h x z → (k : Class)
+        → class_named w x
         ≡ Some k → is_interface k.flags ≡ false → SaysTower w n (offset_in p) h x z
     tower_here _ _ _ (of_file d known imported file) k e class_here = of_file d known imported (record {
       tree = file.tree;
@@ -140,7 +145,8 @@ module _ (name : List ℕ) (list : ListTree) (files : Files) (image : StaticImag
         let same : d ≡ k = cc in
         let plain : is_interface d.flags ≡ false = ap (λ (v : Class). is_interface v.flags) same ∙ class_here in
         let up = facts.super_there x super d known own supers in
-        of_package d super known own supers (tables_here x super d known own plain supers) (tower_here height super z tower
+        of_package d super known own supers (tables_here x super d known own plain supers)
+        (tower_here height super z tower
         up.0 up.1 up.2)
 
     -- dispatch on an object of a class
@@ -149,8 +155,10 @@ module _ (name : List ℕ) (list : ListTree) (files : Files) (image : StaticImag
     agrees x k e class_here =
         let s = class_stands q facts x k e class_here in
         dispatch.dispatch_agrees w facts.are_supertypes facts.one_supertypes n (offset_in p) (λ f. offset_low
-        (method_offset p f)) (kinds name list files image c sound paired verified) s.height x s.foot (tower_here s.height x
-        s.foot s.tower k e class_here) (subst (λ d. s.height ≤ d) (depth_alike name list files image c sound paired verified)
+        (method_offset p f)) (kinds name list files image c sound paired verified) s.height x s.foot
+        (tower_here s.height x
+        s.foot s.tower k e class_here) (subst (λ d. s.height ≤ d)
+        (depth_alike name list files image c sound paired verified)
         (height_fits q facts x k e s))
 
     -- for some imported class at the foot of its superclasses
@@ -179,7 +187,8 @@ module _ (name : List ℕ) (list : ListTree) (files : Files) (image : StaticImag
         }
 
     pub hidden_reached : (x y : List ℕ) (k d : Class) → class_named w x ≡ Some k → is_interface
-        k.flags ≡ false → class_named w y ≡ Some d → Under w x y → (s : Signature) (t : ℕ) → token (hidden_slots (line_of w
+        k.flags ≡ false → class_named w y ≡ Some d → Under w x y → (s : Signature) (t : ℕ) → token (hidden_slots
+        (line_of w
         y)) s ≡ Some t → IsHiddenBy p q x t s
     hidden_reached x y k d e class_here named_y under s t h =
         let once = facts.tokens_once x y k d e class_here named_y under in
@@ -190,6 +199,7 @@ module _ (name : List ℕ) (list : ListTree) (files : Files) (image : StaticImag
           method = r.method;
           own = r.own;
           nearest = r.nearest;
-          reached = dispatch_is.package_method t r.method s r.by_token ∙ ap (λ b. if b then Outward (event stands.foot s)
+          reached = dispatch_is.package_method t r.method s r.by_token ∙ ap (λ b. if b then Outward
+              (event stands.foot s)
               else At 0 (offset_in p r.method)) r.own;
         }

@@ -8,9 +8,9 @@ use Rattle.cjc_capread.specs.declared.tree.StaticRef.TheVariants as statics
 use Rattle.cjc_capread.specs.declared.tree.PoolEntry.{PoolEntry}
 use Rattle.cjc_capread.specs.declared.tree.PoolEntry.TheVariants.{InstanceFieldref, StaticFieldref}
 use Rattle.cjc_capread.specs.Parts as parts
-use Rattle.cjc_card_semantics.specs.Script.declared.value.Value.{Value}
-use Rattle.cjc_card_semantics.specs.Script.Sorts.{OfClass}
-use Rattle.cjc_card_acts.specs.Types.declared.cell.Cell.{Cell}
+use Rattle.cjc_script.specs.declared.value.Value.{Value}
+use Rattle.cjc_script.specs.Sorts.{OfClass}
+use Rattle.cjc_intervals.specs.Types.declared.cell.Cell.{Cell}
 use Rattle.cjc_card_semantics.specs.Bytecode.Effects.{Letter, Memory, Get, Put, effect}
 use Rattle.cjc_card_semantics.specs.Bytecode.Meanings.{Use, Gets, Puts, GetsStatic, PutsStatic}
 use Rattle.cjc_card_semantics.specs.Machine.Loaded.{Loaded}
@@ -20,8 +20,8 @@ use Rattle.cjc_card_semantics.specs.Machine.Operations as machine
 use Rattle.cjc_card_semantics.specs.Machine.Statics.{Image}
 use Rattle.cjc_card_semantics.specs.Machine.ByToken.{classes}
 use Rattle.cjc_components.specs.Types.{ref_nibbles}
-use Rattle.cjc_card_acts.specs.Frames.declared.acts.Act.{Act}
-use Rattle.cjc_card_acts.specs.Frames.Acts.{has_wrong, has_wrong_local, stack_behind}
+use Rattle.cjc_verify.specs.Frames.declared.acts.Act.{Act}
+use Rattle.cjc_verify.specs.Frames.Acts.{has_wrong, has_wrong_local, stack_behind}
 use Rattle.cjc_card_acts.specs.CardTypes.{ValueType, class_by, is_moved_by, is_type_of, shape_by}
 use Rattle.cjc_verify.specs.ClassTypes.{class_type}
 use Rattle.cjc_verify.specs.Instructions.{using}
@@ -80,7 +80,8 @@ module _ (p : Pair) (verified : IsVerified p)
 
     -- what an instruction does with the entry
     abbrev Goes_by : Use → PoolEntry → Resolved → Type 0
-    Goes_by how item o = Goes l t next (stack_behind (using p how (entry_type p j) item) lc cs) lc m (effect (classes l) o
+    Goes_by how item o = Goes l t next (stack_behind (using p how (entry_type p j) item) lc cs) lc m (effect
+        (classes l) o
         room next lv m vs)
 
     instance_op : (how : Field → Resolved) (offset token : ℕ)
@@ -106,7 +107,8 @@ module _ (p : Pair) (verified : IsVerified p)
         let a = using p (Gets false letter) (entry_type p j) (InstanceFieldref (Inside offset) token) in
         subst (Goes_by (Gets false letter) (InstanceFieldref (Inside offset) token))
         (sym (instance_op (Get false letter) offset token typed))
-        (get_field l t room next lc lv m k fit supers declared f type typed letter (moved_by letter type a cs refl passes)
+        (get_field l t room next lc lv m k fit supers declared f type typed letter
+        (moved_by letter type a cs refl passes)
         (class_type (Inside offset)) (class_named l t declared offset token type typed ref) a refl refl cs vs w passes)
     uses_of item is how (gets true letter (Inside offset) token ref) named passes =
         let typed = instance_typed p verified counts j offset token is in
@@ -123,7 +125,8 @@ module _ (p : Pair) (verified : IsVerified p)
         let a = using p (Puts false letter) (entry_type p j) (InstanceFieldref (Inside offset) token) in
         subst (Goes_by (Puts false letter) (InstanceFieldref (Inside offset) token))
         (sym (instance_op (Put false letter) offset token typed))
-        (put_field l t room next lc lv m k fit supers declared f type typed letter (moved_by letter type a cs refl passes)
+        (put_field l t room next lc lv m k fit supers declared f type typed letter
+        (moved_by letter type a cs refl passes)
         (class_type (Inside offset)) (class_named l t declared offset token type typed ref) a refl refl cs vs w passes)
     uses_of item is how (puts true letter (Inside offset) token ref) named passes =
         let typed = instance_typed p verified counts j offset token is in

@@ -1,6 +1,6 @@
 -- The class infos that a package's class files and Descriptor ask for.
 use Rattle.std.specs.Prelude.{true, false, map, if◌then◌else◌}
-use Rattle.cjc_capread.specs.Bytes.AccessFlags.{is_interface}
+use Rattle.cjc_bytes.specs.AccessFlags.{is_interface}
 use Rattle.cjc_capread.specs.declared.tree.ClassEntry.{ClassEntry}
 use Rattle.cjc_capread.specs.declared.tree.ClassInfo.{ClassInfo}
 use Rattle.cjc_world.specs.Classes.{Class}
@@ -9,7 +9,7 @@ use Rattle.cjc_tokens.specs.Fields.{instance_cells}
 use Rattle.cjc_card_semantics.specs.Machine.Classes.{Info, IsInterface, IsClass}
 use Rattle.cjc_components.specs.Class.{fields_of, first_reference_token, implemented, info_flags, interface_entry}
 use Rattle.cjc_components.specs.Class.{reference_count, superclass}
-use Rattle.cjc_components.specs.VTable.Tables.{table_of}
+use Rattle.cjc_token_proof.specs.VTable.Tables.{table_of}
 use Rattle.cjc_verify.specs.Infos.{public_entry}
 use Rattle.cjc_verify.specs.Pairs.{Pair, class_ref, method_offset, world}
 

@@ -8,12 +8,12 @@ use Rattle.cjc_capread.specs.declared.tree.StaticRef.TheVariants as statics
 use Rattle.cjc_capread.specs.declared.tree.PoolEntry.{PoolEntry}
 use Rattle.cjc_capread.specs.declared.tree.PoolEntry.TheVariants.{Classref, InstanceFieldref, VirtualMethodref}
 use Rattle.cjc_capread.specs.declared.tree.PoolEntry.TheVariants.{SuperMethodref, StaticFieldref, StaticMethodref}
-use Rattle.cjc_check_rules.specs.ExportFile.declared.tree.ExportClass.{ExportClass}
-use Rattle.cjc_check_rules.specs.ExportFile.declared.tree.ExportTree.{ExportTree}
+use Rattle.cjc_world.specs.ExportFile.declared.tree.ExportClass.{ExportClass}
+use Rattle.cjc_world.specs.ExportFile.declared.tree.ExportTree.{ExportTree}
 use Rattle.cjc_check_rules.specs.Complete.{Complete}
-use Rattle.cjc_card_calls.specs.World.Files.{Files}
-use Rattle.cjc_card_calls.specs.CardSemantics.Bytecode.Effects.{Letter}
-use Rattle.cjc_card_calls.specs.CardSemantics.Bytecode.Meanings.{Use, Gets, Puts, GetsStatic, PutsStatic}
+use Rattle.cjc_world.specs.Files.{Files}
+use Rattle.cjc_card_semantics.specs.Bytecode.Effects.{Letter}
+use Rattle.cjc_card_semantics.specs.Bytecode.Meanings.{Use, Gets, Puts, GetsStatic, PutsStatic}
 
 -- a class_ref that two bytes spell
 abbrev pub IsRef : ClassRef → Type 0

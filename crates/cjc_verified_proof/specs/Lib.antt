@@ -7,3 +7,21 @@ pub mod Selecting
 pub mod ClassInfos
 pub mod Dispatching
 pub mod Kept
+-- Definitions of lower crates, for those above.
+pub mod Bytes
+pub mod List
+pub mod ClassFile
+pub mod Bytecode
+pub mod ExportFile
+pub mod Script
+pub mod CapRead
+pub mod World
+pub mod ClassOrder
+pub mod Tokens
+pub mod Clinit
+pub mod CheckRules
+pub mod CardSemantics
+pub mod WorldProof
+pub mod Components
+pub mod Verify
+pub mod TokenProof

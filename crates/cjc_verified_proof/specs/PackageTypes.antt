@@ -1,18 +1,19 @@
 -- The types of the fields of a package, by the descriptors of its class files.
-use Rattle.std.specs.Prelude.{◌≡◌, ℕ, ◌==◌, ◌++◌, true, false, List, map, slice_get, Option, Some, None, option_and_then, option_map}
+use Rattle.std.specs.Prelude.{◌≡◌, ℕ, ◌==◌, ◌++◌, true, false, List, map, slice_get, Option, Some, None}
+use Rattle.std.specs.Prelude.{option_and_then, option_map}
 use Rattle.std.specs.Prelude.{codes}
 use Rattle.std.specs.Prelude.{if◌then◌else◌}
-use Rattle.cjc_capread.specs.Bytes.AccessFlags.{is_interface}
-use Rattle.cjc_card_calls.specs.CardSemantics.Machine.Loaded.{Loaded, Part}
-use Rattle.cjc_card_calls.specs.CardSemantics.Machine.Classes.{Class, Own, External, number_named}
-use Rattle.cjc_card_calls.specs.ClassFile.declared.tree.ClassTree.{ClassTree}
-use Rattle.cjc_card_calls.specs.ClassFile.declared.tree.FieldTree.{FieldTree}
-use Rattle.cjc_card_calls.specs.World.Files.{Files}
-use Rattle.cjc_capread.specs.Bytes.declared.fault.MemberId.{MemberId}
-use Rattle.cjc_card_calls.specs.World.declared.image.ArrayCell.{ArrayCell}
-use Rattle.cjc_card_calls.specs.World.declared.image.ValueCell.{ValueCell}
-use Rattle.cjc_card_calls.specs.World.declared.image.StaticImage.{StaticImage}
-use Rattle.cjc_components.specs.Tokens.Fields.{is_instance, is_reference}
+use Rattle.cjc_bytes.specs.AccessFlags.{is_interface}
+use Rattle.cjc_card_semantics.specs.Machine.Loaded.{Loaded, Part}
+use Rattle.cjc_card_semantics.specs.Machine.Classes.{Class, Own, External, number_named}
+use Rattle.cjc_world.specs.ClassFile.declared.tree.ClassTree.{ClassTree}
+use Rattle.cjc_world.specs.ClassFile.declared.tree.FieldTree.{FieldTree}
+use Rattle.cjc_world.specs.Files.{Files}
+use Rattle.cjc_bytes.specs.declared.fault.MemberId.{MemberId}
+use Rattle.cjc_world.specs.declared.image.ArrayCell.{ArrayCell}
+use Rattle.cjc_world.specs.declared.image.ValueCell.{ValueCell}
+use Rattle.cjc_world.specs.declared.image.StaticImage.{StaticImage}
+use Rattle.cjc_tokens.specs.Fields.{is_instance, is_reference}
 use Rattle.cjc_components.specs.Statics.{cell_order}
 use Rattle.cjc_token_proof.specs.Tables.Sound.{IsTyped, IsFieldDesc}
 use Rattle.cjc_card_acts.specs.CardTypes.{ValueType, type_by, types_in}

@@ -3,8 +3,8 @@ use Rattle.std.specs.Prelude.{◌≡◌, ℕ, ◌+◌, ◌==◌, ◌&&◌, not, 
 use Rattle.std.specs.Prelude.{Contains, ℤ}
 use Rattle.cjc_capread.specs.Opcodes.{Byte, Index2}
 use Rattle.cjc_capread.specs.declared.tree.PoolEntry.{PoolEntry}
-use Rattle.cjc_card_semantics.specs.Bytes.declared.fault.MemberId.{MemberId}
-use Rattle.cjc_card_semantics.specs.Script.Sorts.{Shape}
+use Rattle.cjc_bytes.specs.declared.fault.MemberId.{MemberId}
+use Rattle.cjc_script.specs.Sorts.{Shape}
 use Rattle.cjc_card_semantics.specs.Bytecode.Machine.{Start}
 use Rattle.cjc_card_semantics.specs.Bytecode.Meanings.{Calls, CallsInterface, Mode}
 use Rattle.cjc_card_semantics.specs.Machine.Calls.{sent}
@@ -13,7 +13,7 @@ use Rattle.cjc_card_semantics.specs.Machine.Methods.{Code}
 use Rattle.cjc_card_semantics.specs.Machine.Operations.{operation, or_undone}
 use Rattle.cjc_card_semantics.specs.Machine.Operations as machine
 use Rattle.cjc_card_acts.specs.CardTypes.{ValueType}
-use Rattle.cjc_card_acts.specs.Frames.Tables.{IsLeastTable}
+use Rattle.cjc_verify.specs.Frames.Tables.{IsLeastTable}
 use Rattle.cjc_verify.specs.Bodies.{Body, bodies, frames_of, type_of_body}
 use Rattle.cjc_verify.specs.Instructions.{by_interface, throwable, using}
 use Rattle.cjc_verify.specs.Named.{entry_of, entry_type, is_unmade_class}
@@ -72,7 +72,8 @@ pub record CallsSuit (p : Pair) (program : Program) : Type 0 where
       → Suits p.loaded program result (using p (Calls mode) (entry_type p k) item)
       (or_undone (machine.using p.loaded 0 (Calls mode) item))
   pub interface : (result : ValueType) (at : ℕ) (operands table : List ℤ) → AreRead (Byte ∷ Index2 ∷ Byte ∷ []) operands
-      → IsRight (by_interface p operands) → Suits p.loaded program result (by_interface p operands) (operation p.loaded 0
+      → IsRight (by_interface p operands) → Suits p.loaded program result (by_interface p operands)
+      (operation p.loaded 0
       (let c = p.components in let q = c.pool in q.entries) at CallsInterface operands table)
 
 -- Calls by dispatch and entries on receivers reach methods of the program.

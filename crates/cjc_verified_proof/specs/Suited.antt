@@ -1,7 +1,7 @@
 -- What instructions that use the constant pool ask of its entries.
 use Rattle.std.specs.Prelude.{◌≡◌, ℕ, true, false, List, [], map, slice_get, Option, Some, None, Contains}
 use Rattle.std.specs.Prelude.{if◌then◌else◌}
-use Rattle.cjc_capread.specs.Bytes.AccessFlags.{is_interface, is_static}
+use Rattle.cjc_bytes.specs.AccessFlags.{is_interface, is_static}
 use Rattle.cjc_capread.specs.declared.tree.ClassRef.TheVariants as refs
 use Rattle.cjc_capread.specs.declared.tree.StaticRef.{StaticRef}
 use Rattle.cjc_capread.specs.declared.tree.StaticRef.TheVariants.{Inside, Outside}
@@ -13,9 +13,9 @@ use Rattle.cjc_check_rules.specs.Complete.{Complete}
 use Rattle.cjc_check_rules.specs.Members.{is_method_start}
 use Rattle.cjc_card_semantics.specs.Bytecode.Machine.{Start}
 use Rattle.cjc_card_semantics.specs.Machine.Methods.{Code, start_of}
-use Rattle.cjc_card_semantics.specs.Script.Sorts.{Signature, signature_of}
-use Rattle.cjc_card_acts.specs.Frames.declared.acts.Act.{Act}
-use Rattle.cjc_card_acts.specs.Frames.Acts.{given}
+use Rattle.cjc_script.specs.Sorts.{Signature, signature_of}
+use Rattle.cjc_verify.specs.Frames.declared.acts.Act.{Act}
+use Rattle.cjc_verify.specs.Frames.Acts.{given}
 use Rattle.cjc_card_acts.specs.CardTypes.{type_by, types_in}
 use Rattle.cjc_verify.specs.Bodies.{Body, type_of_body}
 use Rattle.cjc_verify.specs.ClassTypes.{class_type}
@@ -29,7 +29,8 @@ use Rattle.cjc_verified_proof.specs.Entries.{IsRef}
 abbrev pub holder_type : Body → Option (List ℕ)
 holder_type b = let m = b.method in if is_static m.flags then None else Some (class_type b.holder)
 
--- A method begins at an offset of Method, with what Descriptor and the package say of it; where it is not abstract, it is
+-- A method begins at an offset of Method, with what Descriptor and the package say of it; where it is not abstract, it
+-- is
 -- one of the program.
 pub record StandsAt (p : Pair) (program : Program) (offset : ℕ) : Type 0 where
   pub body : Body

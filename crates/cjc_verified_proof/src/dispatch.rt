@@ -1,19 +1,19 @@
 //! Dispatch by the tables of class infos, and calls. It has laws alone, for whoever proves that components which break no
 //! rule are never stuck.
 ghost use Rattle.std.specs.Prelude.{◌≡◌, ◌<◌, ℕ, false, List, [], Some, Bool, length, nat_lt, slice_get};
-ghost use Rattle.cjc_capread.specs.Bytes.AccessFlags.{is_interface};
-ghost use Rattle.cjc_check_rules.specs.ExportFile.Writable.{IsWritable};
-ghost use Rattle.cjc_check_rules.specs.ExportFile.declared.tree.ExportTree.{ExportTree};
+ghost use Rattle.cjc_bytes.specs.AccessFlags.{is_interface};
+ghost use Rattle.cjc_world.specs.ExportFile.Writable.{IsWritable};
+ghost use Rattle.cjc_world.specs.ExportFile.declared.tree.ExportTree.{ExportTree};
 ghost use Rattle.cjc_check_rules.specs.Complete.{Complete};
 ghost use Rattle.cjc_check_rules.specs.PoolEntries.{pool_spots};
-ghost use Rattle.cjc_list.specs.Listed.{ListTree};
+ghost use Rattle.cjc_verify.specs.List.Listed.{ListTree};
 ghost use Rattle.cjc_world.specs.declared.image.StaticImage.{StaticImage};
 ghost use Rattle.cjc_world.specs.Classes.{Class, all_classes, class_named};
 ghost use Rattle.cjc_world.specs.Files.{Files};
 ghost use Rattle.cjc_tokens.specs.Lines.{line_of};
 ghost use Rattle.cjc_tokens.specs.Members.{Signature};
 ghost use Rattle.cjc_tokens.specs.Slots.{hidden_slots, slots, token};
-ghost use Rattle.cjc_vtable.specs.Laws.{Under};
+ghost use Rattle.cjc_token_proof.specs.VTable.Laws.{Under};
 ghost use Rattle.cjc_components.specs.Paired.Pairs.{ArePaired};
 ghost use Rattle.cjc_token_proof.specs.Calls.Dispatching.{DispatchAgrees};
 ghost use Rattle.cjc_token_proof.specs.Tables.Sound.{IsSound};
@@ -21,7 +21,8 @@ ghost use Rattle.cjc_verify.specs.Named.{own_virtual_desc};
 ghost use Rattle.cjc_verify.specs.Pairs.{pair_of};
 ghost use Rattle.cjc_verify.specs.Verified.{IsVerified};
 ghost use Rattle.cjc_verify_proof.specs.Frames.{Program};
-ghost use Rattle.cjc_verified_proof.specs.Dispatching.{FilesAgree, IsHiddenBy, IsReachedBy, TablesFit, naming_of, offset_in};
+ghost use Rattle.cjc_verified_proof.specs.Dispatching.{FilesAgree, IsHiddenBy, IsReachedBy, TablesFit, naming_of};
+ghost use Rattle.cjc_verified_proof.specs.Dispatching.{offset_in};
 ghost use Rattle.cjc_verified_proof.specs.Dispatching.{package_of};
 ghost use Rattle.cjc_verified_proof.specs.Checked.{Checked, HasCode, IsChecked, pair};
 ghost use Rattle.cjc_verified_proof.specs.Entries.{AreRefs};

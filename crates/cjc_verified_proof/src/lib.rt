@@ -1,6 +1,17 @@
 //! What the rules of the type checker say of the components of a package, as the laws of what a row keeps ask for it.
 #![tactic(auto)]
 
+// Lower crates, for those above.
+/// What crates above take of cjc_world.
+pub mod world {
+    pub use cjc_world::lookup_laws;
+}
+
+/// What crates above take of cjc_verify.
+pub mod verify {
+    pub use cjc_verify::verify;
+}
+
 pub mod checked;
 pub mod coded;
 pub mod declared;

@@ -1,8 +1,8 @@
 //! Rows that see the stack and the locals alone, as the type checker reads them. It has laws alone, for whoever proves
 //! that components which break no rule are never stuck.
 ghost use Rattle.std.specs.Prelude.{◌≡◌, List, ℤ};
-ghost use Rattle.cjc_card_semantics.specs.CapRead.Opcodes.{Operand};
-ghost use Rattle.cjc_card_semantics.specs.CapRead.Decode.{Instruction};
+ghost use Rattle.cjc_capread.specs.Opcodes.{Operand};
+ghost use Rattle.cjc_capread.specs.Decode.{Instruction};
 ghost use Rattle.cjc_card_semantics.specs.Bytecode.Calculations.{Calculation};
 ghost use Rattle.cjc_check_rules.specs.Spots.{Placed};
 ghost use Rattle.cjc_card_acts.specs.CardTypes.{ValueType};

@@ -5,7 +5,7 @@ use Rattle.std.proofs.Common.{option_map, option_and_then, position, slice_get}
 use Rattle.std.proofs.lemmas.Option.{slice_get-map}
 use Rattle.std.specs.Prelude.{if◌then◌else◌}
 use Rattle.std.specs.List.{find}
-use Rattle.cjc_order.specs.Classes.Numbers.{declared_at}
+use Rattle.cjc_classes.specs.ClassOrder.Classes.Numbers.{declared_at}
 use Rattle.cjc_world.specs.ClassFile.declared.tree.ClassTree.{ClassTree}
 use Rattle.cjc_world.specs.Classes.{Class, declared}
 use Rattle.cjc_world.specs.Order.{class_order}

@@ -3,13 +3,13 @@ use Rattle.std.proofs.Common.{◌≡◌, ℕ, ◌/◌, ◌≤◌, List, [], ◌�
 use Rattle.std.proofs.Common.{negsuc}
 use Rattle.std.proofs.lemmas.Grind.{common_steps}
 use Rattle.cjc_card_acts.specs.Rows.{copying_below, idle, swapping_by, unknown, with_local, with_number}
-use Rattle.cjc_card_acts.specs.Frames.declared.acts.Act.{Act}
-use Rattle.cjc_card_calls.specs.CardSemantics.Bytecode.Meanings.{Use}
+use Rattle.cjc_card_acts.specs.LowerFrames.declared.acts.Act.{Act}
+use Rattle.cjc_card_acts.specs.CardSemantics.Bytecode.Meanings.{Use}
 use Rattle.cjc_verify.specs.Instructions.{using_entry, using_some}
 use Rattle.cjc_verify.specs.Named.{entry_of, entry_type}
 use Rattle.cjc_verify.specs.Pairs.{Pair}
 use Rattle.cjc_verify.specs.Working.Operands.{local_by, natural_of}
-use Rattle.cjc_capread.proofs.BytesNumbers.{some_same}
+use Rattle.cjc_bytes.proofs.Numbers.{some_same}
 
 -- there is a local
 pub by_local : (act : ℕ → Act) (local : Option ℕ) (values : List ℤ) (k : ℕ) → Some k ≡ local_by local values

@@ -3,8 +3,8 @@
 use Rattle.std.specs.Prelude.{ℕ, ◌+◌, ◌==◌, ◌&&◌, not, Bool, true, false, List, [], ◌∷◌, ◌++◌, length, unwrap_or}
 use Rattle.std.specs.Prelude.{option_map, Option, Some, None, if◌then◌else◌, codes}
 use Rattle.std.specs.Str.{bytes_eq}
-use Rattle.cjc_capread.specs.Bytes.declared.fault.MemberId.{MemberId}
-use Rattle.cjc_capread.specs.Bytes.AccessFlags.{is_static}
+use Rattle.cjc_bytes.specs.declared.fault.MemberId.{MemberId}
+use Rattle.cjc_bytes.specs.AccessFlags.{is_static}
 use Rattle.cjc_capread.specs.declared.tree.ArrayInit.{ArrayInit}
 use Rattle.cjc_capread.specs.declared.tree.ClassDescriptor.{ClassDescriptor}
 use Rattle.cjc_capread.specs.declared.tree.Descriptor.{Descriptor}
@@ -23,15 +23,15 @@ use Rattle.cjc_check_rules.specs.Spots.{in_info, unless, beside, item_at}
 use Rattle.cjc_check_rules.specs.Complete.{described_size, array_size}
 use Rattle.cjc_check_rules.specs.ClassRefs.{fields_begin, pool_count_at}
 use Rattle.cjc_check_rules.specs.Described.{methods_begin, types_at}
-use Rattle.cjc_card_calls.specs.Script.Sorts.{Sort, Boolean, Byte, Short, Int, Reference, field_sort}
-use Rattle.cjc_card_calls.specs.ClassFile.declared.tree.FieldTree.{FieldTree}
-use Rattle.cjc_card_calls.specs.World.declared.found.Found.{Found}
-use Rattle.cjc_card_calls.specs.World.Classes.{Class}
-use Rattle.cjc_card_calls.specs.World.Lookup.{member_at}
-use Rattle.cjc_card_calls.specs.World.Order.{class_order, methods_of_class}
-use Rattle.cjc_components.specs.Tokens.Fields.{is_constant}
-use Rattle.cjc_components.specs.Tokens.Tokens.{token_of_class, token_of_member}
-use Rattle.cjc_components.specs.Clinit.Image.{field_id}
+use Rattle.cjc_card_acts.specs.Script.Sorts.{Sort, Boolean, Byte, Short, Int, Reference, field_sort}
+use Rattle.cjc_world.specs.ClassFile.declared.tree.FieldTree.{FieldTree}
+use Rattle.cjc_world.specs.declared.found.Found.{Found}
+use Rattle.cjc_world.specs.Classes.{Class}
+use Rattle.cjc_world.specs.Lookup.{member_at}
+use Rattle.cjc_world.specs.Order.{class_order, methods_of_class}
+use Rattle.cjc_methods.specs.Tokens.Fields.{is_constant}
+use Rattle.cjc_methods.specs.Tokens.Tokens.{token_of_class, token_of_member}
+use Rattle.cjc_classes.specs.Clinit.Image.{field_id}
 use Rattle.cjc_components.specs.Class.{fields_of}
 use Rattle.cjc_components.specs.Descriptor.{class_flags, field_flags, method_flags, method_in}
 use Rattle.cjc_components.specs.Statics.{cell_order, cell_offset}

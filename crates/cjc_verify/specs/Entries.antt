@@ -5,7 +5,7 @@ use Rattle.std.specs.Prelude.{false, if◌then◌else◌, is_some, None}
 use Rattle.cjc_capread.specs.declared.tree.PoolEntry.{PoolEntry}
 use Rattle.cjc_capread.specs.declared.tree.PoolEntry.TheVariants.{Classref}
 use Rattle.cjc_components.specs.Descriptor.{method_in, no_member}
-use Rattle.cjc_tokens.specs.Tokens.{method_of_token}
+use Rattle.cjc_methods.specs.Tokens.Tokens.{method_of_token}
 use Rattle.cjc_world.specs.ClassFile.declared.tree.ClassTree.{ClassTree}
 use Rattle.cjc_world.specs.ClassFile.declared.tree.FieldTree.{FieldTree}
 use Rattle.cjc_world.specs.ExportFile.declared.tree.ExportClass.{ExportClass}

@@ -1,6 +1,6 @@
 -- Rules over the headers of methods (Java Card Virtual Machine Specification 2.2.2, section 6.9).
 use Rattle.std.specs.Prelude.{ℕ, ◌+◌, ◌==◌, ◌&&◌, not, Bool, List, if◌then◌else◌}
-use Rattle.cjc_capread.specs.Bytes.AccessFlags.{is_static, has, acc_abstract}
+use Rattle.cjc_bytes.specs.AccessFlags.{is_static, has, acc_abstract}
 use Rattle.cjc_check_rules.specs.declared.spot.ComponentPlace.{ComponentPlace}
 use Rattle.cjc_check_rules.specs.Spots.{in_info, unless}
 use Rattle.cjc_card_acts.specs.CardTypes.{widths}

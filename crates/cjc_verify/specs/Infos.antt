@@ -3,7 +3,7 @@
 use Rattle.std.specs.Prelude.{ℕ, ◌+◌, ◌*◌, ◌==◌, ◌&&◌, ◌||◌, not, Bool, List, [], ◌∷◌, ◌++◌, map, length}
 use Rattle.std.specs.Prelude.{Option, Some, None, if◌then◌else◌}
 use Rattle.std.specs.List.{list_any, range_with_len}
-use Rattle.cjc_capread.specs.Bytes.AccessFlags.{is_interface}
+use Rattle.cjc_bytes.specs.AccessFlags.{is_interface}
 use Rattle.cjc_capread.specs.declared.tree.ClassRef.{ClassRef}
 use Rattle.cjc_capread.specs.declared.tree.ClassInfo.{ClassInfo}
 use Rattle.cjc_capread.specs.declared.tree.ClassEntry.{ClassEntry}
@@ -15,15 +15,15 @@ use Rattle.cjc_check_rules.specs.Spots.{in_info, unless, beside, bytes_differ}
 use Rattle.cjc_check_rules.specs.Complete.{map_size}
 use Rattle.cjc_check_rules.specs.Classes.{first_interface}
 use Rattle.cjc_check_rules.specs.ClassRefs.{maps_begin}
-use Rattle.cjc_card_calls.specs.CardSemantics.Machine.Classes.{Info, IsInterface, IsClass, Own, info_size}
-use Rattle.cjc_card_calls.specs.CardSemantics.Machine.Dispatch.{Token, Open, Hidden, tower, dispatched}
-use Rattle.cjc_card_calls.specs.World.declared.found.Found.{Found}
-use Rattle.cjc_card_calls.specs.World.Classes.{Class}
-use Rattle.cjc_card_calls.specs.World.Order.{class_order}
-use Rattle.cjc_components.specs.Tokens.Fields.{instance_cells}
-use Rattle.cjc_components.specs.VTable.declared.table.ClassTable.{ClassTable}
-use Rattle.cjc_components.specs.VTable.declared.table.InterfaceMap.{InterfaceMap}
-use Rattle.cjc_components.specs.VTable.Tables.{table_of}
+use Rattle.cjc_card_acts.specs.CardSemantics.Machine.Classes.{Info, IsInterface, IsClass, Own, info_size}
+use Rattle.cjc_card_acts.specs.CardSemantics.Machine.Dispatch.{Token, Open, Hidden, tower, dispatched}
+use Rattle.cjc_world.specs.declared.found.Found.{Found}
+use Rattle.cjc_world.specs.Classes.{Class}
+use Rattle.cjc_world.specs.Order.{class_order}
+use Rattle.cjc_methods.specs.Tokens.Fields.{instance_cells}
+use Rattle.cjc_classes.specs.VTable.declared.table.ClassTable.{ClassTable}
+use Rattle.cjc_classes.specs.VTable.declared.table.InterfaceMap.{InterfaceMap}
+use Rattle.cjc_classes.specs.VTable.Tables.{table_of}
 use Rattle.cjc_components.specs.Class.{interfaces_of, info_flags, fields_of, superclass, reference_count}
 use Rattle.cjc_components.specs.Class.{first_reference_token}
 use Rattle.cjc_verify.specs.Pairs.{Pair, world, class_ref, method_offset}

@@ -22,3 +22,18 @@ pub mod WantedDescriptor
 pub mod WantedInfos
 pub mod WantedMembers
 pub mod Working
+-- Definitions of lower crates, for those above.
+pub mod List
+pub mod Script
+pub mod CapRead
+pub mod ClassOrder
+pub mod Subset
+pub mod Clinit
+pub mod CheckRules
+pub mod Check
+pub mod CardSemantics
+pub mod CardLink
+pub mod Frames
+pub mod CardActs
+pub mod Narrow
+pub mod Components

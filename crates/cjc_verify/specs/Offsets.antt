@@ -1,8 +1,8 @@
 -- Where the methods of the package begin, as code keeps it.
 use Rattle.std.specs.Prelude.{ℕ, List, [], ◌∷◌, ◌++◌, option_map, slice_get, unwrap_or, Option, Some, None}
 use Rattle.std.specs.List.{find}
-use Rattle.cjc_components.specs.CapRead.declared.tree.ClassDescriptor.{ClassDescriptor}
-use Rattle.cjc_components.specs.CapRead.declared.tree.MethodDescriptor.{MethodDescriptor}
+use Rattle.cjc_capread.specs.declared.tree.ClassDescriptor.{ClassDescriptor}
+use Rattle.cjc_capread.specs.declared.tree.MethodDescriptor.{MethodDescriptor}
 use Rattle.cjc_world.specs.ClassFile.declared.tree.ClassTree.{ClassTree}
 use Rattle.cjc_world.specs.declared.found.Found.{Found}
 use Rattle.cjc_world.specs.Files.{Files}

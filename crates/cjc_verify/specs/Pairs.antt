@@ -4,23 +4,23 @@ use Rattle.std.specs.Prelude.{ℕ, ◌==◌, ◌&&◌, not, Bool, true, false, L
 use Rattle.std.specs.Prelude.{slice_get, unwrap_or, Option, Some, None, option_and_then, option_map, if◌then◌else◌}
 use Rattle.std.specs.List.{find, list_all}
 use Rattle.std.specs.Str.{bytes_eq}
-use Rattle.cjc_capread.specs.Bytes.AccessFlags.{is_interface}
+use Rattle.cjc_bytes.specs.AccessFlags.{is_interface}
 use Rattle.cjc_capread.specs.declared.tree.ClassRef.{ClassRef}
 use Rattle.cjc_capread.specs.declared.tree.ClassDescriptor.{ClassDescriptor}
 use Rattle.cjc_capread.specs.declared.tree.MethodDescriptor.{MethodDescriptor}
 use Rattle.cjc_check_rules.specs.Complete.{Complete}
 use Rattle.cjc_check_rules.specs.Described.{all_starts}
-use Rattle.cjc_card_calls.specs.CardSemantics.Machine.Loaded.{Loaded}
-use Rattle.cjc_card_calls.specs.CardSemantics.Machine.Classes.{Class as CardClass, Own, external_from, or_else}
-use Rattle.cjc_card_calls.specs.Script.Sorts.{Sort, Boolean, Byte, Short, Int, Reference, NoValue, Signature}
-use Rattle.cjc_card_calls.specs.Script.Sorts.{field_sort}
-use Rattle.cjc_card_calls.specs.Script.Sorts.{signature_of}
-use Rattle.cjc_card_calls.specs.World.declared.found.Found.{Found}
-use Rattle.cjc_card_calls.specs.World.declared.image.StaticImage.{StaticImage}
-use Rattle.cjc_card_calls.specs.World.Files.{Files}
-use Rattle.cjc_card_calls.specs.World.Classes.{Member, Class, all_classes}
-use Rattle.cjc_card_calls.specs.World.Order.{class_order, methods_of_class}
-use Rattle.cjc_components.specs.Tokens.Tokens.{Assigned, assigned}
+use Rattle.cjc_card_acts.specs.CardSemantics.Machine.Loaded.{Loaded}
+use Rattle.cjc_card_acts.specs.CardSemantics.Machine.Classes.{Class as CardClass, Own, external_from, or_else}
+use Rattle.cjc_card_acts.specs.Script.Sorts.{Sort, Boolean, Byte, Short, Int, Reference, NoValue, Signature}
+use Rattle.cjc_card_acts.specs.Script.Sorts.{field_sort}
+use Rattle.cjc_card_acts.specs.Script.Sorts.{signature_of}
+use Rattle.cjc_world.specs.declared.found.Found.{Found}
+use Rattle.cjc_world.specs.declared.image.StaticImage.{StaticImage}
+use Rattle.cjc_world.specs.Files.{Files}
+use Rattle.cjc_world.specs.Classes.{Member, Class, all_classes}
+use Rattle.cjc_world.specs.Order.{class_order, methods_of_class}
+use Rattle.cjc_methods.specs.Tokens.Tokens.{Assigned, assigned}
 use Rattle.cjc_components.specs.Descriptor.{method_in}
 use Rattle.cjc_components.specs.Names.{ref_to}
 use Rattle.cjc_components.specs.Paired.Naming.{loaded_of}

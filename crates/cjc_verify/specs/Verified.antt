@@ -1,14 +1,14 @@
 -- What `verify` tells of components beside their package: which of rules 721 to 729 are broken, and which of these is
 -- the first.
 use Rattle.std.specs.Prelude.{◌≡◌, ◌⊎◌, ℕ, List, ◌++◌, map, flat_map, slice_get, Option, Some}
-use Rattle.cjc_capread.specs.Bytes.declared.fault.Fault.{Fault}
-use Rattle.cjc_capread.specs.Bytes.declared.fault.Fault.TheVariants as faults
-use Rattle.cjc_capread.specs.Bytes.Breaks.{Break, Among}
-use Rattle.cjc_capread.specs.Bytes.Order.{NotAfter}
+use Rattle.cjc_bytes.specs.declared.fault.Fault.{Fault}
+use Rattle.cjc_bytes.specs.declared.fault.Fault.TheVariants as faults
+use Rattle.cjc_bytes.specs.Breaks.{Break, Among}
+use Rattle.cjc_bytes.specs.Order.{NotAfter}
 use Rattle.cjc_check_rules.specs.Spots.{in_info}
 use Rattle.cjc_check_rules.specs.Consistent.{break_at}
-use Rattle.cjc_card_acts.specs.Types.declared.state.State.{State}
-use Rattle.cjc_card_acts.specs.Frames.Tables.{IsLeastTable, Breach}
+use Rattle.cjc_classes.specs.Types.declared.state.State.{State}
+use Rattle.cjc_card_acts.specs.LowerFrames.Tables.{IsLeastTable, Breach}
 use Rattle.cjc_card_acts.specs.CardTypes.{is_type_of}
 use Rattle.cjc_verify.specs.Pairs.{Pair}
 use Rattle.cjc_verify.specs.Bodies.{Body, bodies, frames_of}

@@ -3,17 +3,17 @@
 use Rattle.std.specs.Prelude.{ℕ, List, map, option_and_then, Option, if◌then◌else◌}
 use Rattle.cjc_bytes.specs.declared.fault.MemberId.{MemberId}
 use Rattle.cjc_bytes.specs.AccessFlags.{is_static}
-use Rattle.cjc_components.specs.CapRead.declared.tree.FieldPlace.{FieldPlace}
-use Rattle.cjc_components.specs.CapRead.declared.tree.FieldPlace.TheVariants as places
-use Rattle.cjc_components.specs.CapRead.declared.tree.PoolEntry.{PoolEntry}
-use Rattle.cjc_components.specs.CapRead.declared.tree.PoolEntry.TheVariants.{Classref}
-use Rattle.cjc_components.specs.Script.Sorts.{Sort, Boolean, Byte, Short, Int, Reference, NoValue, field_sort}
-use Rattle.cjc_components.specs.VTable.ClassFile.declared.tree.FieldTree.{FieldTree}
+use Rattle.cjc_capread.specs.declared.tree.FieldPlace.{FieldPlace}
+use Rattle.cjc_capread.specs.declared.tree.FieldPlace.TheVariants as places
+use Rattle.cjc_capread.specs.declared.tree.PoolEntry.{PoolEntry}
+use Rattle.cjc_capread.specs.declared.tree.PoolEntry.TheVariants.{Classref}
+use Rattle.cjc_card_acts.specs.Script.Sorts.{Sort, Boolean, Byte, Short, Int, Reference, NoValue, field_sort}
+use Rattle.cjc_world.specs.ClassFile.declared.tree.FieldTree.{FieldTree}
 use Rattle.cjc_world.specs.declared.found.Found.{Found}
 use Rattle.cjc_world.specs.Classes.{Class}
 use Rattle.cjc_world.specs.Lookup.{member_at}
 use Rattle.cjc_world.specs.Order.{class_order, methods_of_class}
-use Rattle.cjc_components.specs.Clinit.Image.{field_id}
+use Rattle.cjc_classes.specs.Clinit.Image.{field_id}
 use Rattle.cjc_components.specs.Descriptor.{class_flags, field_flags, method_flags, method_in}
 use Rattle.cjc_components.specs.Statics.{cell_offset, cell_order}
 use Rattle.cjc_verify.specs.Pairs.{Pair, class_ref, nibbles_of, world}

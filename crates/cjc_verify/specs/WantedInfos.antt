@@ -1,11 +1,11 @@
 -- The infos that a package wants of Class (Java Card Virtual Machine Specification 2.2.2, section 6.8).
 use Rattle.std.specs.Prelude.{List, map, if◌then◌else◌}
 use Rattle.cjc_bytes.specs.AccessFlags.{is_interface}
-use Rattle.cjc_components.specs.CapRead.declared.tree.ClassEntry.{ClassEntry}
+use Rattle.cjc_capread.specs.declared.tree.ClassEntry.{ClassEntry}
 use Rattle.cjc_world.specs.Classes.{Class}
 use Rattle.cjc_world.specs.Order.{class_order}
-use Rattle.cjc_tokens.specs.Fields.{instance_cells}
-use Rattle.cjc_components.specs.VTable.Tables.{table_of}
+use Rattle.cjc_methods.specs.Tokens.Fields.{instance_cells}
+use Rattle.cjc_classes.specs.VTable.Tables.{table_of}
 use Rattle.cjc_components.specs.Class.{fields_of, first_reference_token, implemented, info_flags, interface_entry}
 use Rattle.cjc_components.specs.Class.{reference_count, superclass}
 use Rattle.cjc_verify.specs.Pairs.{Pair, class_ref, method_offset, world}

@@ -8,11 +8,11 @@ ghost use Rattle.cjc_capread.specs.declared.tree.PoolEntry.TheVariants.{Classref
 ghost use Rattle.cjc_card_acts.specs.CardTypes.{numbers_type, type_by as typed_by, types_in};
 ghost use Rattle.cjc_card_acts.specs.Rows.{idle, number_words, unknown, with_number};
 ghost use Rattle.cjc_card_acts.specs.Told.{row_told, type_told};
-ghost use Rattle.cjc_card_frame.specs.Meanings.{letter_if, mode_of, use_of};
-ghost use Rattle.cjc_card_semantics.specs.Bytecode.Meanings.{Calls, Makes};
+ghost use Rattle.cjc_card_acts.specs.CardFrame.Meanings.{letter_if, mode_of, use_of};
+ghost use Rattle.cjc_card_acts.specs.CardSemantics.Bytecode.Meanings.{Calls, Makes};
 ghost use Rattle.cjc_check.specs.Codes.Bodies.{IsAt, placed_of};
-ghost use Rattle.cjc_frames.specs.declared.acts.Act.{Act as Known};
-ghost use Rattle.cjc_frames.specs.declared.acts.Need.TheVariants.{ReferenceWord};
+ghost use Rattle.cjc_card_acts.specs.LowerFrames.declared.acts.Act.{Act as Known};
+ghost use Rattle.cjc_card_acts.specs.LowerFrames.declared.acts.Need.TheVariants.{ReferenceWord};
 ghost use Rattle.cjc_verify.specs.ClassTypes.{class_type as type_of};
 ghost use Rattle.cjc_verify.specs.Instructions.{act, act_by, asking, by_interface, calling_interface, calling_through};
 ghost use Rattle.cjc_verify.specs.Instructions.{casting, class_in, exception_needs, jumping, last, making_numbers};
@@ -35,15 +35,15 @@ use cjc_bytes::{Bytes, NoMemory, Row};
 use cjc_capread::decoder::Operands;
 use cjc_capread::{ClassRef, PoolEntry, StaticRef};
 use cjc_card_acts::described::entry_type;
+use cjc_card_acts::frames::{Act, Given, Need};
 use cjc_card_acts::rows::{self, idle, unknown};
 use cjc_card_acts::table::{OpcodeRow, row};
 use cjc_card_acts::types::{
     MemberType, ValueType, is_returned_by, member_type, numbers_type, put_needs, widths,
 };
 use cjc_card_acts::words::{letter_needs, number_words, reference_words};
-use cjc_card_frame::opcodes::{Letter, Mode, Use};
+use cjc_card_calls::card_frame::opcodes::{Letter, Mode, Use};
 use cjc_check::codes::At;
-use cjc_frames::{Act, Given, Need};
 use std::alloc::Global;
 
 /// An array of numbers or of references is made, of the length on top.

@@ -20,7 +20,7 @@ mod plain;
 mod targets;
 
 ghost use Rattle.std.specs.Prelude.{◌≡◌};
-ghost use Rattle.cjc_capread.specs.Bytes.Breaks.{Break};
+ghost use Rattle.cjc_bytes.specs.Breaks.{Break};
 ghost use Rattle.cjc_verify.specs.Pairs.{Pair};
 ghost use Rattle.cjc_verify.specs.Verified.{Breaks, IsVerified, IsRefused};
 

@@ -3,13 +3,13 @@
 
 ghost use Rattle.std.specs.Prelude.{◌≡◌, ◌++◌, option_to_list, IfOk, OnOk};
 ghost use Rattle.cjc_card_acts.specs.Told.{type_told};
-ghost use Rattle.cjc_card_calls.specs.CardFrame.Meanings.{letter_of};
+ghost use Rattle.cjc_card_acts.specs.CardFrame.Meanings.{letter_of};
 ghost use Rattle.cjc_verify.specs.Instructions.{calling, calling_on, getting, getting_static, object_needs};
 ghost use Rattle.cjc_verify.specs.Instructions.{object_reads, putting, putting_static};
 ghost use Rattle.cjc_verify.specs.Named.{is_outside, is_static_outside};
 
 use crate::class_types::class_type;
-use cjc_capread::bytes::{Bytes, NoMemory, Row};
+use cjc_bytes::{Bytes, NoMemory, Row};
 use cjc_capread::{ClassRef, StaticRef};
 use cjc_card_acts::frames::{Act, Need, Read};
 use cjc_card_acts::rows::idle;

@@ -3,12 +3,12 @@
 
 ghost use Rattle.std.specs.Prelude.{◌≡◌, ◌++◌, ◌∷◌, [], map, OnOk};
 ghost use Rattle.cjc_capread.specs.Decoder.Decoded.{instruction_of, numbers_of, values};
-ghost use Rattle.cjc_card_calls.specs.CardSemantics.Machine.Operations.{moved};
+ghost use Rattle.cjc_card_acts.specs.CardSemantics.Machine.Operations.{moved};
 ghost use Rattle.cjc_check.specs.Codes.Bodies.{IsAt};
 ghost use Rattle.cjc_check.specs.Jumps.Offsets.{is_switch, offsets_in};
 ghost use Rattle.cjc_check_rules.specs.Instructions.{default_of, is_jump, jumps};
 
-use cjc_capread::bytes::{NoMemory, Row};
+use cjc_bytes::{NoMemory, Row};
 use cjc_capread::card;
 use cjc_capread::decoder::{Kind, Operands, Shape, Table, entry_size, operand};
 use cjc_card_calls::card_frame::fetch::moved;

@@ -4,23 +4,24 @@ use Rattle.std.proofs.Common.{None, refl, sym, subst, ℤ, pos, negsuc}
 use Rattle.std.specs.Prelude.{if◌then◌else◌}
 use Rattle.std.proofs.lemmas.List.Elements.{All-weaker, All-replicate, All-set}
 use Rattle.cjc_card_semantics.specs.Range.Words.{low_word, low_byte}
-use Rattle.cjc_card_semantics.specs.Script.declared.value.Value.{Value}
-use Rattle.cjc_card_semantics.specs.Script.declared.value.Value.TheVariants.{Num, Null, Obj}
-use Rattle.cjc_card_semantics.specs.Script.Sorts.{Element}
-use Rattle.cjc_card_acts.specs.Types.declared.cell.Cell.{Cell}
-use Rattle.cjc_card_acts.specs.Types.declared.cell.Cell.TheVariants.{Number, Refs, Unusable}
-use Rattle.cjc_card_acts.specs.Types.Rules.{all_types}
+use Rattle.cjc_script.specs.declared.value.Value.{Value}
+use Rattle.cjc_script.specs.declared.value.Value.TheVariants.{Num, Null, Obj}
+use Rattle.cjc_script.specs.Sorts.{Element}
+use Rattle.cjc_types.specs.declared.cell.Cell.{Cell}
+use Rattle.cjc_types.specs.declared.cell.Cell.TheVariants.{Number, Refs, Unusable}
+use Rattle.cjc_types.specs.Rules.{all_types}
 use Rattle.cjc_card_semantics.specs.Bytecode.Numbers.{spelt_by}
 use Rattle.cjc_card_semantics.specs.Bytecode.Calculations.{IndexOutside}
 use Rattle.cjc_card_semantics.specs.Bytecode.Effects.{Letter, Reference, Byte, Short, Int, HeapObject, Numbers}
 use Rattle.cjc_card_semantics.specs.Bytecode.Effects.{References, Memory, Effect, Go, Raise, Toss, Invoke, Leave, Stick}
-use Rattle.cjc_card_semantics.specs.Bytecode.Effects.{is_element, item_at, with_some, numbers_in, with_thing, Classes, shape}
+use Rattle.cjc_card_semantics.specs.Bytecode.Effects.{is_element, item_at, with_some, numbers_in, with_thing, Classes}
+use Rattle.cjc_card_semantics.specs.Bytecode.Effects.{shape}
 use Rattle.cjc_card_semantics.specs.Bytecode.Effects.{store_number, thing_of}
 use Rattle.cjc_card_semantics.specs.Machine.Loaded.{Loaded}
 use Rattle.cjc_card_semantics.specs.Machine.Classes.{Class, Field}
 use Rattle.cjc_card_semantics.specs.Machine.Operations.{Callee}
 use Rattle.cjc_card_semantics.specs.Machine.Statics.{Image, StaticCell}
-use Rattle.cjc_card_acts.specs.Frames.Types.{begins_with}
+use Rattle.cjc_frames.specs.Types.{begins_with}
 use Rattle.cjc_card_acts.specs.CardTypes.{arrays_of}
 use Rattle.cjc_verify_proof.specs.Words.{IsWord, AreWords, AreLocals}
 use Rattle.cjc_verify_proof.specs.Heaps.{object_is, IsFit}
@@ -149,7 +150,8 @@ module _ (l : Loaded) (t : FieldTypes) (next : ℕ) (cs lc : List Cell) (m : Mem
     index_set letter z given j (negsuc i) element items is at = tt
     index_set letter z given j (pos i) element items is at = go (slice_get items i)
       where
-        go : (o : Option ℤ) → Goes l t next cs lc m (with_some (Raise IndexOutside) o (λ old. Go next vs lv (with_thing m j
+        go : (o : Option ℤ) → Goes l t next cs lc m (with_some (Raise IndexOutside) o (λ old. Go next vs lv
+            (with_thing m j
             (Numbers element (slice_set items i z)))))
         go None = tt
         go (Some old) = array_set j (Numbers element items) (Numbers element (slice_set items i z)) at refl
@@ -157,7 +159,8 @@ module _ (l : Loaded) (t : FieldTypes) (next : ℕ) (cs lc : List Cell) (m : Mem
 
     abbrev Into : (letter : Letter) (z : ℤ) (j : ℕ) (i : ℤ) → Option (HeapObject Class Field) → Type 0
     Into letter z j i o = Goes l t next cs lc m (with_some Stick o (numbers_in letter (λ element items. item_at
-        (Raise IndexOutside) items i (λ n old. Go next vs lv (with_thing m j (Numbers element (slice_set items n z)))))))
+        (Raise IndexOutside) items i (λ n old. Go next vs lv (with_thing m j (Numbers element
+        (slice_set items n z)))))))
 
     number_set : (letter : Letter) (z : ℤ) → IsGiven letter z → (j : ℕ) (i : ℤ) → IsNumbers letter (slice_get m.heap j)
         → Into letter z j i (slice_get m.heap j)
@@ -170,7 +173,8 @@ module _ (l : Loaded) (t : FieldTypes) (next : ℕ) (cs lc : List Cell) (m : Mem
 
     set_by : (letter : Letter) → (letter ≡ Reference → ⊥) → (z i : ℤ) → IsGiven letter z → (c : Cell) (v : Value)
         → all_types (begins_with (arrays_of letter)) c ≡ true → IsWord (object_is l m.heap) c v
-        → Goes l t next cs lc m (thing_of m.heap v (λ j. numbers_in letter (λ element items. item_at (Raise IndexOutside)
+        → Goes l t next cs lc m (thing_of m.heap v (λ j. numbers_in letter (λ element items. item_at
+        (Raise IndexOutside)
         items i (λ n old. Go next vs lv (with_thing m j (Numbers element (slice_set items n z)))))))
     set_by letter other z i given Number v b is = cc
     set_by letter other z i given Unusable v b is = cc

@@ -1,15 +1,16 @@
 -- What a call takes off the stack are its arguments, and what an imported method gives are words of its result.
 use Rattle.std.proofs.Common.{◌≡◌, ◌≤◌, inl, ℕ, Bool, true, false, not, List, [], ◌∷◌, ◌++◌}
-use Rattle.std.proofs.Common.{length, map, take, reverse, slice_get, Option, Some, None, refl, sym, ap, subst, ◌∙◌, arith}
+use Rattle.std.proofs.Common.{length, map, take, reverse, slice_get, Option, Some, None, refl, sym, ap, subst, ◌∙◌}
+use Rattle.std.proofs.Common.{arith}
 use Rattle.std.specs.Prelude.{flat_map}
 use Rattle.std.proofs.lemmas.Bool.{or_parts}
 use Rattle.std.proofs.lemmas.List.{reverse-append}
-use Rattle.cjc_card_semantics.specs.Script.declared.value.Value.{Value}
-use Rattle.cjc_card_semantics.specs.Script.declared.value.Value.TheVariants.{Num, Null, Obj}
-use Rattle.cjc_card_semantics.specs.Script.Sorts.{Sort, Boolean, Byte, Short, Int, Reference, Shape}
-use Rattle.cjc_card_semantics.specs.Script.Sorts.{result_fits}
-use Rattle.cjc_card_acts.specs.Types.declared.cell.Cell.{Cell}
-use Rattle.cjc_card_acts.specs.Types.declared.cell.Cell.TheVariants.{Number, Refs, Unusable}
+use Rattle.cjc_script.specs.declared.value.Value.{Value}
+use Rattle.cjc_script.specs.declared.value.Value.TheVariants.{Num, Null, Obj}
+use Rattle.cjc_script.specs.Sorts.{Sort, Boolean, Byte, Short, Int, Reference, Shape}
+use Rattle.cjc_script.specs.Sorts.{result_fits}
+use Rattle.cjc_types.specs.declared.cell.Cell.{Cell}
+use Rattle.cjc_types.specs.declared.cell.Cell.TheVariants.{Number, Refs, Unusable}
 use Rattle.cjc_card_semantics.specs.Bytecode.Numbers.{spelt_by}
 use Rattle.cjc_card_semantics.specs.Bytecode.Effects.{HeapObject}
 use Rattle.cjc_card_semantics.specs.Bytecode.Arguments.{values_of, first_and, event_values, result_words}
@@ -17,19 +18,20 @@ use Rattle.cjc_card_semantics.specs.Bytecode.Machine.{shape_of, thing_fits, obje
 use Rattle.cjc_card_semantics.specs.Machine.Loaded.{Loaded}
 use Rattle.cjc_card_semantics.specs.Machine.Classes.{Class, Field}
 use Rattle.cjc_card_semantics.specs.Machine.ByToken.{by_token}
-use Rattle.cjc_card_acts.specs.Frames.declared.acts.Need.{Need}
-use Rattle.cjc_card_acts.specs.Frames.declared.acts.Need.TheVariants.{AnyWord, NumberWord, ReferenceWord, OfType}
-use Rattle.cjc_card_acts.specs.Frames.declared.acts.Need.TheVariants.{OfArrays}
-use Rattle.cjc_card_acts.specs.Frames.Acts.{meets, has_wrong}
+use Rattle.cjc_frames.specs.declared.acts.Need.{Need}
+use Rattle.cjc_frames.specs.declared.acts.Need.TheVariants.{AnyWord, NumberWord, ReferenceWord, OfType}
+use Rattle.cjc_frames.specs.declared.acts.Need.TheVariants.{OfArrays}
+use Rattle.cjc_frames.specs.Acts.{meets, has_wrong}
 use Rattle.cjc_card_acts.specs.CardTypes.{ValueType, needs_of, needs_of_all, is_type_of, shape_by}
 use Rattle.cjc_card_acts.specs.CardTypes as types
 use Rattle.cjc_verify_proof.specs.Words.{IsOneOf, IsWord, AreWords}
 use Rattle.cjc_verify_proof.specs.Heaps.{thing_is, object_is}
 use Rattle.cjc_verify_proof.specs.Control.{cells_of}
-use Rattle.cjc_verify_proof.specs.Calls.{receiver_needs, has_receiver, receiver_cells, argument_cells, AreSorts, IsResult}
+use Rattle.cjc_verify_proof.specs.Calls.{receiver_needs, has_receiver, receiver_cells, argument_cells, AreSorts}
+use Rattle.cjc_verify_proof.specs.Calls.{IsResult}
 use Rattle.cjc_verify_proof.proofs.WordLaws.{true_of, number_is, words_append}
 use Rattle.cjc_verify_proof.proofs.TypeLaws.{word_of_type}
-use Rattle.cjc_card_semantics.proofs.BytesLists.{map_append}
+use Rattle.cjc_script.proofs.BytesLists.{map_append}
 
 -- ---- what meets a need
 

@@ -2,17 +2,17 @@
 use Rattle.std.proofs.Common.{◌≡◌, ◌+◌, ℕ, true, List, [], ◌∷◌, ◌++◌, length, map, Option, Some, None, refl, sym, ap}
 use Rattle.std.proofs.Common.{subst, ◌∙◌, arith, length-append}
 use Rattle.std.specs.Prelude.{Contains, option_map}
-use Rattle.cjc_card_semantics.specs.Bytes.declared.fault.MemberId.{MemberId}
-use Rattle.cjc_card_semantics.specs.Script.Sorts.{Sort, Boolean, Byte, Short, Int, Reference, Signature}
-use Rattle.cjc_card_semantics.specs.Script.Sorts.{signature_of}
+use Rattle.cjc_script.specs.Bytes.declared.fault.MemberId.{MemberId}
+use Rattle.cjc_script.specs.Sorts.{Sort, Boolean, Byte, Short, Int, Reference, Signature}
+use Rattle.cjc_script.specs.Sorts.{signature_of}
 use Rattle.cjc_card_semantics.specs.Bytecode.Arguments as sorts
 use Rattle.cjc_card_semantics.specs.Bytecode.Machine.{Start}
 use Rattle.cjc_card_semantics.specs.Machine.Loaded.{Loaded}
 use Rattle.cjc_card_semantics.specs.Machine.Calls.{argument_words, with_code}
 use Rattle.cjc_card_semantics.specs.Machine.Methods.{Code, start_of}
 use Rattle.cjc_card_semantics.specs.Machine.Operations.{Fixed, Outer}
-use Rattle.cjc_card_acts.specs.Frames.declared.acts.Act.{Act}
-use Rattle.cjc_card_acts.specs.Frames.Acts.{given}
+use Rattle.cjc_frames.specs.declared.acts.Act.{Act}
+use Rattle.cjc_frames.specs.Acts.{given}
 use Rattle.cjc_card_acts.specs.CardTypes.{ValueType, needs_of, needs_of_all, width, widths}
 use Rattle.cjc_card_acts.specs.CardTypes as types
 use Rattle.cjc_verify_proof.specs.Frames.{Typing, Program, Begins}
@@ -88,7 +88,8 @@ module _ (l : Loaded) (program : Program) (a : Act) (receiver : Option (List ℕ
         → Reaches l program (Fixed (has_receiver receiver) part offset) o params result
     reaches_within None args = subst (λ (x : Option (Start Code)). IsReached l program None params result (with_code x))
         (sym starts) (within m t None among begins tt args results)
-    reaches_within (Some type) args = λ kind made is_of. subst (λ (x : Option (Start Code)). IsReached l program (Some kind)
+    reaches_within (Some type) args = λ kind made is_of. subst (λ (x : Option (Start Code)). IsReached l program
+        (Some kind)
         params result (with_code x)) (sym starts) (within m t (Some type) among begins is_of args results)
 
     pub fixed_calls : Calls l program a (Fixed (has_receiver receiver) part offset)
@@ -121,7 +122,8 @@ module _ (l : Loaded) (program : Program) (a : Act) (receiver : Option (List ℕ
       gives = gives;
       writes = writes;
       falls = falls;
-      count = ap (option_map (argument_words (has_receiver receiver))) is ∙ ap (λ n. Some n) (argument_counted l receiver
+      count = ap (option_map (argument_words (has_receiver receiver))) is ∙ ap (λ n. Some n)
+          (argument_counted l receiver
           sig params sorted ∙ ap length (sym takes));
       on = refl;
       reaches = reaches_abroad receiver;

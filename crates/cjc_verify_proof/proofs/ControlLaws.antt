@@ -4,11 +4,11 @@ use Rattle.std.proofs.Common.{slice_get, Option, Some, None, refl, arith, ℤ}
 use Rattle.std.specs.Prelude.{if◌then◌else◌, Contains}
 use Rattle.std.specs.Int.RustNames.{int_le}
 use Rattle.std.proofs.lemmas.Bool.{or_parts}
-use Rattle.cjc_card_semantics.specs.Script.declared.value.Value.{Value}
-use Rattle.cjc_card_semantics.specs.Script.declared.value.Value.TheVariants.{Num, Null, Obj}
-use Rattle.cjc_card_acts.specs.Types.declared.cell.Cell.{Cell}
-use Rattle.cjc_card_acts.specs.Types.declared.cell.Cell.TheVariants.{Number, Refs}
-use Rattle.cjc_card_acts.specs.Types.Rules.{all_types}
+use Rattle.cjc_script.specs.declared.value.Value.{Value}
+use Rattle.cjc_script.specs.declared.value.Value.TheVariants.{Num, Null, Obj}
+use Rattle.cjc_types.specs.declared.cell.Cell.{Cell}
+use Rattle.cjc_types.specs.declared.cell.Cell.TheVariants.{Number, Refs}
+use Rattle.cjc_types.specs.Rules.{all_types}
 use Rattle.cjc_card_semantics.specs.Bytecode.Calculations.{Test, Choice, Takes, Neither, one_number, one_int}
 use Rattle.cjc_card_semantics.specs.Bytecode.Effects.{Letter, Reference, Short, Int, Throw, Return, Arm}
 use Rattle.cjc_card_semantics.specs.Bytecode.Effects.{Memory, Classes, Effect, Go, Stick, arm_of, chosen, thrown}
@@ -17,8 +17,8 @@ use Rattle.cjc_card_semantics.specs.Machine.Loaded.{Loaded}
 use Rattle.cjc_card_semantics.specs.Machine.Classes.{Class, Field}
 use Rattle.cjc_card_semantics.specs.Machine.Statics.{StaticCell}
 use Rattle.cjc_card_semantics.specs.Machine.Operations.{Callee}
-use Rattle.cjc_card_acts.specs.Frames.declared.acts.Need.{Need}
-use Rattle.cjc_card_acts.specs.Frames.Acts.{Subtype, has_wrong}
+use Rattle.cjc_frames.specs.declared.acts.Need.{Need}
+use Rattle.cjc_frames.specs.Acts.{Subtype, has_wrong}
 use Rattle.cjc_card_acts.specs.Rows.{number_words}
 use Rattle.cjc_card_acts.specs.CardTypes.{ValueType, needs_of, is_returned_by, is_type_of}
 use Rattle.cjc_card_acts.specs.CardTypes as types
@@ -31,7 +31,7 @@ use Rattle.cjc_verify_proof.proofs.WordLaws.{Tops, behind, number, tops, true_of
 use Rattle.cjc_verify_proof.proofs.TestLaws.{test_chooses}
 use Rattle.cjc_verify_proof.proofs.FlowLaws.{in_first}
 use Rattle.cjc_verify_proof.proofs.TypeLaws.{word_of_type, of_only}
-use Rattle.cjc_card_semantics.proofs.BytesGets.{contained, contains_at}
+use Rattle.cjc_script.proofs.BytesGets.{contained, contains_at}
 
 -- ---- switches' places
 

@@ -7,34 +7,36 @@ use Rattle.std.specs.Prelude.{if◌then◌else◌}
 use Rattle.std.specs.List.{list_any}
 use Rattle.std.proofs.lemmas.Bool.{or_parts}
 use Rattle.cjc_card_semantics.specs.Range.Words.{low_word, low_byte}
-use Rattle.cjc_card_semantics.specs.Script.declared.value.Value.{Value}
-use Rattle.cjc_card_semantics.specs.Script.declared.value.Value.TheVariants.{Num, Null, Obj}
-use Rattle.cjc_card_semantics.specs.Script.Sorts.{OfClass}
-use Rattle.cjc_card_acts.specs.Types.declared.cell.Cell.{Cell}
-use Rattle.cjc_card_acts.specs.Types.declared.cell.Cell.TheVariants.{Number, Refs, Unusable}
-use Rattle.cjc_card_acts.specs.Types.Rules.{all_types, is_number}
+use Rattle.cjc_script.specs.declared.value.Value.{Value}
+use Rattle.cjc_script.specs.declared.value.Value.TheVariants.{Num, Null, Obj}
+use Rattle.cjc_script.specs.Sorts.{OfClass}
+use Rattle.cjc_types.specs.declared.cell.Cell.{Cell}
+use Rattle.cjc_types.specs.declared.cell.Cell.TheVariants.{Number, Refs, Unusable}
+use Rattle.cjc_types.specs.Rules.{all_types, is_number}
 use Rattle.cjc_card_semantics.specs.Bytecode.Numbers.{spelt_by}
 use Rattle.cjc_card_semantics.specs.Bytecode.Effects.{Letter, Reference, Byte, Short, Int, HeapObject, Numbers}
 use Rattle.cjc_card_semantics.specs.Bytecode.Effects.{References, Object, Slot, slot_of, slots_with, Memory, Effect, Go}
-use Rattle.cjc_card_semantics.specs.Bytecode.Effects.{Stick, Get, Put, GetStatic, PutStatic, New, effect, made, object_in}
+use Rattle.cjc_card_semantics.specs.Bytecode.Effects.{Stick, Get, Put, GetStatic, PutStatic, New, effect, made}
+use Rattle.cjc_card_semantics.specs.Bytecode.Effects.{object_in}
 use Rattle.cjc_card_semantics.specs.Bytecode.Effects.{onward, put_slot, receiver, thing_of, with_some, words_of}
 use Rattle.cjc_card_semantics.specs.Bytecode.Effects.{with_thing}
 use Rattle.cjc_card_semantics.specs.Bytecode.Effects as effects
 use Rattle.cjc_card_semantics.specs.Machine.Loaded.{Loaded}
 use Rattle.cjc_card_semantics.specs.Machine.Classes.{Class, Field, fresh, is_interface_info}
-use Rattle.cjc_card_semantics.specs.Machine.Classes.{depth, is_interface, is_kind_of, is_object, same_field, slots_upwards}
+use Rattle.cjc_card_semantics.specs.Machine.Classes.{depth, is_interface, is_kind_of, is_object, same_field}
+use Rattle.cjc_card_semantics.specs.Machine.Classes.{slots_upwards}
 use Rattle.cjc_card_semantics.specs.Machine.Statics.{Image, StaticCell, put_static}
 use Rattle.cjc_card_semantics.specs.Machine.Operations.{Callee}
 use Rattle.cjc_card_semantics.specs.Machine.ByToken.{classes}
-use Rattle.cjc_card_acts.specs.Frames.declared.acts.Act.{Act}
-use Rattle.cjc_card_acts.specs.Frames.declared.acts.Need.{Need}
-use Rattle.cjc_card_acts.specs.Frames.declared.acts.Need.TheVariants.{NumberWord, OfType}
-use Rattle.cjc_card_acts.specs.Frames.declared.acts.Given.{Given}
-use Rattle.cjc_card_acts.specs.Frames.declared.acts.Given.TheVariants.{AnObject}
-use Rattle.cjc_card_acts.specs.Frames.declared.acts.Read.{Read}
-use Rattle.cjc_card_acts.specs.Frames.declared.acts.Write.{Write}
-use Rattle.cjc_card_acts.specs.Frames.Acts.{Subtype, given, has_wrong, has_wrong_local, is_wrong_local, lacks_local}
-use Rattle.cjc_card_acts.specs.Frames.Acts.{stack_behind}
+use Rattle.cjc_frames.specs.declared.acts.Act.{Act}
+use Rattle.cjc_frames.specs.declared.acts.Need.{Need}
+use Rattle.cjc_frames.specs.declared.acts.Need.TheVariants.{NumberWord, OfType}
+use Rattle.cjc_frames.specs.declared.acts.Given.{Given}
+use Rattle.cjc_frames.specs.declared.acts.Given.TheVariants.{AnObject}
+use Rattle.cjc_frames.specs.declared.acts.Read.{Read}
+use Rattle.cjc_frames.specs.declared.acts.Write.{Write}
+use Rattle.cjc_frames.specs.Acts.{Subtype, given, has_wrong, has_wrong_local, is_wrong_local, lacks_local}
+use Rattle.cjc_frames.specs.Acts.{stack_behind}
 use Rattle.cjc_card_acts.specs.Rows.{reading}
 use Rattle.cjc_card_acts.specs.CardTypes.{ValueType, is_moved_by, is_type_of, needs_of, shape_by, words}
 use Rattle.cjc_card_acts.specs.CardTypes as types
@@ -71,7 +73,8 @@ taking is_of room a lc cs takes gives e f passes =
     record {
       operands = subst (λ (ns : List Need). has_wrong is_of ns cs ≡ false) e p.operands;
       enough = subst (λ (ns : List Need). length ns ≤ length cs) e p.enough;
-      after = subst (λ (gs : List Given). nat_lt room (length (map (given lc cs) gs ++ drop (length takes) cs)) ≡ false) f
+      after = subst (λ (gs : List Given). nat_lt room (length (map (given lc cs) gs ++ drop (length takes) cs))
+          ≡ false) f
           (subst (λ (ns : List Need). nat_lt room (length (map (given lc cs) a.gives ++ drop (length ns) cs)) ≡ false) e
           p.after);
     }
@@ -299,13 +302,15 @@ module _ (l : Loaded) (t : FieldTypes) (room next : ℕ) (lc : List Cell) (lv : 
       subst (λ (o : Option (HeapObject Class Field)). Goes l t next (cells_of type ++ cs) lc m (with_some Stick o
       (object_in (λ class slots. with_some Stick (slot_of same_field slots f) (λ x. words_of letter x Stick
       (λ ws. onward ws room next lv m vs)))))) (sym at)
-      (held_goes l t room next lc lv m k fit mv (slot_of same_field slots f) (fit.slots j (Object c slots) at f type typed
+      (held_goes l t room next lc lv m k fit mv (slot_of same_field slots f) (fit.slots j
+      (Object c slots) at f type typed
       kind) cs vs w h)
 
   -- a value is put into a field of an object
   put_goes : (f : Field) {type : ValueType} → t.field f ≡ Some type → (v : Value) → IsValue (object_is l m.heap) type v
       → (r : Value) → IsReceiver f.class r → (cs : List Cell) (vs : List Value) → AreWords (object_is l m.heap) cs vs
-      → Goes l t next cs lc m (thing_of m.heap r (λ j. object_in (λ class slots. put_slot (classes l) (slot_of same_field slots f) v
+      → Goes l t next cs lc m (thing_of m.heap r (λ j. object_in (λ class slots. put_slot (classes l)
+      (slot_of same_field slots f) v
       (Go next vs lv (with_thing m j (Object class (slots_with same_field slots f v)))))))
   put_goes f typed v new _ null cs vs w = tt
   put_goes f {type = type} typed v new _ (object j c slots at kind) cs vs w =
@@ -331,7 +336,8 @@ module _ (l : Loaded) (t : FieldTypes) (room next : ℕ) (lc : List Cell) (lv : 
               (
                 locals_stay (object_is l m.heap) (object_is l (slice_set m.heap j changed)) still lc lv k,
                 (
-                  memory_set l t m j (Object c slots) changed at refl fit tt tt (slots_put l t (object_is l m.heap) c slots
+                  memory_set l t m j (Object c slots) changed at refl fit tt tt (slots_put l t
+                      (object_is l m.heap) c slots
                       (fit.slots j (Object c slots) at) f type typed old v e new),
                   more,
                 ),
@@ -356,9 +362,11 @@ module _ (l : Loaded) (t : FieldTypes) (room next : ℕ) (lc : List Cell) (lv : 
     get_field a e g (c ∷ cs) (v ∷ vs) w passes =
         let p = taking (is_type_of l) room a lc (c ∷ cs) (OfType name ∷ []) (words type) e g passes in
         let is = given_words lc (c ∷ cs) type in
-        subst (λ (x : List Cell). Goes l t next x lc m (effect (classes l) (Get false letter f) room next lv m (v ∷ vs)))
+        subst (λ (x : List Cell). Goes l t next x lc m (effect (classes l) (Get false letter f) room next lv m
+        (v ∷ vs)))
         (sym (behind a lc (c ∷ cs) (OfType name ∷ []) (words type) e g ∙ ap (λ (x : List Cell). x ++ cs) is))
-        (get_goes f (moves letter type moved) typed v (on_stack s declared f type typed name named c v p.operands w.0) cs
+        (get_goes f (moves letter type moved) typed v (on_stack s declared f type typed name named c v p.operands w.0)
+        cs
         vs w.1 (subst (λ (x : List Cell). nat_lt room (length (x ++ cs)) ≡ false) is p.after))
 
     -- getfield of this
@@ -374,7 +382,8 @@ module _ (l : Loaded) (t : FieldTypes) (room next : ℕ) (lc : List Cell) (lv : 
         (subst (λ (o : Option (Option Value)). Goes l t next (cells_of type ++ cs) lc m (with_some Stick o
         (λ (q : Option Value). with_some Stick q (λ (v : Value). thing_of m.heap v (λ j. object_in
         (λ class slots. with_some Stick (slot_of same_field slots f) (λ x. words_of letter x Stick (λ ws. onward ws room
-        next lv m vs)))))))) (sym this.found) (get_goes f (moves letter type moved) typed this.value this.receives cs vs w
+        next lv m vs)))))))) (sym this.found) (get_goes f (moves letter type moved) typed this.value this.receives cs vs
+        w
         (subst (λ (x : List Cell). nat_lt room (length (x ++ cs)) ≡ false) is p.after)))
 
     -- putfield
@@ -402,7 +411,9 @@ module _ (l : Loaded) (t : FieldTypes) (room next : ℕ) (lc : List Cell) (lv : 
         o = operand_there (moves letter type moved) (OfType name ∷ []) cs vs w p.operands enough
 
         go : Value → List Value → Outcome
-        go v below = receiver false lv below (λ r rest. thing_of m.heap r (λ j. object_in (λ class slots. put_slot (classes l) (slot_of same_field slots f) v (Go next rest lv (with_thing m j (Object class (slots_with same_field slots f
+        go v below = receiver false lv below (λ r rest. thing_of m.heap r (λ j. object_in (λ class slots. put_slot
+            (classes l) (slot_of same_field slots f) v (Go next rest lv (with_thing m j (Object class
+            (slots_with same_field slots f
             v)))))))
 
         by : (under : List Cell) (rest : List Value) → drop n cs ≡ under → o.rest ≡ rest
@@ -415,7 +426,8 @@ module _ (l : Loaded) (t : FieldTypes) (room next : ℕ) (lc : List Cell) (lv : 
             let q = p.enough in
             let r = long in
             absurd (omega (arith, none, some, q, r))
-        by (c ∷ under) [] is there below right = absurd (subst (λ (x : List Cell). AreWords (object_is l m.heap) x []) is
+        by (c ∷ under) [] is there below right = absurd (subst (λ (x : List Cell). AreWords
+            (object_is l m.heap) x []) is
             (subst (λ (x : List Value). AreWords (object_is l m.heap) (drop n cs) x) there below))
         by (c ∷ under) (r ∷ rest) is there below right =
             let words_are = subst (λ (x : List Cell). AreWords (object_is l m.heap) x (r ∷ rest)) is
@@ -426,7 +438,8 @@ module _ (l : Loaded) (t : FieldTypes) (room next : ℕ) (lc : List Cell) (lv : 
             subst (λ (x : List Cell). Goes l t next x lc m (effect (classes l) (Put false letter f) room next lv m vs))
             (sym left)
             (subst (λ (x : Outcome). Goes l t next under lc m x) (sym (o.is go ∙ ap (go o.value) there))
-            (put_goes f typed o.value o.typed r (on_stack s declared f type typed name named c r meets_it words_are.0) under
+            (put_goes f typed o.value o.typed r (on_stack s declared f type typed name named c r meets_it words_are.0)
+            under
             rest words_are.1))
 
     -- putfield of this
@@ -436,17 +449,20 @@ module _ (l : Loaded) (t : FieldTypes) (room next : ℕ) (lc : List Cell) (lv : 
     put_field_this a e r g cs vs w passes =
         let p = taking (is_type_of l) room a lc cs (needs_of type) [] e g passes in
         let this = in_local s declared f type typed name named a cs r passes in
-        let o = operand_there (moves letter type moved) [] cs vs w (subst (λ (ns : List Need). has_wrong (is_type_of l) ns
+        let o = operand_there (moves letter type moved) [] cs vs w (subst (λ (ns : List Need). has_wrong
+        (is_type_of l) ns
         cs ≡ false) (sym (append-nil (needs_of type))) p.operands) p.enough in
         let go : Value → List Value → Outcome = λ v below. receiver true lv below (λ q rest. thing_of m.heap q
-        (λ j. object_in (λ class slots. put_slot (classes l) (slot_of same_field slots f) v (Go next rest lv (with_thing m j
+        (λ j. object_in (λ class slots. put_slot (classes l) (slot_of same_field slots f) v (Go next rest lv
+        (with_thing m j
         (Object class (slots_with same_field slots f v))))))) in
         subst (λ (x : List Cell). Goes l t next x lc m (effect (classes l) (Put true letter f) room next lv m vs))
         (sym (behind a lc cs (needs_of type) [] e g))
         (subst (λ (x : Outcome). Goes l t next (drop (length (needs_of type)) cs) lc m x) (sym (o.is go))
         (subst (λ (q : Option (Option Value)). Goes l t next (drop (length (needs_of type)) cs) lc m (with_some Stick q
         (λ (x : Option Value). with_some Stick x (λ (v : Value). thing_of m.heap v (λ j. object_in
-        (λ class slots. put_slot (classes l) (slot_of same_field slots f) o.value (Go next o.rest lv (with_thing m j (Object class
+        (λ class slots. put_slot (classes l) (slot_of same_field slots f) o.value (Go next o.rest lv (with_thing m j
+        (Object class
         (slots_with same_field slots f o.value)))))))))) (sym this.found)
         (put_goes f typed o.value o.typed this.value this.receives (drop (length (needs_of type)) cs) o.rest o.below)))
 
@@ -462,9 +478,11 @@ module _ (l : Loaded) (t : FieldTypes) (room next : ℕ) (lc : List Cell) (lv : 
         let got = gets_cell l t m.heap m.statics fit.cells c type letter typed moved in
         subst (λ (x : List Cell). Goes l t next x lc m (effect (classes l) (GetStatic letter c) room next lv m vs))
         (sym (behind a lc cs [] (words type) e g ∙ ap (λ (x : List Cell). x ++ cs) is))
-        (subst (λ (o : Option Value). Goes l t next (cells_of type ++ cs) lc m (with_some Stick o (λ v. words_of letter v
+        (subst (λ (o : Option Value). Goes l t next (cells_of type ++ cs) lc m (with_some Stick o
+        (λ v. words_of letter v
         Stick (λ ws. onward ws room next lv m vs)))) (sym got.1) (value_goes l t room next lc lv m k fit
-        (moves letter type moved) got.0 got.2 cs vs w (subst (λ (x : List Cell). nat_lt room (length (x ++ cs)) ≡ false) is
+        (moves letter type moved) got.0 got.2 cs vs w (subst (λ (x : List Cell). nat_lt room (length (x ++ cs))
+        ≡ false) is
         p.after)))
 
     -- putstatic
@@ -473,7 +491,8 @@ module _ (l : Loaded) (t : FieldTypes) (room next : ℕ) (lc : List Cell) (lv : 
         → Goes l t next (stack_behind a lc cs) lc m (effect (classes l) (PutStatic letter c) room next lv m vs)
     put_cell a e g cs vs w passes =
         let p = taking (is_type_of l) room a lc cs (needs_of type) [] e g passes in
-        let o = operand_there (moves letter type moved) [] cs vs w (subst (λ (ns : List Need). has_wrong (is_type_of l) ns
+        let o = operand_there (moves letter type moved) [] cs vs w (subst (λ (ns : List Need). has_wrong
+        (is_type_of l) ns
         cs ≡ false) (sym (append-nil (needs_of type))) p.operands) p.enough in
         let put = puts_cell l t m.heap m.statics fit.cells c type letter typed moved o.value o.typed in
         let go : Value → List Value → Outcome = λ v rest. with_some Stick (put_static letter c v m.statics)

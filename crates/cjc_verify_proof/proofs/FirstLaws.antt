@@ -7,9 +7,9 @@ use Rattle.std.proofs.lemmas.List.Elements.{All-nil, All-cons}
 use Rattle.std.specs.Int.{w8, w16, cast_signed}
 use Rattle.cjc_card_semantics.specs.CapRead.declared.tree.ArrayInit.{ArrayInit}
 use Rattle.cjc_card_semantics.specs.CapRead.declared.tree.StaticField.{StaticField}
-use Rattle.cjc_card_semantics.specs.Script.declared.value.Value.{Value}
-use Rattle.cjc_card_semantics.specs.Script.declared.value.Value.TheVariants.{Null, Obj}
-use Rattle.cjc_card_semantics.specs.Script.Sorts.{Element, Booleans, Bytes, Shorts, Ints}
+use Rattle.cjc_script.specs.declared.value.Value.{Value}
+use Rattle.cjc_script.specs.declared.value.Value.TheVariants.{Null, Obj}
+use Rattle.cjc_script.specs.Sorts.{Element, Booleans, Bytes, Shorts, Ints}
 use Rattle.cjc_card_semantics.specs.Bytecode.Numbers.{is_word}
 use Rattle.cjc_card_semantics.specs.Bytecode.Effects.{HeapObject, Letter, Byte, Short, Int}
 use Rattle.cjc_card_semantics.specs.Machine.Loaded.{Loaded, Part}
@@ -24,10 +24,11 @@ use Rattle.cjc_verify_proof.specs.References.{HoldsItems, AreHeld}
 use Rattle.cjc_verify_proof.specs.Values.{Holds}
 use Rattle.cjc_verify_proof.specs.Memories.{FieldTypes, HasSlots, HaveSlots, AreCells, IsMemory, AreBytes}
 use Rattle.cjc_verify_proof.specs.Memories.{IsReferenceCell, IsCellOf, ImageFits}
-use Rattle.cjc_card_semantics.proofs.BytesGets.{get_back, get_inside, in_front, item_there, mapped_at}
-use Rattle.cjc_card_semantics.proofs.BytesNumbers.{length_replicated, number_same_number}
+use Rattle.cjc_script.proofs.BytesGets.{get_back, get_inside, in_front, item_there, mapped_at}
+use Rattle.cjc_script.proofs.BytesNumbers.{length_replicated, number_same_number}
 use Rattle.cjc_verify_proof.proofs.TypeLaws.{element_itself}
-use Rattle.cjc_verify_proof.proofs.ImageLaws.{Moves, of_booleans, of_bytes, of_shorts, of_ints, of_references, moves, HasBytes, size}
+use Rattle.cjc_verify_proof.proofs.ImageLaws.{Moves, of_booleans, of_bytes, of_shorts, of_ints, of_references, moves}
+use Rattle.cjc_verify_proof.proofs.ImageLaws.{HasBytes, size}
 use Rattle.cjc_verify_proof.proofs.ImageLaws.{bytes_hold, byte_signed, short_signed}
 
 -- ---- lists
@@ -163,9 +164,11 @@ module _ (l : Loaded) (t : FieldTypes) (part : Part) (fits : ImageFits l t part.
 
   in_image : (offset : ℕ) (type : ValueType) (letter : Letter) → IsCellOf l s offset type → Moves letter type
       → Holds (object_is l heap) type (cell_in letter image offset)
-  in_image offset _ _ c of_booleans = bytes_hold (object_is l heap) of_booleans tt image offset (has_bytes Byte offset 1 c
+  in_image offset _ _ c of_booleans = bytes_hold (object_is l heap) of_booleans tt image offset
+      (has_bytes Byte offset 1 c
       refl)
-  in_image offset _ _ c of_bytes = bytes_hold (object_is l heap) of_bytes tt image offset (has_bytes Byte offset 1 c refl)
+  in_image offset _ _ c of_bytes = bytes_hold (object_is l heap) of_bytes tt image offset
+      (has_bytes Byte offset 1 c refl)
   in_image offset _ _ c of_shorts = bytes_hold (object_is l heap) of_shorts tt image offset (has_bytes Short offset 2 c
       refl)
   in_image offset _ _ c of_ints = bytes_hold (object_is l heap) of_ints tt image offset (has_bytes Int offset 4 c refl)

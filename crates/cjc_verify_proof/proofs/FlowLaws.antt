@@ -5,28 +5,28 @@ use Rattle.std.proofs.Common.{option_map, filter_map, ◌⊎◌}
 use Rattle.std.proofs.lemmas.Bool.Decides.{nat_tests}
 use Rattle.std.specs.Prelude.{Contains, if◌then◌else◌}
 use Rattle.std.specs.List.{AllZip, cons_option}
-use Rattle.cjc_card_acts.specs.Types.Fixpoint.declared.flow.Edge.{Edge}
-use Rattle.cjc_card_acts.specs.Types.Fixpoint.Tables.{HasRow, Covers}
+use Rattle.cjc_types.specs.Fixpoint.declared.flow.Edge.{Edge}
+use Rattle.cjc_types.specs.Fixpoint.Tables.{HasRow, Covers}
 use Rattle.cjc_card_semantics.specs.Machine.Loaded.{Loaded}
-use Rattle.cjc_card_acts.specs.Types.declared.cell.Cell.{Cell}
-use Rattle.cjc_card_acts.specs.Types.declared.state.Stack.{Stack}
-use Rattle.cjc_card_acts.specs.Types.declared.state.Stack.TheVariants.{Cells, Clash}
-use Rattle.cjc_card_acts.specs.Types.declared.state.State.{State}
-use Rattle.cjc_card_acts.specs.Types.Cells.{IsCellBelow}
-use Rattle.cjc_card_acts.specs.Types.States.{IsStackBelow}
-use Rattle.cjc_card_acts.specs.Frames.declared.acts.Act.{Act}
-use Rattle.cjc_card_acts.specs.Frames.declared.acts.Step.{Step}
-use Rattle.cjc_card_acts.specs.Frames.declared.acts.Catch.{Catch}
-use Rattle.cjc_card_acts.specs.Frames.Acts.{Subtype, is_wrong, is_off, after, Breaks, clash, wrong, off, unknown}
-use Rattle.cjc_card_acts.specs.Frames.Acts.{misnamed}
-use Rattle.cjc_card_acts.specs.Frames.Flow.{place_at, next_place, successors, edge, covers, caught, handler_edge}
-use Rattle.cjc_card_acts.specs.Frames.Flow.{step_edges, place_edges, frame_flow}
-use Rattle.cjc_card_acts.specs.Frames.Working.FlowLaws.{frame_flow_stays}
+use Rattle.cjc_types.specs.declared.cell.Cell.{Cell}
+use Rattle.cjc_types.specs.declared.state.Stack.{Stack}
+use Rattle.cjc_types.specs.declared.state.Stack.TheVariants.{Cells, Clash}
+use Rattle.cjc_types.specs.declared.state.State.{State}
+use Rattle.cjc_types.specs.Cells.{IsCellBelow}
+use Rattle.cjc_types.specs.States.{IsStackBelow}
+use Rattle.cjc_frames.specs.declared.acts.Act.{Act}
+use Rattle.cjc_frames.specs.declared.acts.Step.{Step}
+use Rattle.cjc_frames.specs.declared.acts.Catch.{Catch}
+use Rattle.cjc_frames.specs.Acts.{Subtype, is_wrong, is_off, after, Breaks, clash, wrong, off, unknown}
+use Rattle.cjc_frames.specs.Acts.{misnamed}
+use Rattle.cjc_frames.specs.Flow.{place_at, next_place, successors, edge, covers, caught, handler_edge}
+use Rattle.cjc_frames.specs.Flow.{step_edges, place_edges, frame_flow}
+use Rattle.cjc_frames.specs.Working.FlowLaws.{frame_flow_stays}
 use Rattle.cjc_card_acts.specs.CardTypes.{is_type_of}
 use Rattle.cjc_verify_proof.specs.Acts.{Passes}
 use Rattle.cjc_verify_proof.specs.Frames.{Typing, IsMethod}
-use Rattle.cjc_card_semantics.proofs.BytesGets.{contained, contains_at, get_inside, get_below, in_front}
-use Rattle.cjc_card_semantics.proofs.BytesGets.{get_behind}
+use Rattle.cjc_script.proofs.BytesGets.{contained, contains_at, get_inside, get_below, in_front}
+use Rattle.cjc_script.proofs.BytesGets.{get_behind}
 
 -- ---- lists
 
@@ -113,7 +113,8 @@ module _ (l : Loaded) (exceptions : List ℕ) (t : Typing) (method : IsMethod l 
     named = named (let a = s.act in a.misnames) refl;
   }
     where
-      breach : (rule : ℕ) → Breaks (is_type_of l) t.body.max_stack s.act (record { stack = Cells cells; locals = locals })
+      breach : (rule : ℕ) → Breaks (is_type_of l) t.body.max_stack s.act
+          (record { stack = Cells cells; locals = locals })
           rule → ⊥
       breach rule b = method.unbroken place rule (record {
         step = s;

@@ -1,21 +1,22 @@
 -- Frames stay typed where instructions go on, methods begin and return, and exceptions are thrown.
 use Rattle.std.proofs.Common.{◌≡◌, ◌<◌, ◌+◌, ◌&&◌, inl, inr, ℕ, zero, suc, Bool, true, false, nat_lt, nat_le, List}
-use Rattle.std.proofs.Common.{[], ◌∷◌, ◌++◌, length, map, drop, take, slice_get, Option, Some, None, refl, sym, ap, subst}
+use Rattle.std.proofs.Common.{[], ◌∷◌, ◌++◌, length, map, drop, take, slice_get, Option, Some, None, refl, sym, ap}
+use Rattle.std.proofs.Common.{subst}
 use Rattle.std.proofs.Common.{◌⊎◌, ◌∙◌, arith, replicate, ◌==◌, leb-false, ltb-false, eqb-true}
 use Rattle.std.proofs.lemmas.Bool.Decides.{nat_tests}
 use Rattle.std.specs.Prelude.{Contains, if◌then◌else◌, reverse, option_and_then, option_to_list}
 use Rattle.std.specs.List.{AllZip}
-use Rattle.cjc_card_acts.specs.Types.Fixpoint.Tables.{HasRow}
+use Rattle.cjc_types.specs.Fixpoint.Tables.{HasRow}
 use Rattle.cjc_card_semantics.specs.CapRead.declared.tree.Handler.{Handler}
 use Rattle.cjc_card_semantics.specs.CapRead.declared.tree.PoolEntry.{PoolEntry}
-use Rattle.cjc_card_semantics.specs.Script.declared.value.Value.{Value}
-use Rattle.cjc_card_semantics.specs.Script.declared.value.Value.TheVariants.{Obj}
-use Rattle.cjc_card_semantics.specs.Script.Sorts.{Shape, OfClass}
-use Rattle.cjc_card_acts.specs.Types.declared.cell.Cell.{Cell}
-use Rattle.cjc_card_acts.specs.Types.declared.cell.Cell.TheVariants.{Refs, Unusable}
-use Rattle.cjc_card_acts.specs.Types.declared.state.Stack.TheVariants.{Cells, Clash}
-use Rattle.cjc_card_acts.specs.Types.declared.state.State.{State}
-use Rattle.cjc_card_acts.specs.Types.States.{most_cells, stack_of, IsStackBelow}
+use Rattle.cjc_script.specs.declared.value.Value.{Value}
+use Rattle.cjc_script.specs.declared.value.Value.TheVariants.{Obj}
+use Rattle.cjc_script.specs.Sorts.{Shape, OfClass}
+use Rattle.cjc_types.specs.declared.cell.Cell.{Cell}
+use Rattle.cjc_types.specs.declared.cell.Cell.TheVariants.{Refs, Unusable}
+use Rattle.cjc_types.specs.declared.state.Stack.TheVariants.{Cells, Clash}
+use Rattle.cjc_types.specs.declared.state.State.{State}
+use Rattle.cjc_types.specs.States.{most_cells, stack_of, IsStackBelow}
 use Rattle.cjc_card_semantics.specs.Bytecode.Effects.{HeapObject, Object, shape, Memory}
 use Rattle.cjc_card_semantics.specs.Bytecode.Machine.{Start, Frame, State as Run, Turn, Next, StuckAt, locals_of}
 use Rattle.cjc_card_semantics.specs.Bytecode.Machine.{Fetched}
@@ -29,21 +30,22 @@ use Rattle.cjc_card_semantics.specs.Machine.Methods.{Code, is_caught, takes, han
 use Rattle.cjc_card_semantics.specs.Machine.Methods.{fetch}
 use Rattle.cjc_card_semantics.specs.Machine.Methods as methods
 use Rattle.cjc_card_semantics.specs.Machine.ByToken.{by_token}
-use Rattle.cjc_card_acts.specs.Frames.declared.acts.Act.{Act}
-use Rattle.cjc_card_acts.specs.Frames.declared.acts.Step.{Step}
-use Rattle.cjc_card_acts.specs.Frames.declared.acts.Catch.{Catch}
-use Rattle.cjc_card_acts.specs.Frames.declared.acts.Need.{Need}
-use Rattle.cjc_card_acts.specs.Frames.declared.acts.Write.{Write}
-use Rattle.cjc_card_acts.specs.Frames.Acts.{given, stack_behind, with_writes, after}
-use Rattle.cjc_card_acts.specs.Frames.Flow.{Body, place_at, covers, successors}
-use Rattle.cjc_card_acts.specs.Frames.Flow as flow
+use Rattle.cjc_frames.specs.declared.acts.Act.{Act}
+use Rattle.cjc_frames.specs.declared.acts.Step.{Step}
+use Rattle.cjc_frames.specs.declared.acts.Catch.{Catch}
+use Rattle.cjc_frames.specs.declared.acts.Need.{Need}
+use Rattle.cjc_frames.specs.declared.acts.Write.{Write}
+use Rattle.cjc_frames.specs.Acts.{given, stack_behind, with_writes, after}
+use Rattle.cjc_frames.specs.Flow.{Body, place_at, covers, successors}
+use Rattle.cjc_frames.specs.Flow as flow
 use Rattle.cjc_card_acts.specs.CardTypes.{ValueType, shape_by, both_of, is_type_of}
 use Rattle.cjc_card_acts.specs.CardTypes as types
 use Rattle.cjc_verify_proof.specs.Words.{IsWord, AreWords, AreLocals}
 use Rattle.cjc_verify_proof.specs.Heaps.{thing_is, object_is}
 use Rattle.cjc_verify_proof.specs.Growth.{Extends}
 use Rattle.cjc_verify_proof.specs.Control.{next_if, cells_of}
-use Rattle.cjc_verify_proof.specs.Frames.{Typing, IsCaught, IsCatch, IsMethod, Program, AreMethods, Stands, Runs, Waits, AreOuter}
+use Rattle.cjc_verify_proof.specs.Frames.{Typing, IsCaught, IsCatch, IsMethod, Program, AreMethods, Stands, Runs, Waits}
+use Rattle.cjc_verify_proof.specs.Frames.{AreOuter}
 use Rattle.cjc_verify_proof.specs.Frames.{GoesOn, Begins}
 use Rattle.cjc_verify_proof.proofs.WordLaws.{word_up, words_up, locals_up, words_length}
 use Rattle.cjc_verify_proof.proofs.WordLaws as words
@@ -52,7 +54,7 @@ use Rattle.cjc_verify_proof.proofs.TypeLaws.{of_itself, thing_through}
 use Rattle.cjc_verify_proof.proofs.PlainLaws.{parts}
 use Rattle.cjc_verify_proof.proofs.FlowLaws.{Arrives, sound, covered, follows_to, handled_at, next_among, target_among}
 use Rattle.cjc_verify_proof.proofs.FlowLaws.{in_first, in_rest, in_either, first_or_rest, not_in_none}
-use Rattle.cjc_card_semantics.proofs.BytesGets.{position_there, at_end, get_below}
+use Rattle.cjc_script.proofs.BytesGets.{position_there, at_end, get_below}
 
 -- ---- handlers
 
@@ -275,7 +277,8 @@ module _ (l : Loaded) (exceptions : List ℕ) (t : Typing) (method : IsMethod l 
       let to = method.lands s.place s.step s.is_step h.catch h.among over in
       let r = handled_at l exceptions t method s.place s.step s.is_step s.cells s.locals s.reached h.catch h.among over
       to.0 to.1 in
-      arrived l exceptions t method heap to.0 (flow.caught h.catch (record { stack = Cells s.cells; locals = s.locals }))
+      arrived l exceptions t method heap to.0 (flow.caught h.catch
+      (record { stack = Cells s.cells; locals = s.locals }))
       r (record f { at = target; stack = Obj object ∷ [] }) s.is_code
       (at_place t.body.steps (target_of h.catch) to.0 to.1 r.step r.is_step ∙ h.leads)
       (Refs (option_to_list (type_of h.catch)) ∷ []) refl (
@@ -327,7 +330,8 @@ module _ (l : Loaded) (exceptions : List ℕ) (t : Typing) (method : IsMethod l 
   pub goes : Runs l heap t (record f { at = at; stack = stack; locals = locals })
   goes = elim (in_either (next_if (falls_of s.step) i.next) (targets_of s.step) at to) [
     | inl next ↦ following (falls_of s.step) refl next
-    | inr target ↦ behind_target l exceptions t method heap s.place s.step s.is_step s.cells s.locals s.reached new target
+    | inr target ↦ behind_target l exceptions t method heap s.place s.step s.is_step s.cells s.locals s.reached new
+        target
         s.is_code w k
   ]
     where
@@ -359,7 +363,8 @@ module _ (l : Loaded) (exceptions : List ℕ) (t : Typing) (method : IsMethod l 
 
 -- ---- exceptions
 
-module _ (l : Loaded) (program : Program) (all : AreMethods l program) (m : Memory Class Field (List Image)) (kind : Shape Class) (object : ℕ)
+module _ (l : Loaded) (program : Program) (all : AreMethods l program) (m : Memory Class Field (List Image))
+    (kind : Shape Class) (object : ℕ)
     (of_kind : thing_is l (slice_get m.heap object) (Some kind) ≡ true)
     (thrown : both_of l (Some kind) (shape_by l program.exceptions) ≡ true)
     (from : ℕ) (s : Run Code Class Field (List Image)) (same : s.memory ≡ m) where
@@ -374,7 +379,8 @@ module _ (l : Loaded) (program : Program) (all : AreMethods l program) (m : Memo
   unfolding by_token
   caught_here t among f st outer o past goes None is = goes
   caught_here t among f st outer o past goes (Some target) is =
-      go (nat_lt 0 (let c = f.code in c.room)) (has_room l program.exceptions t (all t among) m.heap new runs (omega arith))
+      go (nat_lt 0 (let c = f.code in c.room)) (has_room l program.exceptions t (all t among) m.heap new runs
+      (omega arith))
     where
       method : IsMethod l program.exceptions t
       method = all t among
@@ -418,7 +424,8 @@ module _ (l : Loaded) (program : Program) (all : AreMethods l program) (m : Memo
       stood : (u : Typing) → Waits l m.heap t.result u g → Stands l m.heap u g
       stood u w = w.stands
 
-module _ (l : Loaded) (program : Program) (all : AreMethods l program) (s : Run Code Class Field (List Image)) (t : Typing)
+module _ (l : Loaded) (program : Program) (all : AreMethods l program) (s : Run Code Class Field (List Image))
+    (t : Typing)
     (among : Contains program.methods t) (f : Frame Code) (outer : List (Frame Code)) where
   -- an array or object is thrown
   pub tossed : Stands l s.memory.heap t f → AreOuter l program s.memory.heap t.result outer → (object : ℕ)
@@ -449,7 +456,8 @@ module _ (l : Loaded) (program : Program) (all : AreMethods l program) (s : Run 
 
   -- an exception of a class that is one
   pub raised : Stands l s.memory.heap t f → AreOuter l program s.memory.heap t.result outer → (c : Class)
-      → both_of l (Some (OfClass c)) (shape_by l program.exceptions) ≡ true → (otherwise : Turn Code Class Field (List Image))
+      → both_of l (Some (OfClass c)) (shape_by l program.exceptions) ≡ true → (otherwise : Turn Code Class Field
+      (List Image))
       → GoesOn l program (with_exception c) (turn_after_raise (by_token l) (Some c) f outer s otherwise)
   raised st o c is otherwise = is_caught_or_ends l program all (with_exception c) (OfClass c) (length s.memory.heap)
       (subst (λ y. thing_is l y (Some (OfClass c)) ≡ true) (sym (at_end s.memory.heap (Object c [])))
@@ -477,7 +485,8 @@ result_cells lc cs types.Short = refl
 result_cells lc cs types.Int = refl
 result_cells lc cs (types.Reference type) = refl
 
-module _ (l : Loaded) (program : Program) (all : AreMethods l program) (m : Memory Class Field (List Image)) (result : ValueType)
+module _ (l : Loaded) (program : Program) (all : AreMethods l program) (m : Memory Class Field (List Image))
+    (result : ValueType)
     (ws : List Value) (typed : AreWords (object_is l m.heap) (cells_of result) (reverse ws))
     (s : Run Code Class Field (List Image)) (same : s.memory ≡ m) where
   -- a frame that waits goes on with the result
@@ -514,14 +523,16 @@ module _ (l : Loaded) (program : Program) (all : AreMethods l program) (m : Memo
       new = record g { at = g.next; stack = reverse ws ++ g.stack }
 
       runs : Runs l m.heap t new
-      runs = behind_next l program.exceptions t method m.heap st.place st.step st.is_step st.cells st.locals st.reached w.falls
+      runs = behind_next l program.exceptions t method m.heap st.place st.step st.is_step st.cells st.locals st.reached
+          w.falls
           w.next w.is_next new st.is_code w.at_next stack locals
 
       go : (b : Bool) → nat_le (length (reverse ws ++ g.stack)) (let c = g.code in c.room) ≡ b
           → GoesOn l program m (if b then Next (record s { frames = new ∷ outer }) else StuckAt from s)
       go true e = (same, (t, (among, (runs, o))))
       go false e =
-          let p = parts (is_type_of l) t.body.max_stack a st.locals st.cells (sound l program.exceptions t method st.place
+          let p = parts (is_type_of l) t.body.max_stack a st.locals st.cells
+          (sound l program.exceptions t method st.place
           st.step st.is_step st.cells st.locals st.reached).passes in
           let high = ltb-false t.body.max_stack (length (stack_behind a st.locals st.cells)) p.after in
           let long = words_length (object_is l m.heap) (stack_behind a st.locals st.cells) (reverse ws ++ g.stack) stack
@@ -596,7 +607,8 @@ module _ (l : Loaded) (exceptions : List ℕ) (heap : List (HeapObject Class Fie
       at_of x = x.at
 
 -- a call begins a method inside a frame that waits for its result
-pub inside_goes : (l : Loaded) (program : Program) → AreMethods l program → (s : Run Code Class Field (List Image)) (t : Typing)
+pub inside_goes : (l : Loaded) (program : Program) → AreMethods l program → (s : Run Code Class Field (List Image))
+    (t : Typing)
     → Contains program.methods t → (m : Start Code) → Begins t m → (args : List Value)
     → AreWords (object_is l s.memory.heap) (map (given [] []) t.body.arguments) args → (f : Frame Code)
     (outer : List (Frame Code)) → AreOuter l program s.memory.heap t.result (f ∷ outer)
@@ -606,5 +618,18 @@ inside_goes l program all s t among m begins args typed f outer o = go m.is_abst
     go : (b : Bool) → b ≡ false → GoesOn l program s.memory (if b then StuckAt f.at s else Next (record s {
       frames = frame_for_call m args ∷ f ∷ outer;
     }))
-    go false e = (refl, (t, (among, (entered l program.exceptions s.memory.heap t (all t among) m begins args typed, o))))
+    go false e = (
+      refl,
+      (
+        t,
+        (
+          among,
+          (
+            entered l program.exceptions s.memory.heap t
+                (all t among) m begins args typed,
+            o,
+          ),
+        ),
+      ),
+    )
     go true e = cc

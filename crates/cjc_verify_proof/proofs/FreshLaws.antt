@@ -3,15 +3,17 @@ use Rattle.std.proofs.Common.{◌≡◌, ℕ, zero, suc, ◌+◌, ◌<◌, ◌�
 use Rattle.std.proofs.Common.{List, [], ◌∷◌, ◌++◌, length, map, pos, inl, inr, Option, Some, None, slice_get}
 use Rattle.std.specs.Prelude.{if◌then◌else◌, ◌==◌, option_map, option_and_then, option_to_list, is_some}
 use Rattle.cjc_card_semantics.specs.CapRead.declared.tree.ClassEntry.{ClassEntry}
-use Rattle.cjc_card_semantics.specs.Script.declared.value.Value.{Value}
-use Rattle.cjc_card_semantics.specs.Script.declared.value.Value.TheVariants.{Num, Null}
+use Rattle.cjc_script.specs.declared.value.Value.{Value}
+use Rattle.cjc_script.specs.declared.value.Value.TheVariants.{Num, Null}
 use Rattle.cjc_card_semantics.specs.Bytecode.Effects.{Slot, slot_of}
 use Rattle.cjc_card_semantics.specs.CapRead.declared.tree.ExportedClass.{ExportedClass}
 use Rattle.cjc_card_semantics.specs.Machine.Loaded.{Loaded, Part, Import, OfGroup, OfFile}
-use Rattle.cjc_card_semantics.specs.Machine.Classes.{Class, Own, External, Field, Info, IsInterface, IsClass, all_supers}
+use Rattle.cjc_card_semantics.specs.Machine.Classes.{Class, Own, External, Field, Info, IsInterface, IsClass}
+use Rattle.cjc_card_semantics.specs.Machine.Classes.{all_supers}
 use Rattle.cjc_card_semantics.specs.Machine.Classes.{class_of, depth, fresh, info_at, info_count, info_of, info_size}
 use Rattle.cjc_card_semantics.specs.Machine.Classes.{infos, is_in, is_interface, is_interface_info, is_there}
-use Rattle.cjc_card_semantics.specs.Machine.Classes.{is_reference_token, number_from, number_of, object_above, own_slots}
+use Rattle.cjc_card_semantics.specs.Machine.Classes.{is_reference_token, number_from, number_of, object_above}
+use Rattle.cjc_card_semantics.specs.Machine.Classes.{own_slots}
 use Rattle.cjc_card_semantics.specs.Machine.Classes.{same_class, same_field, slots_from, slots_upwards, some_of, supers}
 use Rattle.cjc_card_semantics.specs.Machine.Classes.{superclass, superclass_by, where_there, imported_class, import_of}
 use Rattle.cjc_card_semantics.specs.CapRead.declared.tree.ClassRef.{ClassRef}
@@ -19,7 +21,7 @@ use Rattle.cjc_card_semantics.specs.CapRead.declared.tree.ClassRef.TheVariants.{
 use Rattle.cjc_card_acts.specs.CardTypes.{ValueType, Void, Boolean, Byte, Short, Int, Reference}
 use Rattle.cjc_verify_proof.specs.Values.{IsValue, Holds}
 use Rattle.cjc_verify_proof.specs.Memories.{FieldTypes, AreSlots, SupersStand, begins_as, IsDeclared, AreDeclared}
-use Rattle.cjc_card_semantics.proofs.BytesNumbers.{number_same}
+use Rattle.cjc_script.proofs.BytesNumbers.{number_same}
 use Rattle.cjc_card_semantics.proofs.MachineLaws.Upwards.{Over, told_over, either_in, first_or_later, class_tells}
 use Rattle.cjc_card_semantics.proofs.MachineLaws.Upwards as upwards
 use Rattle.cjc_card_semantics.proofs.MachineLaws.Keys.{in_front, past_front, of_other_class, of_token}
@@ -145,7 +147,8 @@ meant l p r q o e = found (info_of l q o) refl (by r e)
     through token (Some (OfFile tree)) h = own (External tree token) h
     through token (Some (OfGroup g)) h = at (slice_get l.parts g) h
       where
-        class : (x : Option ExportedClass) → option_and_then (λ (e : ExportedClass). where_there l (Own g e.class_offset)) x
+        class : (x : Option ExportedClass) → option_and_then (λ (e : ExportedClass). where_there l
+            (Own g e.class_offset)) x
             ≡ Some (Own q o) → is_there l (Own q o) ≡ true
         class None f = cc
         class (Some e) f = own (Own g e.class_offset) f
@@ -300,7 +303,8 @@ module _ (l : Loaded) (s : SupersStand l) (q o : ℕ) (entry : ClassEntry) (is :
                 arith,
                 below,
               )) in
-              let there_is : slot_of same_field (slots_from (Own q o) entry 0 entry.declared_instance_size) key ≡ Some v =
+              let there_is : slot_of same_field (slots_from (Own q o) entry 0 entry.declared_instance_size) key
+              ≡ Some v =
               subst (λ x. slot_of same_field (slots_from (Own q o) x 0 x.declared_instance_size) key ≡ Some v) entries
               (subst (λ x. slot_of same_field (slots_from x c 0 c.declared_instance_size) key ≡ Some v) same h) in
               let both : Some v ≡ Some begun = sym there_is ∙ got in
@@ -308,7 +312,8 @@ module _ (l : Loaded) (s : SupersStand l) (q o : ℕ) (entry : ClassEntry) (is :
 
       by : (x : Option Value) → slot_of same_field upper key ≡ x
           → ((w : Value) → slot_of same_field upper key ≡ Some w → w ≡ begun) → v ≡ begun
-      by None f go = mine (info_of l p offset) refl (sym (past_front upper (own_slots (Own p offset) (info_of l p offset))
+      by None f go = mine (info_of l p offset) refl (sym (past_front upper (own_slots (Own p offset)
+          (info_of l p offset))
           key f) ∙ e)
       by (Some w) f go =
           let first = in_front upper (own_slots (Own p offset) (info_of l p offset)) key w f in

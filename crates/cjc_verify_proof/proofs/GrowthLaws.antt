@@ -3,11 +3,11 @@ use Rattle.std.proofs.Common.{◌≡◌, inl, inr, ℕ, zero, suc, Bool, true, L
 use Rattle.std.proofs.Common.{slice_get, slice_set, Option, Some, None, refl, sym, ap, subst, ◌∙◌}
 use Rattle.std.proofs.lemmas.List.Elements.{All-weaker, All-replicate, All-set}
 use Rattle.std.specs.Prelude.{replicate, pos}
-use Rattle.cjc_card_semantics.specs.Script.declared.value.Value.{Value}
-use Rattle.cjc_card_semantics.specs.Script.declared.value.Value.TheVariants.{Num, Null, Obj}
-use Rattle.cjc_card_semantics.specs.Script.Sorts.{Element, Booleans, Bytes, Shorts, Ints, Shape, OfClass}
-use Rattle.cjc_card_acts.specs.Types.declared.cell.Cell.{Cell}
-use Rattle.cjc_card_acts.specs.Types.declared.cell.Cell.TheVariants.{Number, Refs, Unusable}
+use Rattle.cjc_script.specs.declared.value.Value.{Value}
+use Rattle.cjc_script.specs.declared.value.Value.TheVariants.{Num, Null, Obj}
+use Rattle.cjc_script.specs.Sorts.{Element, Booleans, Bytes, Shorts, Ints, Shape, OfClass}
+use Rattle.cjc_types.specs.declared.cell.Cell.{Cell}
+use Rattle.cjc_types.specs.declared.cell.Cell.TheVariants.{Number, Refs, Unusable}
 use Rattle.cjc_card_semantics.specs.Bytecode.Numbers.{is_word}
 use Rattle.cjc_card_semantics.specs.Bytecode.Effects.{HeapObject, Numbers, References, Object, shape, Memory}
 use Rattle.cjc_card_semantics.specs.Machine.Loaded.{Loaded}
@@ -17,8 +17,8 @@ use Rattle.cjc_verify_proof.specs.Words.{IsWord, IsLocal, AreWords, AreLocals}
 use Rattle.cjc_verify_proof.specs.Heaps.{thing_is, object_is, AreItems, IsFit, AreFit, Keeps, shape_in}
 use Rattle.cjc_verify_proof.specs.Growth.{Extends, AreZeros, AreNulls}
 use Rattle.cjc_verify_proof.specs.References.{IsItem, HoldsItems, AreHeld, PutsReference}
-use Rattle.cjc_card_semantics.proofs.BytesGets.{in_front, set_same, set_other}
-use Rattle.cjc_card_semantics.proofs.BytesNumbers.{same_place}
+use Rattle.cjc_script.proofs.BytesGets.{in_front, set_same, set_other}
+use Rattle.cjc_script.proofs.BytesNumbers.{same_place}
 
 -- ---- words and locals
 
@@ -118,7 +118,8 @@ module _ (l : Loaded) where
 
     pub holding_stays : (thing : HeapObject Class Field) → HoldsItems l heap thing → HoldsItems l after thing
     holding_stays (Numbers element items) h = tt
-    holding_stays (References class items) h = All-weaker (IsItem l heap class) (IsItem l after class) (item_stays class)
+    holding_stays (References class items) h = All-weaker (IsItem l heap class) (IsItem l after class)
+        (item_stays class)
         items h
     holding_stays (Object class slots) h = tt
 

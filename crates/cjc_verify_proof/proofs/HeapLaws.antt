@@ -5,14 +5,14 @@ use Rattle.std.proofs.Common.{subst, arith, ℤ, pos, negsuc, leb-false, ltb-fal
 use Rattle.std.specs.Prelude.{if◌then◌else◌, option_map}
 use Rattle.std.specs.List.{list_all}
 use Rattle.cjc_card_semantics.specs.Range.Words.{low_word}
-use Rattle.cjc_card_semantics.specs.Script.declared.value.Value.{Value}
-use Rattle.cjc_card_semantics.specs.Script.declared.value.Value.TheVariants.{Num, Null, Obj}
-use Rattle.cjc_card_semantics.specs.Script.Sorts.{Element, Booleans, Bytes, Shorts, Ints, Shape, OfNumbers}
-use Rattle.cjc_card_semantics.specs.Script.Sorts.{OfReferences}
-use Rattle.cjc_card_acts.specs.Types.declared.cell.Cell.{Cell}
-use Rattle.cjc_card_acts.specs.Types.declared.cell.Cell.TheVariants.{Number, Refs, Unusable}
-use Rattle.cjc_card_acts.specs.Types.Names.{In}
-use Rattle.cjc_card_acts.specs.Types.Rules.{all_types}
+use Rattle.cjc_script.specs.declared.value.Value.{Value}
+use Rattle.cjc_script.specs.declared.value.Value.TheVariants.{Num, Null, Obj}
+use Rattle.cjc_script.specs.Sorts.{Element, Booleans, Bytes, Shorts, Ints, Shape, OfNumbers}
+use Rattle.cjc_script.specs.Sorts.{OfReferences}
+use Rattle.cjc_types.specs.declared.cell.Cell.{Cell}
+use Rattle.cjc_types.specs.declared.cell.Cell.TheVariants.{Number, Refs, Unusable}
+use Rattle.cjc_types.specs.Names.{In}
+use Rattle.cjc_types.specs.Rules.{all_types}
 use Rattle.cjc_card_semantics.specs.Bytecode.Numbers.{is_word}
 use Rattle.cjc_card_semantics.specs.Bytecode.Calculations.{IndexOutside}
 use Rattle.cjc_card_semantics.specs.Bytecode.Effects.{Letter, Reference, Byte, Short, Int, HeapObject, Numbers}
@@ -24,13 +24,13 @@ use Rattle.cjc_card_semantics.specs.Machine.Statics.{StaticCell}
 use Rattle.cjc_card_semantics.specs.Bytecode.Calculations as machine
 use Rattle.cjc_card_semantics.specs.Machine.Loaded.{Loaded}
 use Rattle.cjc_card_semantics.specs.Machine.Classes.{Class, Field, same_element}
-use Rattle.cjc_card_acts.specs.Frames.Types.{begins_with}
+use Rattle.cjc_frames.specs.Types.{begins_with}
 use Rattle.cjc_card_acts.specs.CardTypes.{shape_by, class_by, arrays_of, all_arrays}
 use Rattle.cjc_verify_proof.specs.Words.{IsWord, AreWords, AreLocals}
 use Rattle.cjc_verify_proof.specs.Heaps.{thing_is, object_is, AreItems, IsFit, AreFit, Onward, item_cells}
 use Rattle.cjc_verify_proof.proofs.WordLaws.{true_of}
-use Rattle.cjc_card_semantics.proofs.BytesBools.{or_cases}
-use Rattle.cjc_card_semantics.proofs.BytesGets.{item_has}
+use Rattle.cjc_script.proofs.BytesBools.{or_cases}
+use Rattle.cjc_script.proofs.BytesGets.{item_has}
 use Rattle.cjc_verify_proof.proofs.WordLaws as words
 
 -- ---- truths

@@ -5,7 +5,7 @@ use Rattle.std.proofs.Common.{inl, inr, leb-true, leb-false, length-drop}
 use Rattle.std.specs.Prelude.{◌==◌, nat_le, if◌then◌else◌, option_and_then, option_map}
 use Rattle.std.specs.Int.{w8, w16, cast_signed}
 use Rattle.std.proofs.lemmas.Int.{ints}
-use Rattle.cjc_card_semantics.specs.Script.declared.value.Value.{Value}
+use Rattle.cjc_script.specs.declared.value.Value.{Value}
 use Rattle.cjc_card_semantics.specs.Bytecode.Numbers.{is_word}
 use Rattle.cjc_card_semantics.specs.Bytecode.Effects.{HeapObject, Letter, Reference, Byte, Short, Int}
 use Rattle.cjc_card_semantics.specs.Machine.Loaded.{Loaded}
@@ -17,8 +17,8 @@ use Rattle.cjc_card_acts.specs.CardTypes as types
 use Rattle.cjc_verify_proof.specs.Heaps.{object_is}
 use Rattle.cjc_verify_proof.specs.Values.{IsValue, Holds}
 use Rattle.cjc_verify_proof.specs.Memories.{FieldTypes, AreCells}
-use Rattle.cjc_card_semantics.proofs.BytesGets.{get_set_other, set_same}
-use Rattle.cjc_card_semantics.proofs.BytesNumbers.{number_same, same_place}
+use Rattle.cjc_script.proofs.BytesGets.{get_set_other, set_same}
+use Rattle.cjc_script.proofs.BytesNumbers.{number_same, same_place}
 use Rattle.cjc_verify_proof.proofs.StoreLaws.{within}
 
 -- ---- words
@@ -298,7 +298,8 @@ module _ (l : Loaded) (t : FieldTypes) (heap : List (HeapObject Class Field)) (i
                   let got : slice_get (slice_set (let i = x.image in i.references) (s.offset / 2) v) (u.offset / 2)
                   ≡ Some v = ap (slice_get (slice_set (let i = x.image in i.references) (s.offset / 2) v)) same
                   ∙ set_same (let i = x.image in i.references) (s.offset / 2) v x.old r.held in
-                  subst (Holds (object_is l heap) (types.Reference name)) (sym got) (subst (λ ty. IsValue (object_is l heap)
+                  subst (Holds (object_is l heap) (types.Reference name)) (sym got) (subst (λ ty. IsValue
+                  (object_is l heap)
                   ty v) type_same w))
               | inr differs ↦ subst (Holds (object_is l heap) (types.Reference name)) (sym (get_set_other
                   (let i = x.image in i.references) (s.offset / 2) (u.offset / 2) v differs)) f

@@ -3,16 +3,16 @@ use Rattle.std.proofs.Common.{◌≡◌, ◌&&◌, ℕ, Bool, true, false, List,
 use Rattle.std.proofs.Common.{subst, ◌∙◌}
 use Rattle.std.specs.Prelude.{if◌then◌else◌, option_and_then, codes, reverse, Contains}
 use Rattle.std.specs.Str.{bytes_eq}
-use Rattle.cjc_card_semantics.specs.Bytes.Spots.{desc_of, bad_at, parts_of, after, types_from}
-use Rattle.cjc_card_semantics.specs.Bytes.declared.fault.MemberId.{MemberId}
-use Rattle.cjc_card_semantics.specs.Script.declared.value.Value.{Value}
-use Rattle.cjc_card_semantics.specs.Script.declared.script.Reply.{Reply}
-use Rattle.cjc_card_semantics.specs.Script.declared.script.Reply.TheVariants.{Give, Throw}
-use Rattle.cjc_card_semantics.specs.Script.declared.script.Act.{Act}
-use Rattle.cjc_card_semantics.specs.Script.declared.script.Answer.{Answer}
-use Rattle.cjc_card_semantics.specs.Script.declared.report.Note.TheVariants.{Event}
-use Rattle.cjc_card_semantics.specs.Script.declared.report.Outcome.TheVariants.{Unfit}
-use Rattle.cjc_card_semantics.specs.Script.Sorts.{Sort, Signature, signature_of, OfClass, result_fits}
+use Rattle.cjc_script.specs.Bytes.Spots.{desc_of, bad_at, parts_of, after, types_from}
+use Rattle.cjc_script.specs.Bytes.declared.fault.MemberId.{MemberId}
+use Rattle.cjc_script.specs.declared.value.Value.{Value}
+use Rattle.cjc_script.specs.declared.script.Reply.{Reply}
+use Rattle.cjc_script.specs.declared.script.Reply.TheVariants.{Give, Throw}
+use Rattle.cjc_script.specs.declared.script.Act.{Act}
+use Rattle.cjc_script.specs.declared.script.Answer.{Answer}
+use Rattle.cjc_script.specs.declared.report.Note.TheVariants.{Event}
+use Rattle.cjc_script.specs.declared.report.Outcome.TheVariants.{Unfit}
+use Rattle.cjc_script.specs.Sorts.{Sort, Signature, signature_of, OfClass, result_fits}
 use Rattle.cjc_card_semantics.specs.Bytecode.Calculations.{Fault}
 use Rattle.cjc_card_semantics.specs.Bytecode.Effects.{Object, Memory}
 use Rattle.cjc_card_semantics.specs.Bytecode.Arguments.{event_values, result_words}
@@ -37,9 +37,9 @@ use Rattle.cjc_verify_proof.proofs.FrameLaws.{resumed, raised, with_exception, w
 use Rattle.cjc_verify_proof.proofs.CallLaws.{AreValues, event_has_on, result_has}
 use Rattle.cjc_verify_proof.proofs.ScriptLaws.{prepared_itself, prepared_through, push_prepared, named_imported}
 use Rattle.cjc_verify_proof.proofs.ScriptLaws.{imported_is, IsImportedIf, acts_go}
-use Rattle.cjc_card_semantics.proofs.BytesBools.{and_true}
-use Rattle.cjc_card_semantics.proofs.BytesLists.{bytes_true}
-use Rattle.cjc_card_semantics.proofs.BytesPlain.{the_same}
+use Rattle.cjc_script.proofs.BytesBools.{and_true}
+use Rattle.cjc_script.proofs.BytesLists.{bytes_true}
+use Rattle.cjc_script.proofs.BytesPlain.{the_same}
 
 -- ---- java/lang/Object.<init>()V
 
@@ -71,7 +71,8 @@ module _ (l : Loaded) (program : Program) where
 
 module _ (l : Loaded) (program : Program) (all : AreMethods l program) (has : HasExceptions l program.exceptions) where
   -- a subclass of Throwable is an exception
-  is_exception : (c : Class) → is_kind_of l c has.thrown ≡ true → both_of l (Some (OfClass c)) (shape_by l program.exceptions)
+  is_exception : (c : Class) → is_kind_of l c has.thrown ≡ true → both_of l (Some (OfClass c))
+      (shape_by l program.exceptions)
       ≡ true
   is_exception c e = subst (λ s. both_of l (Some (OfClass c)) s ≡ true) (sym has.means) e
 
@@ -185,7 +186,8 @@ module _ (l : Loaded) (program : Program) (all : AreMethods l program) (has : Ha
         (List Image)) → s.memory ≡ m → GoesOnPrepared l program m (returned (by_token l) f.at [] f outer s)
     none_returned sort is none s e = goes_prepared l program m m (prepared_itself l m.heap) refl
         (returned (by_token l) f.at [] f outer s)
-        (resumed l program all m result [] (no_cells result (subst (λ x. IsResult l x result) none is)) s e f.at t among f
+        (resumed l program all m result [] (no_cells result (subst
+        (λ x. IsResult l x result) none is)) s e f.at t among f
         w outer o)
       where
         no_cells : (r : ValueType) → IsResult l None r → AreWords (object_is l m.heap) (cells_of r) (reverse [])

@@ -6,13 +6,13 @@ use Rattle.std.proofs.Common.{None, refl, sym, subst, arith, ℤ, pos, negsuc}
 use Rattle.std.specs.Prelude.{if◌then◌else◌, Contains}
 use Rattle.std.proofs.lemmas.Bool.{or_parts}
 use Rattle.std.proofs.lemmas.Bool.Decides.{nat_tests}
-use Rattle.cjc_card_semantics.specs.Script.declared.value.Value.{Value}
-use Rattle.cjc_card_semantics.specs.Script.declared.value.Value.TheVariants.{Num}
-use Rattle.cjc_card_semantics.specs.Script.Sorts.{Element, Shape, OfNumbers, OfReferences}
-use Rattle.cjc_card_acts.specs.Types.declared.cell.Cell.{Cell}
-use Rattle.cjc_card_acts.specs.Types.declared.cell.Cell.TheVariants.{Number, Refs, Unusable}
-use Rattle.cjc_card_acts.specs.Types.declared.state.Stack.TheVariants.{Cells}
-use Rattle.cjc_card_acts.specs.Types.Rules.{is_number, is_reference, all_types}
+use Rattle.cjc_script.specs.declared.value.Value.{Value}
+use Rattle.cjc_script.specs.declared.value.Value.TheVariants.{Num}
+use Rattle.cjc_script.specs.Sorts.{Element, Shape, OfNumbers, OfReferences}
+use Rattle.cjc_types.specs.declared.cell.Cell.{Cell}
+use Rattle.cjc_types.specs.declared.cell.Cell.TheVariants.{Number, Refs, Unusable}
+use Rattle.cjc_types.specs.declared.state.Stack.TheVariants.{Cells}
+use Rattle.cjc_types.specs.Rules.{is_number, is_reference, all_types}
 use Rattle.cjc_card_semantics.specs.Bytecode.Calculations.{Calculation, Result, Fine, Fails, Wrong}
 use Rattle.cjc_card_semantics.specs.Bytecode.Calculations.{is_copy, is_swap}
 use Rattle.cjc_card_semantics.specs.Bytecode.Effects.{Letter, Reference, Byte, Short, Int, Load, Store, Length, Throw}
@@ -27,12 +27,12 @@ use Rattle.cjc_card_semantics.specs.Machine.Classes.{Class, Field}
 use Rattle.cjc_card_semantics.specs.Machine.Statics.{Image, StaticCell}
 use Rattle.cjc_card_semantics.specs.Machine.Operations.{Callee}
 use Rattle.cjc_card_semantics.specs.Machine.ByToken.{classes}
-use Rattle.cjc_card_acts.specs.Frames.declared.acts.Act.{Act}
-use Rattle.cjc_card_acts.specs.Frames.declared.acts.Need.{Need}
-use Rattle.cjc_card_acts.specs.Frames.declared.acts.Need.TheVariants.{NumberWord, ReferenceWord, OfType, OfArrays}
-use Rattle.cjc_card_acts.specs.Frames.declared.acts.Given.TheVariants.{ANumber, AnObject}
-use Rattle.cjc_card_acts.specs.Frames.Acts.{Subtype, stack_behind, with_writes, meets, has_wrong}
-use Rattle.cjc_card_acts.specs.Frames.Types.{begins_with, element_of}
+use Rattle.cjc_frames.specs.declared.acts.Act.{Act}
+use Rattle.cjc_frames.specs.declared.acts.Need.{Need}
+use Rattle.cjc_frames.specs.declared.acts.Need.TheVariants.{NumberWord, ReferenceWord, OfType, OfArrays}
+use Rattle.cjc_frames.specs.declared.acts.Given.TheVariants.{ANumber, AnObject}
+use Rattle.cjc_frames.specs.Acts.{Subtype, stack_behind, with_writes, meets, has_wrong}
+use Rattle.cjc_frames.specs.Types.{begins_with, element_of}
 use Rattle.cjc_card_acts.specs.Rows.{Row, Pushes, Loads, Stores, Increases, Pops, Copies, CopiesBelow, Swaps}
 use Rattle.cjc_card_acts.specs.Rows.{Calculates, LoadsItem, StoresItem, CountsItems, Throws, Jumps, Switches, Returns}
 use Rattle.cjc_card_acts.specs.Rows.{Uses, CallsInterface, MakesNumbers, Casts, Asks, Forbidden}
@@ -151,7 +151,8 @@ plain_falls Asks operands = refl
 plain_falls Forbidden operands = refl
 
 -- the next place is one where an instruction goes on that falls
-next_follows : (a : Act) (next : ℕ) → falls_of a ≡ true → Contains (next_if (falls_of a) next ++ (let b = a in b.targets))
+next_follows : (a : Act) (next : ℕ) → falls_of a ≡ true → Contains (next_if (falls_of a) next ++
+    (let b = a in b.targets))
     next
 next_follows a next e = in_left (next_if (falls_of a) next) (let b = a in b.targets) next
     (subst (λ b. Contains (next_if b next) next) (sym e) (in_first next []))
@@ -262,7 +263,8 @@ module _ (l : Loaded) (program : Program) (result : ValueType) (room next : ℕ)
       → IsMade program (shape thing)) → (e : Effect Class Field Callee (List Image)) (given_by : List Cell)
       → Adds l next given_by lc m P e → Makes program m e
   adds_makes P f (Go at stack locals memory) given_by h = λ all. subst (λ (x : Memory Class Field
-      (List Image)). AreMade program x.heap) (sym h.1.1.1.1.1) (pushed_made program m h.1.1.1.0 (f h.1.1.1.0 h.1.1.1.1.0)
+      (List Image)). AreMade program x.heap) (sym h.1.1.1.1.1) (pushed_made program m h.1.1.1.0
+      (f h.1.1.1.0 h.1.1.1.1.0)
       all)
   adds_makes P f (Raise fault) given_by h = tt
   adds_makes P f (Toss object) given_by h = tt
@@ -299,7 +301,8 @@ module _ (l : Loaded) (program : Program) (result : ValueType) (room next : ℕ)
       → (let b = a in b.writes) ≡ [] → (e : Effect Class Field Callee (List Image)) → Onward l next given_by lc m e
       → Done a cs e
   onward_done a cs given_by falls is none e h = goes_done a cs falls none e
-      (subst (λ x. Goes l program.fields next x lc m e) (sym is) (onward_go l program.fields next m fit given_by lc e h))
+      (subst (λ x. Goes l program.fields next x lc m e) (sym is)
+      (onward_go l program.fields next m fit given_by lc e h))
       (onward_makes e given_by h)
 
   -- ---- plain rows
@@ -415,7 +418,8 @@ module _ (l : Loaded) (program : Program) (result : ValueType) (room next : ℕ)
           (stored.byte_stored l program.fields next cs lc m fit vs w.1 lv k (classes l) x i d v
           (only_array (arrays_of Byte) d cs h) w.0)
           (stored_makes (store_number (classes l) Byte next lv m (Num x ∷ Num i ∷ v ∷ vs)) cs
-          (stores_byte l next lc lv m k (classes l) fit.numbers cs vs w.1 x i d v (only_array (arrays_of Byte) d cs h) w.0))
+          (stores_byte l next lc lv m k (classes l) fit.numbers cs vs w.1 x i d v (only_array
+          (arrays_of Byte) d cs h) w.0))
 
   short_stored : {cs : List Cell} {vs : List Value} → Tops (object_is l m.heap) 2 cs vs → 3 ≤ length cs
       → has_wrong (is_type_of l) (OfArrays (arrays_of Short) ∷ []) (drop 2 cs) ≡ false
@@ -433,7 +437,8 @@ module _ (l : Loaded) (program : Program) (result : ValueType) (room next : ℕ)
           (stored.short_stored l program.fields next cs lc m fit vs w.1 lv k (classes l) x i d v
           (only_array (arrays_of Short) d cs h) w.0)
           (stored_makes (store_number (classes l) Short next lv m (Num x ∷ Num i ∷ v ∷ vs)) cs
-          (stores_short l next lc lv m k (classes l) fit.numbers cs vs w.1 x i d v (only_array (arrays_of Short) d cs h) w.0))
+          (stores_short l next lc lv m k (classes l) fit.numbers cs vs w.1 x i d v (only_array
+          (arrays_of Short) d cs h) w.0))
 
   int_stored : {cs : List Cell} {vs : List Value} → Tops (object_is l m.heap) 3 cs vs → 4 ≤ length cs
       → has_wrong (is_type_of l) (OfArrays (arrays_of Int) ∷ []) (drop 3 cs) ≡ false
@@ -451,13 +456,15 @@ module _ (l : Loaded) (program : Program) (result : ValueType) (room next : ℕ)
           (stored.int_stored l program.fields next cs lc m fit vs w.1 lv k (classes l) low high i d v
           (only_array (arrays_of Int) d cs h) w.0)
           (stored_makes (store_number (classes l) Int next lv m (Num low ∷ Num high ∷ Num i ∷ v ∷ vs)) cs
-          (stores_int l next lc lv m k (classes l) fit.numbers cs vs w.1 low high i d v (only_array (arrays_of Int) d cs h)
+          (stores_int l next lc lv m k (classes l) fit.numbers cs vs w.1 low high i d v (only_array
+          (arrays_of Int) d cs h)
           w.0))
 
   -- a reference on top of an index on top of an array of them
   puts_done : (a : Act) (cs : List Cell) → falls_of a ≡ true → (let b = a in b.writes) ≡ []
       → (e : Effect Class Field Callee (List Image)) → Puts l next (stack_behind a lc cs) lc m e → Done a cs e
-  puts_done a cs falls none e h = goes_done a cs falls none e (stored.puts_go l program.fields next (stack_behind a lc cs)
+  puts_done a cs falls none e h = goes_done a cs falls none e (stored.puts_go l program.fields next
+      (stack_behind a lc cs)
       lc m fit e h) (puts_makes e (stack_behind a lc cs) h)
 
   reference_stored : (cs : List Cell) (vs : List Value) → AreWords (object_is l m.heap) cs vs
@@ -585,7 +592,8 @@ module _ (l : Loaded) (program : Program) (result : ValueType) (room next : ℕ)
       → Suits l program result a operation → (cs : List Cell) (vs : List Value)
       → AreWords (object_is l m.heap) cs vs → Passes (is_type_of l) room a lc cs → Parts (is_type_of l) room a lc cs
       → Done a cs (effect (classes l) operation room next lv m vs)
-  instruction_done _ _ (plain {r = r} {f = f} {kinds = kinds} operands beside read) cs vs w passes p = plain_done r f operands
+  instruction_done _ _ (plain {r = r} {f = f} {kinds = kinds} operands beside read) cs vs w passes p = plain_done r f
+      operands
       cs (f operands room lv vs) (plain_kept (object_is l m.heap) (is_type_of l) room lc lv k r f kinds beside operands
       read cs vs w p)
   instruction_done _ _ (jump {needs = needs} {falls = falls} {test = test} to beside) cs vs w passes p = leads_done
@@ -601,8 +609,10 @@ module _ (l : Loaded) (program : Program) (result : ValueType) (room next : ℕ)
       (picks l room next lc lv m k (classes l) (is_type_of l) is_int other arms cs vs w p.operands p.enough))
   instruction_done _ _ (load letter) cs vs w passes p = load_done letter cs vs w p
   instruction_done _ _ (store letter) cs vs w passes p = store_done letter cs vs w p
-  instruction_done _ _ arraylength cs vs w passes p = length_done (top_of (OfArrays all_arrays) cs vs w p.enough p.operands)
-  instruction_done _ _ athrow cs vs w passes p = throw_done (top_of (OfType program.exceptions) cs vs w p.enough p.operands)
+  instruction_done _ _ arraylength cs vs w passes p = length_done (top_of
+      (OfArrays all_arrays) cs vs w p.enough p.operands)
+  instruction_done _ _ athrow cs vs w passes p = throw_done (top_of
+      (OfType program.exceptions) cs vs w p.enough p.operands)
   instruction_done _ _ (return letter is) cs vs w passes p = return_done letter is cs vs w p.operands p.enough
   instruction_done _ _ (newarray element type kind) cs vs w passes p = newarray_done element type kind
       (top_of NumberWord cs vs w p.enough p.operands) (ltb_high room (length cs) p.before)

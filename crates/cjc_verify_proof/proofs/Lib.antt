@@ -28,5 +28,3 @@ pub mod ArrayLaws
 pub mod MadeLaws
 pub mod RowSuits
 pub mod CalleeLaws
--- Lemmas of lower crates, for those above.
-pub use Rattle.cjc_card_semantics.proofs.MachineLaws.Upwards as Upwards

@@ -2,12 +2,13 @@
 use Rattle.std.proofs.Common.{◌≡◌, inl, inr, ℕ, zero, suc, Bool, true, false, nat_le, List, [], ◌∷◌, ◌++◌, length}
 use Rattle.std.proofs.Common.{slice_get, slice_set, Option, Some, None, refl, sym, ap, subst, ◌∙◌, ℤ}
 use Rattle.std.specs.Prelude.{if◌then◌else◌}
-use Rattle.cjc_card_semantics.specs.Script.declared.value.Value.{Value}
-use Rattle.cjc_card_semantics.specs.Script.declared.value.Value.TheVariants.{Num, Null, Obj}
-use Rattle.cjc_card_semantics.specs.Script.Sorts.{Shape}
+use Rattle.cjc_script.specs.declared.value.Value.{Value}
+use Rattle.cjc_script.specs.declared.value.Value.TheVariants.{Num, Null, Obj}
+use Rattle.cjc_script.specs.Sorts.{Shape}
 use Rattle.cjc_card_semantics.specs.Range.Words.{low_word, low_byte}
 use Rattle.cjc_card_semantics.specs.Bytecode.Numbers.{is_word, spelt_by}
-use Rattle.cjc_card_semantics.specs.Bytecode.Calculations.{Result, Fine, Fails, Wrong, Choice, Takes, Neither, one_number}
+use Rattle.cjc_card_semantics.specs.Bytecode.Calculations.{Result, Fine, Fails, Wrong, Choice, Takes, Neither}
+use Rattle.cjc_card_semantics.specs.Bytecode.Calculations.{one_number}
 use Rattle.cjc_card_semantics.specs.Bytecode.Calculations.{one_value, one_int, two_numbers}
 use Rattle.cjc_card_semantics.specs.Bytecode.Calculations as machine
 use Rattle.cjc_card_semantics.specs.Bytecode.Effects.{Letter, Reference, Byte, Short, Int}
@@ -25,8 +26,8 @@ use Rattle.cjc_card_semantics.specs.Machine.Operations.{Callee}
 use Rattle.cjc_verify_proof.specs.Heaps.{shape_in}
 use Rattle.cjc_verify_proof.specs.Frames.{Program}
 use Rattle.cjc_verify_proof.specs.Turns.{IsMade, AreMade}
-use Rattle.cjc_card_semantics.proofs.BytesGets.{set_same, set_other}
-use Rattle.cjc_card_semantics.proofs.BytesNumbers.{same_place}
+use Rattle.cjc_script.proofs.BytesGets.{set_same, set_other}
+use Rattle.cjc_script.proofs.BytesNumbers.{same_place}
 
 module _ (program : Program) (m : Memory Class Field (List Image)) where
   -- where an instruction goes on, all is made
@@ -192,7 +193,8 @@ module _ (program : Program) (m : Memory Class Field (List Image)) where
   put_object set f v next lv rest k c slots at None = tt
   put_object set f v next lv rest k c slots at (Some old) = go (same_kind old v)
     where
-      go : (b : Bool) → Makes (if b then Go next rest lv (with_thing m k (Object c (slots_with set.same_field slots f v)))
+      go : (b : Bool) → Makes (if b then Go next rest lv (with_thing m k (Object c
+          (slots_with set.same_field slots f v)))
           else Stick)
       go true = λ all. set_made k (Object c slots) (Object c (slots_with set.same_field slots f v)) at refl all
       go false = tt

@@ -2,12 +2,13 @@
 use Rattle.std.proofs.Common.{◌≡◌, ℕ, suc, Bool, true, false, List, [], ◌∷◌, ◌++◌, length}
 use Rattle.std.proofs.Common.{slice_get, slice_set, Option, Some, None, refl, sym, ap, subst, ◌∙◌, inl, nat_lt}
 use Rattle.std.specs.Prelude.{if◌then◌else◌}
-use Rattle.cjc_card_semantics.specs.Script.declared.value.Value.{Value}
-use Rattle.cjc_card_semantics.specs.Script.declared.value.Value.TheVariants.{Num, Null, Obj}
-use Rattle.cjc_card_acts.specs.Types.declared.cell.Cell.{Cell}
-use Rattle.cjc_card_acts.specs.Types.declared.cell.Cell.TheVariants.{Number, Refs}
+use Rattle.cjc_script.specs.declared.value.Value.{Value}
+use Rattle.cjc_script.specs.declared.value.Value.TheVariants.{Num, Null, Obj}
+use Rattle.cjc_types.specs.declared.cell.Cell.{Cell}
+use Rattle.cjc_types.specs.declared.cell.Cell.TheVariants.{Number, Refs}
 use Rattle.cjc_card_semantics.specs.Bytecode.Calculations as machine
-use Rattle.cjc_card_semantics.specs.Bytecode.Effects.{Letter, HeapObject, Numbers, References, Object, shape, Slot, slot_of}
+use Rattle.cjc_card_semantics.specs.Bytecode.Effects.{Letter, HeapObject, Numbers, References, Object, shape, Slot}
+use Rattle.cjc_card_semantics.specs.Bytecode.Effects.{slot_of}
 use Rattle.cjc_card_semantics.specs.Bytecode.Effects.{slots_with, Memory, Effect, Go, Raise, Toss, Invoke, Leave, Stick}
 use Rattle.cjc_card_semantics.specs.Bytecode.Effects.{words_of, onward, made, same_kind, with_some, with_thing}
 use Rattle.cjc_card_semantics.specs.Machine.Loaded.{Loaded}
@@ -23,9 +24,10 @@ use Rattle.cjc_verify_proof.specs.References.{HoldsItems}
 use Rattle.cjc_verify_proof.specs.Control.{cells_of}
 use Rattle.cjc_verify_proof.specs.Values.{IsValue, Holds}
 use Rattle.cjc_verify_proof.specs.Memories.{FieldTypes, AreSlots, HasSlots, AreCells, IsMemory, Goes}
-use Rattle.cjc_card_semantics.proofs.BytesGets.{at_end}
+use Rattle.cjc_script.proofs.BytesGets.{at_end}
 use Rattle.cjc_verify_proof.proofs.GrowthLaws.{word_stays, words_stay, locals_stay, object_still, extends_itself}
-use Rattle.cjc_verify_proof.proofs.GrowthLaws.{pushed_extends, set_extends, each_pushed, each_set, fit_pushed, held_pushed}
+use Rattle.cjc_verify_proof.proofs.GrowthLaws.{pushed_extends, set_extends, each_pushed, each_set, fit_pushed}
+use Rattle.cjc_verify_proof.proofs.GrowthLaws.{held_pushed}
 use Rattle.cjc_verify_proof.proofs.GrowthLaws.{fit_set, held_set}
 use Rattle.cjc_verify_proof.proofs.HeapLaws.{goes_on}
 use Rattle.cjc_card_semantics.proofs.MachineLaws.Keys.{field_tells, put_here, put_other}
@@ -164,7 +166,8 @@ module _ (l : Loaded) (t : FieldTypes) (room next : ℕ) (lc : List Cell) (lv : 
   pub push_goes : (cs : List Cell) (vs : List Value) → AreWords (object_is l m.heap) cs vs → (new : List Cell)
       (ws : List Value) → AreWords (object_is l m.heap) new ws → nat_lt room (length (new ++ cs)) ≡ false
       → Goes l t next (new ++ cs) lc m (onward ws room next lv m vs)
-  push_goes cs vs w new ws n h = onward_go l t next m fit (new ++ cs) lc (onward ws room next lv m vs) (goes_on l room next lc lv m k
+  push_goes cs vs w new ws n h = onward_go l t next m fit (new ++ cs) lc (onward ws room next lv m vs)
+      (goes_on l room next lc lv m k
       cs vs w new ws n h)
 
   -- a value of a type that is pushed by a letter which moves such values
@@ -218,7 +221,8 @@ module _ (l : Loaded) (t : FieldTypes) (room next : ℕ) (lc : List Cell) (lv : 
       let k' = locals_stay (object_is l m.heap) (object_is l (m.heap ++ new ∷ [])) still lc lv k in
       let there : object_is l (m.heap ++ new ∷ []) type (length m.heap) ≡ true = ap (λ o. thing_is l o
       (shape_by l type)) (at_end m.heap new) ∙ is in
-      by (made new room next lv m vs) (goes_on l room next lc lv (record m { heap = m.heap ++ new ∷ [] }) k' cs vs w' (Refs (type ∷ []) ∷ []) (Obj
+      by (made new room next lv m vs) (goes_on l room next lc lv (record m { heap = m.heap ++ new ∷ [] }) k' cs vs w'
+      (Refs (type ∷ []) ∷ []) (Obj
       (length m.heap) ∷ []) (record { type = type; among = inl refl; holds = there }, tt) h)
     where
       by : (e : Effect Class Field Callee (List Image))

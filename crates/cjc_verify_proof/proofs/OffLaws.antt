@@ -5,7 +5,8 @@ use Rattle.std.specs.Prelude.{◌||◌, option_to_list}
 use Rattle.std.specs.List.{list_any}
 use Rattle.cjc_card_semantics.specs.Machine.Loaded.{Loaded}
 use Rattle.cjc_card_semantics.specs.Machine.Classes.{Class, Own, External, Info, IsInterface, IsClass, all_supers}
-use Rattle.cjc_card_semantics.specs.Machine.Classes.{class_of, info_of, is_in, is_interface, is_interface_info, is_kind_of}
+use Rattle.cjc_card_semantics.specs.Machine.Classes.{class_of, info_of, is_in, is_interface, is_interface_info}
+use Rattle.cjc_card_semantics.specs.Machine.Classes.{is_kind_of}
 use Rattle.cjc_card_semantics.specs.Machine.Classes.{is_object, object_above, object_class, some_of, supers}
 use Rattle.cjc_verify_proof.specs.Memories.{SupersStand}
 use Rattle.cjc_card_semantics.proofs.MachineLaws.Upwards.{Over, here, up, told_over, either_in, first_or_later}

@@ -7,25 +7,25 @@ use Rattle.std.proofs.Common.{length-append, length-drop, append_assoc}
 use Rattle.std.specs.Prelude.{if◌then◌else◌}
 use Rattle.std.proofs.lemmas.Bool.{or_parts}
 use Rattle.cjc_card_semantics.specs.Range.Words.{wide, low_word}
-use Rattle.cjc_card_semantics.specs.Script.declared.value.Value.{Value}
-use Rattle.cjc_card_semantics.specs.Script.declared.value.Value.TheVariants.{Num, Null, Obj}
+use Rattle.cjc_script.specs.declared.value.Value.{Value}
+use Rattle.cjc_script.specs.declared.value.Value.TheVariants.{Num, Null, Obj}
 use Rattle.cjc_card_semantics.specs.CapRead.Opcodes.{Operand as Kind}
 use Rattle.cjc_card_semantics.specs.CapRead.Opcodes as opcodes
-use Rattle.cjc_card_acts.specs.Types.declared.cell.Cell.{Cell}
-use Rattle.cjc_card_acts.specs.Types.declared.cell.Cell.TheVariants.{Number, Refs, Unusable}
-use Rattle.cjc_card_acts.specs.Types.declared.state.Stack.TheVariants.{Cells}
+use Rattle.cjc_types.specs.declared.cell.Cell.{Cell}
+use Rattle.cjc_types.specs.declared.cell.Cell.TheVariants.{Number, Refs, Unusable}
+use Rattle.cjc_types.specs.declared.state.Stack.TheVariants.{Cells}
 use Rattle.cjc_card_semantics.specs.Bytecode.Numbers.{is_zero}
 use Rattle.cjc_card_semantics.specs.Bytecode.Calculations.{Calculation, Arithmetic, Fine, Fails, int_words, pushed}
 use Rattle.cjc_card_semantics.specs.Bytecode.Calculations as machine
 use Rattle.cjc_card_semantics.specs.Bytecode.Numbers as numbers
-use Rattle.cjc_card_acts.specs.Frames.declared.acts.Act.{Act}
-use Rattle.cjc_card_acts.specs.Frames.Acts.{Subtype, given, stack_behind, with_writes, has_wrong, has_wrong_local}
-use Rattle.cjc_card_acts.specs.Frames.Acts.{lacks_local}
-use Rattle.cjc_card_acts.specs.Types.Steps.{operand}
-use Rattle.cjc_card_acts.specs.Types.Types.{as_reference}
-use Rattle.cjc_card_acts.specs.Types.Rules as rules
-use Rattle.cjc_card_acts.specs.Frames.declared.acts.Need.TheVariants.{NumberWord, ReferenceWord}
-use Rattle.cjc_card_acts.specs.Frames.Acts.{is_wrong_local}
+use Rattle.cjc_frames.specs.declared.acts.Act.{Act}
+use Rattle.cjc_frames.specs.Acts.{Subtype, given, stack_behind, with_writes, has_wrong, has_wrong_local}
+use Rattle.cjc_frames.specs.Acts.{lacks_local}
+use Rattle.cjc_types.specs.Steps.{operand}
+use Rattle.cjc_types.specs.Types.{as_reference}
+use Rattle.cjc_types.specs.Rules as rules
+use Rattle.cjc_frames.specs.declared.acts.Need.TheVariants.{NumberWord, ReferenceWord}
+use Rattle.cjc_frames.specs.Acts.{is_wrong_local}
 use Rattle.cjc_card_semantics.specs.Bytecode.Effects.{Reference, Short, Int}
 use Rattle.cjc_card_acts.specs.Rows.{Row, number_words, any_words, operands_from, copying, swapping, calculating, idle}
 use Rattle.cjc_card_acts.specs.Rows as rows
@@ -41,9 +41,9 @@ use Rattle.cjc_verify_proof.proofs.WordLaws as words
 use Rattle.cjc_verify_proof.proofs.StackLaws.{any_length, from_operands, met, pushes, loads_reference}
 use Rattle.cjc_verify_proof.proofs.StackLaws.{loads_number, held}
 use Rattle.cjc_verify_proof.proofs.StackLaws.{pops, copies, swaps}
-use Rattle.cjc_card_semantics.proofs.BytesLists.{map_append}
-use Rattle.cjc_card_semantics.proofs.BytesBools.{bool_four}
-use Rattle.cjc_card_semantics.proofs.BytesGets.{taken_length}
+use Rattle.cjc_script.proofs.BytesLists.{map_append}
+use Rattle.cjc_script.proofs.BytesBools.{bool_four}
+use Rattle.cjc_script.proofs.BytesGets.{taken_length}
 
 -- ---- tests that all hold
 

@@ -3,15 +3,15 @@ use Rattle.std.proofs.Common.{◌≡◌, inl, inr, ℕ, suc, Bool, true, false, 
 use Rattle.std.proofs.Common.{◌∷◌, ◌++◌, length, slice_get, slice_set, Option, Some, None, refl, sym, ap, subst}
 use Rattle.std.proofs.Common.{◌∙◌, arith, ℤ, pos, negsuc, leb-false, ltb-false, eqb-true}
 use Rattle.std.specs.Prelude.{if◌then◌else◌, option_map, replicate}
-use Rattle.cjc_card_semantics.specs.Script.declared.value.Value.{Value}
-use Rattle.cjc_card_semantics.specs.Script.declared.value.Value.TheVariants.{Num, Null, Obj}
-use Rattle.cjc_card_semantics.specs.Script.Sorts.{Element, Shape, OfClass, OfNumbers, OfReferences}
-use Rattle.cjc_card_acts.specs.Types.declared.cell.Cell.{Cell}
-use Rattle.cjc_card_acts.specs.Types.declared.cell.Cell.TheVariants.{Number, Refs, Unusable}
-use Rattle.cjc_card_acts.specs.Types.Names.{In}
-use Rattle.cjc_card_acts.specs.Types.Cells.{most_names}
-use Rattle.cjc_card_acts.specs.Types.Rules.{is_reference, all_types}
-use Rattle.cjc_card_acts.specs.Types.Working.NameLaws.{insert_new, insert_old}
+use Rattle.cjc_script.specs.declared.value.Value.{Value}
+use Rattle.cjc_script.specs.declared.value.Value.TheVariants.{Num, Null, Obj}
+use Rattle.cjc_script.specs.Sorts.{Element, Shape, OfClass, OfNumbers, OfReferences}
+use Rattle.cjc_types.specs.declared.cell.Cell.{Cell}
+use Rattle.cjc_types.specs.declared.cell.Cell.TheVariants.{Number, Refs, Unusable}
+use Rattle.cjc_types.specs.Names.{In}
+use Rattle.cjc_types.specs.Cells.{most_names}
+use Rattle.cjc_types.specs.Rules.{is_reference, all_types}
+use Rattle.cjc_types.specs.Working.NameLaws.{insert_new, insert_old}
 use Rattle.cjc_card_semantics.specs.Bytecode.Calculations.{IndexOutside, ClassCast, ArrayStore}
 use Rattle.cjc_card_semantics.specs.Bytecode.Effects.{Reference, HeapObject, Numbers, References, Object, shape, Memory}
 use Rattle.cjc_card_semantics.specs.Bytecode.Effects.{Classes, Go, Raise, Stick, with_some, item_at, onward}
@@ -22,7 +22,7 @@ use Rattle.cjc_card_semantics.specs.Machine.Loaded.{Loaded}
 use Rattle.cjc_card_semantics.specs.Machine.Classes.{Class, Field, is_kind_of, is_of}
 use Rattle.cjc_card_semantics.specs.Machine.Statics.{Image, StaticCell}
 use Rattle.cjc_card_semantics.specs.Machine.ByToken.{classes}
-use Rattle.cjc_card_acts.specs.Frames.Types.{begins_with, held, with_held, elements, element_of}
+use Rattle.cjc_frames.specs.Types.{begins_with, held, with_held, elements, element_of}
 use Rattle.cjc_card_acts.specs.CardTypes.{shape_by, class_by, arrays_of}
 use Rattle.cjc_verify_proof.specs.Words.{IsWord, AreWords, AreLocals}
 use Rattle.cjc_verify_proof.specs.Heaps.{thing_is, object_is, Onward}
@@ -32,8 +32,8 @@ use Rattle.cjc_verify_proof.proofs.WordLaws as words
 use Rattle.cjc_verify_proof.proofs.HeapLaws.{passes_in, goes_on}
 use Rattle.cjc_verify_proof.proofs.TypeLaws.{of_itself, of_through}
 use Rattle.cjc_verify_proof.proofs.GrowthLaws.{words_stay, locals_stay, object_still, pushed_extends}
-use Rattle.cjc_card_semantics.proofs.BytesBools.{or_cases}
-use Rattle.cjc_card_semantics.proofs.BytesGets.{at_end, item_has}
+use Rattle.cjc_script.proofs.BytesBools.{or_cases}
+use Rattle.cjc_script.proofs.BytesGets.{at_end, item_has}
 
 -- ---- a new array
 
@@ -250,7 +250,8 @@ references_of l (n ∷ class) o b h = elim (or_cases (0xE == n) false b) [
 
 module _ (l : Loaded) (heap : List (HeapObject Class Field)) where
   -- an element of such an array is a word of the elements' cell
-  element_word : (names : List (List ℕ)) (t element : List ℕ) → In t names → held t ≡ Some element → (class named : Class)
+  element_word : (names : List (List ℕ)) (t element : List ℕ) → In t names → held t ≡ Some element →
+      (class named : Class)
       → shape_by l element ≡ Some (OfClass named) → is_kind_of l class named ≡ true → (v : Value)
       → IsItem l heap class v → IsWord (object_is l heap) (element_of (Refs names)) v
   element_word names t element among h class named means below v i = go (nat_le (length (elements names []))
@@ -380,7 +381,8 @@ module _ (l : Loaded) (next : ℕ) (lc : List Cell) (lv : List (Option Value)) (
   object_put j class items n i at (Some t) there thing e = go (is_of l (shape t) (OfClass class)) refl
     where
       go : (b : Bool) → is_of l (shape t) (OfClass class) ≡ b → Puts l next cs lc m
-          (if b then Go next vs lv (with_thing m j (References class (slice_set items n (Obj i)))) else Raise ArrayStore)
+          (if b then Go next vs lv (with_thing m j (References class (slice_set items n
+          (Obj i)))) else Raise ArrayStore)
       go false f = tt
       go true f = put j class items n (Obj i) at (subst (λ o. thing_is l o (Some (OfClass class)) ≡ true) (sym there) f)
 

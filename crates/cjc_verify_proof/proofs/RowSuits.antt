@@ -11,20 +11,20 @@ use Rattle.cjc_card_semantics.specs.CapRead.declared.tree.PoolEntry.{PoolEntry}
 use Rattle.cjc_card_semantics.specs.CapRead.declared.tree.PoolEntry.TheVariants.{Classref, InstanceFieldref}
 use Rattle.cjc_card_semantics.specs.CapRead.declared.tree.PoolEntry.TheVariants.{VirtualMethodref, SuperMethodref}
 use Rattle.cjc_card_semantics.specs.CapRead.declared.tree.PoolEntry.TheVariants.{StaticFieldref, StaticMethodref}
-use Rattle.cjc_card_semantics.specs.Script.Sorts.{Element, Booleans, Bytes, Shorts, Ints, OfNumbers}
+use Rattle.cjc_script.specs.Sorts.{Element, Booleans, Bytes, Shorts, Ints, OfNumbers}
 use Rattle.cjc_card_semantics.specs.Bytecode.Calculations.{Test}
 use Rattle.cjc_card_semantics.specs.Bytecode.Effects.{Letter, Arm, Pick, Touch, Return}
 use Rattle.cjc_card_semantics.specs.Bytecode.Meanings.{Use, Branches, Ranged, Paired}
 use Rattle.cjc_card_semantics.specs.Machine.Loaded.{Loaded}
 use Rattle.cjc_card_semantics.specs.Machine.Operations.{element_type, moved, operation, paired, ranged}
-use Rattle.cjc_card_acts.specs.Frames.declared.acts.Need.{Need}
+use Rattle.cjc_frames.specs.declared.acts.Need.{Need}
 use Rattle.cjc_card_acts.specs.Rows.{Row}
 use Rattle.cjc_card_acts.specs.Rows.{Jumps, Switches, Uses}
 use Rattle.cjc_card_acts.specs.Rows.{idle, known_row, number_words}
 use Rattle.cjc_card_acts.specs.Rows.{row, rows}
 use Rattle.cjc_card_acts.specs.CardTypes.{ValueType, is_returned_by, needs_of, numbers_type, shape_by}
-use Rattle.cjc_check_rules.specs.Spots.{lies_between}
-use Rattle.cjc_check_rules.specs.Instructions.{default_of, is_jump, is_needed_by, pair_offsets}
+use Rattle.cjc_card_acts.specs.CheckRules.Spots.{lies_between}
+use Rattle.cjc_card_acts.specs.CheckRules.Instructions.{default_of, is_jump, is_needed_by, pair_offsets}
 use Rattle.cjc_verify_proof.specs.Beside.{BesideTest, AreRead}
 use Rattle.cjc_verify_proof.specs.Control.{switched_words}
 use Rattle.cjc_verify_proof.specs.Frames.{Program}
@@ -58,7 +58,8 @@ row_so k (r ∷ rs) e zero =
     first false b h = cc
 row_so k (r ∷ rs) e (suc i) =
     let s : k + 1 + i ≡ k + suc i = omega arith in
-    subst (λ n. jumps_so (known_row (slice_get rs i)) n ≡ true) s (row_so (k + 1) rs (second (jumps_so r k) (all_so (k + 1)
+    subst (λ n. jumps_so (known_row (slice_get rs i)) n ≡ true) s (row_so (k + 1) rs (second (jumps_so r k) (all_so
+    (k + 1)
     rs) e) i)
   where
     second : (a b : Bool) → (a && b) ≡ true → b ≡ true
@@ -127,14 +128,16 @@ use_so k (r ∷ rs) (f ∷ fs) e zero =
     subst (λ n. uses_so r n f ≡ true) z (both_true (uses_so r k f) (all_use_so (k + 1) rs fs) e).0
 use_so k (r ∷ rs) (f ∷ fs) e (suc i) =
     let s : k + 1 + i ≡ k + suc i = omega arith in
-    subst (λ n. uses_so (known_row (slice_get rs i)) n (form_in fs i) ≡ true) s (use_so (k + 1) rs fs (both_true (uses_so
+    subst (λ n. uses_so (known_row (slice_get rs i)) n (form_in fs i) ≡ true) s (use_so (k + 1) rs fs (both_true
+    (uses_so
     r k f) (all_use_so (k + 1) rs fs) e).1 i)
 
 op_use_so : (op : ℕ) → uses_so (row op) op (form op) ≡ true
 unfolding row form
 op_use_so op =
     let z : 0 + op ≡ op = omega arith in
-    subst (λ n. uses_so (known_row (slice_get rows op)) n (form_in forms op) ≡ true) z (use_so 0 rows forms table_uses_so
+    subst (λ n. uses_so (known_row (slice_get rows op)) n (form_in forms op) ≡ true) z
+    (use_so 0 rows forms table_uses_so
     op)
 
 told_same : (a b : Bool) → same_test a b ≡ true → a ≡ true → b ≡ true

@@ -1,20 +1,20 @@
 -- Runs of a program are never stuck.
-use Rattle.cjc_card_acts.specs.Types.declared.state.Stack.TheVariants.{Cells}
+use Rattle.cjc_types.specs.declared.state.Stack.TheVariants.{Cells}
 use Rattle.std.proofs.Common.{inr}
 use Rattle.std.proofs.Common.{◌≡◌, inl, ℕ, zero, suc, Bool, true, false, List, [], ◌∷◌, slice_get}
 use Rattle.std.proofs.Common.{Option, Some, None, refl, sym, ap, subst, ◌∙◌}
 use Rattle.std.specs.Prelude.{if◌then◌else◌, flat_map}
-use Rattle.cjc_card_semantics.specs.Bytes.declared.fault.MemberId.{MemberId}
-use Rattle.cjc_card_semantics.specs.Script.declared.value.Value.{Value}
-use Rattle.cjc_card_semantics.specs.Script.declared.value.Value.TheVariants.{Num, Null, Obj}
-use Rattle.cjc_card_semantics.specs.Script.declared.script.Act.{Act as ScriptAct}
-use Rattle.cjc_card_semantics.specs.Script.declared.script.Entry.{Entry}
-use Rattle.cjc_card_semantics.specs.Script.declared.script.Script.{Script}
-use Rattle.cjc_card_semantics.specs.Script.declared.report.Report.{Report}
-use Rattle.cjc_card_semantics.specs.Script.declared.report.Outcome.TheVariants.{Stuck}
-use Rattle.cjc_card_semantics.specs.Script.Sorts.{Sort, Boolean, Byte, Short, Int, Reference, Signature, Shape}
-use Rattle.cjc_card_semantics.specs.Script.Sorts.{signature_of, fits, all_fit}
-use Rattle.cjc_card_acts.specs.Types.declared.cell.Cell.{Cell}
+use Rattle.cjc_script.specs.Bytes.declared.fault.MemberId.{MemberId}
+use Rattle.cjc_script.specs.declared.value.Value.{Value}
+use Rattle.cjc_script.specs.declared.value.Value.TheVariants.{Num, Null, Obj}
+use Rattle.cjc_script.specs.declared.script.Act.{Act as ScriptAct}
+use Rattle.cjc_script.specs.declared.script.Entry.{Entry}
+use Rattle.cjc_script.specs.declared.script.Script.{Script}
+use Rattle.cjc_script.specs.declared.report.Report.{Report}
+use Rattle.cjc_script.specs.declared.report.Outcome.TheVariants.{Stuck}
+use Rattle.cjc_script.specs.Sorts.{Sort, Boolean, Byte, Short, Int, Reference, Signature, Shape}
+use Rattle.cjc_script.specs.Sorts.{signature_of, fits, all_fit}
+use Rattle.cjc_types.specs.declared.cell.Cell.{Cell}
 use Rattle.cjc_card_semantics.specs.Bytecode.Effects.{HeapObject, shape, Memory, Effect, Go, Raise, Toss, Invoke, Leave}
 use Rattle.cjc_card_semantics.specs.Bytecode.Effects.{Stick, effect}
 use Rattle.cjc_card_semantics.specs.Bytecode.Arguments.{value_words, both_words, words_of, first_and}
@@ -30,8 +30,8 @@ use Rattle.cjc_card_semantics.specs.Machine.Operations.{Callee}
 use Rattle.cjc_card_semantics.specs.Machine.Methods.{Code, fetch}
 use Rattle.cjc_card_semantics.specs.Machine.Calls.{called}
 use Rattle.cjc_card_semantics.specs.Machine.ByToken.{classes, by_token, start, run}
-use Rattle.cjc_card_acts.specs.Frames.declared.acts.Act.{Act}
-use Rattle.cjc_card_acts.specs.Frames.declared.acts.Step.{Step}
+use Rattle.cjc_frames.specs.declared.acts.Act.{Act}
+use Rattle.cjc_frames.specs.declared.acts.Step.{Step}
 use Rattle.cjc_card_acts.specs.CardTypes.{ValueType, shape_by, both_of, is_type_of}
 use Rattle.cjc_card_acts.specs.CardTypes as types
 use Rattle.cjc_verify_proof.specs.Words.{AreWords}
@@ -57,11 +57,11 @@ use Rattle.cjc_verify_proof.specs.Memories.{IsMemory}
 use Rattle.cjc_verify_proof.specs.Acts.{Passes}
 use Rattle.cjc_verify_proof.specs.Heaps.{shape_in}
 use Rattle.cjc_verify_proof.specs.Scripts.{IsImported}
-use Rattle.cjc_card_semantics.specs.Script.Sorts.{OfClass}
+use Rattle.cjc_script.specs.Sorts.{OfClass}
 use Rattle.cjc_card_semantics.specs.Bytecode.Effects.{Slot, Numbers, References, Object}
 use Rattle.cjc_card_semantics.specs.Machine.Classes.{Own, External}
 use Rattle.std.proofs.Common.{◌⊎◌}
-use Rattle.cjc_card_semantics.proofs.BytesBools.{and_true}
+use Rattle.cjc_script.proofs.BytesBools.{and_true}
 
 -- ---- words of values that fit
 
@@ -262,7 +262,8 @@ module _ (l : Loaded) (program : Program) (is : IsProgram l program) where
     behind_receiver k sorts args ws h = go (fitting_words (by_token l) t.memory.heap sorts args) refl h
       where
         go : (o : Option (List Value)) → fitting_words (by_token l) t.memory.heap sorts args ≡ o
-            → first_and (Obj k) o ≡ Some ws → (rest : List Value) × ((fitting_words (by_token l) t.memory.heap sorts args
+            → first_and (Obj k) o ≡ Some ws → (rest : List Value) × ((fitting_words
+            (by_token l) t.memory.heap sorts args
             ≡ Some rest) × (Obj k ∷ rest ≡ ws))
         go None is h = cc
         go (Some rest) is h = (rest, (is, same_words h))
@@ -283,7 +284,8 @@ module _ (l : Loaded) (program : Program) (is : IsProgram l program) where
             → AreFrames l program t.memory.heap (frame_for_call x ws ∷ [])
         go None there f = cc
         go (Some thing) there f =
-            let y = is.sends (shape thing) (made_prepared m.heap t.memory.heap p all_made k (shape thing) (ap shape_in there))
+            let y = is.sends (shape thing) (made_prepared m.heap t.memory.heap p all_made k (shape thing)
+            (ap shape_in there))
             (method_of e) x f in
             let b = behind_receiver k (params_of y.signature) args ws (h y.signature y.types) in
             entry_runs (Some (shape thing)) (desc_of (method_of e)) x y t.memory.heap ws
@@ -296,7 +298,8 @@ module _ (l : Loaded) (program : Program) (is : IsProgram l program) where
         (entry_words (by_token l) t.memory.heap e) e entries t)
     unfolding by_token
     virtual_enters v = enters (entry_start (by_token l) t.memory.heap e) (entry_words (by_token l) t.memory.heap e)
-        (λ x at ws h. receiver_enters e.args x (subst (λ b. (if b then sent_on (by_token l) t.memory.heap e.method e.args
+        (λ x at ws h. receiver_enters e.args x (subst (λ b. (if b then sent_on
+        (by_token l) t.memory.heap e.method e.args
         else called l e.method) ≡ Some x) v at) ws
         (λ sig types. subst (λ b. (if b then words_behind (by_token l) t.memory.heap (params_of sig) e.args
         else fitting_words (by_token l) t.memory.heap (params_of sig) e.args) ≡ Some ws) v
@@ -353,7 +356,8 @@ module _ (l : Loaded) (program : Program) (is : IsProgram l program) where
       → (e : Effect Class Field Callee (List Image)) (turn : Turn Code Class Field (List Image))
       → GoesOnBy l program s.memory e turn → HoldsOn l program s.memory e → IsSoundTurn turn
   made_sound s fit (Go at stack locals memory) (Next x) g h = (
-    subst (λ (y : Memory Class Field (List Image)). IsMemory l program.fields y × AreMade program y.heap) (sym g.0) (h.0, h.1 fit.1),
+    subst (λ (y : Memory Class Field (List Image)). IsMemory l program.fields y × AreMade program y.heap) (sym g.0)
+        (h.0, h.1 fit.1),
     subst (λ (y : Memory Class Field (List Image)). AreFrames l program y.heap x.frames) (sym g.0) g.1,
   )
   made_sound s fit (Go at stack locals memory) (Ended outcome x) g h = g
@@ -385,7 +389,8 @@ module _ (l : Loaded) (program : Program) (is : IsProgram l program) where
 
       i : (x : Fetched Class Field StaticCell Callee) × ((fetch l t.code (at_of st.step) ≡ Some x) × Suits l program
           t.result (act_of st.step) x.operation)
-      i = is.suited t h.1.0 st.place st.step st.is_step (record { stack = Cells st.cells; locals = st.locals }) st.reached
+      i = is.suited t h.1.0 st.place st.step st.is_step (record { stack = Cells st.cells; locals = st.locals })
+          st.reached
 
       fetched : fetch l f.code f.at ≡ Some i.0
       fetched = subst (λ n. fetch l f.code n ≡ Some i.0) st.is_at (subst (λ c. fetch l c (at_of st.step) ≡ Some i.0)
@@ -404,7 +409,8 @@ module _ (l : Loaded) (program : Program) (is : IsProgram l program) where
       does : Does l program t.result (act_of st.step) (let x = i.0 in x.next) st.locals st.cells s.memory e × HoldsOn l
           program s.memory e
       does = instruction_done l program t.result (let c = f.code in c.room) (let x = i.0 in x.next) st.locals f.locals
-          s.memory st.typed is.supers is.declared fit.0 (act_of st.step) (let x = i.0 in x.operation) i.1.1 st.cells f.stack runs.words
+          s.memory st.typed is.supers is.declared fit.0 (act_of st.step)
+          (let x = i.0 in x.operation) i.1.1 st.cells f.stack runs.words
           passes (parts (is_type_of l) (let c = f.code in c.room) (act_of st.step) st.locals st.cells passes)
 
   turn_sound : (s : State Code Class Field (List Image)) → IsSound s → IsSoundTurn (turn (by_token l) s)

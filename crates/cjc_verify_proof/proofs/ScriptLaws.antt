@@ -8,12 +8,12 @@ use Rattle.std.proofs.lemmas.Int.{ints}
 use Rattle.std.proofs.lemmas.Bool.{and_from}
 use Rattle.std.proofs.lemmas.List.Elements.{All-set, All-weaker, All-replicate}
 use Rattle.cjc_card_semantics.specs.ExportFile.declared.tree.ExportTree.{ExportTree}
-use Rattle.cjc_card_semantics.specs.Script.declared.value.Value.{Value}
-use Rattle.cjc_card_semantics.specs.Script.declared.value.Value.TheVariants.{Num, Null, Obj}
-use Rattle.cjc_card_semantics.specs.Script.declared.script.Act.{Act}
-use Rattle.cjc_card_semantics.specs.Script.declared.script.Act.TheVariants as acts
-use Rattle.cjc_card_semantics.specs.Script.Sorts.{Element, Booleans, Bytes, Shorts, Ints, Shape, OfClass, OfNumbers}
-use Rattle.cjc_card_semantics.specs.Script.Sorts.{OfReferences, shape_named, fits, element_sort, lies_in}
+use Rattle.cjc_script.specs.declared.value.Value.{Value}
+use Rattle.cjc_script.specs.declared.value.Value.TheVariants.{Num, Null, Obj}
+use Rattle.cjc_script.specs.declared.script.Act.{Act}
+use Rattle.cjc_script.specs.declared.script.Act.TheVariants as acts
+use Rattle.cjc_script.specs.Sorts.{Element, Booleans, Bytes, Shorts, Ints, Shape, OfClass, OfNumbers}
+use Rattle.cjc_script.specs.Sorts.{OfReferences, shape_named, fits, element_sort, lies_in}
 use Rattle.cjc_card_semantics.specs.Bytecode.Numbers.{is_word}
 use Rattle.cjc_card_semantics.specs.Bytecode.Effects.{Slot, HeapObject, Numbers, References, Object, shape, Memory}
 use Rattle.cjc_card_semantics.specs.Bytecode.Machine.{State, Turn, shape_of, thing_fits}
@@ -31,7 +31,8 @@ use Rattle.cjc_verify_proof.specs.Heaps.{thing_is, IsFit, AreFit, AreItems}
 use Rattle.cjc_verify_proof.specs.Growth.{Extends}
 use Rattle.cjc_verify_proof.specs.References.{IsItem, HoldsItems, AreHeld}
 use Rattle.cjc_verify_proof.specs.Frames.{Program}
-use Rattle.cjc_verify_proof.specs.Memories.{FieldTypes, AreSlots, HaveSlots, AreCells, IsMemory, SupersStand, AreDeclared}
+use Rattle.cjc_verify_proof.specs.Memories.{FieldTypes, AreSlots, HaveSlots, AreCells, IsMemory, SupersStand}
+use Rattle.cjc_verify_proof.specs.Memories.{AreDeclared}
 use Rattle.cjc_card_semantics.proofs.MachineLaws.Upwards.{told_over}
 use Rattle.cjc_verify_proof.proofs.OffLaws.{Off, all_off}
 use Rattle.cjc_verify_proof.proofs.MemoryLaws.{slots_stay, cells_stay}
@@ -40,10 +41,10 @@ use Rattle.cjc_card_semantics.specs.Machine.Classes.{is_interface_info, info_of}
 use Rattle.cjc_verify_proof.specs.Scripts.{IsImported, IsPrepared, GoesOnPrepared}
 use Rattle.cjc_verify_proof.proofs.GrowthLaws.{extends_itself, extends_through, pushed_extends, set_extends}
 use Rattle.cjc_verify_proof.proofs.GrowthLaws.{fit_pushed, held_pushed, fit_set, held_set, item_stays, zeros_fit}
-use Rattle.cjc_card_semantics.proofs.BytesBools.{and_true}
-use Rattle.cjc_card_semantics.proofs.BytesGets.{set_same, set_other}
-use Rattle.cjc_card_semantics.proofs.BytesIntegers.{le_true, above_if}
-use Rattle.cjc_card_semantics.proofs.BytesNumbers.{same_place}
+use Rattle.cjc_script.proofs.BytesBools.{and_true}
+use Rattle.cjc_script.proofs.BytesGets.{set_same, set_other}
+use Rattle.cjc_script.proofs.BytesIntegers.{le_true, above_if}
+use Rattle.cjc_script.proofs.BytesNumbers.{same_place}
 
 -- ---- prepared heaps
 
@@ -287,7 +288,8 @@ module _ (l : Loaded) where
     -- an act leaves a prepared heap
     pub act_prepared : (a : Act) → ArePrepared l heap (heap_after (by_token l) a heap)
     unfolding by_token
-    act_prepared (acts.Array desc size) = array_prepared (option_and_then (shape_of (by_token l)) (shape_named desc)) size
+    act_prepared (acts.Array desc size) = array_prepared (option_and_then (shape_of (by_token l))
+        (shape_named desc)) size
     act_prepared (acts.Object class) = object_prepared (imported l class) (imported_is class)
     act_prepared (acts.Put array i v) = put_prepared array i v (slice_get heap array) refl
 
@@ -312,7 +314,8 @@ module _ (l : Loaded) where
           → GoesOnPrepared l program m (prepared_by (by_token l) o number s (λ t. turn_after_acts (by_token l) list
           number t go))
       by None h more = tt
-      by (Some heap) h more = more (with_heap (by_token l) heap s) (prepared_through l m.heap s.memory.heap heap p h) same
+      by (Some heap) h more = more (with_heap (by_token l) heap s)
+          (prepared_through l m.heap s.memory.heap heap p h) same
 
 -- ---- memory
 

@@ -4,20 +4,20 @@ use Rattle.std.proofs.Common.{◌++◌, length, take, drop, map, slice_get, Opti
 use Rattle.std.proofs.Common.{subst, ◌∙◌, arith, ℤ, leb-false, ltb-false, length-append}
 use Rattle.std.proofs.lemmas.List.{drop_more}
 use Rattle.std.specs.Prelude.{if◌then◌else◌}
-use Rattle.cjc_card_semantics.specs.Script.declared.value.Value.{Value}
-use Rattle.cjc_card_semantics.specs.Script.declared.value.Value.TheVariants.{Num, Null, Obj}
-use Rattle.cjc_card_acts.specs.Types.declared.cell.Cell.{Cell}
-use Rattle.cjc_card_acts.specs.Types.declared.cell.Cell.TheVariants.{Number, Refs, Unusable}
-use Rattle.cjc_card_acts.specs.Types.Steps.{operand}
-use Rattle.cjc_card_acts.specs.Types.Types.{as_reference}
+use Rattle.cjc_script.specs.declared.value.Value.{Value}
+use Rattle.cjc_script.specs.declared.value.Value.TheVariants.{Num, Null, Obj}
+use Rattle.cjc_types.specs.declared.cell.Cell.{Cell}
+use Rattle.cjc_types.specs.declared.cell.Cell.TheVariants.{Number, Refs, Unusable}
+use Rattle.cjc_types.specs.Steps.{operand}
+use Rattle.cjc_types.specs.Types.{as_reference}
 use Rattle.cjc_card_semantics.specs.Bytecode.Calculations.{Fine, Wrong, pushed, popped, copied, set_local, if_so}
 use Rattle.cjc_card_semantics.specs.Bytecode.Calculations.{is_reference, is_number}
-use Rattle.cjc_card_acts.specs.Frames.declared.acts.Need.{Need}
-use Rattle.cjc_card_acts.specs.Frames.declared.acts.Need.TheVariants.{NumberWord, ReferenceWord}
-use Rattle.cjc_card_acts.specs.Frames.Acts.{Subtype, given, meets, is_wrong_local}
+use Rattle.cjc_frames.specs.declared.acts.Need.{Need}
+use Rattle.cjc_frames.specs.declared.acts.Need.TheVariants.{NumberWord, ReferenceWord}
+use Rattle.cjc_frames.specs.Acts.{Subtype, given, meets, is_wrong_local}
 use Rattle.cjc_card_acts.specs.Rows.{any_words, operands_from}
 use Rattle.cjc_verify_proof.specs.Words.{IsLocal, AreWords, AreLocals, Leaves}
-use Rattle.cjc_card_semantics.proofs.BytesGets.{taken_length}
+use Rattle.cjc_script.proofs.BytesGets.{taken_length}
 use Rattle.cjc_verify_proof.proofs.WordLaws as words
 
 pub any_length : (n : ℕ) → length (any_words n) ≡ n

@@ -9,12 +9,12 @@ use Rattle.std.proofs.lemmas.List.Elements.{All-set}
 use Rattle.std.specs.Prelude.{if◌then◌else◌}
 use Rattle.std.proofs.lemmas.Bool.{and_from}
 use Rattle.cjc_card_semantics.specs.Range.Words.{low_word, low_byte}
-use Rattle.cjc_card_semantics.specs.Script.declared.value.Value.{Value}
-use Rattle.cjc_card_semantics.specs.Script.declared.value.Value.TheVariants.{Num, Null, Obj}
-use Rattle.cjc_card_semantics.specs.Script.Sorts.{Element, Booleans, Bytes, Shorts, Ints}
-use Rattle.cjc_card_acts.specs.Types.declared.cell.Cell.{Cell}
-use Rattle.cjc_card_acts.specs.Types.declared.cell.Cell.TheVariants.{Number, Refs, Unusable}
-use Rattle.cjc_card_acts.specs.Types.Rules.{all_types}
+use Rattle.cjc_script.specs.declared.value.Value.{Value}
+use Rattle.cjc_script.specs.declared.value.Value.TheVariants.{Num, Null, Obj}
+use Rattle.cjc_script.specs.Sorts.{Element, Booleans, Bytes, Shorts, Ints}
+use Rattle.cjc_types.specs.declared.cell.Cell.{Cell}
+use Rattle.cjc_types.specs.declared.cell.Cell.TheVariants.{Number, Refs, Unusable}
+use Rattle.cjc_types.specs.Rules.{all_types}
 use Rattle.cjc_card_semantics.specs.Bytecode.Numbers.{is_word, spelt_by}
 use Rattle.cjc_card_semantics.specs.Bytecode.Calculations.{IndexOutside}
 use Rattle.cjc_card_semantics.specs.Bytecode.Effects.{Letter, Reference, Byte, Short, Int, HeapObject, Numbers}
@@ -26,14 +26,14 @@ use Rattle.cjc_card_semantics.specs.Bytecode.Effects as effects
 use Rattle.cjc_card_semantics.specs.Machine.Loaded.{Loaded}
 use Rattle.cjc_card_semantics.specs.Machine.Classes.{Class, Field}
 use Rattle.cjc_card_semantics.specs.Machine.Statics.{StaticCell}
-use Rattle.cjc_card_acts.specs.Frames.Types.{begins_with}
+use Rattle.cjc_frames.specs.Types.{begins_with}
 use Rattle.cjc_card_acts.specs.CardTypes.{arrays_of}
 use Rattle.cjc_verify_proof.specs.Words.{IsWord, AreWords, AreLocals}
 use Rattle.cjc_verify_proof.specs.Heaps.{object_is, AreItems, IsFit, AreFit, Stored, Keeps, shape_in}
 use Rattle.cjc_verify_proof.proofs.HeapLaws.{IsNumbers, numbers_of, passes_in}
-use Rattle.cjc_card_semantics.proofs.BytesGets.{get_set_other}
-use Rattle.cjc_card_semantics.proofs.BytesNumbers.{same_place}
-use Rattle.cjc_card_semantics.proofs.BytesIntegers.{le_true}
+use Rattle.cjc_script.proofs.BytesGets.{get_set_other}
+use Rattle.cjc_script.proofs.BytesNumbers.{same_place}
+use Rattle.cjc_script.proofs.BytesIntegers.{le_true}
 
 -- ---- lists with another item
 
@@ -70,7 +70,8 @@ IsGiven Byte z = is_word z ≡ true
 IsGiven Short z = is_word z ≡ true
 IsGiven Int z = Unit {0}
 
-pub items_set : (letter : Letter) (element : Element) (items : List ℤ) (n : ℕ) (z : ℤ) → is_element letter element ≡ true
+pub items_set : (letter : Letter) (element : Element) (items : List ℤ) (n : ℕ) (z : ℤ) → is_element letter element
+    ≡ true
     → IsGiven letter z → AreItems element items → AreItems element (slice_set items n z)
 items_set letter Ints items n z is g fit = tt
 items_set Byte Booleans items n z is g fit = All-set (λ z. is_word z ≡ true) items n z g fit

@@ -2,16 +2,16 @@
 use Rattle.std.proofs.Common.{◌≡◌, ◌≤◌, ℕ, zero, suc, Bool, true, false, not, List, [], ◌∷◌, length, drop}
 use Rattle.std.proofs.Common.{replicate, ℤ, arith}
 use Rattle.std.proofs.lemmas.Bool.{or_parts}
-use Rattle.cjc_card_semantics.specs.Script.declared.value.Value.{Value}
-use Rattle.cjc_card_semantics.specs.Script.declared.value.Value.TheVariants.{Num, Null, Obj}
-use Rattle.cjc_card_acts.specs.Types.declared.cell.Cell.{Cell}
-use Rattle.cjc_card_acts.specs.Types.declared.cell.Cell.TheVariants.{Number, Refs, Unusable}
-use Rattle.cjc_card_acts.specs.Types.Rules.{is_reference}
+use Rattle.cjc_script.specs.declared.value.Value.{Value}
+use Rattle.cjc_script.specs.declared.value.Value.TheVariants.{Num, Null, Obj}
+use Rattle.cjc_types.specs.declared.cell.Cell.{Cell}
+use Rattle.cjc_types.specs.declared.cell.Cell.TheVariants.{Number, Refs, Unusable}
+use Rattle.cjc_types.specs.Rules.{is_reference}
 use Rattle.cjc_card_semantics.specs.Bytecode.Calculations.{Test}
 use Rattle.cjc_card_semantics.specs.Bytecode.Calculations as machine
-use Rattle.cjc_card_acts.specs.Frames.declared.acts.Need.{Need}
-use Rattle.cjc_card_acts.specs.Frames.declared.acts.Need.TheVariants.{ReferenceWord}
-use Rattle.cjc_card_acts.specs.Frames.Acts.{Subtype, has_wrong}
+use Rattle.cjc_frames.specs.declared.acts.Need.{Need}
+use Rattle.cjc_frames.specs.declared.acts.Need.TheVariants.{ReferenceWord}
+use Rattle.cjc_frames.specs.Acts.{Subtype, has_wrong}
 use Rattle.cjc_verify_proof.specs.Words.{IsOneOf, IsWord, AreWords, Chooses}
 use Rattle.cjc_verify_proof.specs.Beside.{BesideTest, a_null, same, goto}
 use Rattle.cjc_verify_proof.specs.Beside as row

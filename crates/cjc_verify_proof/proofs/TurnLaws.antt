@@ -4,9 +4,9 @@ use Rattle.std.proofs.Common.{◌≡◌, ◌≤◌, ◌+◌, inl, ℕ, Bool, tru
 use Rattle.std.proofs.Common.{length, take, drop, reverse, slice_get, Option, Some, None, refl, sym, subst}
 use Rattle.std.proofs.Common.{arith}
 use Rattle.std.specs.Prelude.{if◌then◌else◌, Contains}
-use Rattle.cjc_card_semantics.specs.Script.declared.value.Value.{Value}
-use Rattle.cjc_card_semantics.specs.Script.declared.value.Value.TheVariants.{Num, Null, Obj}
-use Rattle.cjc_card_semantics.specs.Script.Sorts.{Shape}
+use Rattle.cjc_script.specs.declared.value.Value.{Value}
+use Rattle.cjc_script.specs.declared.value.Value.TheVariants.{Num, Null, Obj}
+use Rattle.cjc_script.specs.Sorts.{Shape}
 use Rattle.cjc_card_semantics.specs.Bytecode.Calculations.{NullPointer}
 use Rattle.cjc_card_semantics.specs.Bytecode.Effects.{HeapObject, shape, Memory, Effect, Go, Raise, Toss, Invoke, Leave}
 use Rattle.cjc_card_semantics.specs.Bytecode.Effects.{Stick, effect}
@@ -21,10 +21,10 @@ use Rattle.cjc_card_semantics.specs.Machine.Operations.{Callee}
 use Rattle.cjc_card_semantics.specs.Machine.Methods.{Code, fetch}
 use Rattle.cjc_card_semantics.specs.Machine.Calls.{on_object, words, reached}
 use Rattle.cjc_card_semantics.specs.Machine.ByToken.{classes, by_token}
-use Rattle.cjc_card_acts.specs.Frames.declared.acts.Act.{Act}
-use Rattle.cjc_card_acts.specs.Frames.declared.acts.Step.{Step}
-use Rattle.cjc_card_acts.specs.Frames.declared.acts.Need.{Need}
-use Rattle.cjc_card_acts.specs.Frames.Acts.{has_wrong}
+use Rattle.cjc_frames.specs.declared.acts.Act.{Act}
+use Rattle.cjc_frames.specs.declared.acts.Step.{Step}
+use Rattle.cjc_frames.specs.declared.acts.Need.{Need}
+use Rattle.cjc_frames.specs.Acts.{has_wrong}
 use Rattle.cjc_card_acts.specs.CardTypes.{ValueType, shape_by, both_of, is_type_of}
 use Rattle.cjc_verify_proof.specs.Words.{AreWords}
 use Rattle.cjc_verify_proof.specs.Heaps.{thing_is, object_is, shape_in}
@@ -40,7 +40,7 @@ use Rattle.cjc_verify_proof.proofs.FrameLaws.{goes, tossed, leaves_frames, insid
 use Rattle.cjc_verify_proof.proofs.CallLaws.{takes_arguments}
 use Rattle.cjc_verify_proof.proofs.ScriptLaws.{prepared_itself}
 use Rattle.cjc_verify_proof.proofs.ImportLaws.{goes_prepared, faults_go, outside_goes}
-use Rattle.cjc_card_semantics.proofs.BytesNumbers.{at_most}
+use Rattle.cjc_script.proofs.BytesNumbers.{at_most}
 
 -- ---- what calls reach
 
@@ -204,7 +204,8 @@ module _ (l : Loaded) (program : Program) (all : AreMethods l program) (has : Ha
       }
 
       said : Parts (is_type_of l) t.body.max_stack a st.locals st.cells
-      said = parts (is_type_of l) t.body.max_stack a st.locals st.cells (sound l program.exceptions t (all t among) st.place st.step
+      said = parts (is_type_of l) t.body.max_stack a st.locals st.cells (sound l program.exceptions t
+          (all t among) st.place st.step
           st.is_step st.cells st.locals st.reached).passes
 
       enough : length (takes_of a) ≤ length f.stack
@@ -223,7 +224,8 @@ module _ (l : Loaded) (program : Program) (all : AreMethods l program) (has : Ha
       go false e = cc
       go true e = subst (λ on. GoesOnPrepared l program s.memory (with_args (by_token l) on callee
           (reverse (take (length (takes_of a)) f.stack)) waiting outer s)) (sym c.on)
-          (with_any l program all has s t among waiting outer o c.result waits c.params callee stands all_made c.receiver c.reaches
+          (with_any l program all has s t among waiting outer o c.result waits c.params callee stands all_made
+          c.receiver c.reaches
           (reverse (take (length (takes_of a)) f.stack)) args)
 
   -- a turn in the same memory
@@ -243,7 +245,8 @@ module _ (l : Loaded) (program : Program) (all : AreMethods l program) (has : Ha
       (
         among,
         (
-          goes l program.exceptions t (all t among) s.memory.heap memory.heap f st i fetched at d.0 stack locals d.1.1.0 d.1.1.1,
+          goes l program.exceptions t (all t among) s.memory.heap memory.heap f st i fetched at d.0 stack locals d.1.1.0
+              d.1.1.1,
           outer_still l program s.memory.heap memory.heap d.1.0 t.result outer o,
         ),
       ),

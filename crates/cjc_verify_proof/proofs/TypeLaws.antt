@@ -3,13 +3,13 @@ use Rattle.std.proofs.Common.{◌≡◌, ◌||◌, inl, inr, ℕ, true, false, L
 use Rattle.std.proofs.Common.{subst, slice_get}
 use Rattle.std.specs.Prelude.{option_to_list}
 use Rattle.std.specs.List.{list_any}
-use Rattle.cjc_card_semantics.specs.Script.declared.value.Value.{Value}
-use Rattle.cjc_card_semantics.specs.Script.declared.value.Value.TheVariants.{Num, Null, Obj}
-use Rattle.cjc_card_semantics.specs.Script.Sorts.{Element, Booleans, Bytes, Shorts, Ints, Shape, OfClass, OfNumbers}
-use Rattle.cjc_card_semantics.specs.Script.Sorts.{OfReferences}
-use Rattle.cjc_card_acts.specs.Types.declared.cell.Cell.{Cell}
-use Rattle.cjc_card_acts.specs.Types.declared.cell.Cell.TheVariants.{Number, Refs, Unusable}
-use Rattle.cjc_card_acts.specs.Types.Rules.{all_types}
+use Rattle.cjc_script.specs.declared.value.Value.{Value}
+use Rattle.cjc_script.specs.declared.value.Value.TheVariants.{Num, Null, Obj}
+use Rattle.cjc_script.specs.Sorts.{Element, Booleans, Bytes, Shorts, Ints, Shape, OfClass, OfNumbers}
+use Rattle.cjc_script.specs.Sorts.{OfReferences}
+use Rattle.cjc_types.specs.declared.cell.Cell.{Cell}
+use Rattle.cjc_types.specs.declared.cell.Cell.TheVariants.{Number, Refs, Unusable}
+use Rattle.cjc_types.specs.Rules.{all_types}
 use Rattle.cjc_card_semantics.specs.Bytecode.Effects.{HeapObject, shape}
 use Rattle.cjc_card_semantics.specs.Machine.Loaded.{Loaded}
 use Rattle.cjc_card_semantics.specs.Machine.Classes.{Class, Field, same_element, is_kind_of, is_object, object_class}
@@ -19,7 +19,7 @@ use Rattle.cjc_verify_proof.specs.Words.{IsOneOf, IsWord}
 use Rattle.cjc_verify_proof.specs.Heaps.{thing_is, object_is}
 use Rattle.cjc_card_semantics.proofs.MachineLaws.Upwards.{kind_itself, kind_through}
 use Rattle.cjc_verify_proof.proofs.HeapLaws.{passes_in}
-use Rattle.cjc_card_semantics.proofs.BytesBools.{or_cases}
+use Rattle.cjc_script.proofs.BytesBools.{or_cases}
 
 -- ---- types
 

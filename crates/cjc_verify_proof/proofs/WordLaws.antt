@@ -3,14 +3,14 @@ use Rattle.std.proofs.Common.{◌≡◌, ◌≤◌, ◌<◌, ℕ, zero, suc, Boo
 use Rattle.std.proofs.Common.{◌++◌, length, take, drop, slice_get, slice_set, Option, Some, None, refl, ap, arith, ℤ}
 use Rattle.std.specs.List.{AllZip}
 use Rattle.std.proofs.lemmas.Bool.{or_parts}
-use Rattle.cjc_card_semantics.specs.Script.declared.value.Value.{Value}
-use Rattle.cjc_card_semantics.specs.Script.declared.value.Value.TheVariants.{Num, Null, Obj}
-use Rattle.cjc_card_acts.specs.Types.declared.cell.Cell.{Cell}
-use Rattle.cjc_card_acts.specs.Types.declared.cell.Cell.TheVariants.{Number, Refs, Unusable}
-use Rattle.cjc_card_acts.specs.Types.Cells.{IsCellBelow}
-use Rattle.cjc_card_acts.specs.Types.Steps.{operand}
-use Rattle.cjc_card_acts.specs.Types.Rules.{is_number, is_reference}
-use Rattle.cjc_card_acts.specs.Frames.Acts.{Subtype, has_wrong}
+use Rattle.cjc_script.specs.declared.value.Value.{Value}
+use Rattle.cjc_script.specs.declared.value.Value.TheVariants.{Num, Null, Obj}
+use Rattle.cjc_types.specs.declared.cell.Cell.{Cell}
+use Rattle.cjc_types.specs.declared.cell.Cell.TheVariants.{Number, Refs, Unusable}
+use Rattle.cjc_types.specs.Cells.{IsCellBelow}
+use Rattle.cjc_types.specs.Steps.{operand}
+use Rattle.cjc_types.specs.Rules.{is_number, is_reference}
+use Rattle.cjc_frames.specs.Acts.{Subtype, has_wrong}
 use Rattle.cjc_card_acts.specs.Rows.{number_words}
 use Rattle.cjc_verify_proof.specs.Words.{IsWord, IsLocal, AreWords, AreLocals}
 

@@ -1,8 +1,8 @@
 -- What rows that see the stack and the locals alone take and give.
 use Rattle.std.specs.Prelude.{◌≡◌, ℕ, false, List, None, ℤ}
-use Rattle.cjc_card_acts.specs.Types.declared.cell.Cell.{Cell}
-use Rattle.cjc_card_acts.specs.Frames.declared.acts.Act.{Act}
-use Rattle.cjc_card_acts.specs.Frames.Acts.{Subtype, is_wrong, is_off}
+use Rattle.cjc_types.specs.declared.cell.Cell.{Cell}
+use Rattle.cjc_frames.specs.declared.acts.Act.{Act}
+use Rattle.cjc_frames.specs.Acts.{Subtype, is_wrong, is_off}
 use Rattle.cjc_card_acts.specs.Rows.{Row, Pushes, Loads, Stores, Increases, Pops, Copies, CopiesBelow, Swaps}
 use Rattle.cjc_card_acts.specs.Rows.{Calculates}
 use Rattle.cjc_card_acts.specs.Rows.{any_words, idle, pushing, loading, storing, increasing, with_local, copying}

@@ -9,9 +9,9 @@ use Rattle.cjc_card_semantics.specs.Bytecode.Effects.{Letter, Reference, Short, 
 use Rattle.cjc_card_semantics.specs.Bytecode.Effects.{Return}
 use Rattle.cjc_card_semantics.specs.Bytecode.Meanings.{Meaning, Plain, Branches, Ranged, Paired, Touches, Use, Nothing}
 use Rattle.cjc_card_semantics.specs.Bytecode.Meanings as meanings
-use Rattle.cjc_card_acts.specs.Frames.declared.acts.Need.{Need}
-use Rattle.cjc_card_acts.specs.Frames.declared.acts.Need.TheVariants.{NumberWord, ReferenceWord}
-use Rattle.cjc_card_acts.specs.Frames.declared.acts.Given.TheVariants.{ANumber, ANull}
+use Rattle.cjc_frames.specs.declared.acts.Need.{Need}
+use Rattle.cjc_frames.specs.declared.acts.Need.TheVariants.{NumberWord, ReferenceWord}
+use Rattle.cjc_frames.specs.declared.acts.Given.TheVariants.{ANumber, ANull}
 use Rattle.cjc_card_acts.specs.Rows.{Row, Pushes, Loads, Stores, Increases, Pops, Copies, CopiesBelow, Swaps}
 use Rattle.cjc_card_acts.specs.Rows.{Calculates}
 use Rattle.cjc_card_acts.specs.Rows.{LoadsItem, StoresItem, CountsItems, Throws, Jumps, Switches, Returns, Forbidden}

@@ -1,11 +1,11 @@
 -- Instructions that jump, throw or return.
 use Rattle.std.specs.Prelude.{◌≡◌, ℕ, Bool, true, false, List, [], ◌∷◌, map, reverse, Contains}
-use Rattle.cjc_card_acts.specs.Types.declared.cell.Cell.{Cell}
+use Rattle.cjc_types.specs.declared.cell.Cell.{Cell}
 use Rattle.cjc_card_semantics.specs.Bytecode.Effects.{Memory, Effect, Go, Raise, Toss, Invoke, Leave, Stick}
 use Rattle.cjc_card_semantics.specs.Machine.Loaded.{Loaded}
 use Rattle.cjc_card_semantics.specs.Machine.Classes.{Class, Field}
 use Rattle.cjc_card_semantics.specs.Machine.Operations.{Callee}
-use Rattle.cjc_card_acts.specs.Frames.Acts.{given}
+use Rattle.cjc_frames.specs.Acts.{given}
 use Rattle.cjc_card_acts.specs.CardTypes.{ValueType, words}
 use Rattle.cjc_verify_proof.specs.Words.{AreWords, AreLocals}
 use Rattle.cjc_verify_proof.specs.Heaps.{object_is}

@@ -3,15 +3,15 @@ use Rattle.std.specs.Prelude.{Bool}
 use Rattle.std.specs.Prelude.{◌≡◌, ℕ, suc, zero, ◌+◌, true, false, List, [], ◌∷◌, length, drop, slice_get, Option}
 use Rattle.std.specs.Prelude.{Some, Contains}
 use Rattle.std.specs.List.{AllZip}
-use Rattle.cjc_card_acts.specs.Types.Fixpoint.Tables.{HasRow, IsClosed}
+use Rattle.cjc_types.specs.Fixpoint.Tables.{HasRow, IsClosed}
 use Rattle.cjc_card_semantics.specs.CapRead.declared.tree.Handler.{Handler}
 use Rattle.cjc_card_semantics.specs.CapRead.declared.tree.PoolEntry.{PoolEntry}
-use Rattle.cjc_card_semantics.specs.Script.declared.report.Outcome.{Outcome}
-use Rattle.cjc_card_semantics.specs.Script.declared.report.Outcome.TheVariants.{Done, Running, Waiting, Unfit, Stuck}
-use Rattle.cjc_card_semantics.specs.Script.Sorts.{OfClass}
-use Rattle.cjc_card_acts.specs.Types.declared.cell.Cell.{Cell}
-use Rattle.cjc_card_acts.specs.Types.declared.state.Stack.TheVariants.{Cells}
-use Rattle.cjc_card_acts.specs.Types.declared.state.State.{State}
+use Rattle.cjc_script.specs.declared.report.Outcome.{Outcome}
+use Rattle.cjc_script.specs.declared.report.Outcome.TheVariants.{Done, Running, Waiting, Unfit, Stuck}
+use Rattle.cjc_script.specs.Sorts.{OfClass}
+use Rattle.cjc_types.specs.declared.cell.Cell.{Cell}
+use Rattle.cjc_types.specs.declared.state.Stack.TheVariants.{Cells}
+use Rattle.cjc_types.specs.declared.state.State.{State}
 use Rattle.cjc_card_semantics.specs.Bytecode.Effects.{HeapObject, Memory}
 use Rattle.cjc_card_semantics.specs.Bytecode.Machine.{Start, Frame, Turn, Next, Ended, StuckAt, Fetched}
 use Rattle.cjc_card_semantics.specs.Machine.Loaded.{Part, Loaded}
@@ -19,10 +19,10 @@ use Rattle.cjc_card_semantics.specs.Machine.Classes.{Class, Field}
 use Rattle.cjc_card_semantics.specs.Machine.Statics.{Image, StaticCell}
 use Rattle.cjc_card_semantics.specs.Machine.Operations.{Callee, class_at}
 use Rattle.cjc_card_semantics.specs.Machine.Methods.{Code, fetch}
-use Rattle.cjc_card_acts.specs.Frames.declared.acts.Step.{Step}
-use Rattle.cjc_card_acts.specs.Frames.declared.acts.Catch.{Catch}
-use Rattle.cjc_card_acts.specs.Frames.Flow.{Body, place_at, covers, frame_flow}
-use Rattle.cjc_card_acts.specs.Frames.Tables.{Breach}
+use Rattle.cjc_frames.specs.declared.acts.Step.{Step}
+use Rattle.cjc_frames.specs.declared.acts.Catch.{Catch}
+use Rattle.cjc_frames.specs.Flow.{Body, place_at, covers, frame_flow}
+use Rattle.cjc_frames.specs.Tables.{Breach}
 use Rattle.cjc_card_acts.specs.CardTypes.{ValueType, words as words_of, shape_by, is_type_of}
 use Rattle.cjc_verify_proof.specs.Words.{AreWords, AreLocals}
 use Rattle.cjc_verify_proof.specs.Heaps.{object_is}
@@ -104,7 +104,8 @@ pub record Runs (l : Loaded) (heap : List (HeapObject Class Field)) (t : Typing)
   pub words : AreWords (object_is l heap) stands.cells f.stack
 
 -- A frame waits at a call for a result of a type: what the call took is gone, and the next instruction follows.
-pub record Waits (l : Loaded) (heap : List (HeapObject Class Field)) (result : ValueType) (t : Typing) (f : Frame Code) :
+pub record Waits (l : Loaded) (heap : List (HeapObject Class Field)) (result : ValueType) (t : Typing)
+    (f : Frame Code) :
     Type 0 where
   pub stands : Stands l heap t f
   pub words : (let s = stands.step in let a = s.act in AreWords (object_is l heap) (drop (length a.takes) stands.cells)

@@ -1,8 +1,8 @@
 -- Heaps that grow: what is there keeps its shape, and more may come.
 use Rattle.std.specs.Prelude.{◌≡◌, ℕ, List, [], ◌∷◌, ◌++◌, slice_get, Some, replicate, pos}
-use Rattle.cjc_card_semantics.specs.Script.declared.value.Value.TheVariants.{Null}
-use Rattle.cjc_card_semantics.specs.Script.Sorts.{Element, Shape}
-use Rattle.cjc_card_acts.specs.Types.declared.cell.Cell.{Cell}
+use Rattle.cjc_script.specs.declared.value.Value.TheVariants.{Null}
+use Rattle.cjc_script.specs.Sorts.{Element, Shape}
+use Rattle.cjc_types.specs.declared.cell.Cell.{Cell}
 use Rattle.cjc_card_semantics.specs.Bytecode.Effects.{HeapObject, Numbers, References, Memory, Effect, Go, Raise, Toss}
 use Rattle.cjc_card_semantics.specs.Bytecode.Effects.{Invoke, Leave, Stick}
 use Rattle.cjc_card_semantics.specs.Machine.Loaded.{Loaded}

@@ -1,20 +1,21 @@
 -- What instructions ask of the machine beside what they take and give, where the constant pool is read.
 use Rattle.std.specs.Prelude.{◌≡◌, ℕ, Bool, true, false, List, [], ◌∷◌, ◌++◌, map, Option, Some, ℤ}
 use Rattle.cjc_card_semantics.specs.CapRead.Opcodes.{Operand}
-use Rattle.cjc_card_semantics.specs.Script.Sorts.{Element, Shape, OfClass, OfNumbers, OfReferences}
+use Rattle.cjc_script.specs.Sorts.{Element, Shape, OfClass, OfNumbers, OfReferences}
 use Rattle.cjc_card_semantics.specs.Bytecode.Calculations.{Calculation, Test}
 use Rattle.cjc_card_semantics.specs.Bytecode.Effects.{Letter, Arm, Operation, Do, Branch, Pick, Touch, Load, Store}
-use Rattle.cjc_card_semantics.specs.Bytecode.Effects.{Length, Throw, Return, Get, Put, GetStatic, PutStatic, Call, New, NewNumbers}
+use Rattle.cjc_card_semantics.specs.Bytecode.Effects.{Length, Throw, Return, Get, Put, GetStatic, PutStatic, Call, New}
+use Rattle.cjc_card_semantics.specs.Bytecode.Effects.{NewNumbers}
 use Rattle.cjc_card_semantics.specs.Bytecode.Effects.{NewReferences, Cast, Ask}
 use Rattle.cjc_card_semantics.specs.Bytecode.Effects.{Memory, Effect, Go, Raise, Toss, Invoke, Leave, Stick}
 use Rattle.cjc_card_semantics.specs.Machine.Loaded.{Loaded}
 use Rattle.cjc_card_semantics.specs.Machine.Classes.{Class, Field, is_interface}
 use Rattle.cjc_card_semantics.specs.Machine.Statics.{Image, StaticCell}
 use Rattle.cjc_card_semantics.specs.Machine.Operations.{Callee}
-use Rattle.cjc_card_acts.specs.Frames.declared.acts.Need.{Need}
-use Rattle.cjc_card_acts.specs.Frames.declared.acts.Need.TheVariants.{NumberWord, ReferenceWord, OfType, OfArrays}
-use Rattle.cjc_card_acts.specs.Frames.declared.acts.Given.TheVariants.{ANumber, AnObject}
-use Rattle.cjc_card_acts.specs.Frames.declared.acts.Act.{Act}
+use Rattle.cjc_frames.specs.declared.acts.Need.{Need}
+use Rattle.cjc_frames.specs.declared.acts.Need.TheVariants.{NumberWord, ReferenceWord, OfType, OfArrays}
+use Rattle.cjc_frames.specs.declared.acts.Given.TheVariants.{ANumber, AnObject}
+use Rattle.cjc_frames.specs.declared.acts.Act.{Act}
 use Rattle.cjc_card_acts.specs.Rows.{Row, idle, reading, number_words, loading_item, storing_item}
 use Rattle.cjc_card_acts.specs.CardTypes.{ValueType, words, needs_of, is_moved_by, is_returned_by, all_arrays}
 use Rattle.cjc_card_acts.specs.CardTypes.{shape_by}
@@ -80,12 +81,15 @@ pub data Suits (l : Loaded) (program : Program) (result : ValueType) : Act → O
   putstatic : (c : StaticCell) (letter : Letter) (type : ValueType)
       → (let fields = program.fields in fields.cell c ≡ Some type) → is_moved_by letter type ≡ true
       → Suits l program result (record idle { takes = needs_of type }) (PutStatic letter c)
-  new : (class : Class) (name : List ℕ) → program.made class ≡ true → is_interface l class ≡ false → shape_by l name ≡ Some (OfClass class)
+  new : (class : Class) (name : List ℕ) → program.made class ≡ true → is_interface l class ≡ false → shape_by l name
+      ≡ Some (OfClass class)
       → Suits l program result (record idle { gives = AnObject name ∷ [] }) (New class)
   call : {a : Act} {callee : Callee} → Calls l program a callee → Suits l program result a (Call callee)
 
--- Where an instruction goes on, arrays, objects and static fields hold what they may, and all of them are made as before.
-abbrev pub HoldsOn : Loaded → Program → (m : Memory Class Field (List Image)) → Effect Class Field Callee (List Image) → Type 0
+-- Where an instruction goes on, arrays, objects and static fields hold what they may, and all of them are made as
+-- before.
+abbrev pub HoldsOn : Loaded → Program → (m : Memory Class Field (List Image)) → Effect Class Field Callee (List Image)
+    → Type 0
 HoldsOn l program m (Go at stack locals memory) = IsMemory l program.fields memory × (AreMade program m.heap
     → AreMade program memory.heap)
 HoldsOn l program m (Raise fault) = Unit {0}

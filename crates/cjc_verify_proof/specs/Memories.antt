@@ -5,7 +5,7 @@ use Rattle.cjc_card_semantics.specs.CapRead.declared.tree.ArrayInit.{ArrayInit}
 use Rattle.cjc_card_semantics.specs.CapRead.declared.tree.StaticField.{StaticField}
 use Rattle.cjc_card_semantics.specs.CapRead.declared.tree.ClassEntry.{ClassEntry}
 use Rattle.cjc_card_semantics.specs.CapRead.declared.tree.ClassRef.{ClassRef}
-use Rattle.cjc_card_semantics.specs.Script.Sorts.{OfNumbers}
+use Rattle.cjc_script.specs.Sorts.{OfNumbers}
 use Rattle.cjc_card_semantics.specs.Bytecode.Effects.{HeapObject, Numbers, References, Object, Slot, Memory, Effect}
 use Rattle.cjc_card_semantics.specs.Bytecode.Effects.{slot_of, Go, Raise, Toss, Invoke, Leave, Stick, Letter}
 use Rattle.cjc_card_semantics.specs.Machine.Loaded.{Loaded}
@@ -14,7 +14,7 @@ use Rattle.cjc_card_semantics.specs.Machine.Classes.{class_of, info_of, is_in, i
 use Rattle.cjc_card_semantics.specs.Machine.Classes.{is_reference_token, object_class, some_of, supers}
 use Rattle.cjc_card_semantics.specs.Machine.Statics.{Image, StaticCell, element_of, get_static}
 use Rattle.cjc_card_semantics.specs.Machine.Operations.{Callee}
-use Rattle.cjc_card_acts.specs.Types.declared.cell.Cell.{Cell}
+use Rattle.cjc_types.specs.declared.cell.Cell.{Cell}
 use Rattle.cjc_card_acts.specs.CardTypes.{ValueType, Void, Boolean, Byte, Short, Int, Reference, is_moved_by, shape_by}
 use Rattle.cjc_verify_proof.specs.Words.{AreWords, AreLocals}
 use Rattle.cjc_verify_proof.specs.Heaps.{object_is, AreFit}

@@ -1,10 +1,11 @@
 -- Arrays of references, and what they hold.
 use Rattle.std.specs.Prelude.{◌≡◌, ℕ, true, List, slice_get, slice_set, Some, All}
-use Rattle.cjc_card_semantics.specs.Script.declared.value.Value.{Value}
-use Rattle.cjc_card_semantics.specs.Script.declared.value.Value.TheVariants.{Num, Null, Obj}
-use Rattle.cjc_card_semantics.specs.Script.Sorts.{OfClass}
-use Rattle.cjc_card_acts.specs.Types.declared.cell.Cell.{Cell}
-use Rattle.cjc_card_semantics.specs.Bytecode.Effects.{HeapObject, Numbers, References, Object, Memory, Effect, Go, Raise}
+use Rattle.cjc_script.specs.declared.value.Value.{Value}
+use Rattle.cjc_script.specs.declared.value.Value.TheVariants.{Num, Null, Obj}
+use Rattle.cjc_script.specs.Sorts.{OfClass}
+use Rattle.cjc_types.specs.declared.cell.Cell.{Cell}
+use Rattle.cjc_card_semantics.specs.Bytecode.Effects.{HeapObject, Numbers, References, Object, Memory, Effect, Go}
+use Rattle.cjc_card_semantics.specs.Bytecode.Effects.{Raise}
 use Rattle.cjc_card_semantics.specs.Bytecode.Effects.{Toss, Invoke, Leave, Stick, with_thing}
 use Rattle.cjc_card_semantics.specs.Machine.Loaded.{Loaded}
 use Rattle.cjc_card_semantics.specs.Machine.Classes.{Class, Field}

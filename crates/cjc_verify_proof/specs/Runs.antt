@@ -1,7 +1,7 @@
 -- Programs whose instructions are what their acts say, and what their runs come to.
 use Rattle.std.specs.Prelude.{◌≡◌, ℕ, true, false, List, [], map, slice_get, Option, Some, None, Contains}
-use Rattle.cjc_card_semantics.specs.Bytes.declared.fault.MemberId.{MemberId}
-use Rattle.cjc_card_semantics.specs.Script.Sorts.{Shape, Signature, signature_of}
+use Rattle.cjc_script.specs.Bytes.declared.fault.MemberId.{MemberId}
+use Rattle.cjc_script.specs.Sorts.{Shape, Signature, signature_of}
 use Rattle.cjc_card_semantics.specs.Bytecode.Machine.{Start, Fetched}
 use Rattle.cjc_card_semantics.specs.Machine.Loaded.{Loaded}
 use Rattle.cjc_card_semantics.specs.Machine.Classes.{Class, External, Field, is_interface}
@@ -9,10 +9,10 @@ use Rattle.cjc_card_semantics.specs.Machine.Statics.{StaticCell, first_memory}
 use Rattle.cjc_card_semantics.specs.Machine.Operations.{Callee}
 use Rattle.cjc_card_semantics.specs.Machine.Methods.{Code, fetch}
 use Rattle.cjc_card_semantics.specs.Machine.Calls.{called, sent}
-use Rattle.cjc_card_acts.specs.Types.Fixpoint.Tables.{HasRow}
-use Rattle.cjc_card_acts.specs.Types.declared.state.State.{State}
-use Rattle.cjc_card_acts.specs.Frames.declared.acts.Step.{Step}
-use Rattle.cjc_card_acts.specs.Frames.Acts.{given}
+use Rattle.cjc_types.specs.Fixpoint.Tables.{HasRow}
+use Rattle.cjc_types.specs.declared.state.State.{State}
+use Rattle.cjc_frames.specs.declared.acts.Step.{Step}
+use Rattle.cjc_frames.specs.Acts.{given}
 use Rattle.cjc_card_acts.specs.CardTypes.{ValueType}
 use Rattle.cjc_verify_proof.specs.Memories.{IsMemory, SupersStand, AreDeclared}
 use Rattle.cjc_verify_proof.specs.Frames.{Typing, Program, AreMethods, Begins}
@@ -44,7 +44,8 @@ pub record IsEntry (l : Loaded) (program : Program) (receiver : Option (Shape Cl
   pub arguments : map (given [] []) (let b = method.body in b.arguments) ≡ argument_cells holder params
 
 -- The methods of a program are typed and their instructions that are reached are what their acts say, exceptions are
--- there, entries begin methods of the program on what is made, its fields have slots, and the first memory holds what it
+-- there, entries begin methods of the program on what is made, its fields have slots, and the first memory holds what
+-- it
 -- may.
 pub record IsProgram (l : Loaded) (program : Program) : Type 0 where
   pub methods : AreMethods l program

@@ -5,7 +5,7 @@ use Rattle.cjc_card_semantics.specs.Bytecode.Machine.{Turn, Next, Ended, StuckAt
 use Rattle.cjc_card_semantics.specs.Machine.Loaded.{Loaded}
 use Rattle.cjc_card_semantics.specs.Machine.Classes.{Class, Own, External, Field, external_named, fault_class}
 use Rattle.cjc_card_semantics.specs.Machine.Classes.{is_interface, is_kind_of}
-use Rattle.cjc_card_semantics.specs.Script.Sorts.{OfClass}
+use Rattle.cjc_script.specs.Sorts.{OfClass}
 use Rattle.cjc_card_semantics.specs.Bytecode.Calculations.{Fault}
 use Rattle.cjc_card_acts.specs.CardTypes.{shape_by}
 use Rattle.cjc_card_semantics.specs.Machine.Statics.{Image}

@@ -2,10 +2,10 @@
 use Rattle.std.specs.Prelude.{slice_get}
 use Rattle.std.specs.Prelude.{◌≡◌, ℕ, true, List, [], ◌++◌, map, length, reverse, Option, Some, None}
 use Rattle.std.specs.Prelude.{Contains}
-use Rattle.cjc_card_semantics.specs.Bytes.declared.fault.MemberId.{MemberId}
-use Rattle.cjc_card_semantics.specs.Script.Sorts.{Shape, OfClass, OfNumbers, OfReferences, Signature, signature_of}
-use Rattle.cjc_card_acts.specs.Types.declared.cell.Cell.{Cell}
-use Rattle.cjc_card_acts.specs.Types.declared.state.Stack.TheVariants.{Cells}
+use Rattle.cjc_script.specs.Bytes.declared.fault.MemberId.{MemberId}
+use Rattle.cjc_script.specs.Sorts.{Shape, OfClass, OfNumbers, OfReferences, Signature, signature_of}
+use Rattle.cjc_types.specs.declared.cell.Cell.{Cell}
+use Rattle.cjc_types.specs.declared.state.Stack.TheVariants.{Cells}
 use Rattle.cjc_card_semantics.specs.Bytecode.Effects.{HeapObject, Memory, Effect, Go, Raise, Toss, Invoke, Leave, Stick}
 use Rattle.cjc_card_semantics.specs.Bytecode.Machine.{Start, Reached, Within, Abroad, Turn}
 use Rattle.cjc_card_semantics.specs.Machine.Loaded.{Loaded}
@@ -14,8 +14,8 @@ use Rattle.cjc_card_semantics.specs.Machine.Statics.{Image}
 use Rattle.cjc_card_semantics.specs.Machine.Operations.{Callee}
 use Rattle.cjc_card_semantics.specs.Machine.Methods.{Code}
 use Rattle.cjc_card_semantics.specs.Machine.Calls.{on_object, words, reached}
-use Rattle.cjc_card_acts.specs.Frames.declared.acts.Act.{Act}
-use Rattle.cjc_card_acts.specs.Frames.Acts.{given, stack_behind, with_writes}
+use Rattle.cjc_frames.specs.declared.acts.Act.{Act}
+use Rattle.cjc_frames.specs.Acts.{given, stack_behind, with_writes}
 use Rattle.cjc_card_acts.specs.CardTypes.{ValueType, needs_of_all, shape_by, both_of}
 use Rattle.cjc_card_acts.specs.CardTypes as types
 use Rattle.cjc_verify_proof.specs.Words.{AreWords, AreLocals}
@@ -47,7 +47,8 @@ IsHeld l None (Some type) = ⊥
 IsHeld l (Some kind) None = ⊥
 IsHeld l (Some kind) (Some type) = both_of l (Some kind) (shape_by l type) ≡ true
 
--- What a call on a receiver of a type reaches has these parameters and this result: a method that begins, or an imported
+-- What a call on a receiver of a type reaches has these parameters and this result: a method that begins, or an
+-- imported
 -- one.
 pub data IsReached (l : Loaded) (program : Program) (receiver : Option (Shape Class)) (params : List ValueType)
     (result : ValueType) : Reached Code → Type 0 where
@@ -82,7 +83,8 @@ pub record Calls (l : Loaded) (program : Program) (a : Act) (callee : Callee) : 
 -- ---- turns
 
 -- What the machine does at an instruction of a method with this result is what the act says: it goes on where that
--- leads, with a stack and locals of what it gives, or raises, or throws an exception, or leaves with a result, or calls.
+-- leads, with a stack and locals of what it gives, or raises, or throws an exception, or leaves with a result, or
+-- calls.
 abbrev pub Does : Loaded → (program : Program) → (result : ValueType) → Act → (next : ℕ) (locals cells : List Cell)
     → (m : Memory Class Field (List Image)) → Effect Class Field Callee (List Image) → Type 0
 Does l program result a next lc cs m (Go at stack locals memory) = Contains (next_if a.falls next ++ a.targets) at

@@ -1,7 +1,7 @@
 -- Values of the types that Descriptor writes, where objects are of card types in any way.
 use Rattle.std.specs.Prelude.{◌≡◌, ℕ, Bool, true, List, [], ◌∷◌, Option, Some, None}
-use Rattle.cjc_card_semantics.specs.Script.declared.value.Value.{Value}
-use Rattle.cjc_card_semantics.specs.Script.declared.value.Value.TheVariants.{Num, Null, Obj}
+use Rattle.cjc_script.specs.declared.value.Value.{Value}
+use Rattle.cjc_script.specs.declared.value.Value.TheVariants.{Num, Null, Obj}
 use Rattle.cjc_card_semantics.specs.Bytecode.Numbers.{is_word}
 use Rattle.cjc_card_acts.specs.CardTypes.{ValueType, Void, Boolean, Byte, Short, Int, Reference}
 use Rattle.cjc_verify_proof.specs.Words.{IsNumber, IsReference}

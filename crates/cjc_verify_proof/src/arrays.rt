@@ -1,18 +1,18 @@
 //! Rows of the table of opcodes that read or write arrays: the machine is not stuck on an array whose card types begin
 //! as the row says. It has laws alone, for whoever proves that components which break no rule are never stuck.
 ghost use Rattle.std.specs.Prelude.{◌≡◌, ℕ, true, false, List, ◌∷◌, ◌++◌, length, nat_lt, Option, ℤ};
-ghost use Rattle.cjc_card_semantics.specs.Script.declared.value.Value.{Value};
-ghost use Rattle.cjc_card_semantics.specs.Script.declared.value.Value.TheVariants.{Num};
-ghost use Rattle.cjc_card_acts.specs.Types.Rules.{all_types};
-ghost use Rattle.cjc_card_acts.specs.Types.declared.cell.Cell.{Cell};
-ghost use Rattle.cjc_card_acts.specs.Types.declared.cell.Cell.TheVariants.{Number};
+ghost use Rattle.cjc_script.specs.declared.value.Value.{Value};
+ghost use Rattle.cjc_script.specs.declared.value.Value.TheVariants.{Num};
+ghost use Rattle.cjc_types.specs.Rules.{all_types};
+ghost use Rattle.cjc_types.specs.declared.cell.Cell.{Cell};
+ghost use Rattle.cjc_types.specs.declared.cell.Cell.TheVariants.{Number};
 ghost use Rattle.cjc_card_semantics.specs.Bytecode.Effects.{Letter, Reference, Byte, Short, Int, Length};
 ghost use Rattle.cjc_card_semantics.specs.Bytecode.Effects.{Classes, Memory, load_number, store_number};
 ghost use Rattle.cjc_card_semantics.specs.Bytecode.Effects.{effect_of_access};
 ghost use Rattle.cjc_card_semantics.specs.Machine.Statics.{Image, StaticCell};
 ghost use Rattle.cjc_card_semantics.specs.Machine.Loaded.{Loaded};
 ghost use Rattle.cjc_card_semantics.specs.Machine.Classes.{Class, Field};
-ghost use Rattle.cjc_card_acts.specs.Frames.Types.{begins_with};
+ghost use Rattle.cjc_frames.specs.Types.{begins_with};
 ghost use Rattle.cjc_card_acts.specs.CardTypes.{arrays_of, all_arrays};
 ghost use Rattle.cjc_verify_proof.specs.Words.{IsWord, AreWords, AreLocals};
 ghost use Rattle.cjc_verify_proof.specs.Heaps.{object_is, AreFit, Onward, Stored, item_cells};

@@ -3,11 +3,11 @@
 //! are never stuck.
 ghost use Rattle.std.specs.Prelude.{◌≡◌, ◌≤◌, ℕ, Bool, true, false, List, ◌++◌, length, take, reverse, Option, Some};
 ghost use Rattle.std.specs.Prelude.{Contains};
-ghost use Rattle.cjc_card_semantics.specs.Bytes.declared.fault.MemberId.{MemberId};
-ghost use Rattle.cjc_card_semantics.specs.Script.declared.value.Value.{Value};
-ghost use Rattle.cjc_card_semantics.specs.Script.declared.script.Act.{Act};
-ghost use Rattle.cjc_card_semantics.specs.Script.Sorts.{Sort, Signature, signature_of, result_fits};
-ghost use Rattle.cjc_card_acts.specs.Types.declared.cell.Cell.{Cell};
+ghost use Rattle.cjc_script.specs.Bytes.declared.fault.MemberId.{MemberId};
+ghost use Rattle.cjc_script.specs.declared.value.Value.{Value};
+ghost use Rattle.cjc_script.specs.declared.script.Act.{Act};
+ghost use Rattle.cjc_script.specs.Sorts.{Sort, Signature, signature_of, result_fits};
+ghost use Rattle.cjc_types.specs.declared.cell.Cell.{Cell};
 ghost use Rattle.cjc_card_semantics.specs.Bytecode.Calculations.{Fault};
 ghost use Rattle.cjc_card_semantics.specs.Bytecode.Effects.{HeapObject};
 ghost use Rattle.cjc_card_semantics.specs.Bytecode.Arguments.{event_values, result_words};
@@ -18,7 +18,7 @@ ghost use Rattle.cjc_card_semantics.specs.Machine.Classes.{Class, Field};
 ghost use Rattle.cjc_card_semantics.specs.Machine.Statics.{Image};
 ghost use Rattle.cjc_card_semantics.specs.Machine.Methods.{Code};
 ghost use Rattle.cjc_card_semantics.specs.Machine.ByToken.{by_token};
-ghost use Rattle.cjc_card_acts.specs.Frames.Acts.{has_wrong};
+ghost use Rattle.cjc_frames.specs.Acts.{has_wrong};
 ghost use Rattle.cjc_card_acts.specs.CardTypes.{ValueType, needs_of_all, is_type_of};
 ghost use Rattle.cjc_verify_proof.specs.Words.{AreWords};
 ghost use Rattle.cjc_verify_proof.specs.Heaps.{object_is};

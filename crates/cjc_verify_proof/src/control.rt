@@ -2,9 +2,9 @@
 //! leaves a method with words of its result. It has laws alone, for whoever proves that components which break no rule
 //! are never stuck.
 ghost use Rattle.std.specs.Prelude.{◌≡◌, ◌≤◌, ℕ, Bool, true, false, List, ◌∷◌, length, drop, map, Option};
-ghost use Rattle.cjc_card_semantics.specs.Script.declared.value.Value.{Value};
-ghost use Rattle.cjc_card_acts.specs.Types.declared.cell.Cell.{Cell};
-ghost use Rattle.cjc_card_acts.specs.Types.Rules.{all_types};
+ghost use Rattle.cjc_script.specs.declared.value.Value.{Value};
+ghost use Rattle.cjc_types.specs.declared.cell.Cell.{Cell};
+ghost use Rattle.cjc_types.specs.Rules.{all_types};
 ghost use Rattle.cjc_card_semantics.specs.Bytecode.Calculations.{Test};
 ghost use Rattle.cjc_card_semantics.specs.Bytecode.Effects.{Letter, Throw, Return, Arm, Memory, Classes};
 ghost use Rattle.cjc_card_semantics.specs.Bytecode.Effects.{effect_of_access, effect, Pick, Branch};
@@ -12,8 +12,8 @@ ghost use Rattle.cjc_card_semantics.specs.Machine.Loaded.{Loaded};
 ghost use Rattle.cjc_card_semantics.specs.Machine.Classes.{Class, Field};
 ghost use Rattle.cjc_card_semantics.specs.Machine.Statics.{Image, StaticCell};
 ghost use Rattle.cjc_card_semantics.specs.Machine.Operations.{Callee};
-ghost use Rattle.cjc_card_acts.specs.Frames.declared.acts.Need.{Need};
-ghost use Rattle.cjc_card_acts.specs.Frames.Acts.{Subtype, has_wrong};
+ghost use Rattle.cjc_frames.specs.declared.acts.Need.{Need};
+ghost use Rattle.cjc_frames.specs.Acts.{Subtype, has_wrong};
 ghost use Rattle.cjc_card_acts.specs.Rows.{number_words};
 ghost use Rattle.cjc_card_acts.specs.CardTypes.{ValueType, needs_of, is_returned_by, is_type_of};
 ghost use Rattle.cjc_verify_proof.specs.Words.{AreWords, AreLocals};

@@ -2,18 +2,19 @@
 //! machine is not stuck, and memory holds what it may afterwards. It has laws alone, for whoever proves that components
 //! which break no rule are never stuck.
 ghost use Rattle.std.specs.Prelude.{◌≡◌, ℕ, true, false, List, [], ◌∷◌, ◌++◌, Option, Some};
-ghost use Rattle.cjc_card_semantics.specs.Script.declared.value.Value.{Value};
-ghost use Rattle.cjc_card_semantics.specs.Script.Sorts.{OfClass};
-ghost use Rattle.cjc_card_acts.specs.Types.declared.cell.Cell.{Cell};
-ghost use Rattle.cjc_card_semantics.specs.Bytecode.Effects.{Letter, Memory, Get, Put, GetStatic, PutStatic, New, effect};
+ghost use Rattle.cjc_script.specs.declared.value.Value.{Value};
+ghost use Rattle.cjc_script.specs.Sorts.{OfClass};
+ghost use Rattle.cjc_types.specs.declared.cell.Cell.{Cell};
+ghost use Rattle.cjc_card_semantics.specs.Bytecode.Effects.{Letter, Memory, Get, Put, GetStatic, PutStatic, New};
+ghost use Rattle.cjc_card_semantics.specs.Bytecode.Effects.{effect};
 ghost use Rattle.cjc_card_semantics.specs.Machine.Loaded.{Loaded};
 ghost use Rattle.cjc_card_semantics.specs.Machine.Classes.{Class, Field, is_interface};
 ghost use Rattle.cjc_card_semantics.specs.Machine.Statics.{Image, StaticCell};
 ghost use Rattle.cjc_card_semantics.specs.Machine.ByToken.{classes};
-ghost use Rattle.cjc_card_acts.specs.Frames.declared.acts.Act.{Act};
-ghost use Rattle.cjc_card_acts.specs.Frames.declared.acts.Need.TheVariants.{OfType};
-ghost use Rattle.cjc_card_acts.specs.Frames.declared.acts.Given.TheVariants.{AnObject};
-ghost use Rattle.cjc_card_acts.specs.Frames.Acts.{stack_behind};
+ghost use Rattle.cjc_frames.specs.declared.acts.Act.{Act};
+ghost use Rattle.cjc_frames.specs.declared.acts.Need.TheVariants.{OfType};
+ghost use Rattle.cjc_frames.specs.declared.acts.Given.TheVariants.{AnObject};
+ghost use Rattle.cjc_frames.specs.Acts.{stack_behind};
 ghost use Rattle.cjc_card_acts.specs.Rows.{reading};
 ghost use Rattle.cjc_card_acts.specs.CardTypes.{ValueType, is_moved_by, is_type_of, needs_of, shape_by, words};
 ghost use Rattle.cjc_verify_proof.specs.Words.{AreWords, AreLocals};

@@ -3,9 +3,9 @@
 //! these turns is stuck. It has laws alone, for whoever proves that components which break no rule are never stuck.
 ghost use Rattle.std.specs.Prelude.{◌≡◌, ℕ, true, false, List, [], ◌∷◌, ◌++◌, map, reverse, slice_get, Option, Some};
 ghost use Rattle.std.specs.Prelude.{Contains};
-ghost use Rattle.cjc_card_semantics.specs.Script.declared.value.Value.{Value};
-ghost use Rattle.cjc_card_semantics.specs.Script.Sorts.{OfClass};
-ghost use Rattle.cjc_card_acts.specs.Types.declared.state.Stack.TheVariants.{Cells};
+ghost use Rattle.cjc_script.specs.declared.value.Value.{Value};
+ghost use Rattle.cjc_script.specs.Sorts.{OfClass};
+ghost use Rattle.cjc_types.specs.declared.state.Stack.TheVariants.{Cells};
 ghost use Rattle.cjc_card_semantics.specs.Bytecode.Effects.{HeapObject, Object};
 ghost use Rattle.cjc_card_semantics.specs.Bytecode.Machine.{Start, Frame, State, Turn, Fetched, frame_for_call};
 ghost use Rattle.cjc_card_semantics.specs.Bytecode.Machine.{turn_after_raise, turn_after_toss, left, inside};
@@ -15,7 +15,7 @@ ghost use Rattle.cjc_card_semantics.specs.Machine.Statics.{Image, StaticCell};
 ghost use Rattle.cjc_card_semantics.specs.Machine.Operations.{Callee};
 ghost use Rattle.cjc_card_semantics.specs.Machine.Methods.{Code, fetch};
 ghost use Rattle.cjc_card_semantics.specs.Machine.ByToken.{by_token};
-ghost use Rattle.cjc_card_acts.specs.Frames.Acts.{given, stack_behind, with_writes};
+ghost use Rattle.cjc_frames.specs.Acts.{given, stack_behind, with_writes};
 ghost use Rattle.cjc_card_acts.specs.CardTypes.{shape_by, both_of, is_type_of};
 ghost use Rattle.cjc_verify_proof.specs.Words.{AreWords, AreLocals};
 ghost use Rattle.cjc_verify_proof.specs.Heaps.{object_is};

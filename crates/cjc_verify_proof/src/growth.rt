@@ -1,9 +1,9 @@
 //! Heaps that grow or whose arrays change: words, locals and what arrays hold stay what they were. It has laws alone,
 //! for whoever proves that components which break no rule are never stuck.
 ghost use Rattle.std.specs.Prelude.{◌≡◌, true, List, [], ◌∷◌, ◌++◌, Option};
-ghost use Rattle.cjc_card_semantics.specs.Script.declared.value.Value.{Value};
-ghost use Rattle.cjc_card_semantics.specs.Script.Sorts.{Element, Shape};
-ghost use Rattle.cjc_card_acts.specs.Types.declared.cell.Cell.{Cell};
+ghost use Rattle.cjc_script.specs.declared.value.Value.{Value};
+ghost use Rattle.cjc_script.specs.Sorts.{Element, Shape};
+ghost use Rattle.cjc_types.specs.declared.cell.Cell.{Cell};
 ghost use Rattle.cjc_card_semantics.specs.Bytecode.Effects.{HeapObject, Memory};
 ghost use Rattle.cjc_card_semantics.specs.Machine.Loaded.{Loaded};
 ghost use Rattle.cjc_card_semantics.specs.Machine.Classes.{Class, Field, is_of};

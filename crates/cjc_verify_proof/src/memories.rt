@@ -1,17 +1,17 @@
 //! Memory holds what it may behind instructions that leave it as it is, make arrays or store into them. It has laws
 //! alone, for whoever proves that components which break no rule are never stuck.
 ghost use Rattle.std.specs.Prelude.{◌≡◌, ℕ, true, List, ◌∷◌, Option, ℤ};
-ghost use Rattle.cjc_card_semantics.specs.Script.declared.value.Value.{Value};
-ghost use Rattle.cjc_card_semantics.specs.Script.declared.value.Value.TheVariants.{Num};
-ghost use Rattle.cjc_card_semantics.specs.Script.Sorts.{Element};
-ghost use Rattle.cjc_card_acts.specs.Types.Rules.{all_types};
-ghost use Rattle.cjc_card_acts.specs.Types.declared.cell.Cell.{Cell};
+ghost use Rattle.cjc_script.specs.declared.value.Value.{Value};
+ghost use Rattle.cjc_script.specs.declared.value.Value.TheVariants.{Num};
+ghost use Rattle.cjc_script.specs.Sorts.{Element};
+ghost use Rattle.cjc_types.specs.Rules.{all_types};
+ghost use Rattle.cjc_types.specs.declared.cell.Cell.{Cell};
 ghost use Rattle.cjc_card_semantics.specs.Bytecode.Effects.{Byte, Short, Int, Classes, Effect, Memory, store_number};
 ghost use Rattle.cjc_card_semantics.specs.Machine.Loaded.{Loaded};
 ghost use Rattle.cjc_card_semantics.specs.Machine.Classes.{Class, Field};
 ghost use Rattle.cjc_card_semantics.specs.Machine.Operations.{Callee};
 ghost use Rattle.cjc_card_semantics.specs.Machine.Statics.{Image, StaticCell};
-ghost use Rattle.cjc_card_acts.specs.Frames.Types.{begins_with};
+ghost use Rattle.cjc_frames.specs.Types.{begins_with};
 ghost use Rattle.cjc_card_acts.specs.CardTypes.{arrays_of};
 ghost use Rattle.cjc_verify_proof.specs.Words.{IsWord, AreWords, AreLocals};
 ghost use Rattle.cjc_verify_proof.specs.Heaps.{object_is, Onward};

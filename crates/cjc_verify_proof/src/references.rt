@@ -2,11 +2,11 @@
 //! operands are what rows need and each array of references holds what its class says. It has laws alone, for whoever
 //! proves that components which break no rule are never stuck.
 ghost use Rattle.std.specs.Prelude.{◌≡◌, ℕ, true, false, List, [], ◌∷◌, length, nat_lt, Option, Some};
-ghost use Rattle.cjc_card_semantics.specs.Script.declared.value.Value.{Value};
-ghost use Rattle.cjc_card_semantics.specs.Script.Sorts.{Element, Shape, OfNumbers, OfReferences};
-ghost use Rattle.cjc_card_acts.specs.Types.declared.cell.Cell.{Cell};
-ghost use Rattle.cjc_card_acts.specs.Types.declared.cell.Cell.TheVariants.{Number, Refs};
-ghost use Rattle.cjc_card_acts.specs.Types.Rules.{is_reference, all_types};
+ghost use Rattle.cjc_script.specs.declared.value.Value.{Value};
+ghost use Rattle.cjc_script.specs.Sorts.{Element, Shape, OfNumbers, OfReferences};
+ghost use Rattle.cjc_types.specs.declared.cell.Cell.{Cell};
+ghost use Rattle.cjc_types.specs.declared.cell.Cell.TheVariants.{Number, Refs};
+ghost use Rattle.cjc_types.specs.Rules.{is_reference, all_types};
 ghost use Rattle.cjc_card_semantics.specs.Bytecode.Effects.{Reference, Memory, Classes, effect, NewNumbers};
 ghost use Rattle.cjc_card_semantics.specs.Bytecode.Effects.{NewReferences, Cast, Ask, load_reference_item};
 ghost use Rattle.cjc_card_semantics.specs.Bytecode.Effects.{store_reference};
@@ -14,7 +14,7 @@ ghost use Rattle.cjc_card_semantics.specs.Machine.Loaded.{Loaded};
 ghost use Rattle.cjc_card_semantics.specs.Machine.Classes.{Class, Field};
 ghost use Rattle.cjc_card_semantics.specs.Machine.Statics.{Image, StaticCell};
 ghost use Rattle.cjc_card_semantics.specs.Machine.ByToken.{classes};
-ghost use Rattle.cjc_card_acts.specs.Frames.Types.{begins_with, element_of};
+ghost use Rattle.cjc_frames.specs.Types.{begins_with, element_of};
 ghost use Rattle.cjc_card_acts.specs.CardTypes.{shape_by, arrays_of};
 ghost use Rattle.cjc_verify_proof.specs.Words.{AreWords, AreLocals};
 ghost use Rattle.cjc_verify_proof.specs.Heaps.{object_is, Onward};

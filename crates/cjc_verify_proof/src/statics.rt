@@ -1,7 +1,7 @@
 //! Static cells: each that has a type holds a value of it, before the first entry and behind each put. It has laws
 //! alone, for whoever proves that components which break no rule are never stuck.
 ghost use Rattle.std.specs.Prelude.{◌≡◌, true, List, [], ◌∷◌, Some};
-ghost use Rattle.cjc_card_semantics.specs.Script.declared.value.Value.{Value};
+ghost use Rattle.cjc_script.specs.declared.value.Value.{Value};
 ghost use Rattle.cjc_card_semantics.specs.Bytecode.Effects.{HeapObject, Letter};
 ghost use Rattle.cjc_card_semantics.specs.Machine.Loaded.{Loaded, Part};
 ghost use Rattle.cjc_card_semantics.specs.Machine.Classes.{Class, Field};

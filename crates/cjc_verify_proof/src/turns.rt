@@ -2,10 +2,10 @@
 //! stuck and leaves typed frames. It has laws alone, for whoever proves that components which break no rule are never
 //! stuck.
 ghost use Rattle.std.specs.Prelude.{◌≡◌, ℕ, List, ◌∷◌, Option, Some, Contains};
-ghost use Rattle.cjc_card_semantics.specs.Script.declared.value.Value.{Value};
-ghost use Rattle.cjc_card_semantics.specs.Script.declared.script.Script.{Script};
-ghost use Rattle.cjc_card_semantics.specs.Script.declared.report.Outcome.TheVariants.{Stuck};
-ghost use Rattle.cjc_card_acts.specs.Types.declared.cell.Cell.{Cell};
+ghost use Rattle.cjc_script.specs.declared.value.Value.{Value};
+ghost use Rattle.cjc_script.specs.declared.script.Script.{Script};
+ghost use Rattle.cjc_script.specs.declared.report.Outcome.TheVariants.{Stuck};
+ghost use Rattle.cjc_types.specs.declared.cell.Cell.{Cell};
 ghost use Rattle.cjc_card_semantics.specs.Bytecode.Effects.{Memory, Operation, Effect, effect};
 ghost use Rattle.cjc_card_semantics.specs.Bytecode.Machine.{Frame, State, Fetched, counted, step};
 ghost use Rattle.cjc_card_semantics.specs.Machine.Loaded.{Loaded};
@@ -15,7 +15,7 @@ ghost use Rattle.cjc_card_semantics.specs.Machine.Operations.{Callee};
 ghost use Rattle.cjc_card_semantics.specs.Machine.Methods.{Code, fetch};
 ghost use Rattle.cjc_card_semantics.specs.Machine.Calls.{words};
 ghost use Rattle.cjc_card_semantics.specs.Machine.ByToken.{classes, by_token, run};
-ghost use Rattle.cjc_card_acts.specs.Frames.declared.acts.Act.{Act};
+ghost use Rattle.cjc_frames.specs.declared.acts.Act.{Act};
 ghost use Rattle.cjc_card_acts.specs.CardTypes.{ValueType, is_type_of};
 ghost use Rattle.cjc_verify_proof.specs.Words.{AreWords, AreLocals};
 ghost use Rattle.cjc_verify_proof.specs.Acts.{Passes};

@@ -1,46 +1,49 @@
--- What the files of a package keep that breaks none of the rules of files, of classes and names, of limits and of tokens.
-use Rattle.std.proofs.Common.{◌≡◌, ℕ, zero, suc, ◌<◌, ◌≤◌, ◌^◌, refl, sym, ap, subst, ◌∙◌, arith, Bool, true, false, List, []}
+-- What the files of a package keep that breaks none of the rules of files, of classes and names, of limits and of
+-- tokens.
+use Rattle.std.proofs.Common.{◌≡◌, ℕ, zero, suc, ◌<◌, ◌≤◌, ◌^◌, refl, sym, ap, subst, ◌∙◌, arith, Bool, true, false}
+use Rattle.std.proofs.Common.{List, []}
 use Rattle.std.proofs.Common.{◌∷◌, length}
 use Rattle.std.specs.Prelude.{Some, slice_get}
 use Rattle.std.specs.List.{AllByRecursion}
-use Rattle.cjc_bytes.specs.Descriptor.{IsClassName}
-use Rattle.cjc_bytes.specs.Format.{FileSpells}
-use Rattle.cjc_bytes.specs.declared.settings.FileLine.{FileLine}
-use Rattle.cjc_bytes.proofs.BrokenRules.{no_breaks}
-use Rattle.cjc_bytes.proofs.Gets.{all_at}
-use Rattle.cjc_bytes.proofs.Numbers.{one_file}
-use Rattle.cjc_bytes.proofs.Plain.{same_some}
-use Rattle.cjc_classfile.proofs.Fitting.{spelt_fits}
-use Rattle.cjc_classfile.specs.ClassFile.{class_file}
-use Rattle.cjc_classfile.specs.Fits as fits
-use Rattle.cjc_classfile.specs.declared.tree.ClassTree.{ClassTree}
-use Rattle.cjc_code.specs.PackageCodes.{all_codes}
-use Rattle.cjc_code.specs.ReadLaws.Members.{IsReadClass}
-use Rattle.cjc_export.specs.Writable.{IsWritable}
-use Rattle.cjc_export.specs.declared.tree.ExportTree.{ExportTree}
-use Rattle.cjc_judge.specs.Judged.{IsJudged}
-use Rattle.cjc_judge.specs.Rules.{AreWorld, files_spelt, has_applets, of_group, of_world, settings_of, world_files}
-use Rattle.cjc_judge.specs.Spelt.{FileTree, IsRead, classes_of, exports_of, of_class, of_export}
-use Rattle.cjc_judge.specs.Trees.{AllSpelt, FileIs}
-use Rattle.cjc_judge.specs.declared.groups.Group.{Group}
-use Rattle.cjc_judge.specs.declared.groups.Group.TheVariants as groups
-use Rattle.cjc_judge.specs.declared.judged.Judged.{Judged}
-use Rattle.cjc_judge.proofs.Firsts.{all_spell}
-use Rattle.cjc_list.specs.Listed.{ListTree}
-use Rattle.cjc_order.proofs.ClassesLaws.Standing.{class_count-cons}
-use Rattle.cjc_narrow_proof.proofs.TablesLaws.Spelt.{class_read}
-use Rattle.cjc_code.proofs.ReadLaws.Members.{read_class}
-use Rattle.cjc_order.specs.Classes.Numbers.{class_count}
-use Rattle.cjc_shape.proofs.PreparedLaws.Limited as limited
-use Rattle.cjc_shape_proof.proofs.WrittenLaws.PackageNames.{package_named}
-use Rattle.cjc_subset.specs.Checks.{check_breaks}
+use Rattle.cjc_verified_proof.specs.Bytes.Descriptor.{IsClassName}
+use Rattle.cjc_verified_proof.specs.Bytes.Format.{FileSpells}
+use Rattle.cjc_verified_proof.specs.Bytes.declared.settings.FileLine.{FileLine}
+use Rattle.cjc_verified_proof.proofs.BytesBrokenRules.{no_breaks}
+use Rattle.cjc_verified_proof.proofs.BytesGets.{all_at}
+use Rattle.cjc_verified_proof.proofs.BytesNumbers.{one_file}
+use Rattle.cjc_verified_proof.proofs.BytesPlain.{same_some}
+use Rattle.cjc_verified_proof.proofs.ClassFileFitting.{spelt_fits}
+use Rattle.cjc_verified_proof.specs.ClassFile.ClassFile.{class_file}
+use Rattle.cjc_verified_proof.specs.ClassFile.Fits as fits
+use Rattle.cjc_verified_proof.specs.ClassFile.declared.tree.ClassTree.{ClassTree}
+use Rattle.cjc_verified_proof.specs.Bytecode.PackageCodes.{all_codes}
+use Rattle.cjc_verified_proof.specs.Bytecode.ReadLaws.Members.{IsReadClass}
+use Rattle.cjc_verified_proof.specs.ExportFile.Writable.{IsWritable}
+use Rattle.cjc_verified_proof.specs.ExportFile.declared.tree.ExportTree.{ExportTree}
+use Rattle.cjc_theorem.specs.LowerJudge.Judged.{IsJudged}
+use Rattle.cjc_theorem.specs.LowerJudge.Rules.{AreWorld, files_spelt, has_applets, of_group, of_world, settings_of}
+use Rattle.cjc_theorem.specs.LowerJudge.Rules.{world_files}
+use Rattle.cjc_theorem.specs.LowerJudge.Spelt.{FileTree, IsRead, classes_of, exports_of, of_class, of_export}
+use Rattle.cjc_theorem.specs.LowerJudge.Trees.{AllSpelt, FileIs}
+use Rattle.cjc_theorem.specs.LowerJudge.declared.groups.Group.{Group}
+use Rattle.cjc_theorem.specs.LowerJudge.declared.groups.Group.TheVariants as groups
+use Rattle.cjc_theorem.specs.LowerJudge.declared.judged.Judged.{Judged}
+use Rattle.cjc_theorem.proofs.JudgeFirsts.{all_spell}
+use Rattle.cjc_verified_proof.specs.List.Listed.{ListTree}
+use Rattle.cjc_verified_proof.proofs.ClassOrderStanding.{class_count-cons}
+use Rattle.cjc_theorem.proofs.NarrowProofSpelt.{class_read}
+use Rattle.cjc_theorem.proofs.BytecodeMembers.{read_class}
+use Rattle.cjc_verified_proof.specs.ClassOrder.Classes.Numbers.{class_count}
+use Rattle.cjc_theorem.proofs.ShapeLimited as limited
+use Rattle.cjc_theorem.proofs.ShapeProofPackageNames.{package_named}
+use Rattle.cjc_theorem.specs.Subset.Checks.{check_breaks}
 use Rattle.cjc_theorem.proofs.FairExports.Listed.{names}
-use Rattle.cjc_tokens.specs.Rules.{tested_breaks, token_breaks}
-use Rattle.cjc_token_proof.specs.Tables.Sound.{AreFieldDescs, IsSound, export_count}
-use Rattle.cjc_token_proof.proofs.TablesLaws.Filed.{export_count-cons}
-use Rattle.cjc_world.specs.Files.{Files}
-use Rattle.cjc_world.specs.Rules.{breaks}
-use Rattle.cjc_world_proof.specs.Files.{AreReadFiles}
+use Rattle.cjc_verified_proof.specs.Tokens.Rules.{tested_breaks, token_breaks}
+use Rattle.cjc_verified_proof.specs.TokenProof.Tables.Sound.{AreFieldDescs, IsSound, export_count}
+use Rattle.cjc_verified_proof.proofs.TokenProofFiled.{export_count-cons}
+use Rattle.cjc_verified_proof.specs.World.Files.{Files}
+use Rattle.cjc_verified_proof.specs.World.Rules.{breaks}
+use Rattle.cjc_verified_proof.specs.WorldProof.Files.{AreReadFiles}
 use Rattle.cjc_verify_theorem.specs.Passed.{AreBytes, IsAmong}
 
 -- ---- the lines
@@ -146,8 +149,11 @@ module _ (list : ListTree) (files : List (List ℕ)) (tested : List Group) (judg
 
   world_is : AreWorld list files trees
   world_is =
-      let all = all_spell list.lines files trees spelt in
-      (all, no_breaks (breaks list.name (files_spelt list trees)) (λ b among. is.unbroken b (of_world (trees, all, among))))
+      let all = all_spell list.lines files trees spelt in (
+        all,
+        no_breaks (breaks list.name (files_spelt list trees)) (λ b among. is.unbroken b (of_world
+            (trees, all, among))),
+      )
 
   pub unbroken : breaks list.name w ≡ []
   unbroken = ap (breaks list.name) same ∙ world_is.1
@@ -182,7 +188,8 @@ module _ (list : ListTree) (files : List (List ℕ)) (tested : List Group) (judg
 
   -- ---- files that were read
 
-  class_bytes : (n : ℕ) (c : ClassTree) → slice_get w.classes n ≡ Some c → (b : List ℕ) × AllByRecursion (λ x. x < 256) b
+  class_bytes : (n : ℕ) (c : ClassTree) → slice_get w.classes n ≡ Some c → (b : List ℕ) × AllByRecursion
+      (λ x. x < 256) b
       × FileSpells class_file c b
   class_bytes n c e =
       let t = class_tree trees n c (sym (ap (λ cs. slice_get cs n) classes_are) ∙ e) in

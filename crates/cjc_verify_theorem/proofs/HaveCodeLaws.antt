@@ -3,46 +3,48 @@
 use Rattle.std.proofs.Common.{◌≡◌, ℕ, zero, suc, ◌+◌, ◌-◌, ◌<◌, refl, sym, ap, subst, ◌∙◌, arith, Bool, true, false}
 use Rattle.std.proofs.Common.{List, [], ◌∷◌, ◌++◌, length, map, slice_get, Some, None, ⊎_elim}
 use Rattle.std.specs.Prelude.{◌⊎◌, ◌||◌, not, if◌then◌else◌, option_and_then, unwrap_or}
-use Rattle.cjc_bytes.specs.AccessFlags.{is_abstract, is_interface, is_static}
-use Rattle.cjc_bytes.specs.declared.settings.Settings.{Settings}
-use Rattle.cjc_bytes.proofs.Gets.{in_front, mapped_at}
-use Rattle.cjc_bytes.proofs.Plain.{same_some}
-use Rattle.cjc_capread.specs.declared.tree.ClassDescriptor.{ClassDescriptor}
-use Rattle.cjc_check_rules.specs.Codes.{whole_spots}
-use Rattle.cjc_check_rules.specs.Complete.{Complete}
-use Rattle.cjc_check_rules.specs.Described.{all_starts, classes_in_order}
-use Rattle.cjc_code.specs.ReadLaws.Members.{IsDescOf}
-use Rattle.cjc_code.specs.declared.method_code.MethodCode.{MethodCode}
-use Rattle.cjc_components.specs.Descriptor.{as_added, method_in, methods_with_added, no_member}
-use Rattle.cjc_components.specs.Paired.Pairs.{ArePaired}
-use Rattle.cjc_script.specs.Sorts.{Signature, result_by, signature_by, signature_of, sort_of}
-use Rattle.cjc_shape_proof.proofs.FindsLaws.Descs.{member_desc}
-use Rattle.cjc_shape_proof.proofs.WrittenLaws.FittingLaws.Interfaces.{are_asked}
-use Rattle.cjc_shape_proof.proofs.WrittenLaws.Worlds.{none_static}
-use Rattle.cjc_subset.specs.Checks.{check_breaks}
-use Rattle.cjc_tokens.specs.Members.{is_initialiser}
-use Rattle.cjc_token_proof.proofs.TablesLaws.Clean.{own_name}
-use Rattle.cjc_token_proof.proofs.TablesLaws.Order.{order_in}
-use Rattle.cjc_token_proof.specs.Tables.Sound.{IsSound}
-use Rattle.cjc_verify.specs.Pairs.{Described, Pair, described, described_among, described_in, member_of, pair_of}
-use Rattle.cjc_verify.specs.Verified.{IsVerified}
+use Rattle.cjc_verified_proof.specs.Bytes.AccessFlags.{is_abstract, is_interface, is_static}
+use Rattle.cjc_verified_proof.specs.Bytes.declared.settings.Settings.{Settings}
+use Rattle.cjc_verified_proof.proofs.BytesGets.{in_front, mapped_at}
+use Rattle.cjc_verified_proof.proofs.BytesPlain.{same_some}
+use Rattle.cjc_verified_proof.specs.CapRead.declared.tree.ClassDescriptor.{ClassDescriptor}
+use Rattle.cjc_verified_proof.specs.CheckRules.Codes.{whole_spots}
+use Rattle.cjc_verified_proof.specs.CheckRules.Complete.{Complete}
+use Rattle.cjc_verified_proof.specs.CheckRules.Described.{all_starts, classes_in_order}
+use Rattle.cjc_verified_proof.specs.Bytecode.ReadLaws.Members.{IsDescOf}
+use Rattle.cjc_verified_proof.specs.Bytecode.declared.method_code.MethodCode.{MethodCode}
+use Rattle.cjc_verified_proof.specs.Components.Descriptor.{as_added, method_in, methods_with_added, no_member}
+use Rattle.cjc_verified_proof.specs.Components.Paired.Pairs.{ArePaired}
+use Rattle.cjc_verified_proof.specs.Script.Sorts.{Signature, result_by, signature_by, signature_of, sort_of}
+use Rattle.cjc_theorem.proofs.ShapeProofDescs.{member_desc}
+use Rattle.cjc_theorem.proofs.ShapeProofInterfaces.{are_asked}
+use Rattle.cjc_theorem.proofs.ShapeProofWorlds.{none_static}
+use Rattle.cjc_theorem.specs.Subset.Checks.{check_breaks}
+use Rattle.cjc_verified_proof.specs.Tokens.Members.{is_initialiser}
+use Rattle.cjc_verified_proof.proofs.TokenProofClean.{own_name}
+use Rattle.cjc_verified_proof.proofs.TokenProofOrder.{order_in}
+use Rattle.cjc_verified_proof.specs.TokenProof.Tables.Sound.{IsSound}
+use Rattle.cjc_verified_proof.specs.Verify.Pairs.{Described, Pair, described, described_among, described_in, member_of}
+use Rattle.cjc_verified_proof.specs.Verify.Pairs.{pair_of}
+use Rattle.cjc_verified_proof.specs.Verify.Verified.{IsVerified}
 use Rattle.cjc_verified_proof.specs.Suited.{HaveCode}
 use Rattle.cjc_verified_proof.proofs.DescribedLaws.{described_said, either_part, in_got}
 use Rattle.cjc_verified_proof.proofs.FoundLaws.{written_got}
 use Rattle.cjc_verified_proof.proofs.StaticFlags.{static_same}
-use Rattle.cjc_vtable.proofs.Filed.{get-has}
-use Rattle.cjc_world.specs.declared.found.Found.{Found}
-use Rattle.cjc_world.specs.declared.image.StaticImage.{StaticImage}
-use Rattle.cjc_world.specs.Added.{added, asked_by, by_token, declares_open, has_open, is_one_of, lacking, methods_of}
-use Rattle.cjc_world.specs.Added.{own_methods, takes_added, with_token, without_initialiser}
-use Rattle.cjc_world.specs.Classes.{Class, Member, all_classes, class_named, method_of_class}
-use Rattle.cjc_world.specs.Files.{Files}
-use Rattle.cjc_world.specs.Interfaces.{gathered, known}
-use Rattle.cjc_world.specs.Lookup.{member_at}
-use Rattle.cjc_world.specs.Order.{class_order, methods_of_class, places, written}
-use Rattle.cjc_world.specs.Supertypes.{AreSupertypes, IsAcyclic, supertypes}
-use Rattle.cjc_world_proof.specs.Calls.Solid.{IsOwn, IsSolid}
-use Rattle.cjc_world_proof.specs.Files.{AreReadFiles}
+use Rattle.cjc_theorem.proofs.VTableFiled.{get-has}
+use Rattle.cjc_verified_proof.specs.World.declared.found.Found.{Found}
+use Rattle.cjc_verified_proof.specs.World.declared.image.StaticImage.{StaticImage}
+use Rattle.cjc_verified_proof.specs.World.Added.{added, asked_by, by_token, declares_open, has_open, is_one_of, lacking}
+use Rattle.cjc_verified_proof.specs.World.Added.{methods_of}
+use Rattle.cjc_verified_proof.specs.World.Added.{own_methods, takes_added, with_token, without_initialiser}
+use Rattle.cjc_verified_proof.specs.World.Classes.{Class, Member, all_classes, class_named, method_of_class}
+use Rattle.cjc_verified_proof.specs.World.Files.{Files}
+use Rattle.cjc_verified_proof.specs.World.Interfaces.{gathered, known}
+use Rattle.cjc_verified_proof.specs.World.Lookup.{member_at}
+use Rattle.cjc_verified_proof.specs.World.Order.{class_order, methods_of_class, places, written}
+use Rattle.cjc_verified_proof.specs.World.Supertypes.{AreSupertypes, IsAcyclic, supertypes}
+use Rattle.cjc_verified_proof.specs.WorldProof.Calls.Solid.{IsOwn, IsSolid}
+use Rattle.cjc_verified_proof.specs.WorldProof.Files.{AreReadFiles}
 
 -- ---- lists
 
@@ -111,7 +113,8 @@ module _ (P : Member → Type 0) where
   all_keep (c ∷ cs) f = each_append P (own_methods c) (methods_of cs) (own_keep c (f 0 c refl)) (all_keep cs (λ k x e. f
       (suc k) x e))
 
-  added_keep : (w : List Class) (c : Class) → Each (λ (d : Class). Each P d.methods) (known (gathered false (supertypes w
+  added_keep : (w : List Class) (c : Class) → Each (λ (d : Class). Each P d.methods) (known (gathered false
+      (supertypes w
       c.supers) ++ gathered true (supertypes w c.interfaces))) → Each P (added w c)
   unfolding added asked_by
   added_keep w c f = by (takes_added c)
@@ -176,7 +179,8 @@ desc_types desc d =
 module _ (name : List ℕ) (applets : Bool) (files : Files) (image : StaticImage) (c : Complete) (codes : List MethodCode)
     (settings : Settings) (sound : IsSound name files) (checks : check_breaks name files codes settings ≡ [])
     (read : AreReadFiles files) (solid : IsSolid files)
-    (acyclic : IsAcyclic (all_classes files)) (are_supertypes : (xs : List (List ℕ)) → AreSupertypes (all_classes files) xs
+    (acyclic : IsAcyclic (all_classes files)) (are_supertypes : (xs : List (List ℕ)) → AreSupertypes
+    (all_classes files) xs
     (supertypes (all_classes files) xs))
     (whole : whole_spots c ≡ [])
     (ordered : (let d = c.descriptor in classes_in_order d.classes (all_starts c.class)) ≡ [])
@@ -192,19 +196,21 @@ module _ (name : List ℕ) (applets : Bool) (files : Files) (image : StaticImage
 
   -- methods of classes of files
   own_typed : (x : List ℕ) (d : Class) → class_named w x ≡ Some d → Each IsTyped d.methods
-  own_typed x d known i m e = (member_desc files read d (ap (class_named w) (Rattle.cjc_world.proofs.Cycles.class_named-name
+  own_typed x d known i m e = (member_desc files read d (ap (class_named w)
+      (Rattle.cjc_world.proofs.Cycles.class_named-name
       w x d known) ∙ known) i m e).0
 
   -- and those that a class gets
   got_typed : (x : List ℕ) (d : Class) → class_named w x ≡ Some d → Each IsTyped (added w d)
   got_typed x d known = added_keep IsTyped w d (λ k i e. (
       let all = known_ones in
-      let r = are_asked name files sound.classes sound.exports sound.unbroken acyclic are_supertypes x d i known (get-has i all k e)
+      let r = are_asked name files sound.classes sound.exports sound.unbroken acyclic are_supertypes x d i known
+      (get-has i all k e)
       in own_typed r.1.0 i r.1.1
       ))
     where
       known_ones : List Class
-      known_ones = Rattle.cjc_world.specs.Interfaces.known (gathered false (supertypes w d.supers)
+      known_ones = Rattle.cjc_verified_proof.specs.World.Interfaces.known (gathered false (supertypes w d.supers)
           ++ gathered true (supertypes w d.interfaces))
 
   -- a method that Descriptor lists: one of its class's file, but no initialiser, or one that the class gets
@@ -240,13 +246,15 @@ module _ (name : List ℕ) (applets : Bool) (files : Files) (image : StaticImage
       by i f = ⊎_elim
           (λ a. (
           let r = written_got k (length k.fields) k.methods i d.member a in
-          own_method r.0 r.1 r.2 (ap (λ (y : Found). method_in w k y.member) r.3 ∙ member_is k r.0 r.1 (in_front k.methods
+          own_method r.0 r.1 r.2 (ap (λ (y : Found). method_in w k y.member) r.3 ∙ member_is k r.0 r.1
+          (in_front k.methods
           (map as_added (added w k)) r.0 r.1 r.2)) r.4
           ))
           (λ b. (
           let r = places_got k (length k.fields + length k.methods) (length (added w k)) b.0 d.member b.1 in
           let m = get_there (added w k) b.0 r.1 in
-          let at : length k.fields + length k.methods + b.0 ≡ length k.fields + (length k.methods + b.0) = omega arith in
+          let at : length k.fields + length k.methods + b.0 ≡ length k.fields +
+          (length k.methods + b.0) = omega arith in
           got_method b.0 m.0 m.1 (ap (λ (y : Found). method_in w k y.member) (r.0 ∙ ap (member_at k) at) ∙ member_is k
           (length k.methods + b.0) (as_added m.0) (Rattle.cjc_bytes.proofs.Gets.get_behind k.methods (map as_added
           (added w k)) b.0 ∙ Rattle.cjc_bytes.proofs.Gets.item_there as_added (added w k) b.0 m.0 m.1))
@@ -262,7 +270,8 @@ module _ (name : List ℕ) (applets : Bool) (files : Files) (image : StaticImage
       o = listed_of j d e
 
       by : IsMethodOf d → IsDescOf true (let m = member_of p d in m.desc)
-      by (own_method i m at is plain) = subst (λ (y : Member). IsDescOf true y.desc) (sym is) (own_typed (let k = d.class
+      by (own_method i m at is plain) = subst (λ (y : Member). IsDescOf true y.desc) (sym is) (own_typed
+          (let k = d.class
           in k.name) d.class o.known i m at)
       by (got_method i m at is) = subst (λ (y : Member). IsDescOf true y.desc) (sym is) (got_typed (let k = d.class
           in k.name) d.class o.known i m at)
@@ -287,18 +296,24 @@ module _ (name : List ℕ) (applets : Bool) (files : Files) (image : StaticImage
       in_file : (i : ℕ) (m : Member) → (let k = d.class in slice_get k.methods i ≡ Some m) → is_static m.flags ≡ true
           → is_initialiser m.name ≡ false → ((let k = d.class in is_interface k.flags ≡ false)) × (is_abstract m.flags
           ≡ false)
-      in_file i m at on plain = (kind (is_interface (let k = d.class in k.flags)) refl, coded (is_abstract m.flags) refl)
+      in_file i m at on plain = (
+        kind (is_interface (let k = d.class in k.flags)) refl,
+        coded
+            (is_abstract m.flags) refl,
+      )
         where
           kind : (b : Bool) → is_interface (let k = d.class in k.flags) ≡ b → b ≡ false
           kind false f = refl
-          kind true f = clash (is_initialiser m.name) (none_static files solid name codes settings checks (let k = d.class
+          kind true f = clash (is_initialiser m.name) (none_static files solid name codes settings checks
+              (let k = d.class
               in k.name) d.class o.known o.own f i m at on) plain
 
           coded : (b : Bool) → is_abstract m.flags ≡ b → b ≡ false
           coded false f = refl
           coded true f =
               let t = solid.own (let k = d.class in k.name) d.class o.known o.own in
-              let r = mapped_at method_of_class (let u = t.0 in u.methods) i m (ap (λ (v : Class). slice_get v.methods i)
+              let r = mapped_at method_of_class (let u = t.0 in u.methods) i m (ap (λ
+              (v : Class). slice_get v.methods i)
               (sym t.2) ∙ at) in
               let own : IsOwn files t.0 r.0 = record {
                 number = (let k = d.class in k.number);

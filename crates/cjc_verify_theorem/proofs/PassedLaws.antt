@@ -4,35 +4,35 @@ use Rattle.std.proofs.Common.{◌≡◌, ℕ, zero, suc, refl, sym, ap, subst, �
 use Rattle.std.proofs.Common.{◌∷◌}
 use Rattle.std.specs.Prelude.{None, Some, codes as letters, is_some, slice_get}
 use Rattle.std.specs.List.{list_all}
-use Rattle.cjc_bytes.specs.declared.settings.Settings.{Settings}
-use Rattle.cjc_bytes.proofs.Bools.{and_true}
-use Rattle.cjc_bytes.proofs.Plain.{same_some}
-use Rattle.cjc_capread.specs.declared.tree.CapTree.{CapTree}
-use Rattle.cjc_check_rules.specs.Complete.{Complete}
-use Rattle.cjc_check_rules.specs.Consistent.{Sentence, is_true, of_complete, sentences, where_complete}
-use Rattle.cjc_check_rules.specs.declared.spot.ComponentPlace.{ComponentPlace}
-use Rattle.cjc_code.specs.declared.method_code.MethodCode.{MethodCode}
-use Rattle.cjc_card_semantics.specs.Machine.Classes.{number_named}
-use Rattle.cjc_card_semantics.specs.Machine.Loaded.{Part}
-use Rattle.cjc_components.specs.Package.{Package, world}
-use Rattle.cjc_components.specs.Paired.Naming.{loaded_of, part_of}
-use Rattle.cjc_export.specs.Writable.{ClassFits, IsWritable}
-use Rattle.cjc_export.specs.declared.tree.ExportTree.{ExportTree}
-use Rattle.cjc_judge.specs.Rules.{has_applets, settings_of}
-use Rattle.cjc_judge.specs.declared.groups.Group.{Group}
-use Rattle.cjc_judge.specs.declared.judged.Judged.{Judged}
-use Rattle.cjc_list.specs.Listed.{ListTree}
-use Rattle.cjc_shape_proof.proofs.WrittenLaws.FittingLaws.Initialisers.{stand_once}
-use Rattle.cjc_shape_proof.proofs.WrittenLaws.Subtypes.{keeps_subtypes}
-use Rattle.cjc_shape_proof.proofs.WrittenLaws.Tokens.{keeps_tokens}
-use Rattle.cjc_shape_proof.specs.Written.Converted.{ExportsArePlain}
-use Rattle.cjc_subset.specs.Checks.{check_breaks}
+use Rattle.cjc_verified_proof.specs.Bytes.declared.settings.Settings.{Settings}
+use Rattle.cjc_verified_proof.proofs.BytesBools.{and_true}
+use Rattle.cjc_verified_proof.proofs.BytesPlain.{same_some}
+use Rattle.cjc_verified_proof.specs.CapRead.declared.tree.CapTree.{CapTree}
+use Rattle.cjc_verified_proof.specs.CheckRules.Complete.{Complete}
+use Rattle.cjc_verified_proof.specs.CheckRules.Consistent.{Sentence, is_true, of_complete, sentences, where_complete}
+use Rattle.cjc_verified_proof.specs.CheckRules.declared.spot.ComponentPlace.{ComponentPlace}
+use Rattle.cjc_verified_proof.specs.Bytecode.declared.method_code.MethodCode.{MethodCode}
+use Rattle.cjc_verified_proof.specs.CardSemantics.Machine.Classes.{number_named}
+use Rattle.cjc_verified_proof.specs.CardSemantics.Machine.Loaded.{Part}
+use Rattle.cjc_verified_proof.specs.Components.Package.{Package, world}
+use Rattle.cjc_verified_proof.specs.Components.Paired.Naming.{loaded_of, part_of}
+use Rattle.cjc_verified_proof.specs.ExportFile.Writable.{ClassFits, IsWritable}
+use Rattle.cjc_verified_proof.specs.ExportFile.declared.tree.ExportTree.{ExportTree}
+use Rattle.cjc_theorem.specs.LowerJudge.Rules.{has_applets, settings_of}
+use Rattle.cjc_theorem.specs.LowerJudge.declared.groups.Group.{Group}
+use Rattle.cjc_theorem.specs.LowerJudge.declared.judged.Judged.{Judged}
+use Rattle.cjc_verified_proof.specs.List.Listed.{ListTree}
+use Rattle.cjc_theorem.proofs.ShapeProofInitialisers.{stand_once}
+use Rattle.cjc_theorem.proofs.ShapeProofSubtypes.{keeps_subtypes}
+use Rattle.cjc_theorem.proofs.ShapeProofTokens.{keeps_tokens}
+use Rattle.cjc_theorem.specs.ShapeProof.Written.Converted.{ExportsArePlain}
+use Rattle.cjc_theorem.specs.Subset.Checks.{check_breaks}
 use Rattle.cjc_theorem.proofs.AlikeLaws.JoinedLaws.Faults.{faults_are_classes}
 use Rattle.cjc_theorem.proofs.AlikeLaws.NamedLaws.Exports.{exports_keep}
-use Rattle.cjc_token_proof.specs.Tables.Sound.{AreFieldDescs, IsSound}
-use Rattle.cjc_token_proof.specs.WrittenSends.Sends.{ExportsSend}
-use Rattle.cjc_token_proof.proofs.TablesLaws.Above.{entry_of_name, says_kinds}
-use Rattle.cjc_token_proof.proofs.TablesLaws.Typing.{fields_typed}
+use Rattle.cjc_verified_proof.specs.TokenProof.Tables.Sound.{AreFieldDescs, IsSound}
+use Rattle.cjc_verified_proof.specs.TokenProof.WrittenSends.Sends.{ExportsSend}
+use Rattle.cjc_verified_proof.proofs.TokenProofAbove.{entry_of_name, says_kinds}
+use Rattle.cjc_verified_proof.proofs.TokenProofTyping.{fields_typed}
 use Rattle.cjc_verified_proof.specs.Checked.{Checked, HasCode, IsChecked, pair}
 use Rattle.cjc_verified_proof.specs.Dispatching.{FilesAgree, package_of}
 use Rattle.cjc_verified_proof.specs.Entries.{AreCounted, AreRefs}
@@ -48,22 +48,22 @@ use Rattle.cjc_verify_theorem.specs.NeverStuck.{IsNeverStuck}
 use Rattle.cjc_verify_theorem.specs.Passed.{IsPassed}
 use Rattle.cjc_verify_theorem.proofs.FileLaws as files_of
 use Rattle.cjc_verify_theorem.proofs.HaveCodeLaws.{have_code}
-use Rattle.cjc_vtable.specs.Kept.{BreaksNone, CallsAgree, ExportsAgree, IsKept, Keeps}
-use Rattle.cjc_vtable.specs.Laws.{KeepsRules}
-use Rattle.cjc_vtable.specs.Meant.{AreNumbered, PackageTokensMean, TokensMean}
-use Rattle.cjc_world.specs.Classes.{Class, all_classes, class_named, imported}
-use Rattle.cjc_world.specs.Files.{Files}
-use Rattle.cjc_world.specs.Rules.{breaks}
-use Rattle.cjc_world.specs.Subtype.{starts}
-use Rattle.cjc_world.specs.Supertypes.{AreSupertypes, IsAcyclic, Supertypes, supertypes}
-use Rattle.cjc_world.specs.declared.image.StaticImage.{StaticImage}
-use Rattle.cjc_world_proof.specs.Calls.Solid.{IsSolid}
-use Rattle.cjc_world_proof.specs.Initialisers.Values.{StandOnce}
-use Rattle.cjc_world_proof.specs.Files.{ExportsAreSound, IsClean}
-use Rattle.cjc_world_proof.proofs.SelectionLaws.Solid.{solid as solid_of}
-use Rattle.cjc_vtable.proofs.Filed.{get-has}
-use Rattle.cjc_vtable.proofs.Read.{each-after}
-use Rattle.cjc_world.proofs.Cycles.{class_named-name}
+use Rattle.cjc_theorem.specs.VTable.Kept.{BreaksNone, CallsAgree, ExportsAgree, IsKept, Keeps}
+use Rattle.cjc_theorem.specs.VTable.Laws.{KeepsRules}
+use Rattle.cjc_theorem.specs.VTable.Meant.{AreNumbered, PackageTokensMean, TokensMean}
+use Rattle.cjc_verified_proof.specs.World.Classes.{Class, all_classes, class_named, imported}
+use Rattle.cjc_verified_proof.specs.World.Files.{Files}
+use Rattle.cjc_verified_proof.specs.World.Rules.{breaks}
+use Rattle.cjc_verified_proof.specs.World.Subtype.{starts}
+use Rattle.cjc_verified_proof.specs.World.Supertypes.{AreSupertypes, IsAcyclic, Supertypes, supertypes}
+use Rattle.cjc_verified_proof.specs.World.declared.image.StaticImage.{StaticImage}
+use Rattle.cjc_verified_proof.specs.WorldProof.Calls.Solid.{IsSolid}
+use Rattle.cjc_verified_proof.specs.WorldProof.Initialisers.Values.{StandOnce}
+use Rattle.cjc_verified_proof.specs.WorldProof.Files.{ExportsAreSound, IsClean}
+use Rattle.cjc_verified_proof.proofs.WorldProofSolid.{solid as solid_of}
+use Rattle.cjc_theorem.proofs.VTableFiled.{get-has}
+use Rattle.cjc_theorem.proofs.VTableRead.{each-after}
+use Rattle.cjc_verified_proof.proofs.WorldCycles.{class_named-name}
 
 -- ---- sentences
 
@@ -103,7 +103,8 @@ pub record Told (files : Files) (list : List ℕ) (codes : List MethodCode) (set
     pub open_tokens : KeepsRules (all_classes files) → AreNumbered (all_classes files) → TokensMean (all_classes files)
     pub hidden_tokens : KeepsRules (all_classes files) → PackageTokensMean (all_classes files)
 
-module _ (list : ListTree) (files : List (List ℕ)) (tested : List Group) (judged : Judged) (cap : CapTree) (c : Complete)
+module _ (list : ListTree) (files : List (List ℕ)) (tested : List Group) (judged : Judged) (cap : CapTree)
+    (c : Complete)
     (image : StaticImage) (is : IsPassed list files tested judged cap c image) where
   abbrev w : Files
   w = judged.world
@@ -246,7 +247,8 @@ module _ (list : ListTree) (files : List (List ℕ)) (tested : List Group) (judg
 
     pub codes_there : HaveCode (pair checked)
     codes_there = have_code list.name (has_applets list) w image c codes settings sound checks
-        (files_of.read_files list files tested judged is.read is.bytes is.limits is.tokens is.judged_by) solid told.acyclic
+        (files_of.read_files list files tested judged is.read is.bytes is.limits is.tokens is.judged_by) solid
+        told.acyclic
         told.are_supertypes (all 6 _ refl) (ordered c (all 15 _ refl)) is.paired is.verified
 
     keeps : Keeps (all_classes w)
@@ -267,7 +269,8 @@ module _ (list : ListTree) (files : List (List ℕ)) (tested : List Group) (judg
     keeps_calls = record {
       agree = agree;
       subtypes = keeps_subtypes (all_classes w) (let s = solid in s.ordered) no_array;
-      tokens = keeps_tokens w (has_applets list) (files_of.has_tokens list files tested judged is.read is.bytes is.limits
+      tokens = keeps_tokens w (has_applets list) (files_of.has_tokens list files tested judged is.read is.bytes
+          is.limits
           is.tokens is.judged_by) writable (let s = solid in s.ordered);
       listed = (let s = told.send in s.listed);
       sized = sized;

@@ -1,25 +1,25 @@
 -- Components that break no rule beside a package that breaks none.
 use Rattle.std.specs.Prelude.{◌≡◌, ◌<◌, ℕ, List, length, slice_get, Some}
 use Rattle.std.specs.List.{AllByRecursion}
-use Rattle.cjc_bytes.specs.Format.{FileSpells}
-use Rattle.cjc_capread.specs.Component.{component}
-use Rattle.cjc_capread.specs.declared.tree.CapTree.{CapTree}
-use Rattle.cjc_capread.specs.declared.tree.Component.{Component}
-use Rattle.cjc_capread.specs.declared.tree.Component.TheVariants as components
-use Rattle.cjc_check_rules.specs.Complete.{Complete, complete}
-use Rattle.cjc_check_rules.specs.Consistent.{Consistent}
-use Rattle.cjc_clinit.specs.Image.{IsImage}
-use Rattle.cjc_components.specs.Paired.Pairs.{ArePaired}
-use Rattle.cjc_judge.specs.Judged.{IsJudged}
-use Rattle.cjc_judge.specs.Rules.{has_applets}
-use Rattle.cjc_judge.specs.Spelt.{IsRead}
-use Rattle.cjc_judge.specs.declared.groups.Group.{Group}
-use Rattle.cjc_judge.specs.declared.groups.Group.TheVariants as groups
-use Rattle.cjc_judge.specs.declared.judged.Judged.{Judged}
-use Rattle.cjc_list.specs.Listed.{ListTree}
-use Rattle.cjc_verify.specs.Pairs.{pair_of}
-use Rattle.cjc_verify.specs.Verified.{IsVerified}
-use Rattle.cjc_world.specs.declared.image.StaticImage.{StaticImage}
+use Rattle.cjc_verified_proof.specs.Bytes.Format.{FileSpells}
+use Rattle.cjc_verified_proof.specs.CapRead.Component.{component}
+use Rattle.cjc_verified_proof.specs.CapRead.declared.tree.CapTree.{CapTree}
+use Rattle.cjc_verified_proof.specs.CapRead.declared.tree.Component.{Component}
+use Rattle.cjc_verified_proof.specs.CapRead.declared.tree.Component.TheVariants as components
+use Rattle.cjc_verified_proof.specs.CheckRules.Complete.{Complete, complete}
+use Rattle.cjc_verified_proof.specs.CheckRules.Consistent.{Consistent}
+use Rattle.cjc_verified_proof.specs.Clinit.Image.{IsImage}
+use Rattle.cjc_verified_proof.specs.Components.Paired.Pairs.{ArePaired}
+use Rattle.cjc_theorem.specs.LowerJudge.Judged.{IsJudged}
+use Rattle.cjc_theorem.specs.LowerJudge.Rules.{has_applets}
+use Rattle.cjc_theorem.specs.LowerJudge.Spelt.{IsRead}
+use Rattle.cjc_theorem.specs.LowerJudge.declared.groups.Group.{Group}
+use Rattle.cjc_theorem.specs.LowerJudge.declared.groups.Group.TheVariants as groups
+use Rattle.cjc_theorem.specs.LowerJudge.declared.judged.Judged.{Judged}
+use Rattle.cjc_verified_proof.specs.List.Listed.{ListTree}
+use Rattle.cjc_verified_proof.specs.Verify.Pairs.{pair_of}
+use Rattle.cjc_verified_proof.specs.Verify.Verified.{IsVerified}
+use Rattle.cjc_verified_proof.specs.World.declared.image.StaticImage.{StaticImage}
 
 -- each of these files is bytes
 abbrev pub AreBytes : List (List ℕ) → Type 0

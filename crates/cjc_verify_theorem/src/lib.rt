@@ -2,22 +2,28 @@
 //! promises so of components that were read. It has a definition and laws alone; nothing here runs.
 #![tactic(auto)]
 
+// Lower crates, for those above.
+/// What crates above take of verify.
+pub mod verify {
+    pub use cjc_verified_proof::verify::verify;
+}
+
 ghost use Rattle.std.specs.Prelude.{ℕ, List};
-ghost use Rattle.cjc_capread.specs.declared.tree.CapTree.{CapTree};
-ghost use Rattle.cjc_check_rules.specs.Complete.{Complete};
-ghost use Rattle.cjc_judge.specs.Rules.{has_applets};
-ghost use Rattle.cjc_judge.specs.declared.groups.Group.{Group};
-ghost use Rattle.cjc_judge.specs.declared.judged.Judged.{Judged};
-ghost use Rattle.cjc_list.specs.Listed.{ListTree};
+ghost use Rattle.cjc_verified_proof.specs.CapRead.declared.tree.CapTree.{CapTree};
+ghost use Rattle.cjc_verified_proof.specs.CheckRules.Complete.{Complete};
+ghost use Rattle.cjc_theorem.specs.LowerJudge.Rules.{has_applets};
+ghost use Rattle.cjc_theorem.specs.LowerJudge.declared.groups.Group.{Group};
+ghost use Rattle.cjc_theorem.specs.LowerJudge.declared.judged.Judged.{Judged};
+ghost use Rattle.cjc_verified_proof.specs.List.Listed.{ListTree};
 ghost use Rattle.cjc_theorem.specs.FairExports.Fair.{ExportsAreFair};
 ghost use Rattle.cjc_verify_theorem.specs.NeverStuck.{IsNeverStuck};
 ghost use Rattle.cjc_verify_theorem.specs.Passed.{IsPassed};
-ghost use Rattle.cjc_world.specs.declared.image.StaticImage.{StaticImage};
+ghost use Rattle.cjc_verified_proof.specs.World.declared.image.StaticImage.{StaticImage};
 
 use cjc_theorem::fair_exports::fair_exports_are_sound;
-use cjc_vtable::package_laws;
-use cjc_vtable::slot_laws::tokens_mean_methods;
-use cjc_world::lookup_laws;
+use cjc_theorem::vtable::package_laws;
+use cjc_theorem::vtable::slot_laws::tokens_mean_methods;
+use cjc_verified_proof::world::lookup_laws;
 
 /// Of components that break no rule beside a package that breaks none, over export files that are fair: no run by token
 /// is stuck, for any script and any number of instructions.

@@ -4,7 +4,7 @@ use Rattle.std.specs.Prelude.{not, ◌&&◌, if◌then◌else◌, is_some}
 use Rattle.cjc_bytes.specs.declared.settings.Settings.{Settings}
 use Rattle.cjc_world.specs.ClassFile.declared.tree.ClassTree.{ClassTree}
 use Rattle.cjc_world.specs.ClassFile.declared.tree.MethodTree.{MethodTree}
-use Rattle.cjc_subset.specs.Bytecode.declared.method_code.MethodCode.{MethodCode}
+use Rattle.cjc_subset.specs.LowerBytecode.declared.method_code.MethodCode.{MethodCode}
 use Rattle.cjc_world.specs.ExportFile.declared.tree.ExportClass.{ExportClass}
 use Rattle.cjc_world.specs.ExportFile.declared.tree.ExportTree.{ExportTree}
 use Rattle.cjc_world.specs.Files.{Files}

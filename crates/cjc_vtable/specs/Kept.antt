@@ -5,7 +5,7 @@ use Rattle.cjc_bytes.specs.AccessFlags.{is_interface}
 use Rattle.cjc_bytes.specs.Format.{FileSpells}
 use Rattle.cjc_world.specs.ClassFile.declared.tree.ClassTree.{ClassTree}
 use Rattle.cjc_world.specs.ClassFile.ClassFile.{class_file}
-use Rattle.cjc_subset.specs.Bytecode.declared.method_code.MethodCode.{MethodCode}
+use Rattle.cjc_subset.specs.LowerBytecode.declared.method_code.MethodCode.{MethodCode}
 use Rattle.cjc_world.specs.ExportFile.declared.tree.ExportTree.{ExportTree}
 use Rattle.cjc_world.specs.ExportFile.Writable.{IsWritable}
 use Rattle.cjc_world.specs.Classes.{Class, all_classes, class_named}

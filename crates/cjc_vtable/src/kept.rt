@@ -2,7 +2,7 @@
 
 ghost use Rattle.std.specs.Prelude.{◌≡◌, ℕ, List, []};
 ghost use Rattle.cjc_bytes.specs.declared.settings.Settings.{Settings as Given};
-ghost use Rattle.cjc_subset.specs.Bytecode.declared.method_code.MethodCode.{MethodCode};
+ghost use Rattle.cjc_subset.specs.LowerBytecode.declared.method_code.MethodCode.{MethodCode};
 ghost use Rattle.cjc_world.specs.Classes.{all_classes};
 ghost use Rattle.cjc_world.specs.Files.{Files};
 ghost use Rattle.cjc_world.specs.Rules.{breaks};

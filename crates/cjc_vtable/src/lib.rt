@@ -3,6 +3,13 @@
 #![tactic(auto)]
 
 // Lower crates, for those above.
+/// What crates above take of bytecode.
+pub mod bytecode {
+    pub use cjc_subset::bytecode::{
+        Codes, DecodeError, JInsn, JOp, MethodCode, decode_method, refusal_of,
+    };
+}
+
 /// What crates above take of cjc_order.
 pub mod class_order {
     pub use cjc_order::{classes, supers};

@@ -30,9 +30,13 @@ pub mod Called
 pub mod UpwardLaws
 -- Lemmas of lower crates, for those above.
 pub use Rattle.cjc_bytes.proofs.Bools as BytesBools
+pub use Rattle.cjc_bytes.proofs.BrokenRules as BytesBrokenRules
 pub use Rattle.cjc_bytes.proofs.Gets as BytesGets
 pub use Rattle.cjc_bytes.proofs.Lists as BytesLists
 pub use Rattle.cjc_bytes.proofs.Numbers as BytesNumbers
 pub use Rattle.cjc_bytes.proofs.Quantified as BytesQuantified
+pub use Rattle.cjc_classfile.proofs.Fitting as ClassFileFitting
+pub use Rattle.cjc_export.proofs.Numbering as ExportFileNumbering
 pub use Rattle.cjc_export.proofs.Rooted as ExportFileRooted
 pub use Rattle.cjc_export.proofs.Upwards as ExportFileUpwards
+pub use Rattle.cjc_export.proofs.Worth as ExportFileWorth

@@ -13,6 +13,6 @@ pub mod Laws
 pub mod Order
 pub mod Upwards
 -- Definitions of lower crates, for those above.
-pub use Rattle.cjc_bytes.specs as Bytes
-pub use Rattle.cjc_classfile.specs as ClassFile
-pub use Rattle.cjc_export.specs as ExportFile
+pub mod Bytes
+pub mod ClassFile
+pub mod ExportFile

@@ -4,9 +4,27 @@
 #![tactic(auto)]
 
 // Lower crates, for those above.
-pub use cjc_bytes as bytes;
-pub use cjc_classfile as classfile;
-pub use cjc_export as export_file;
+/// What crates above take of cjc_bytes.
+pub mod bytes {
+    pub use cjc_bytes::{
+        ACC_SHAREABLE, ACC_SUPER, Break, Bytes, Desc, Fault, Kind, MemberId, NoMemory, Row,
+        RulePlace, answer, broken, is_abstract, is_interface, is_private, is_protected, is_public,
+        is_static,
+    };
+}
+
+/// What crates above take of cjc_classfile.
+pub mod classfile {
+    pub use cjc_classfile::{ClassTree, Code, FieldTree, MethodTree, read};
+}
+
+/// What crates above take of cjc_export.
+pub mod export_file {
+    pub use cjc_export::{
+        ExportClass, ExportField, ExportMethod, ExportTree, copies_of, may_be_constant, pool_size,
+        read, write,
+    };
+}
 
 mod added;
 mod circular;

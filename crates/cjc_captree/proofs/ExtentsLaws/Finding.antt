@@ -3,10 +3,10 @@ use Rattle.std.proofs.Common.{◌≡◌, ℕ, suc, ◌+◌, ◌≤◌, ◌<◌, 
 use Rattle.std.proofs.Common.{◌∷◌, ◌++◌, length, get_or, drop, append_assoc, append-nil}
 use Rattle.std.specs.Prelude.{map, slice_get, slice_set, Some, if◌then◌else◌}
 use Rattle.std.proofs.lemmas.List.{drop_all}
-use Rattle.cjc_methods.specs.NCode.declared.narrow.NMethod.{NMethod}
+use Rattle.cjc_classes.specs.NCode.declared.narrow.NMethod.{NMethod}
 use Rattle.cjc_components.specs.Methods.{bytecode_count, extent_at, extent_from, handler_count, is_member, method_size}
 use Rattle.cjc_components.specs.Methods.{placed_from}
-use Rattle.cjc_components.specs.Layout.Layouts.{IsLayout}
+use Rattle.cjc_classes.specs.Layout.Layouts.{IsLayout}
 use Rattle.cjc_components.specs.Package.{LaidMethod}
 use Rattle.cjc_classes.specs.Descriptor.Made.{extent_by}
 use Rattle.cjc_classes.specs.declared.descriptor.parts.Extent.{Extent}

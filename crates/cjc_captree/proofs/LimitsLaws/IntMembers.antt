@@ -8,7 +8,7 @@ use Rattle.std.proofs.lemmas.List.Folds.{list_any-append}
 use Rattle.std.proofs.lemmas.Map.Keys.{any_passes_from_place}
 use Rattle.cjc_world.specs.Bytes.declared.fault.MemberId.{MemberId}
 use Rattle.cjc_world.specs.ClassFile.declared.tree.ClassTree.{ClassTree}
-use Rattle.cjc_components.specs.Subset.Types.{is_int_desc}
+use Rattle.cjc_classes.specs.Subset.Types.{is_int_desc}
 use Rattle.cjc_world.specs.Files.{Files}
 use Rattle.cjc_world.specs.Classes.{Member, Class, declared, field_of_class, method_of_class, all_classes, class_at}
 use Rattle.cjc_world.specs.declared.class.Known.{Known}

@@ -6,8 +6,8 @@ use Rattle.std.proofs.lemmas.List.{length-map}
 use Rattle.std.proofs.lemmas.List.Sums.{sum_by-cons}
 use Rattle.cjc_world.specs.Bytes.Breaks.{Among, Break, IsFirst, at, broken_at, foremost, after, list_spot}
 use Rattle.cjc_world.specs.Bytes.Order.{NotAfter}
-use Rattle.cjc_components.specs.CapWrite.Files.{infos_of, is_too_large, limit_of}
-use Rattle.cjc_methods.specs.NCode.declared.narrow.NMethod.{NMethod}
+use Rattle.cjc_classes.specs.CapWrite.Files.{infos_of, is_too_large, limit_of}
+use Rattle.cjc_classes.specs.NCode.declared.narrow.NMethod.{NMethod}
 use Rattle.cjc_components.specs.Components.{components_of}
 use Rattle.cjc_components.specs.Limits.{has_far_types, size_breaks, widest_method}
 use Rattle.cjc_components.specs.Methods.{handler_count}

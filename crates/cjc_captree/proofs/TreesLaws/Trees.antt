@@ -1,13 +1,13 @@
 -- Trees of components that are put together.
 use Rattle.std.proofs.Common.{◌≡◌, ℕ, List, map, length, refl, ap, ◌∙◌, Some}
 use Rattle.std.specs.Prelude.{replicate}
-use Rattle.cjc_classes.specs.CapRead.declared.tree.CapTree.{CapTree}
-use Rattle.cjc_classes.specs.CapRead.declared.tree.Directory.{Directory}
-use Rattle.cjc_classes.specs.CapRead.declared.tree.Method.{Method}
-use Rattle.cjc_classes.specs.CapRead.declared.tree.ReferenceLocation.{ReferenceLocation}
-use Rattle.cjc_components.specs.CapWrite.Size.{info_of}
-use Rattle.cjc_methods.specs.NCode.declared.narrow.PoolKey.{PoolKey}
-use Rattle.cjc_methods.specs.NCode.declared.narrow.PoolKey.TheVariants as keys
+use Rattle.cjc_methods.specs.CapRead.declared.tree.CapTree.{CapTree}
+use Rattle.cjc_methods.specs.CapRead.declared.tree.Directory.{Directory}
+use Rattle.cjc_methods.specs.CapRead.declared.tree.Method.{Method}
+use Rattle.cjc_methods.specs.CapRead.declared.tree.ReferenceLocation.{ReferenceLocation}
+use Rattle.cjc_classes.specs.CapWrite.Size.{info_of}
+use Rattle.cjc_classes.specs.NCode.declared.narrow.PoolKey.{PoolKey}
+use Rattle.cjc_classes.specs.NCode.declared.narrow.PoolKey.TheVariants as keys
 use Rattle.cjc_components.specs.Class.{class_info}
 use Rattle.cjc_components.specs.Components.{applet, components_of, components_with, directory_with, header, import}
 use Rattle.cjc_components.specs.Components.{method, reference_location, sizes, tags}

@@ -2,7 +2,7 @@
 use Rattle.std.specs.Prelude.{◌≡◌, map, length, nat_lt}
 use Rattle.cjc_methods.specs.Ready.{AreOrdered}
 use Rattle.cjc_world.specs.Order.{method_order}
-use Rattle.cjc_classes.specs.Tokens.Tokens.{assigned}
+use Rattle.cjc_methods.specs.Tokens.Tokens.{assigned}
 use Rattle.cjc_components.specs.Package.{Package, pool, world}
 use Rattle.cjc_classes.specs.Entries.{key_token}
 use Rattle.cjc_classes.specs.Descriptor.Made.{extents_of}

@@ -1,6 +1,6 @@
 -- What the code and its proofs keep for themselves; a reader of the contracts may pass over it.
 use Rattle.std.specs.Prelude.{◌≡◌, ℕ, List, map, Some}
-use Rattle.cjc_classes.specs.CapRead.declared.tree.CapTree.{CapTree}
+use Rattle.cjc_methods.specs.CapRead.declared.tree.CapTree.{CapTree}
 use Rattle.cjc_world.specs.Order.{class_order}
 use Rattle.cjc_components.specs.Package.{Package, world}
 use Rattle.cjc_components.specs.Names.{class_ref}

@@ -1,7 +1,7 @@
 -- Where methods stand, one after the other and by their classes.
 use Rattle.std.specs.Prelude.{ℕ, Bool, ◌+◌, ◌==◌, ◌&&◌, not, List, [], ◌∷◌, length, map, if◌then◌else◌}
 use Rattle.std.specs.List.{range_with_len}
-use Rattle.cjc_components.specs.Layout.declared.layout.Layout.{Layout}
+use Rattle.cjc_classes.specs.Layout.declared.layout.Layout.{Layout}
 use Rattle.cjc_world.specs.declared.found.Found.{Found}
 use Rattle.cjc_world.specs.Classes.{Class, all_classes}
 use Rattle.cjc_world.specs.Files.{Files}

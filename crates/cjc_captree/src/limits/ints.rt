@@ -3,7 +3,7 @@
 
 ghost use Rattle.std.specs.Prelude.{◌≡◌, ◌||◌, false, Some, IfOk};
 ghost use Rattle.std.specs.List.{list_any};
-ghost use Rattle.cjc_components.specs.Subset.Types.{is_int_desc};
+ghost use Rattle.cjc_classes.specs.Subset.Types.{is_int_desc};
 ghost use Rattle.cjc_world.specs.Classes.{Class, all_classes, class_at};
 ghost use Rattle.cjc_components.specs.Components.{has_int, uses_int};
 

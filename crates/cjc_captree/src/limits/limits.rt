@@ -11,7 +11,7 @@ ghost use Rattle.cjc_components.specs.Package.{Package, codes};
 
 use cjc_classes::capread::CapTree;
 use cjc_components::capwrite::broken_limit;
-use cjc_methods::ncode::NMethod;
+use cjc_components::ncode::NMethod;
 use cjc_world::bytes::{Break, NoMemory, RulePlace};
 
 fn sum(a: u64, b: u64) -> Result<u64, NoMemory>

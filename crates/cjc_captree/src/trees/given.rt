@@ -4,7 +4,7 @@
 use cjc_classes::descriptor::Extent;
 use cjc_classes::tokens::Tokens;
 use cjc_components::list::List;
-use cjc_methods::ncode::PoolKey;
+use cjc_components::ncode::PoolKey;
 use cjc_world::bytes::Row;
 use cjc_world::{StaticImage, World};
 

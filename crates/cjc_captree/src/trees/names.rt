@@ -2,7 +2,7 @@
 
 ghost use Rattle.std.specs.Prelude.{◌≡◌, IfOk};
 ghost use Rattle.cjc_world.specs.Classes.{all_classes};
-ghost use Rattle.cjc_components.specs.VTable.Tables.{class_tables};
+ghost use Rattle.cjc_classes.specs.VTable.Tables.{class_tables};
 ghost use Rattle.cjc_components.specs.Package.{Package};
 ghost use Rattle.cjc_captree.specs.Trees.Given.{AreGiven, HasTokens};
 ghost use Rattle.cjc_captree.specs.Trees.Working.{AreNames};

@@ -2,7 +2,7 @@
 //! size 0. Called by `tree`, which makes Directory last.
 
 ghost use Rattle.std.specs.Prelude.{◌≡◌, length, map, IfOk};
-ghost use Rattle.cjc_components.specs.CapWrite.Size.{info_of};
+ghost use Rattle.cjc_classes.specs.CapWrite.Size.{info_of};
 ghost use Rattle.cjc_components.specs.Components.{tags};
 
 use cjc_classes::capread::CapTree;

@@ -2,7 +2,7 @@
 
 ghost use Rattle.std.specs.Prelude.{◌≡◌, Some, length, replicate, IfOk, OnOk};
 ghost use Rattle.cjc_world.specs.Classes.{all_classes};
-ghost use Rattle.cjc_components.specs.VTable.Tables.{class_tables};
+ghost use Rattle.cjc_classes.specs.VTable.Tables.{class_tables};
 ghost use Rattle.cjc_components.specs.Class.{class_info};
 ghost use Rattle.cjc_components.specs.Components.{applet, components_of, directory_with, header, import, method};
 ghost use Rattle.cjc_components.specs.Components.{reference_location};

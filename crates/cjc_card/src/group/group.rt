@@ -2,9 +2,9 @@
 //! once before the first instruction.
 
 ghost use Rattle.std.specs.Prelude.{◌≡◌, ◌<◌, ◌^◌, true, IfOk, OnOk};
-ghost use Rattle.cjc_card_calls.specs.CheckRules.Complete.{class_info_size};
+ghost use Rattle.cjc_card_calls.specs.LowerCheckRules.Complete.{class_info_size};
 ghost use Rattle.cjc_card_calls.specs.Lines.Handlers.{are_near};
-ghost use Rattle.cjc_card_calls.specs.CardLink.Group.{alone};
+ghost use Rattle.cjc_card_calls.specs.LowerCardLink.Group.{alone};
 
 use cjc_card_calls::card_link::{Part, Tables};
 use cjc_card_calls::files::Files;
@@ -25,7 +25,7 @@ pub struct Group<'a> {
 
 impl<'a> Model for Group<'a> {
     ghost use Rattle.cjc_card_semantics.specs.Machine.Loaded.{Loaded};
-    ghost use Rattle.cjc_card_calls.specs.CardLink.Tables.{loaded_of};
+    ghost use Rattle.cjc_card_calls.specs.LowerCardLink.Tables.{loaded_of};
     ghost use Rattle.cjc_card.specs.Ready.{AreReady};
 
     ghost Value = { Loaded };

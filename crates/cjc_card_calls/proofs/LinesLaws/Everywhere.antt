@@ -6,7 +6,7 @@ use Rattle.std.proofs.lemmas.Bool.Decides.{nat_tests}
 use Rattle.std.proofs.lemmas.List.Folds.{list_any-append}
 use Rattle.cjc_card_semantics.specs.ExportFile.declared.tree.ExportClass.{ExportClass}
 use Rattle.cjc_card_semantics.specs.ExportFile.declared.tree.ExportTree.{ExportTree}
-use Rattle.cjc_card_link.specs.CheckRules.Spots.{placed, starts}
+use Rattle.cjc_card_link.specs.LowerCheckRules.Spots.{placed, starts}
 use Rattle.cjc_card_semantics.specs.Machine.Loaded.{Part}
 use Rattle.cjc_card_semantics.specs.Machine.Classes.{Class, Own, External, Info, info_size, infos, is_in, is_there}
 use Rattle.cjc_card_semantics.specs.Machine.Classes.{number_from, same_class, with_token}

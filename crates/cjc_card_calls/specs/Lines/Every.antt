@@ -1,7 +1,7 @@
 -- All classes of a package and of the export files that it imports, in their order.
 use Rattle.std.specs.Prelude.{ℕ, ◌+◌, List, [], ◌∷◌, ◌++◌, map}
 use Rattle.cjc_card_semantics.specs.ExportFile.declared.tree.ExportTree.{ExportTree}
-use Rattle.cjc_card_link.specs.CheckRules.Spots.{starts}
+use Rattle.cjc_card_link.specs.LowerCheckRules.Spots.{starts}
 use Rattle.cjc_card_semantics.specs.Machine.Loaded.{Part, Loaded}
 use Rattle.cjc_card_semantics.specs.Machine.Classes.{Class, Own, External, info_size, infos}
 

@@ -11,7 +11,7 @@ use Rattle.cjc_card_semantics.specs.Machine.Operations.{moved, ranged}
 use Rattle.cjc_card_semantics.specs.CapRead.declared.decoder.table.Matches.TheVariants.{Counted}
 use Rattle.cjc_card_semantics.specs.CapRead.Decoder.Decoded.{numbers}
 use Rattle.cjc_card_frame.proofs.FetchLaws.Pairs.{value_is}
-use Rattle.cjc_script.proofs.BytesIntegers.{le_true, le_false}
+use Rattle.cjc_card_semantics.proofs.BytesIntegers.{le_true, le_false}
 
 chosen : (t u : Bool) (p q : ℕ) → t ≡ true → u ≡ true → (if t then (if u then p else q) else q) ≡ p
 chosen true true p q e f = refl

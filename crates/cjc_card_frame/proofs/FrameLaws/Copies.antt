@@ -6,9 +6,9 @@ use Rattle.std.proofs.lemmas.List.{take_at, drop_at, take-append-drop, length-ta
 use Rattle.cjc_card_semantics.specs.Bytecode.Calculations.{if_so, is_swap, swap_x}
 use Rattle.cjc_card_frame.specs.Frame.Frames.{Words, Does, sunk}
 use Rattle.cjc_card_frame.specs.declared.frame.ending.Ending.{Ending}
-use Rattle.cjc_script.proofs.BytesBools.{or_cases}
-use Rattle.cjc_script.proofs.BytesNumbers.{number_same}
-use Rattle.cjc_script.proofs.BytesGets.{behind_2, get_in_front}
+use Rattle.cjc_card_semantics.proofs.BytesBools.{or_cases}
+use Rattle.cjc_card_semantics.proofs.BytesNumbers.{number_same}
+use Rattle.cjc_card_semantics.proofs.BytesGets.{behind_2, get_in_front}
 
 -- the words of s, when all but so many of the top ones have been copied
 abbrev pub copied_from : {A : Type 0} (words below left : ℕ) → List A → List A

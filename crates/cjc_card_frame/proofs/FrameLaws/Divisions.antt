@@ -2,8 +2,8 @@
 use Rattle.std.proofs.Common.{◌≡◌, ◌≢◌, ℕ, zero, suc, refl, sym, ap, ◌∙◌, List, ◌∷◌, drop, ℤ, pos, negsuc, Bool, true}
 use Rattle.std.proofs.Common.{false}
 use Rattle.std.specs.Prelude.{Option, Some, if◌then◌else◌}
-use Rattle.cjc_script.specs.declared.value.Value.{Value}
-use Rattle.cjc_script.specs.declared.value.Value.TheVariants.{Num}
+use Rattle.cjc_card_semantics.specs.Script.declared.value.Value.{Value}
+use Rattle.cjc_card_semantics.specs.Script.declared.value.Value.TheVariants.{Num}
 use Rattle.cjc_card_semantics.specs.Range.Words.{wide, low_word}
 use Rattle.cjc_card_semantics.proofs.RangeWords.{low_word-wide}
 use Rattle.cjc_card_semantics.specs.Bytecode.Numbers.{is_zero}

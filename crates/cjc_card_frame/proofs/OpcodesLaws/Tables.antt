@@ -8,8 +8,8 @@ use Rattle.cjc_card_semantics.specs.Bytecode.Meanings
 use Rattle.cjc_card_frame.specs.declared.opcodes.table.TheConstants.{MEANINGS}
 use Rattle.cjc_card_frame.specs.declared.opcodes.kinds.Meaning.{Meaning}
 use Rattle.cjc_card_frame.specs.Meanings.{is_literal, meaning_of}
-use Rattle.cjc_script.proofs.BytesBools.{and_true, or_cases}
-use Rattle.cjc_script.proofs.BytesNumbers.{number_same}
+use Rattle.cjc_card_semantics.proofs.BytesBools.{and_true, or_cases}
+use Rattle.cjc_card_semantics.proofs.BytesNumbers.{number_same}
 
 same_tables : map meaning_of MEANINGS ≡ Meanings.meanings
 same_tables = refl

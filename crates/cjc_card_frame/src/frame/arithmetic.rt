@@ -10,10 +10,10 @@ use crate::frame::cells::Cells;
 use crate::frame::ending::Ending;
 use crate::frame::words::{divided, low_word, word_of};
 use crate::opcodes::{Division, Operation};
+use cjc_card_semantics::bytes::NoMemory;
+use cjc_card_semantics::script::Value;
 use cjc_jvm_step::frame::Exception;
 use cjc_jvm_step::frame::number::{byte_of, negation_of};
-use cjc_script::Value;
-use cjc_script::bytes::NoMemory;
 
 impl Cells {
     /// An operation of two words.

@@ -1,7 +1,7 @@
 //! The calculations that opcodes mean, with their operands. Called by whoever runs instructions.
 
 ghost use Rattle.std.specs.Prelude.{◌≡◌, ◌<◌, ◌^◌, ◌∷◌, [], ℕ, ℤ, List, Option, pos, IfNone, IfOk, IfSome};
-ghost use Rattle.cjc_script.specs.declared.value.Value.{Value};
+ghost use Rattle.cjc_card_semantics.specs.Script.declared.value.Value.{Value};
 ghost use Rattle.cjc_card_semantics.specs.Bytecode.Calculations.{Wrong, by_nibbles, dup_x, increased, int_increased};
 ghost use Rattle.cjc_card_semantics.specs.Bytecode.Calculations.{int_literal};
 ghost use Rattle.cjc_card_semantics.specs.Bytecode.Calculations.{literal, numbered, swap_x};
@@ -13,9 +13,9 @@ ghost use Rattle.cjc_card_frame.specs.Frame.Frames.{AreOperands, Does, NoLocal};
 use crate::frame::cells::Cells;
 use crate::frame::ending::Ending;
 use crate::opcodes::{Calculation, Kind};
+use cjc_card_semantics::bytes::NoMemory;
 use cjc_card_semantics::capread::decoder::Operands;
-use cjc_script::Value;
-use cjc_script::bytes::NoMemory;
+use cjc_card_semantics::script::Value;
 
 /// The number of a local, where there is one operand and it is not negative.
 fn local_of(operands: Operands) -> Option<usize>

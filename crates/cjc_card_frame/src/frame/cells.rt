@@ -8,9 +8,9 @@ ghost use Rattle.cjc_card_semantics.specs.Bytecode.Calculations.{int_words};
 ghost use Rattle.cjc_card_frame.specs.Frame.Frames.{IsLocal, IsWord, int_at, number_at, number_of, numbers_at, pair_of};
 
 use crate::frame::words::{high_word, low_word, spelt_by};
+use cjc_card_semantics::bytes::NoMemory;
+use cjc_card_semantics::script::Value;
 use cjc_jvm_step::frame::Pile;
-use cjc_script::Value;
-use cjc_script::bytes::NoMemory;
 use std::alloc::Global;
 use std::marker::Model;
 

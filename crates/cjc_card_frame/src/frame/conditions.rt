@@ -9,7 +9,7 @@ ghost use Rattle.cjc_card_frame.specs.Frame.Frames.{Asks, same_reference};
 use crate::frame::cells::Cells;
 use crate::frame::ending::Choice;
 use crate::opcodes::{Condition, Relation};
-use cjc_script::Value;
+use cjc_card_semantics::script::Value;
 
 /// Whether a number is so beside 0.
 fn against_zero(relation: Relation, x: i32) -> bool

@@ -12,10 +12,10 @@ use crate::frame::cells::Cells;
 use crate::frame::ending::Ending;
 use crate::frame::words::{compared, divided, int_of, low_byte, low_word};
 use crate::opcodes::{Division, Operation};
+use cjc_card_semantics::bytes::NoMemory;
+use cjc_card_semantics::script::Value;
 use cjc_jvm_step::frame::Exception;
 use cjc_jvm_step::frame::number::negation_of;
-use cjc_script::Value;
-use cjc_script::bytes::NoMemory;
 
 impl Cells {
     /// An operation of two ints.

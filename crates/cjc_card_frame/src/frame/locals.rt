@@ -14,9 +14,9 @@ use crate::frame::cells::{Cells, number_of, pair_of};
 use crate::frame::ending::Ending;
 use crate::frame::words::{increased, low_word, spelt_by};
 use crate::opcodes::Kind;
+use cjc_card_semantics::bytes::NoMemory;
+use cjc_card_semantics::script::Value;
 use cjc_jvm_step::frame::number::sum_of;
-use cjc_script::Value;
-use cjc_script::bytes::NoMemory;
 
 /// Whether a word is a reference.
 pub fn is_reference(word: Value) -> bool

@@ -7,7 +7,7 @@ ghost use Rattle.cjc_card_frame.specs.Frame.Frames.{Does, sunk};
 
 use crate::frame::cells::Cells;
 use crate::frame::ending::Ending;
-use cjc_script::bytes::NoMemory;
+use cjc_card_semantics::bytes::NoMemory;
 
 /// Whether swap_x may have this number.
 fn is_swap(number: usize) -> bool

@@ -3,7 +3,7 @@
 
 ghost use Rattle.std.specs.Prelude.{◌≡◌, ◌≤◌, ◌∷◌, [], ◌++◌, length, reverse, nat_le, true, IfOk, OnOk, if◌then◌else◌};
 ghost use Rattle.std.specs.List.{All};
-ghost use Rattle.cjc_script.specs.declared.value.Value.TheVariants.{Obj};
+ghost use Rattle.cjc_card_semantics.specs.Script.declared.value.Value.TheVariants.{Obj};
 ghost use Rattle.cjc_card_semantics.specs.Bytecode.Machine.{frame_for_call};
 ghost use Rattle.cjc_card_frame.specs.Frame.Frames.{IsWord};
 ghost use Rattle.cjc_card_frame.specs.Kinds.{start_of};
@@ -11,8 +11,8 @@ ghost use Rattle.cjc_card_frame.specs.Kinds.{start_of};
 use crate::frame::Cells;
 use crate::frames::taking::{locals_of, put_words};
 use crate::parts::{Code, Start};
-use cjc_script::Value;
-use cjc_script::bytes::NoMemory;
+use cjc_card_semantics::bytes::NoMemory;
+use cjc_card_semantics::script::Value;
 use std::alloc::Global;
 use std::marker::Model;
 

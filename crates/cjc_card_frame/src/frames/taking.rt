@@ -7,8 +7,8 @@ ghost use Rattle.cjc_card_semantics.specs.Bytecode.Machine.{locals_of};
 ghost use Rattle.cjc_card_frame.specs.Frame.Frames.{IsLocal, IsWord};
 
 use crate::frame::Cells;
-use cjc_script::Value;
-use cjc_script::bytes::{NoMemory, Row};
+use cjc_card_semantics::bytes::{NoMemory, Row};
+use cjc_card_semantics::script::Value;
 use std::alloc::Global;
 
 /// The top words, the deepest first.

@@ -7,8 +7,8 @@ ghost use Rattle.cjc_card_frame.specs.Objects.{field_of, number_put, object_by, 
 
 use crate::heap::class::{Field, Shape};
 use crate::heap::object::{HeapObject, Parts};
-use cjc_script::Value;
-use cjc_script::bytes::NoMemory;
+use cjc_card_semantics::bytes::NoMemory;
+use cjc_card_semantics::script::Value;
 use std::alloc::Global;
 use std::marker::Model;
 

@@ -2,7 +2,7 @@
 //! number; the heap gives it one.
 
 ghost use Rattle.std.specs.Prelude.{◌≡◌, map, pos, replicate, IfOk};
-ghost use Rattle.cjc_script.specs.declared.value.Value.TheVariants.{Null};
+ghost use Rattle.cjc_card_semantics.specs.Script.declared.value.Value.TheVariants.{Null};
 ghost use Rattle.cjc_card_semantics.specs.Bytecode.Effects;
 ghost use Rattle.cjc_card_semantics.specs.Bytecode.Effects.{shape};
 ghost use Rattle.cjc_card_frame.specs.Objects.{class_of, element_of, field_of, object_by, shape_of, slot_by};
@@ -10,8 +10,8 @@ ghost use Rattle.cjc_card_frame.specs.Objects.{with_number, with_reference, with
 
 use crate::heap::class::{Class, Element, Field, Shape};
 use crate::heap::slots::{Slot, put_slot};
-use cjc_script::Value;
-use cjc_script::bytes::NoMemory;
+use cjc_card_semantics::bytes::NoMemory;
+use cjc_card_semantics::script::Value;
 use std::alloc::Global;
 use std::marker::Model;
 

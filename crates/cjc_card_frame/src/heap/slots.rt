@@ -7,7 +7,7 @@ ghost use Rattle.cjc_card_semantics.specs.Machine.Classes.{same_field};
 ghost use Rattle.cjc_card_frame.specs.Objects.{field_of, place_in, slot_by};
 
 use crate::heap::class::{Field, same_field};
-use cjc_script::Value;
+use cjc_card_semantics::script::Value;
 
 /// A field and what it holds: a whole number, null or an object.
 #[derive(Clone, Copy)]

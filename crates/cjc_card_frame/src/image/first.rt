@@ -1,8 +1,8 @@
 //! Heap and images before the first entry (Java Card Virtual Machine Specification 2.2.2, section 6.10).
 
 ghost use Rattle.std.specs.Prelude.{◌≡◌, ◌+◌, ◌++◌, ◌-◌, ◌≤◌, ◌^◌, length, map, replicate, IfOk, OnOk};
-ghost use Rattle.cjc_script.specs.declared.value.Value.TheVariants.{Null};
-ghost use Rattle.cjc_script.specs.Sorts.{Bytes, Ints, Shorts};
+ghost use Rattle.cjc_card_semantics.specs.Script.declared.value.Value.TheVariants.{Null};
+ghost use Rattle.cjc_card_semantics.specs.Script.Sorts.{Bytes, Ints, Shorts};
 ghost use Rattle.cjc_card_semantics.specs.Machine.Statics.{element_of as element_by, elements, first_array};
 ghost use Rattle.cjc_card_semantics.specs.Machine.Statics.{first_image, objects_from};
 ghost use Rattle.cjc_card_frame.specs.Objects.{element_of};
@@ -10,9 +10,9 @@ ghost use Rattle.cjc_card_frame.specs.Objects.{element_of};
 use crate::heap::{Element, Heap, HeapObject};
 use crate::image::image::Image;
 use crate::image::numbers::{byte_in, int_in, short_in};
+use cjc_card_semantics::bytes::NoMemory;
 use cjc_card_semantics::capread::{ArrayInit, StaticField};
-use cjc_script::Value;
-use cjc_script::bytes::NoMemory;
+use cjc_card_semantics::script::Value;
 use std::alloc::Global;
 
 /// What the elements of an array are, by the number of their type.

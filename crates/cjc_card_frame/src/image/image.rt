@@ -10,7 +10,7 @@ ghost use Rattle.cjc_card_frame.specs.Cells.{Fits};
 
 use crate::image::numbers::{byte_in, int_in, set_byte, set_int, set_short, short_in};
 use crate::opcodes::Letter;
-use cjc_script::Value;
+use cjc_card_semantics::script::Value;
 use std::marker::Model;
 
 /// The reference cells of a package, of which each takes two in the offsets of cells, and the bytes of the

@@ -8,8 +8,8 @@ ghost use Rattle.cjc_card_frame.specs.Cells.{Fits};
 
 use crate::image::image::Image;
 use crate::opcodes::Letter;
-use cjc_script::Value;
-use cjc_script::bytes::NoMemory;
+use cjc_card_semantics::bytes::NoMemory;
+use cjc_card_semantics::script::Value;
 use std::alloc::Global;
 use std::marker::Model;
 

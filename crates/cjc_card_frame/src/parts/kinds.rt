@@ -6,7 +6,7 @@ ghost use Rattle.cjc_card_semantics.specs.Machine.Calls.{on_object};
 ghost use Rattle.cjc_card_frame.specs.Kinds.{callee_of};
 
 use crate::heap::Class;
-use cjc_script::bytes::MemberId;
+use cjc_card_semantics::bytes::MemberId;
 
 /// A method's code: its package, the greatest height of its stack, and the offsets where it begins and ends, in bytes
 /// from the start of Method's info.

@@ -18,11 +18,11 @@ ghost use Rattle.cjc_card_frame.specs.Kinds.{field_by, cell_by, cells_of, IsDeco
 use crate::heap::{Class, Field, Shape, Slot};
 use crate::opcodes::Mode;
 use crate::parts::kinds::{Callee, CellName, Code, Reached, Start, StaticCell};
+use cjc_card_semantics::bytes::{MemberId, NoMemory, Row};
 use cjc_card_semantics::capread::StaticField;
 use cjc_card_semantics::capread::decoder::Insn;
+use cjc_card_semantics::script::FieldValue;
 use cjc_jvm_step::frame::Exception;
-use cjc_script::FieldValue;
-use cjc_script::bytes::{MemberId, NoMemory, Row};
 use std::alloc::Global;
 
 /// The look-ups. `part` is the number of a package in the group, `index` an operand that is an index into its constant

@@ -7,7 +7,8 @@ use Rattle.cjc_capread.specs.declared.tree.ClassEntry.{ClassEntry}
 use Rattle.cjc_script.specs.declared.value.Value.{Value}
 use Rattle.cjc_script.specs.declared.value.Value.TheVariants.{Num, Null}
 use Rattle.cjc_card_semantics.specs.Bytecode.Effects.{Slot, slot_of, slots_with}
-use Rattle.cjc_card_semantics.specs.Machine.Classes.{Class, same_class, Field, same_field, is_reference_token, slots_from}
+use Rattle.cjc_card_semantics.specs.Machine.Classes.{Class, same_class, Field, same_field, is_reference_token}
+use Rattle.cjc_card_semantics.specs.Machine.Classes.{slots_from}
 use Rattle.cjc_export.proofs.BytesBools.{both_front, both_back}
 use Rattle.cjc_export.proofs.BytesNumbers.{like_number, number_same}
 use Rattle.cjc_card_semantics.proofs.MachineLaws.Upwards.{class_tells, class_same}

@@ -1,7 +1,8 @@
 -- Going upwards from a class gives the classes that stand above it, and no other: its steps are enough.
 use Rattle.std.proofs.Common.{◌≡◌, ℕ, zero, suc, ◌+◌, ◌≤◌, refl, sym, ap, subst, ◌∙◌, arith, Bool, true, false, List}
 use Rattle.std.proofs.Common.{[], ◌∷◌, ◌++◌, length, map, inl, inr, ⊎_elim}
-use Rattle.std.specs.Prelude.{Option, Some, None, if◌then◌else◌, ◌==◌, ◌||◌, ◌&&◌, ◌⊎◌, flat_map, option_and_then, option_map}
+use Rattle.std.specs.Prelude.{Option, Some, None, if◌then◌else◌, ◌==◌, ◌||◌, ◌&&◌, ◌⊎◌, flat_map, option_and_then}
+use Rattle.std.specs.Prelude.{option_map}
 use Rattle.std.specs.Prelude.{option_to_list, slice_get}
 use Rattle.std.proofs.lemmas.Bool.Decides.{nat_tests}
 use Rattle.cjc_export.specs.declared.tree.ExportClass.{ExportClass}

@@ -5,20 +5,20 @@ use Rattle.std.specs.Prelude.{Option, Some, None, flat_map, slice_get, ◌==◌,
 use Rattle.std.specs.List.{Contains}
 use Rattle.std.proofs.lemmas.Bool.{lt-ltb}
 use Rattle.std.proofs.lemmas.List.Elements.{Contains-append_left}
-use Rattle.cjc_tokens.specs.Fixpoint.Working.Edges.{contains_head}
+use Rattle.cjc_vtable.specs.Fixpoint.Working.Edges.{contains_head}
 use Rattle.cjc_bytes.specs.declared.fault.MemberId.{MemberId}
 use Rattle.cjc_bytes.proofs.Gets.{get_inside}
 use Rattle.cjc_world.specs.ClassFile.Code.{CodeTree}
 use Rattle.cjc_world.specs.ClassFile.declared.tree.ClassTree.{ClassTree}
 use Rattle.cjc_world.specs.ClassFile.declared.tree.MethodTree.{MethodTree}
 use Rattle.std.proofs.lemmas.List.{length-map}
-use Rattle.cjc_ncode.specs.Bytecode.Cut.{cut, IsCutFrom}
-use Rattle.cjc_ncode.specs.Bytecode.Rules.{stopped, with_names}
+use Rattle.cjc_components.specs.Bytecode.Cut.{cut, IsCutFrom}
+use Rattle.cjc_components.specs.Bytecode.Rules.{stopped, with_names}
 use Rattle.cjc_ncode.proofs.BytecodeOneCut.{is_cut}
-use Rattle.cjc_ncode.specs.Bytecode.declared.insn.JInsn.{JInsn}
-use Rattle.cjc_ncode.specs.Bytecode.declared.insn.JOp.{JOp}
-use Rattle.cjc_ncode.specs.Bytecode.declared.insn.JOp.TheVariants as jop
-use Rattle.cjc_ncode.specs.Bytecode.declared.method_code.MethodCode.{MethodCode}
+use Rattle.cjc_components.specs.Bytecode.declared.insn.JInsn.{JInsn}
+use Rattle.cjc_components.specs.Bytecode.declared.insn.JOp.{JOp}
+use Rattle.cjc_components.specs.Bytecode.declared.insn.JOp.TheVariants as jop
+use Rattle.cjc_components.specs.Bytecode.declared.method_code.MethodCode.{MethodCode}
 use Rattle.cjc_world.specs.Files.{Files}
 use Rattle.cjc_ncode.specs.declared.narrow.NCase.{NCase}
 use Rattle.cjc_ncode.specs.declared.narrow.NInsn.{NInsn}
@@ -26,14 +26,14 @@ use Rattle.cjc_ncode.specs.declared.narrow.NMethod.{NMethod}
 use Rattle.cjc_ncode.specs.Written.{leaving, low_of, pair_cases, place_in, reached, Resolution, switched, table_cases}
 use Rattle.cjc_ncode.specs.Written.{Access, accessed, is_load, narrow_method, on_this, written, written_for}
 use Rattle.cjc_ncode.proofs.WrittenCases.{written_cases}
-use Rattle.cjc_components.specs.Narrow.Rows.Resolved.{argument_words}
-use Rattle.cjc_components.specs.Narrow.Rows.Selected.{paired, selected_code}
-use Rattle.cjc_components.specs.Narrow.Written.Rows.{by_rows_there, has_rows, has_rows_by, rows_by}
-use Rattle.cjc_narrow_proof.specs.Types.declared.state.State.{State}
-use Rattle.cjc_narrow_proof.specs.Types.Flow.{body_of, next_place, successors}
-use Rattle.cjc_narrow_proof.specs.Types.Steps.{goes_on}
-use Rattle.cjc_narrow_proof.specs.Types.Tables.{IsLeastTable, IsMethodOf}
-use Rattle.cjc_narrow_proof.specs.Types.TypeLaws.Closed.{IsClosedTable}
+use Rattle.cjc_pool.specs.Narrow.Rows.Resolved.{argument_words}
+use Rattle.cjc_pool.specs.Narrow.Rows.Selected.{paired, selected_code}
+use Rattle.cjc_pool.specs.Narrow.Written.Rows.{by_rows_there, has_rows, has_rows_by, rows_by}
+use Rattle.cjc_pool.specs.Types.declared.state.State.{State}
+use Rattle.cjc_pool.specs.Types.Flow.{body_of, next_place, successors}
+use Rattle.cjc_pool.specs.Types.Steps.{goes_on}
+use Rattle.cjc_pool.specs.Types.Tables.{IsLeastTable, IsMethodOf}
+use Rattle.cjc_pool.specs.Types.TypeLaws.Closed.{IsClosedTable}
 use Rattle.cjc_narrow_proof.proofs.TypesLowered.{least_closed}
 use Rattle.cjc_narrow_proof.proofs.TypesStanding.{next_there}
 use Rattle.cjc_narrow_proof.proofs.SelectedLaws.Cuts.{decoded, few}

@@ -11,7 +11,7 @@ use Rattle.cjc_bytes.specs.AccessFlags.{is_static}
 use Rattle.cjc_capread.specs.declared.tree.ClassDescriptor.{ClassDescriptor}
 use Rattle.cjc_capread.specs.declared.tree.TypeDescriptor.{TypeDescriptor}
 use Rattle.cjc_capread.specs.declared.tree.FieldPlace.TheVariants as places
-use Rattle.cjc_components.specs.Script.Sorts.{Sort, Boolean, Byte, Short, Int, Reference, NoValue, field_sort}
+use Rattle.cjc_components.specs.LowerScript.Sorts.{Sort, Boolean, Byte, Short, Int, Reference, NoValue, field_sort}
 use Rattle.cjc_world.specs.ClassFile.declared.tree.ClassTree.{ClassTree}
 use Rattle.cjc_world.specs.ClassFile.declared.tree.FieldTree.{FieldTree}
 use Rattle.cjc_world.specs.ClassFile.declared.tree.MethodTree.{MethodTree}
@@ -21,8 +21,8 @@ use Rattle.cjc_world.specs.Added.{added, named_by}
 use Rattle.cjc_world.specs.Lookup.{member_at}
 use Rattle.cjc_world.specs.Order.{class_order, methods_of_class, places, written}
 use Rattle.cjc_tokens.specs.Fields.{is_constant}
-use Rattle.cjc_components.specs.Clinit.Image.{field_id}
-use Rattle.cjc_components.specs.NCode.declared.narrow.PoolKey.{PoolKey}
+use Rattle.cjc_components.specs.LowerClinit.Image.{field_id}
+use Rattle.cjc_components.specs.LowerNCode.declared.narrow.PoolKey.{PoolKey}
 use Rattle.cjc_components.specs.Class.{fields_in}
 use Rattle.cjc_components.specs.Package.{Package, pool, tokens, world}
 use Rattle.cjc_components.specs.Methods.{extent_of}

@@ -21,7 +21,7 @@ use Rattle.cjc_tokens.specs.Tokens.{assigned, token_of_member}
 use Rattle.cjc_tokens.specs.Working.{member_of}
 use Rattle.cjc_tokens.proofs.Facts.{has-got_none, has-own_none, position-cons, same-true}
 use Rattle.cjc_tokens.proofs.Steps.{signatures-ids}
-use Rattle.cjc_components.specs.VTable.Calls.{any_method}
+use Rattle.cjc_components.specs.LowerVTable.Calls.{any_method}
 use Rattle.cjc_components.proofs.VTableSlotNames.{position-at}
 use Rattle.cjc_classes.specs.Walks.{IsHiddenHere, IsShownHere, called}
 use Rattle.cjc_classes.proofs.KeyTokens.Kept.{got_kept, hidden_kept, shown_kept}

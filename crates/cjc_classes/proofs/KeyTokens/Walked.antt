@@ -13,7 +13,7 @@ use Rattle.cjc_tokens.specs.Members.{Signature}
 use Rattle.cjc_tokens.specs.Slots.{shown_token}
 use Rattle.cjc_tokens.proofs.Supers.{class_at-number, line-known}
 use Rattle.cjc_tokens.proofs.Walks.{supertypes-unknown}
-use Rattle.cjc_components.specs.VTable.Calls.{finds_hidden}
+use Rattle.cjc_components.specs.LowerVTable.Calls.{finds_hidden}
 use Rattle.cjc_classes.specs.Walks.{IsHiddenHere, IsShownHere, TellsHidden}
 use Rattle.cjc_classes.proofs.KeyTokens.Lines.{hidden_above, hidden_found, hidden_none, shown_above}
 

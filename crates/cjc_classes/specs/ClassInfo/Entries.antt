@@ -10,11 +10,11 @@ use Rattle.cjc_world.specs.declared.found.Found.{Found}
 use Rattle.cjc_world.specs.Files.{Files}
 use Rattle.cjc_world.specs.Classes.{Class, all_classes, declared}
 use Rattle.cjc_tokens.specs.Fields.{instance_cells}
-use Rattle.cjc_components.specs.VTable.declared.table.ClassTable.{ClassTable}
+use Rattle.cjc_components.specs.LowerVTable.declared.table.ClassTable.{ClassTable}
 use Rattle.cjc_components.specs.Package.{Package}
 use Rattle.cjc_components.specs.Methods.{method_offset}
 use Rattle.cjc_components.specs.Class.{first_reference_token, implemented, info_flags, interface_entry, reference_count}
-use Rattle.cjc_components.specs.ClassOrder.Classes.Numbers.{declared_at}
+use Rattle.cjc_components.specs.LowerClassOrder.Classes.Numbers.{declared_at}
 
 -- ---- offsets of methods
 

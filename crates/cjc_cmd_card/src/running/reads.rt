@@ -2,7 +2,7 @@
 //! Nothing here writes.
 
 ghost use Rattle.std.specs.Prelude.{◌<◌, IfOk, length};
-ghost use Rattle.cjc_cmd_jvm.specs.Shelf.Command.Gather.{Gathers, IsSame};
+ghost use Rattle.cjc_cmd_jvm.specs.LowerShelf.Command.Gather.{Gathers, IsSame};
 ghost use Rattle.cjc_judge.specs.Spelt.{IsRead};
 ghost use Rattle.cjc_cmd_card.specs.Running.Reads.{IsInput, plan_behind_list, plan_behind_text, plan_of_card};
 

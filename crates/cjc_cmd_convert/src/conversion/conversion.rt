@@ -6,8 +6,8 @@ ghost use Rattle.cjc_shelf.specs.Bytes.declared.fault.Fault.TheVariants as fault
 ghost use Rattle.cjc_shelf.specs.Bytes.declared.fault.Refusal.{Refusal as Broken};
 ghost use Rattle.cjc_cmd_convert.specs.Conversion.Promise.{KeepsPromise};
 ghost use Rattle.cjc_convert.specs.Conversion.{IsConverted};
-ghost use Rattle.cjc_theorem.specs.Judge.Spelt.{IsRead};
-ghost use Rattle.cjc_convert.specs.Shape.Whole.Conversion.{IsRefused};
+ghost use Rattle.cjc_convert.specs.Judge.Spelt.{IsRead};
+ghost use Rattle.cjc_theorem.specs.Shape.Whole.Conversion.{IsRefused};
 
 use cjc_convert::Converted;
 use cjc_convert::list::List;

@@ -11,7 +11,7 @@ use Rattle.cjc_cmd_make.specs.Report.Package.{script_name}
 use Rattle.cjc_cmd_convert.specs.Publication.{named}
 use Rattle.cjc_shelf.specs.Memory.{files_of, with_file}
 use Rattle.cjc_shelf.specs.Shelf.{Files, Shelved}
-use Rattle.cjc_bytes.proofs.Gets.{drop_next}
+use Rattle.cjc_shelf.proofs.BytesGets.{drop_next}
 
 -- what a shelf tells that got one file more
 pub with_one : (old new : Shelved) (name bytes : List ℕ) → new ≡ with_file name bytes old

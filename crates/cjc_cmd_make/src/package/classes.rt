@@ -10,8 +10,8 @@ ghost use Rattle.cjc_cmd_make.specs.Package.Classes.{class_named, class_with};
 use crate::package::class_file::{Code, Entry, Method, put_entries, put_method};
 use crate::package::instruction::Instruction;
 use crate::package::texts::put_class_name;
-use cjc_bytes::{ACC_PUBLIC, ACC_STATIC, ACC_SUPER, Bytes, NoMemory, Out};
 use cjc_cmd_convert::bytecode::jvm;
+use cjc_shelf::bytes::{ACC_PUBLIC, ACC_STATIC, ACC_SUPER, Bytes, NoMemory, Out};
 use std::alloc::Global;
 
 /// The name of class i.

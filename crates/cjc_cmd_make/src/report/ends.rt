@@ -3,7 +3,7 @@
 ghost use Rattle.std.specs.Prelude.{◌≡◌};
 ghost use Rattle.cjc_cmd_make.specs.Report.Working.{fault_of};
 
-use cjc_bytes::Fault;
+use cjc_shelf::bytes::Fault;
 use cjc_shelf::command::Status;
 
 /// The fault for an end of reads. A made package has all files that its list names, a conversion those that its

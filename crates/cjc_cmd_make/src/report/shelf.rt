@@ -6,8 +6,8 @@ ghost use Rattle.cjc_shelf.specs.Memory.{clean_shelved, files_of};
 ghost use Rattle.cjc_cmd_make.specs.Report.Package.{class_file_name, made_files, named_classes, named_files};
 
 use crate::package::package;
-use cjc_bytes::{Bytes, NoMemory, Out};
 use cjc_shelf::CleanShelf;
+use cjc_shelf::bytes::{Bytes, NoMemory, Out};
 use cjc_shelf::command::File;
 use itoa::Buffer;
 use std::alloc::Global;

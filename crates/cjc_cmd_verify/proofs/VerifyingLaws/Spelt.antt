@@ -1,40 +1,41 @@
--- Files of a folder spell the components that are read of it, and what was tested is what the theorem of the type checker
+-- Files of a folder spell the components that are read of it, and what was tested is what the theorem of the type
+-- checker
 -- asks.
 use Rattle.std.proofs.Common.{◌≡◌, ◌⊎◌, ◌<◌, ◌==◌, ℕ, suc, inl, inr, ⊎_elim, refl, sym, ap, subst, ◌∙◌, Bool, true}
 use Rattle.std.proofs.Common.{false, eqb-true, List, [], ◌∷◌, length, slice_get}
 use Rattle.std.specs.Prelude.{Option, Some, None, Result, Ok, Err}
 use Rattle.std.specs.List.{AllByRecursion}
-use Rattle.cjc_card.specs.CheckRules.Complete.{Complete, complete, complete_with}
+use Rattle.cjc_cmd_card.specs.CheckRules.Complete.{Complete, complete, complete_with}
 use Rattle.cjc_cmd_card.specs.Running.Reads.{IsInput}
 use Rattle.cjc_cmd_card.specs.Running.Ready.{IsReady, tested}
 use Rattle.cjc_cmd_card.specs.declared.running.input.Input.{Input}
 use Rattle.cjc_cmd_card.specs.declared.running.ready.Ready.{Ready}
-use Rattle.cjc_capread.specs.Component.{component, either, info}
-use Rattle.cjc_capread.specs.Kinds.{descriptor_of, method_of, pool_of}
-use Rattle.cjc_capread.specs.declared.tree.CapTree.{CapTree}
-use Rattle.cjc_capread.specs.declared.tree.ClassInfo.{ClassInfo}
-use Rattle.cjc_capread.specs.declared.tree.ConstantPool.{ConstantPool}
-use Rattle.cjc_capread.specs.declared.tree.Descriptor.{Descriptor}
-use Rattle.cjc_capread.specs.declared.tree.Import.{Import}
-use Rattle.cjc_capread.specs.declared.tree.Method.{Method}
-use Rattle.cjc_capread.specs.declared.tree.ReferenceLocation.{ReferenceLocation}
-use Rattle.cjc_capread.specs.declared.tree.StaticField.{StaticField}
-use Rattle.cjc_capread.specs.declared.tree.Component.{Component}
-use Rattle.cjc_capread.specs.declared.tree.Component.TheVariants as components
-use Rattle.cjc_cmd_check.specs.Folder.Breaks.{cap_in, cap_of, front, with_component, with_components, with_read}
-use Rattle.cjc_cmd_check.specs.Folder.Reads.{read_component}
-use Rattle.cjc_cmd_check.specs.declared.folder.folder.Parts.{Parts}
-use Rattle.cjc_bytes.specs.Format.{FileSpells, Format, Spells, gives, looked_up, ◌>>=◌}
-use Rattle.cjc_judge.specs.Clinit.Image.{IsImage}
-use Rattle.cjc_judge.specs.Rules.{has_applets}
-use Rattle.cjc_judge.specs.World.declared.image.StaticImage.{StaticImage}
-use Rattle.cjc_pairing.specs.Components.Paired.Pairs.{ArePaired}
-use Rattle.cjc_verify.specs.Pairs.{pair_of}
-use Rattle.cjc_verify.specs.Verified.{IsVerified}
+use Rattle.cjc_cmd_card.specs.CapRead.Component.{component, either, info}
+use Rattle.cjc_cmd_card.specs.CapRead.Kinds.{descriptor_of, method_of, pool_of}
+use Rattle.cjc_cmd_card.specs.CapRead.declared.tree.CapTree.{CapTree}
+use Rattle.cjc_cmd_card.specs.CapRead.declared.tree.ClassInfo.{ClassInfo}
+use Rattle.cjc_cmd_card.specs.CapRead.declared.tree.ConstantPool.{ConstantPool}
+use Rattle.cjc_cmd_card.specs.CapRead.declared.tree.Descriptor.{Descriptor}
+use Rattle.cjc_cmd_card.specs.CapRead.declared.tree.Import.{Import}
+use Rattle.cjc_cmd_card.specs.CapRead.declared.tree.Method.{Method}
+use Rattle.cjc_cmd_card.specs.CapRead.declared.tree.ReferenceLocation.{ReferenceLocation}
+use Rattle.cjc_cmd_card.specs.CapRead.declared.tree.StaticField.{StaticField}
+use Rattle.cjc_cmd_card.specs.CapRead.declared.tree.Component.{Component}
+use Rattle.cjc_cmd_card.specs.CapRead.declared.tree.Component.TheVariants as components
+use Rattle.cjc_cmd_card.specs.CmdCheck.Folder.Breaks.{cap_in, cap_of, front, with_component, with_components, with_read}
+use Rattle.cjc_cmd_card.specs.CmdCheck.Folder.Reads.{read_component}
+use Rattle.cjc_cmd_card.specs.CmdCheck.declared.folder.folder.Parts.{Parts}
+use Rattle.cjc_cmd_card.specs.Bytes.Format.{FileSpells, Format, Spells, gives, looked_up, ◌>>=◌}
+use Rattle.cjc_cmd_card.specs.Clinit.Image.{IsImage}
+use Rattle.cjc_verify_theorem.specs.Judge.Rules.{has_applets}
+use Rattle.cjc_cmd_card.specs.World.declared.image.StaticImage.{StaticImage}
+use Rattle.cjc_cmd_card.specs.Components.Paired.Pairs.{ArePaired}
+use Rattle.cjc_verify_theorem.specs.Verify.Pairs.{pair_of}
+use Rattle.cjc_verify_theorem.specs.Verify.Verified.{IsVerified}
 use Rattle.cjc_verify_theorem.specs.Passed.{AreBytes, IsPassed, IsSpelt}
-use Rattle.cjc_bytes.proofs.Bools.{by_if}
-use Rattle.cjc_bytes.proofs.Laws.{file_ok}
-use Rattle.cjc_bytes.proofs.Plain.{the_same}
+use Rattle.cjc_cmd_card.proofs.BytesBools.{by_if}
+use Rattle.cjc_cmd_card.proofs.BytesLaws.{file_ok}
+use Rattle.cjc_cmd_card.proofs.BytesPlain.{the_same}
 
 -- ---- what a component of a tag is
 
@@ -61,7 +62,8 @@ are_made : {A : Type 0} (tag k : ℕ) (p : Format A) (make : A → Component) �
 unfolding Spells
 are_made tag k p make is same at x bytes h = ap tag_of (sym h.5.1) ∙ is h.0 ∙ sym same
 
-are_either : (tag k : ℕ) (p q : Format Component) → (tag ≡ k → AreOf tag p) → AreOf tag q → AreOf tag (either (tag == k) p q)
+are_either : (tag k : ℕ) (p q : Format Component) → (tag ≡ k → AreOf tag p) → AreOf tag q → AreOf tag (either
+    (tag == k) p q)
 are_either tag k p q one other = by (tag == k) refl
   where
     by : (b : Bool) → (tag == k) ≡ b → AreOf tag (either b p q)
@@ -114,7 +116,8 @@ module _ {A : Type 0} (get : CapTree → Option A) (of : Component → Option A)
   read_later bytes files a (k, b, at, tag, x, e, f) = (suc k, b, at, tag, x, e, f)
 
   one_read : (cap : CapTree) (tag : ℕ) (bytes : List ℕ) (files : List (List ℕ)) (a : A) (r : Result Component ℕ)
-      → read_component tag bytes ≡ r → get (with_read cap tag r) ≡ Some a → (get cap ≡ Some a) ⊎ IsRead (bytes ∷ files) a
+      → read_component tag bytes ≡ r → get (with_read cap tag r) ≡ Some a → (get cap ≡ Some a) ⊎ IsRead
+      (bytes ∷ files) a
   unfolding IsRead
   one_read cap tag bytes files a (Ok x) e h = ⊎_elim (λ old. inl old) (λ new. inr (0, bytes, refl, tag, x, e, new))
       (one cap tag x a h)
@@ -132,7 +135,8 @@ module _ {A : Type 0} (get : CapTree → Option A) (of : Component → Option A)
       (all_read (with_read cap tag (read_component tag bytes)) tags files a h)
 
   of_front : (h d : Result Component ℕ) (tags : List ℕ) (files : List (List ℕ)) (cap : CapTree) (a : A)
-      → cap_of h d tags files ≡ Some cap → get cap ≡ Some a → ((header : _) (directory : _) → get (front header directory)
+      → cap_of h d tags files ≡ Some cap → get cap ≡ Some a → ((header : _) (directory : _) → get
+      (front header directory)
       ≡ None) → IsRead files a
   of_front (Ok (components.Header h)) (Ok (components.Directory d)) tags files cap a e f none =
       let same : with_components (front h d) tags files ≡ cap = cc in
@@ -145,7 +149,8 @@ module _ {A : Type 0} (get : CapTree → Option A) (of : Component → Option A)
       → (x : Component) × (of x ≡ Some a) × IsSpelt (tag_of x) x
   unfolding IsRead
   spelt_by parts cap e bytes none a f =
-      let r = of_front (read_component 1 parts.header) (read_component 2 parts.directory) parts.tags parts.others cap a e f
+      let r = of_front (read_component 1 parts.header) (read_component 2 parts.directory) parts.tags parts.others cap a
+      e f
       none in
       (r.4, r.6, read_spells r.3 r.1 r.4 (bytes r.0 r.1 r.2) r.5)
 
@@ -171,7 +176,8 @@ module _ (cap : CapTree) (tag : ℕ) (x : Component) where
   descriptor_with : (a : Descriptor) → (let made = with_component cap tag x in made.descriptor) ≡ Some a
       → (cap.descriptor ≡ Some a) ⊎ (descriptor_of x ≡ Some a)
   descriptor_with a =
-      let P : CapTree → Type 0 = λ made. made.descriptor ≡ Some a → (cap.descriptor ≡ Some a) ⊎ (descriptor_of x ≡ Some a)
+      let P : CapTree → Type 0 = λ made. made.descriptor ≡ Some a → (cap.descriptor ≡ Some a) ⊎ (descriptor_of x
+      ≡ Some a)
       in
       by_if P (tag == 3) _ _ (λ h. inl h) (by_if P (tag == 4) _ _ (λ h. inl h) (by_if P (tag == 5) _ _ (λ h. inl h)
       (by_if P (tag == 6) _ _ (λ h. inl h) (by_if P (tag == 7) _ _ (λ h. inl h) (by_if P (tag == 8) _ _ (λ h. inl h)
@@ -197,9 +203,11 @@ record AreThere (cap : CapTree) (c : Complete) : Type 0 where
   descriptor : cap.descriptor ≡ Some c.descriptor
 
 are_there : (cap : CapTree) (c : Complete) → complete cap ≡ Some c → AreThere cap c
-are_there cap c e = by cap.import cap.pool cap.class cap.method cap.statics cap.locations cap.descriptor refl refl refl e
+are_there cap c e = by cap.import cap.pool cap.class cap.method cap.statics cap.locations cap.descriptor refl refl refl
+    e
   where
-    by : (i : Option Import) (p : Option ConstantPool) (k : Option ClassInfo) (m : Option Method) (s : Option StaticField)
+    by : (i : Option Import) (p : Option ConstantPool) (k : Option ClassInfo) (m : Option Method)
+        (s : Option StaticField)
         (l : Option ReferenceLocation) (d : Option Descriptor) → cap.pool ≡ p → cap.method ≡ m → cap.descriptor ≡ d
         → complete_with cap i p k m s l d ≡ Some c → AreThere cap c
     by (Some i) (Some p) (Some k) (Some m) (Some s) (Some l) (Some d) ep em ed f =
@@ -224,7 +232,8 @@ passed input ready is given files others image is_image paired verified =
     let there = are_there ready.cap is.whole is.complete_is in
     let pool = spelt_by (λ (t : CapTree). t.pool) pool_of pool_with input.parts ready.cap is.cap others (λ h d. refl)
     (let c = is.whole in c.pool) there.pool in
-    let method = spelt_by (λ (t : CapTree). t.method) method_of method_with input.parts ready.cap is.cap others (λ h d. refl)
+    let method = spelt_by (λ (t : CapTree). t.method) method_of method_with input.parts ready.cap is.cap others
+    (λ h d. refl)
     (let c = is.whole in c.method) there.method in
     let descriptor = spelt_by (λ (t : CapTree). t.descriptor) descriptor_of descriptor_with input.parts ready.cap is.cap
     others (λ h d. refl) (let c = is.whole in c.descriptor) there.descriptor in

@@ -12,10 +12,10 @@ use Rattle.cjc_check_rules.specs.Complete.{Complete, described_size}
 use Rattle.cjc_check_rules.specs.Consistent.{break_at}
 use Rattle.cjc_check_rules.specs.declared.spot.ComponentPlace.{ComponentPlace}
 use Rattle.cjc_check_rules.specs.Spots.{in_info, unless, beside}
-use Rattle.cjc_vtable.specs.World.declared.image.StaticImage.{StaticImage}
-use Rattle.cjc_vtable.specs.World.Classes.{Class, all_classes}
-use Rattle.cjc_vtable.specs.World.Files.{Files}
-use Rattle.cjc_vtable.specs.World.Order.{class_order, methods_of_class}
+use Rattle.cjc_clinit.specs.World.declared.image.StaticImage.{StaticImage}
+use Rattle.cjc_clinit.specs.World.Classes.{Class, all_classes}
+use Rattle.cjc_clinit.specs.World.Files.{Files}
+use Rattle.cjc_clinit.specs.World.Order.{class_order, methods_of_class}
 
 -- how many class and interface infos there are
 abbrev pub info_count : ClassInfo → ℕ

@@ -11,14 +11,14 @@ use Rattle.cjc_card_semantics.specs.Script.declared.script.Script.{Script}
 use Rattle.cjc_card_semantics.specs.Script.declared.report.Report.{Report}
 use Rattle.cjc_world.specs.declared.image.StaticImage.{StaticImage}
 use Rattle.cjc_world.specs.Files.{Files}
-use Rattle.cjc_components.specs.JvmSemantics.Linked.{Method}
-use Rattle.cjc_components.specs.JvmSemantics.ByName
+use Rattle.cjc_components.specs.LowerJvmSemantics.Linked.{Method}
+use Rattle.cjc_components.specs.LowerJvmSemantics.ByName
 use Rattle.cjc_card_semantics.specs.Machine.Loaded.{Part, Loaded}
 use Rattle.cjc_card_semantics.specs.Machine.Worked.{object, lang, tree, exported, exported_method}
 use Rattle.cjc_card_semantics.specs.Machine.ByToken
-use Rattle.cjc_components.specs.NCode.declared.narrow.NMethod.{NMethod}
-use Rattle.cjc_components.specs.Narrow.Rows.Package.{code_of}
-use Rattle.cjc_components.specs.Narrow.Rows.Package
+use Rattle.cjc_components.specs.LowerNCode.declared.narrow.NMethod.{NMethod}
+use Rattle.cjc_components.specs.LowerNarrow.Rows.Package.{code_of}
+use Rattle.cjc_components.specs.LowerNarrow.Rows.Package
 
 -- q has class q/A with a constructor, a static z, and virtual a and b
 abbrev pub q : ExportTree

@@ -15,7 +15,7 @@ use Rattle.cjc_card_semantics.specs.Script.declared.report.Report.{Report}
 use Rattle.cjc_card_semantics.specs.Script.declared.report.Thing.TheVariants.{Array}
 use Rattle.cjc_world.specs.declared.image.StaticImage.{StaticImage}
 use Rattle.cjc_world.specs.Files.{Files}
-use Rattle.cjc_components.specs.JvmSemantics.Worked.{method, class, field}
+use Rattle.cjc_components.specs.LowerJvmSemantics.Worked.{method, class, field}
 use Rattle.cjc_card_semantics.specs.Machine.Worked.{id, method_at, described, class_with, named, names, object}
 use Rattle.cjc_card_semantics.specs.Machine.Loaded.{OfFile, Part, Loaded}
 use Rattle.cjc_examples.specs.Narrow.Both.{over, loaded}

@@ -6,7 +6,7 @@ use Rattle.cjc_capwrite.specs.CapRead.declared.tree.ClassRef.TheVariants.{Inside
 use Rattle.cjc_capwrite.specs.CapRead.declared.tree.StaticRef.TheVariants as refs
 use Rattle.cjc_capwrite.specs.CapRead.declared.tree.PoolEntry.TheVariants.{Classref, VirtualMethodref, StaticMethodref}
 use Rattle.cjc_world.specs.Files.{Files}
-use Rattle.cjc_components.specs.JvmSemantics.Worked.{method, virtual, class}
+use Rattle.cjc_components.specs.LowerJvmSemantics.Worked.{method, virtual, class}
 use Rattle.cjc_card_semantics.specs.Machine.Worked.{id, method_at, described, class_with, no_statics, named, names}
 use Rattle.cjc_card_semantics.specs.Machine.Loaded.{OfFile, Part, Loaded}
 use Rattle.cjc_examples.specs.Narrow.Both.{over, loaded}

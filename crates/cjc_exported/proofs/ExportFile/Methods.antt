@@ -6,7 +6,7 @@ use Rattle.std.specs.Prelude.{option_map, unwrap_or, ◌||◌}
 use Rattle.std.proofs.Math.ListN.{drop_of_length-le}
 use Rattle.std.proofs.lemmas.Option.{slice_get-map}
 use Rattle.cjc_world.specs.ClassFile.declared.tree.ClassTree.{ClassTree}
-use Rattle.cjc_export.specs.Bytes.AccessFlags.{is_interface}
+use Rattle.cjc_world.specs.Bytes.AccessFlags.{is_interface}
 use Rattle.cjc_world.specs.Files.{Files}
 use Rattle.cjc_world.specs.Classes.{Member, Class, all_classes, class_at, declared}
 use Rattle.cjc_world.specs.Added.{added, added_at, added_to, named_by}
@@ -32,7 +32,7 @@ use Rattle.cjc_exported.specs.ExportFile.Working.Sources.{AreSources, IsNumbered
 use Rattle.cjc_exported.specs.ExportFile.Working.Sources.{world_in}
 use Rattle.cjc_exported.specs.declared.export_file.source.Source.{Source}
 use Rattle.cjc_exported.proofs.ExportFile.ByNumber.{of-number}
-use Rattle.cjc_export.proofs.BytesGets.{get_back}
+use Rattle.cjc_world.proofs.BytesGets.{get_back}
 
 -- ---- the class of a number
 

@@ -3,11 +3,11 @@ use Rattle.std.proofs.Common.{◌≡◌, refl, ap, ◌∙◌, List, [], ◌∷�
 use Rattle.std.specs.Prelude.{◌||◌, ◌&&◌}
 use Rattle.std.specs.List.{list_any}
 use Rattle.std.specs.Str.{bytes_eq}
-use Rattle.cjc_export.specs.Bytes.AccessFlags.{is_interface}
+use Rattle.cjc_world.specs.Bytes.AccessFlags.{is_interface}
 use Rattle.cjc_world.specs.Classes.{Class}
 use Rattle.cjc_world.specs.Exported.{shareable}
 use Rattle.cjc_world.specs.Interfaces.{Interface, is_among}
-use Rattle.cjc_components.specs.ClassOrder.Supers.Supers.{interfaces, name_of}
+use Rattle.cjc_components.specs.LowerClassOrder.Supers.Supers.{interfaces, name_of}
 use Rattle.cjc_tokens.specs.Methods.{interfaces_at}
 use Rattle.cjc_components.specs.Class.{is_shareable}
 

@@ -4,10 +4,10 @@ use Rattle.std.proofs.Common.{[], ◌∷◌, ◌++◌, drop, length}
 use Rattle.std.specs.Prelude.{Option, Some, None, if◌then◌else◌, filter, option_and_then, option_map, slice_get}
 use Rattle.std.specs.Prelude.{unwrap_or}
 use Rattle.std.proofs.lemmas.Option.{slice_get-map, slice_get_within}
-use Rattle.cjc_export.specs.Bytes.declared.settings.FileLine.{FileLine}
+use Rattle.cjc_world.specs.Bytes.declared.settings.FileLine.{FileLine}
 use Rattle.cjc_world.specs.ClassFile.declared.tree.ClassTree.{ClassTree}
-use Rattle.cjc_export.specs.declared.tree.ExportClass.{ExportClass}
-use Rattle.cjc_export.specs.declared.tree.ExportTree.{ExportTree}
+use Rattle.cjc_world.specs.ExportFile.declared.tree.ExportClass.{ExportClass}
+use Rattle.cjc_world.specs.ExportFile.declared.tree.ExportTree.{ExportTree}
 use Rattle.cjc_world.specs.Classes.{Class, declared, size, of_class_file, of_export_file, classes_from, all_classes}
 use Rattle.cjc_world.specs.Exported.{is_exported}
 use Rattle.cjc_tokens.specs.Rules.{count_exported}
@@ -18,7 +18,7 @@ use Rattle.cjc_components.specs.Exports.{exported_classes}
 use Rattle.cjc_components.specs.ExportFile.{export_class, export_of}
 use Rattle.cjc_exported.proofs.ExportFile.ByNumber.{past}
 use Rattle.cjc_exported.proofs.ExportFile.Few.{export-left, fewer, test}
-use Rattle.cjc_export.proofs.BytesGets.{drop_at, drop_behind}
+use Rattle.cjc_world.proofs.BytesGets.{drop_at, drop_behind}
 
 -- the token that is kept for a class of this number
 abbrev kept : List OfClass → ℕ → Option ℕ

@@ -8,11 +8,11 @@ use Rattle.std.specs.Int.{w32}
 use Rattle.std.proofs.lemmas.List.{length-append, take_all}
 use Rattle.std.proofs.lemmas.Option.{slice_get_within, get_or_from_slice_get}
 use Rattle.std.proofs.lemmas.Bool.Decides.{nat_tests}
-use Rattle.cjc_export.specs.Bytes.AccessFlags.{is_static}
+use Rattle.cjc_world.specs.Bytes.AccessFlags.{is_static}
 use Rattle.cjc_world.specs.ClassFile.declared.tree.FieldTree.{FieldTree}
-use Rattle.cjc_export.specs.declared.tree.ExportField.{ExportField}
-use Rattle.cjc_export.specs.Members.{field_token_taken, may_be_constant, same_bool}
-use Rattle.cjc_export.specs.Writable.{EachAfter, FieldFits, ValueFits}
+use Rattle.cjc_world.specs.ExportFile.declared.tree.ExportField.{ExportField}
+use Rattle.cjc_world.specs.ExportFile.Members.{field_token_taken, may_be_constant, same_bool}
+use Rattle.cjc_world.specs.ExportFile.Writable.{EachAfter, FieldFits, ValueFits}
 use Rattle.cjc_world.specs.Classes.{Class}
 use Rattle.cjc_world.specs.Lookup.{member_at}
 use Rattle.cjc_tokens.specs.Fields.{field_token, instance_cells, instance_token, is_constant, is_instance}
@@ -25,7 +25,7 @@ use Rattle.cjc_components.specs.Names.{member_token}
 use Rattle.cjc_exported.specs.Exportable.{FieldIsRead, IsExportable}
 use Rattle.cjc_exported.proofs.ExportLaws.Own.{IsOwn}
 use Rattle.cjc_exported.proofs.ExportLaws.Tokens.{counted, few_statics, field_has, low_instance, other_instance}
-use Rattle.cjc_export.proofs.BytesGets.{in_front}
+use Rattle.cjc_world.proofs.BytesGets.{in_front}
 
 -- ---- a field's token by its kind
 

@@ -5,8 +5,8 @@ use Rattle.std.specs.Prelude.{slice_get, option_map, unwrap_or, not, ◌==◌, �
 use Rattle.std.specs.Str.{bytes_eq}
 use Rattle.std.proofs.lemmas.Option.{slice_get-map}
 use Rattle.std.proofs.lemmas.Bool.Decides.{nat_tests}
-use Rattle.cjc_export.specs.declared.tree.ExportClass.{ExportClass}
-use Rattle.cjc_export.specs.ExportFile.{class_token, name_taken, new_name, token_taken}
+use Rattle.cjc_world.specs.ExportFile.declared.tree.ExportClass.{ExportClass}
+use Rattle.cjc_world.specs.ExportFile.ExportFile.{class_token, name_taken, new_name, token_taken}
 use Rattle.cjc_world.specs.Classes.{Class, class_at, class_named, is_at}
 use Rattle.cjc_world.specs.Rules.{is_other, is_second, same_place}
 use Rattle.cjc_tokens.specs.Tokens.{token_of_class}
@@ -16,7 +16,7 @@ use Rattle.cjc_components.specs.ExportFile.{export_class, export_of}
 use Rattle.cjc_exported.specs.Exportable.{IsExportable}
 use Rattle.cjc_exported.proofs.ExportLaws.Each.{none_before}
 use Rattle.cjc_exported.proofs.ExportLaws.Own.{own_class}
-use Rattle.cjc_export.proofs.BytesLists.{name_is, bytes_true}
+use Rattle.cjc_world.proofs.BytesLists.{name_is, bytes_true}
 
 -- the class of the package that an exported one is
 pub exported_one : (p : Package) (k : ℕ) (e : ExportClass) → (let t = export_of p in slice_get t.classes k ≡ Some e)

@@ -6,15 +6,16 @@ use Rattle.std.specs.List.{AllByRecursion, flat_map, list_any}
 use Rattle.std.specs.Str.{bytes_eq}
 use Rattle.std.proofs.lemmas.List.{length-map, map-append}
 use Rattle.indexmap.specs.IndexSet.{insert_all, insert_key}
-use Rattle.cjc_export.specs.declared.tree.ExportClass.{ExportClass}
-use Rattle.cjc_export.specs.declared.tree.ExportTree.{ExportTree}
-use Rattle.cjc_export.specs.Constant.{Constant, class, same}
-use Rattle.cjc_export.specs.Supers.{is_one_of}
-use Rattle.cjc_export.specs.Written.{class_needs, class_tree_needs, constants, field_needs, method_needs, needs}
-use Rattle.cjc_export.proofs.Numbering.{Has, all_back, all_front, all_in}
-use Rattle.cjc_export.proofs.Worth.{total, worth_at_most}
-use Rattle.cjc_components.specs.ClassOrder.Supers.Supers.{each_once}
-use Rattle.cjc_export.proofs.BytesLists.{bytes_sym}
+use Rattle.cjc_world.specs.ExportFile.declared.tree.ExportClass.{ExportClass}
+use Rattle.cjc_world.specs.ExportFile.declared.tree.ExportTree.{ExportTree}
+use Rattle.cjc_world.specs.ExportFile.Constant.{Constant, class, same}
+use Rattle.cjc_world.specs.ExportFile.Supers.{is_one_of}
+use Rattle.cjc_world.specs.ExportFile.Written.{class_needs, class_tree_needs, constants, field_needs, method_needs}
+use Rattle.cjc_world.specs.ExportFile.Written.{needs}
+use Rattle.cjc_world.proofs.ExportFileNumbering.{Has, all_back, all_front, all_in}
+use Rattle.cjc_world.proofs.ExportFileWorth.{total, worth_at_most}
+use Rattle.cjc_components.specs.LowerClassOrder.Supers.Supers.{each_once}
+use Rattle.cjc_world.proofs.BytesLists.{bytes_sym}
 
 -- ---- names of their own
 

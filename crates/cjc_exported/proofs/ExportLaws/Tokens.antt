@@ -6,8 +6,8 @@ use Rattle.std.specs.Prelude.{if◌then◌else◌}
 use Rattle.std.proofs.lemmas.List.Sums.{sum_by-cons}
 use Rattle.std.proofs.lemmas.Bool.{cases_order}
 use Rattle.std.proofs.lemmas.Bool.Decides.{nat_tests}
-use Rattle.cjc_export.specs.Bytes.declared.settings.FileLine.{FileLine}
-use Rattle.cjc_export.specs.Bytes.Order.{file_of}
+use Rattle.cjc_world.specs.Bytes.declared.settings.FileLine.{FileLine}
+use Rattle.cjc_world.specs.Bytes.Order.{file_of}
 use Rattle.cjc_world.specs.ClassFile.declared.tree.ClassTree.{ClassTree}
 use Rattle.cjc_world.specs.ClassFile.declared.tree.FieldTree.{FieldTree}
 use Rattle.cjc_world.specs.Classes.{Class, declared}
@@ -21,8 +21,8 @@ use Rattle.cjc_tokens.proofs.Sums.{some_cells, cells-cons}
 use Rattle.cjc_components.specs.Package.{Package, has_applets, world}
 use Rattle.cjc_components.specs.Names.{member_token}
 use Rattle.cjc_exported.proofs.ExportLaws.Own.{IsOwn}
-use Rattle.cjc_export.proofs.BytesLists.{none_left, none_right}
-use Rattle.cjc_export.proofs.BytesGets.{in_front}
+use Rattle.cjc_world.proofs.BytesLists.{none_left, none_right}
+use Rattle.cjc_world.proofs.BytesGets.{in_front}
 
 -- ---- where a token stands
 

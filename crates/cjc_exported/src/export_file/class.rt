@@ -4,10 +4,10 @@
 ghost use Rattle.std.specs.Prelude.{◌≡◌, ◌+◌, ◌-◌, ◌++◌, [], bit_and, false, if◌then◌else◌, length, map, IfOk};
 ghost use Rattle.std.specs.List.{list_any};
 ghost use Rattle.std.specs.Str.{bytes_eq};
-ghost use Rattle.cjc_export.specs.Bytes.AccessFlags.{acc_shareable};
+ghost use Rattle.cjc_world.specs.Bytes.AccessFlags.{acc_shareable};
 ghost use Rattle.cjc_world.specs.Exported.{shareable};
 ghost use Rattle.cjc_world.specs.Working.Known.{class_of};
-ghost use Rattle.cjc_components.specs.ClassOrder.Supers.Supers.{interfaces};
+ghost use Rattle.cjc_components.specs.LowerClassOrder.Supers.Supers.{interfaces};
 ghost use Rattle.cjc_components.specs.Class.{is_shareable};
 ghost use Rattle.cjc_components.specs.ExportFile.{class_flags, export_class, without};
 ghost use Rattle.cjc_exported.specs.ExportFile.Working.Sources.{AreSources, IsNumbered, methods_of, package_in};
@@ -18,9 +18,9 @@ use crate::export_file::inherited::put_inherited_methods;
 use crate::export_file::own::{put_given, put_own};
 use crate::export_file::source::Source;
 use cjc_components::class_order::supers::{interfaces, superclasses};
-use cjc_export::bytes::{ACC_SHAREABLE, ACC_SUPER, Bytes, NoMemory, Row};
-use cjc_export::{ExportClass, ExportMethod, copies_of};
 use cjc_world::Known;
+use cjc_world::bytes::{ACC_SHAREABLE, ACC_SUPER, Bytes, NoMemory, Row};
+use cjc_world::export_file::{ExportClass, ExportMethod, copies_of};
 use std::alloc::Global;
 
 const SHAREABLE: &[u8] = b"javacard/framework/Shareable";

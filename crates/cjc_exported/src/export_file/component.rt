@@ -23,9 +23,9 @@ use crate::export_file::numbered::classes_of_kind;
 use crate::export_file::source::place_after;
 use cjc_components::capread::{ClassRef, Export, ExportedClass};
 use cjc_components::list::List;
-use cjc_export::bytes::{NoMemory, Row, is_static};
-use cjc_export::may_be_constant;
+use cjc_world::bytes::{NoMemory, Row, is_static};
 use cjc_world::classfile::{ClassTree, FieldTree};
+use cjc_world::export_file::may_be_constant;
 use cjc_world::{Known, World};
 use std::alloc::Global;
 

@@ -11,10 +11,10 @@ ghost use Rattle.cjc_exported.specs.ExportFile.Working.Sources.{AreSources, pack
 
 use crate::export_file::method::is_exposed;
 use crate::export_file::source::{Source, place_after};
-use cjc_export::bytes::{Bytes, NoMemory, Row};
-use cjc_export::{ExportField, may_be_constant};
 use cjc_world::Known;
+use cjc_world::bytes::{Bytes, NoMemory, Row};
 use cjc_world::classfile::FieldTree;
+use cjc_world::export_file::{ExportField, may_be_constant};
 use std::alloc::Global;
 
 /// The value of a constant.

@@ -2,7 +2,7 @@
 //! on this.
 
 ghost use Rattle.std.specs.Prelude.{◌≡◌, ◌<◌, ℕ, length, slice_get, Some};
-ghost use Rattle.cjc_export.specs.declared.tree.ExportClass.{ExportClass as Exported};
+ghost use Rattle.cjc_world.specs.ExportFile.declared.tree.ExportClass.{ExportClass as Exported};
 ghost use Rattle.cjc_tokens.specs.Rules.{FewExported};
 ghost use Rattle.cjc_components.specs.ExportFile.{export_of};
 ghost use Rattle.cjc_components.specs.Package.{Package, has_applets};

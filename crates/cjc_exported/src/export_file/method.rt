@@ -9,9 +9,9 @@ ghost use Rattle.cjc_components.specs.Descriptor.{no_member};
 ghost use Rattle.cjc_components.specs.ExportFile.{is_listed, method_entry};
 ghost use Rattle.cjc_exported.specs.ExportFile.Working.Sources.{bare, given, method_of};
 
-use cjc_export::ExportMethod;
-use cjc_export::bytes::{Bytes, MemberId, NoMemory, Row, is_protected, is_public};
 use cjc_world::Known;
+use cjc_world::bytes::{Bytes, MemberId, NoMemory, Row, is_protected, is_public};
+use cjc_world::export_file::ExportMethod;
 use std::alloc::Global;
 
 /// Of a method that is added to a class: public and abstract.

@@ -6,7 +6,7 @@ ghost use Rattle.cjc_world.specs.Classes.{all_classes};
 ghost use Rattle.cjc_world.specs.Working.Known.{class_of};
 ghost use Rattle.cjc_exported.specs.ExportFile.Working.Sources.{is_of_kind};
 
-use cjc_export::bytes::NoMemory;
+use cjc_world::bytes::NoMemory;
 use cjc_world::{Known, World};
 use std::alloc::Global;
 

@@ -10,9 +10,9 @@ ghost use Rattle.cjc_exported.specs.ExportFile.Working.Sources.{AreSources, give
 
 use crate::export_file::method::{given, is_listed, own_method, put_method};
 use crate::export_file::source::{Source, place_after};
-use cjc_export::ExportMethod;
-use cjc_export::bytes::{MemberId, NoMemory, Row};
 use cjc_world::Known;
+use cjc_world::bytes::{MemberId, NoMemory, Row};
+use cjc_world::export_file::ExportMethod;
 use std::alloc::Global;
 
 /// Puts the method at a place among a class's own at the end where others may name it.

@@ -18,8 +18,8 @@ ghost use Rattle.cjc_exported.specs.ExportFile.Working.Sources.{world_in};
 use crate::export_file::method::{Method, given_at, own_method};
 use crate::export_file::numbered::classes_of_kind;
 use cjc_components::list::List;
-use cjc_export::bytes::{MemberId, NoMemory};
 use cjc_tokens::Tokens;
+use cjc_world::bytes::{MemberId, NoMemory};
 use cjc_world::{Found, Known, World};
 use std::alloc::Global;
 

@@ -13,9 +13,9 @@ ghost use Rattle.cjc_exported.specs.ExportFile.Working.Sources.{AreSources, IsNu
 use crate::export_file::class::export_class;
 use crate::export_file::source::Source;
 use cjc_components::list::List;
-use cjc_export::bytes::{Bytes, NoMemory, Row};
-use cjc_export::{ExportClass, ExportTree};
 use cjc_tokens::Tokens;
+use cjc_world::bytes::{Bytes, NoMemory, Row};
+use cjc_world::export_file::{ExportClass, ExportTree};
 use cjc_world::{Known, World};
 use std::alloc::Global;
 

@@ -5,8 +5,8 @@ ghost use Rattle.cjc_flow.specs.Constants.{value_got, values_of};
 ghost use Rattle.cjc_judge.specs.OutOfRange.{constants_of};
 
 use cjc_bytes::{NoMemory, Row};
-use cjc_code::{JInsn, JOp};
 use cjc_narrow::rows::constant_named;
+use cjc_vtable::bytecode::{JInsn, JOp};
 use cjc_world::World;
 use std::alloc::Global;
 

@@ -2,21 +2,21 @@
 
 ghost use Rattle.std.specs.Prelude.{◌≡◌, Some, IfOk, IfSome};
 ghost use Rattle.cjc_bytes.specs.declared.breaks.BrokenAt.{BrokenAt as Broken};
-ghost use Rattle.cjc_code.specs.ClassFile.Code.{CodeTree};
-ghost use Rattle.cjc_code.specs.ClassFile.declared.tree.ClassTree.{ClassTree as ClassFile};
-ghost use Rattle.cjc_code.specs.ClassFile.declared.tree.MethodTree.{MethodTree as ClassMethod};
+ghost use Rattle.cjc_world.specs.ClassFile.Code.{CodeTree};
+ghost use Rattle.cjc_world.specs.ClassFile.declared.tree.ClassTree.{ClassTree as ClassFile};
+ghost use Rattle.cjc_world.specs.ClassFile.declared.tree.MethodTree.{MethodTree as ClassMethod};
 ghost use Rattle.cjc_world.specs.Classes.{all_classes};
-ghost use Rattle.cjc_flow.specs.Types.Flow.{body_of};
-ghost use Rattle.cjc_flow.specs.Types.Tables.{IsMethodOf, IsOfPackage, IsTypeTable, rows_of};
+ghost use Rattle.cjc_narrow.specs.Types.Flow.{body_of};
+ghost use Rattle.cjc_narrow.specs.Types.Tables.{IsMethodOf, IsOfPackage, IsTypeTable, rows_of};
 ghost use Rattle.cjc_flow.specs.Constants.{values_of};
 ghost use Rattle.cjc_judge.specs.OutOfRange.{constants_of, IsOutOfRange};
 
 use crate::ranges::constants::values_of;
 use cjc_bytes::{BrokenAt, NoMemory};
-use cjc_code::MethodCode;
 use cjc_flow::Ranging;
 use cjc_flow::tests::passes;
 use cjc_flow::types::TypeTable;
+use cjc_vtable::bytecode::MethodCode;
 use cjc_world::World;
 use std::alloc::Global;
 

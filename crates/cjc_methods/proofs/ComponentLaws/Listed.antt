@@ -2,8 +2,8 @@
 use Rattle.std.proofs.Common.{◌≡◌, ℕ, suc, ◌+◌, ◌-◌, ◌/◌, ◌%◌, ◌<◌, ◌≤◌, List, [], ◌∷◌, ◌++◌, length, get_or, drop}
 use Rattle.std.proofs.Common.{refl, sym, ap, ◌∙◌, arith, append_assoc, append-nil}
 use Rattle.std.proofs.lemmas.List.{drop_all}
-use Rattle.cjc_ncode.specs.CapRead.declared.tree.Handler.{Handler}
-use Rattle.cjc_components.specs.CheckRules.Locations.{catch_places, distance, distances}
+use Rattle.cjc_pool.specs.CapRead.declared.tree.Handler.{Handler}
+use Rattle.cjc_pool.specs.CheckRules.Locations.{catch_places, distance, distances}
 use Rattle.cjc_methods.specs.Component.Working.Parts.{catch_place}
 use Rattle.cjc_bytes.proofs.Gets.{at_item}
 use Rattle.cjc_bytes.proofs.Numbers.{number_full}

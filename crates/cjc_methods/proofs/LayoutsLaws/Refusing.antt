@@ -11,11 +11,11 @@ use Rattle.cjc_world.specs.ClassFile.declared.tree.ClassTree.{ClassTree}
 use Rattle.cjc_world.specs.ClassFile.declared.tree.MethodTree.{MethodTree}
 use Rattle.cjc_world.specs.declared.found.Found.{Found}
 use Rattle.cjc_world.specs.Files.{Files}
-use Rattle.cjc_components.specs.JvmSemantics.OnePackage.{method_by, method_in}
-use Rattle.cjc_ncode.specs.declared.narrow.NMethod.{NMethod}
-use Rattle.cjc_components.specs.Layout.declared.layout.Layout.{Layout}
-use Rattle.cjc_components.specs.Layout.Layouts.{IsLayout}
-use Rattle.cjc_components.specs.Layout.Refusals.{IsRefusalBy, first_of, if_too_long, of_method, refusal_of}
+use Rattle.cjc_pool.specs.JvmSemantics.OnePackage.{method_by, method_in}
+use Rattle.cjc_pool.specs.NCode.declared.narrow.NMethod.{NMethod}
+use Rattle.cjc_pool.specs.Layout.declared.layout.Layout.{Layout}
+use Rattle.cjc_pool.specs.Layout.Layouts.{IsLayout}
+use Rattle.cjc_pool.specs.Layout.Refusals.{IsRefusalBy, first_of, if_too_long, of_method, refusal_of}
 use Rattle.cjc_components.specs.Written.{is_abstract_at, is_abstract_by}
 use Rattle.cjc_methods.specs.declared.layouts.laid.Laid.{Laid}
 use Rattle.cjc_methods.specs.declared.layouts.tries.Try.TheVariants as tries

@@ -3,7 +3,7 @@ use Rattle.std.specs.Prelude.{◌≡◌, ℕ, List, length, map}
 use Rattle.cjc_world.specs.ExportFile.Written.{constants}
 use Rattle.cjc_world.specs.declared.found.Found.{Found}
 use Rattle.cjc_world.specs.Files.{Files}
-use Rattle.cjc_ncode.specs.declared.narrow.NMethod.{NMethod}
+use Rattle.cjc_pool.specs.NCode.declared.narrow.NMethod.{NMethod}
 use Rattle.cjc_components.specs.Package.{Package, codes}
 use Rattle.cjc_components.specs.ExportFile.{export_of}
 

@@ -3,9 +3,9 @@ use Rattle.std.specs.Prelude.{◌≡◌, ℕ, ◌+◌, List, [], ◌∷◌, slic
 use Rattle.cjc_world.specs.ClassFile.Code.{CodeTree}
 use Rattle.cjc_world.specs.ClassFile.declared.tree.ClassTree.{ClassTree}
 use Rattle.cjc_world.specs.ClassFile.declared.tree.MethodTree.{MethodTree}
-use Rattle.cjc_types.specs.Bytecode.declared.method_code.MethodCode.{MethodCode}
-use Rattle.cjc_components.specs.Tokens.Tokens.{joined}
-use Rattle.cjc_types.specs.Tables.{IsMethodOf}
+use Rattle.cjc_components.specs.Bytecode.declared.method_code.MethodCode.{MethodCode}
+use Rattle.cjc_pool.specs.Tokens.Tokens.{joined}
+use Rattle.cjc_pool.specs.Types.Tables.{IsMethodOf}
 use Rattle.cjc_world.specs.Files.{Files}
 
 -- the next place, where a method has code

@@ -2,11 +2,11 @@
 //! 6.11).
 
 ghost use Rattle.std.specs.Prelude.{◌≡◌, ◌+◌, ◌++◌, map, IfOk, OnOk};
-ghost use Rattle.cjc_components.specs.CheckRules.Locations.{catch_places};
+ghost use Rattle.cjc_pool.specs.CheckRules.Locations.{catch_places};
 ghost use Rattle.cjc_methods.specs.Component.Working.Parts.{catch_place};
 
 use cjc_bytes::{NoMemory, Row};
-use cjc_ncode::capread::Handler;
+use cjc_components::capread::Handler;
 
 /// Puts places of a method that stands at an offset at the end.
 pub(crate) fn put_places(out: &mut Row<u64>, at: u32, places: &[u32]) -> Result<(), NoMemory>

@@ -14,7 +14,7 @@ use Rattle.cjc_ncode.specs.declared.narrow.PoolKey.TheVariants as keys
 use Rattle.cjc_ncode.specs.PoolOrder.{any_exception, has_catch_type, is_field, method_keys, once, pool_order, same_key}
 use Rattle.cjc_narrow.specs.Keys.Index.{index_of}
 use Rattle.cjc_narrow.specs.Keys.Working.Same.{same_key-Decides}
-use Rattle.cjc_jvm_semantics.proofs.WorldWalked.{or-assoc}
+use Rattle.cjc_types.proofs.WorldWalked.{or-assoc}
 
 pub key_at : (ks : List PoolKey) (key : PoolKey) (i : ℕ) → index_of ks key ≡ Some i → slice_get ks i ≡ Some key
 key_at ks key i e =

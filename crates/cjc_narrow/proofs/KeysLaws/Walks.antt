@@ -15,7 +15,7 @@ use Rattle.cjc_ncode.specs.declared.narrow.PoolKey.{PoolKey}
 use Rattle.cjc_ncode.specs.PoolOrder.{any_exception, class_key, insn_keys, is_field, method_keys, once, pool_order}
 use Rattle.cjc_ncode.specs.PoolOrder.{same_key}
 use Rattle.cjc_narrow.specs.Keys.Working.Walk.{catch_keys, is_wanted, wanted}
-use Rattle.cjc_bytes.proofs.Gets.{get_step}
+use Rattle.cjc_types.proofs.BytesGets.{get_step}
 
 pub all-append : (ks xs ys : List PoolKey) → insert_all same_key ks (xs ++ ys)
     ≡ insert_all same_key (insert_all same_key ks xs) ys

@@ -2,8 +2,8 @@
 use Rattle.std.proofs.Common.{◌≡◌, ℕ, ◌+◌, ◌<◌, ◌≤◌, arith, refl, sym, ap, ◌∙◌, Bool, true, false, ◌||◌, ◌&&◌, List, []}
 use Rattle.std.proofs.Common.{◌∷◌, ◌++◌, length, get_or, drop, append_assoc, append-nil}
 use Rattle.std.proofs.lemmas.List.{drop_all}
-use Rattle.cjc_ncode.specs.ClassFile.declared.tree.Catch.{Catch}
-use Rattle.cjc_ncode.specs.Bytecode.declared.insn.JInsn.{JInsn}
+use Rattle.cjc_types.specs.ClassFile.declared.tree.Catch.{Catch}
+use Rattle.cjc_types.specs.Bytecode.declared.insn.JInsn.{JInsn}
 use Rattle.cjc_ncode.specs.declared.narrow.PairRole.{PairRole}
 use Rattle.cjc_ncode.specs.Written.{Resolution}
 use Rattle.cjc_narrow.specs.declared.select.pairs.PairStep.{PairStep}
@@ -11,7 +11,7 @@ use Rattle.cjc_narrow.specs.declared.select.pairs.Wait.{Wait}
 use Rattle.cjc_narrow.specs.declared.select.pairs.Wait.TheVariants.{Begins, Pushed, Taken, Lost}
 use Rattle.cjc_narrow.specs.Pairs.Roles.{any_stores, first_role, is_joined, is_open, kind_if, last_wait, next_wait}
 use Rattle.cjc_narrow.specs.Pairs.Roles.{roles_from, steps_from, stores_this, waits}
-use Rattle.cjc_bytes.proofs.Gets.{from_index}
+use Rattle.cjc_types.proofs.BytesGets.{from_index}
 
 -- ---- stores into local 0
 

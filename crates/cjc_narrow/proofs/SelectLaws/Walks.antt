@@ -2,14 +2,14 @@
 use Rattle.std.proofs.Common.{◌≡◌, ℕ, ◌+◌, ◌<◌, ◌≤◌, ◌-◌, arith, sym, ap, ◌∙◌, Bool, List, [], ◌∷◌}
 use Rattle.std.proofs.Common.{◌++◌, length, get_or, drop, append_assoc, append-nil}
 use Rattle.std.proofs.lemmas.List.{drop_all, length-append}
-use Rattle.cjc_ncode.specs.Bytecode.declared.insn.JInsn.{JInsn}
-use Rattle.cjc_ncode.specs.Bytecode.declared.insn.JOp.{JOp}
+use Rattle.cjc_types.specs.Bytecode.declared.insn.JInsn.{JInsn}
+use Rattle.cjc_types.specs.Bytecode.declared.insn.JOp.{JOp}
 use Rattle.cjc_ncode.specs.declared.narrow.NInsn.{NInsn}
 use Rattle.cjc_ncode.specs.declared.narrow.PairRole.{PairRole}
 use Rattle.cjc_ncode.specs.Written.{Resolution, written_as}
 use Rattle.cjc_narrow.proofs.WrittenLaws.Order.{same_length_as}
 use Rattle.cjc_narrow.specs.Select.Working.Code.{code_by, source_if, sources_by, written_if}
-use Rattle.cjc_bytes.proofs.Gets.{from_index}
+use Rattle.cjc_types.proofs.BytesGets.{from_index}
 
 module _ (r : Resolution) (insns : List JInsn) (flags : List Bool) (roles : List PairRole) where
   pub code_next : (place : ℕ → ℕ) (out : List NInsn) (k : ℕ) (d : JInsn) (e : Bool) (f : PairRole) (total : List NInsn)

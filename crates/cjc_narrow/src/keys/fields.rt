@@ -6,8 +6,8 @@ ghost use Rattle.cjc_narrow.specs.Keys.Index.{field_of, near_fields};
 
 use crate::keys::key::copy_member;
 use crate::keys::walk::number;
-use cjc_bytes::{MemberId, NoMemory, Row};
 use cjc_ncode::{NMethod, PoolKey};
+use cjc_types::bytes::{MemberId, NoMemory, Row};
 use std::alloc::Global;
 
 /// How many indices fit one byte.

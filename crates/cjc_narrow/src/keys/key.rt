@@ -9,8 +9,8 @@ ghost use Rattle.cjc_ncode.specs.PoolOrder.{is_field, same_key, same_member};
 ghost use Rattle.cjc_narrow.specs.Keys.Working.Key.{fed, key_named, key_of, member_of};
 ghost use Rattle.cjc_narrow.specs.Keys.Working.Same.{same_key-equivalence, same_key-fed};
 
-use cjc_bytes::{Bytes, MemberId, NoMemory};
 use cjc_ncode::PoolKey;
+use cjc_types::bytes::{Bytes, MemberId, NoMemory};
 use std::alloc::Global;
 use std::hash::{Hash, Hasher};
 use std::marker::Model;

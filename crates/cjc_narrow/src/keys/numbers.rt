@@ -6,8 +6,8 @@ ghost use Rattle.cjc_ncode.specs.PoolOrder.{same_key};
 ghost use Rattle.cjc_narrow.specs.Keys.Index.{index_of};
 
 use crate::keys::key::Key;
-use cjc_bytes::{NoMemory, Row};
 use cjc_ncode::PoolKey;
+use cjc_types::bytes::{NoMemory, Row};
 use indexmap::IndexSet;
 use std::alloc::Global;
 use std::marker::Model;

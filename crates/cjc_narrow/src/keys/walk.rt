@@ -9,8 +9,8 @@ ghost use Rattle.cjc_narrow.specs.Keys.Working.Walk.{catch_keys, is_wanted, want
 
 use crate::keys::key::Key;
 use crate::keys::numbers::Numbers;
-use cjc_bytes::{Bytes, NoMemory};
 use cjc_ncode::{NCatch, NInsn, NMethod};
+use cjc_types::bytes::{Bytes, NoMemory};
 use std::alloc::Global;
 
 /// The class of any exception.

@@ -2,14 +2,14 @@
 
 ghost use Rattle.std.specs.Prelude.{◌≡◌, option_map, slice_get};
 ghost use Rattle.std.specs.List.{flat_map};
-ghost use Rattle.cjc_jvm_semantics.specs.World.Classes.{all_classes};
+ghost use Rattle.cjc_types.specs.World.Classes.{all_classes};
 ghost use Rattle.cjc_jvm_semantics.specs.OnePackage.{constant_at, constant_in, exported_constant};
 ghost use Rattle.cjc_narrow.specs.Rows.Resolved.{constant_named};
 
-use cjc_bytes::MemberId;
-use cjc_jvm_semantics::world::{Found, World};
-use cjc_ncode::classfile::ClassTree;
-use cjc_ncode::export_file::{ExportClass, ExportTree, may_be_constant};
+use cjc_types::bytes::MemberId;
+use cjc_types::classfile::ClassTree;
+use cjc_types::export_file::{ExportClass, ExportTree, may_be_constant};
+use cjc_types::world::{Found, World};
 
 /// The class of this number among those of all export files.
 fn import_at(exports: &[ExportTree], number: u32) -> Option<&ExportClass>

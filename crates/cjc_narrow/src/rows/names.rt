@@ -1,16 +1,16 @@
 //! What names in code stand for, by the look-ups of the world. Knows no instruction.
 
 ghost use Rattle.std.specs.Prelude.{◌≡◌, option_map, IfOk};
-ghost use Rattle.cjc_jvm_semantics.specs.World.Classes.{all_classes, class_named};
+ghost use Rattle.cjc_types.specs.World.Classes.{all_classes, class_named};
 ghost use Rattle.cjc_jvm_semantics.specs.OnePackage.{of_class};
 ghost use Rattle.cjc_narrow.specs.Rows.Resolved.{by_owner, method_found, resolved_field, resolved_method, special_by};
 ghost use Rattle.cjc_narrow.specs.Rows.Resolved.{virtual_by};
 ghost use Rattle.cjc_narrow.specs.Rows.Working.Hits.{hit_of};
 
 use crate::rows::hits::{self, ResolvedMember};
-use cjc_bytes::{Bytes, MemberId, NoMemory, is_private};
-use cjc_jvm_semantics::world::World;
 use cjc_ncode::PoolKey;
+use cjc_types::bytes::{Bytes, MemberId, NoMemory, is_private};
+use cjc_types::world::World;
 use std::alloc::Global;
 
 const CONSTRUCTOR: &[u8] = b"<init>";

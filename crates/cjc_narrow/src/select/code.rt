@@ -2,7 +2,7 @@
 //! code.
 
 ghost use Rattle.std.specs.Prelude.{◌≡◌, ◌+◌, ◌<◌, ◌≤◌, ◌^◌, ◌++◌, ℕ, length, replicate, slice_get, Some, true, OnOk};
-ghost use Rattle.cjc_ncode.specs.Bytecode.declared.insn.JInsn.{JInsn as Insn};
+ghost use Rattle.cjc_types.specs.Bytecode.declared.insn.JInsn.{JInsn as Insn};
 ghost use Rattle.cjc_ncode.specs.Written.{accessed, on_this, written, written_as, written_open};
 ghost use Rattle.cjc_narrow.specs.Written.Labels.{place_of};
 ghost use Rattle.cjc_narrow.specs.Written.Operands.{CanBeSaid};
@@ -11,9 +11,9 @@ ghost use Rattle.cjc_narrow.specs.Select.Working.Names.{resolution_of};
 
 use crate::select::names::{Names, put_call, put_field, put_static, put_this};
 use crate::written::{Places, put_plain};
-use cjc_bytes::{NoMemory, Row};
-use cjc_ncode::bytecode::{JInsn, JOp};
 use cjc_ncode::{NInsn, PairRole};
+use cjc_types::bytecode::{JInsn, JOp};
+use cjc_types::bytes::{NoMemory, Row};
 use std::alloc::Global;
 
 /// Puts what is written for an instruction alone at the end.

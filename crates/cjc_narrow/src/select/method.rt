@@ -1,7 +1,7 @@
 //! The narrow code of a method: its instructions, where they come from, its handlers and its numbers.
 
 ghost use Rattle.std.specs.Prelude.{◌≡◌, ◌<◌, ◌^◌, ℕ, length, slice_get, Some, true, IfOk};
-ghost use Rattle.cjc_ncode.specs.Bytecode.declared.insn.JInsn.{JInsn as Insn};
+ghost use Rattle.cjc_types.specs.Bytecode.declared.insn.JInsn.{JInsn as Insn};
 ghost use Rattle.cjc_types.specs.Flow.{body_of};
 ghost use Rattle.cjc_types.specs.Marks.{marks_of};
 ghost use Rattle.cjc_narrow.specs.Rows.Resolved.{argument_words, resolution};
@@ -21,11 +21,11 @@ use crate::select::code::put_all;
 use crate::select::names::Names;
 use crate::select::pairs::roles_of;
 use crate::written::{Places, catches_at, widest_sum, words_by};
-use cjc_bytes::{NoMemory, Row, is_static};
-use cjc_jvm_semantics::world::World;
-use cjc_ncode::bytecode::JInsn;
-use cjc_ncode::classfile::{ClassTree, Code, MethodTree};
 use cjc_ncode::{NMethod, PairRole};
+use cjc_types::bytecode::JInsn;
+use cjc_types::bytes::{NoMemory, Row, is_static};
+use cjc_types::classfile::{ClassTree, Code, MethodTree};
+use cjc_types::world::World;
 use std::alloc::Global;
 
 /// How many words a method with these flags and this descriptor takes, its receiver counted.

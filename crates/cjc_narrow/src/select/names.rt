@@ -1,11 +1,11 @@
 //! What is written for instructions that name a field or a method, by the look-ups of the world. Knows no label.
 
 ghost use Rattle.std.specs.Prelude.{◌≡◌, ◌++◌, ◌∷◌, [], IfOk, OnOk};
-ghost use Rattle.cjc_ncode.specs.Bytecode.Jvm as jvm;
+ghost use Rattle.cjc_types.specs.Bytecode.Jvm as jvm;
 ghost use Rattle.cjc_ncode.specs.declared.narrow.NInsn.TheVariants.{Named};
 ghost use Rattle.cjc_ncode.specs.declared.narrow.PoolKey.TheVariants as keys;
 ghost use Rattle.cjc_ncode.specs.Written.{call_by, called, field_access, nargs_of, static_by, this_access};
-ghost use Rattle.cjc_ncode.specs.Script.Sorts.{field_sort};
+ghost use Rattle.cjc_jvm_semantics.specs.LowerScript.Sorts.{field_sort};
 ghost use Rattle.cjc_narrow.specs.Keys.Index.{index_of};
 ghost use Rattle.cjc_narrow.specs.Written.Operands.{IsByte};
 ghost use Rattle.cjc_narrow.specs.Select.Working.Names.{is_one_byte, resolution_of};
@@ -13,11 +13,11 @@ ghost use Rattle.cjc_narrow.specs.Select.Working.Names.{is_one_byte, resolution_
 use crate::keys::Numbers;
 use crate::rows::{constant_named, resolved_field, resolved_method, special_key, virtual_method};
 use crate::written::{field_access, pushed, static_access, this_access, words_by};
-use cjc_bytes::{MemberId, NoMemory, Row};
-use cjc_jvm_semantics::world::World;
-use cjc_ncode::bytecode::jvm;
 use cjc_ncode::capread::card;
 use cjc_ncode::{NInsn, PoolKey};
+use cjc_types::bytecode::jvm;
+use cjc_types::bytes::{MemberId, NoMemory, Row};
+use cjc_types::world::World;
 use std::alloc::Global;
 use std::marker::Model;
 

@@ -17,10 +17,10 @@ ghost use Rattle.cjc_narrow.specs.Select.Working.Names.{resolution_of};
 
 use crate::rows::constant_named;
 use crate::select::names::{Names, is_near_field};
-use cjc_bytes::{NoMemory, Row, is_static};
 use cjc_ncode::PairRole;
-use cjc_ncode::bytecode::{JInsn, JOp, jvm};
-use cjc_ncode::classfile::{Catch, Code};
+use cjc_types::bytecode::{JInsn, JOp, jvm};
+use cjc_types::bytes::{NoMemory, Row, is_static};
+use cjc_types::classfile::{Catch, Code};
 use cjc_types::covers;
 use cjc_types::fixpoint::is_marked;
 use std::alloc::Global;

@@ -6,9 +6,9 @@ ghost use Rattle.cjc_narrow.specs.Written.Working.Places.{catch_if};
 ghost use Rattle.cjc_narrow.specs.Written.Labels.{place_of};
 
 use crate::written::places::Places;
-use cjc_bytes::{Bytes, NoMemory, Row};
 use cjc_ncode::NCatch;
-use cjc_ncode::classfile::Catch;
+use cjc_types::bytes::{Bytes, NoMemory, Row};
+use cjc_types::classfile::Catch;
 use std::alloc::Global;
 
 fn class_of(alloc: Global, class: &Option<Bytes>) -> Result<Option<Bytes>, NoMemory>

@@ -5,8 +5,8 @@ ghost use Rattle.cjc_ncode.specs.Written.{arithmetic, array_load, array_store, c
 ghost use Rattle.cjc_ncode.specs.Written.{on_stack};
 
 use cjc_ncode::NInsn;
-use cjc_ncode::bytecode::jvm;
 use cjc_ncode::capread::card;
+use cjc_types::bytecode::jvm;
 
 /// aaload, baload and saload.
 pub(crate) fn array_load(op: u8) -> u8

@@ -2,7 +2,7 @@
 
 ghost use Rattle.std.specs.Prelude.{◌≡◌, ◌+◌, ◌<◌, ◌≤◌, ℕ, length, if◌then◌else◌, nat_lt, IfOk};
 ghost use Rattle.std.specs.List.{prefix_len};
-ghost use Rattle.cjc_ncode.specs.Script.Sorts.{shape_named};
+ghost use Rattle.cjc_jvm_semantics.specs.LowerScript.Sorts.{shape_named};
 ghost use Rattle.cjc_ncode.specs.Written.{Resolution, place_in, reached, type_test};
 ghost use Rattle.cjc_narrow.specs.Written.Labels.{place_of};
 ghost use Rattle.cjc_narrow.specs.Written.Operands.{IsAscending};
@@ -12,9 +12,9 @@ ghost use Rattle.cjc_narrow.specs.Pairs.Roles.{AreRoles};
 
 use crate::written::switches::{has_pair, has_word};
 use crate::written::type_tests::tested;
-use cjc_bytes::{NoMemory, Row};
 use cjc_ncode::PairRole;
-use cjc_ncode::bytecode::{JInsn, JOp, jvm};
+use cjc_types::bytecode::{JInsn, JOp, jvm};
+use cjc_types::bytes::{NoMemory, Row};
 use std::alloc::Global;
 use std::marker::Model;
 

@@ -1,8 +1,8 @@
 //! What is written for instructions that name no member. Called by whoever selects code.
 
 ghost use Rattle.std.specs.Prelude.{◌≡◌, ◌≤◌, ◌++◌, ◌∷◌, ◌==◌, if◌then◌else◌, [], false, OnOk};
-ghost use Rattle.cjc_ncode.specs.CapRead.Card as card;
-ghost use Rattle.cjc_ncode.specs.Bytecode.Jvm as jvm;
+ghost use Rattle.cjc_jvm_semantics.specs.CapRead.Card as card;
+ghost use Rattle.cjc_types.specs.Bytecode.Jvm as jvm;
 ghost use Rattle.cjc_ncode.specs.declared.narrow.NInsn.TheVariants.{Inc, Named, Op};
 ghost use Rattle.cjc_ncode.specs.declared.narrow.PoolKey.TheVariants as keys;
 ghost use Rattle.cjc_ncode.specs.Written.{Resolution, is_byte, local, written};
@@ -16,10 +16,10 @@ use crate::written::opcodes::{
 use crate::written::places::Places;
 use crate::written::switches::{put_lookup, put_table};
 use crate::written::type_tests::put_test;
-use cjc_bytes::{Bytes, NoMemory, Row};
-use cjc_ncode::bytecode::{JOp, jvm};
 use cjc_ncode::capread::card;
 use cjc_ncode::{NInsn, PoolKey};
+use cjc_types::bytecode::{JOp, jvm};
+use cjc_types::bytes::{Bytes, NoMemory, Row};
 use std::alloc::Global;
 
 /// A local by the opcode of the first short form, or that of the long one.

@@ -2,14 +2,14 @@
 
 ghost use Rattle.std.specs.Prelude.{◌≡◌, ◌∷◌, ℕ, []};
 ghost use Rattle.std.specs.Prelude.{IfOk, OnOk, ◌++◌};
-ghost use Rattle.cjc_bytes.specs.Spots.{part_of};
-ghost use Rattle.cjc_ncode.specs.Script.Sorts.{array_by, shape_named};
+ghost use Rattle.cjc_types.specs.Bytes.Spots.{part_of};
+ghost use Rattle.cjc_jvm_semantics.specs.LowerScript.Sorts.{array_by, shape_named};
 ghost use Rattle.cjc_ncode.specs.Written.{type_test};
 ghost use Rattle.cjc_narrow.specs.Written.Working.Tests.{test_by};
 
 use crate::written::descriptor::parsed;
-use cjc_bytes::{Bytes, NoMemory, Row};
 use cjc_ncode::NInsn;
+use cjc_types::bytes::{Bytes, NoMemory, Row};
 use std::alloc::Global;
 
 /// The operands of a type test.

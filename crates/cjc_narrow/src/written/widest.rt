@@ -6,8 +6,8 @@ ghost use Rattle.cjc_narrow.specs.Written.Rows.{rows_by};
 ghost use Rattle.cjc_narrow.specs.Written.Working.Places.{widest_if};
 
 use crate::written::places::sum;
-use cjc_bytes::NoMemory;
-use cjc_ncode::bytecode::{JInsn, JOp, jvm};
+use cjc_types::bytecode::{JInsn, JOp, jvm};
+use cjc_types::bytes::NoMemory;
 
 /// The size of a switch with so many cases.
 fn switch_size(head: u32, case: u32, cases: usize) -> Result<u32, NoMemory>

@@ -19,7 +19,8 @@ use Rattle.cjc_ncode.specs.declared.narrow.PairRole.{PairRole}
 use Rattle.cjc_narrow.proofs.PairsLaws.Roles.{written_as_same}
 use Rattle.cjc_ncode.proofs.WrittenCases.{written_cases}
 use Rattle.cjc_narrow_proof.specs.Sources.{IsWrittenFor, NamesClass, array, interface_call, itself, names_nothing}
-use Rattle.cjc_narrow_proof.specs.Sources.{of_array, of_cast, of_class, of_field, of_own_field, of_static, of_test, plain}
+use Rattle.cjc_narrow_proof.specs.Sources.{of_array, of_cast, of_class, of_field, of_own_field, of_static, of_test}
+use Rattle.cjc_narrow_proof.specs.Sources.{plain}
 use Rattle.cjc_narrow_proof.specs.Sources.{special_call, static_call, virtual_call}
 
 module _ (r : Resolution) (op : JOp) where

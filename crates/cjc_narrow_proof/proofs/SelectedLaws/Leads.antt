@@ -20,7 +20,7 @@ use Rattle.cjc_ncode.specs.Written.{is_load, written_for}
 use Rattle.cjc_ncode.proofs.WrittenCases.{written_cases}
 use Rattle.cjc_ncode.specs.Written.{pushed, pushed_word, static_by, switched, table_cases, type_test, written}
 use Rattle.cjc_types.specs.Steps.{case_target, goes_on, targets}
-use Rattle.cjc_emit.specs.Layout.Sizes.{AllLead, CasesLead, Leads}
+use Rattle.cjc_emit.specs.LowerLayout.Sizes.{AllLead, CasesLead, Leads}
 
 -- ---- what is not written goes on
 

@@ -1,5 +1,6 @@
 -- The narrow code of a method, of the instructions that its least type table reaches, is whole.
-use Rattle.std.proofs.Common.{◌≡◌, ℕ, zero, suc, ◌+◌, ◌<◌, ◌≤◌, refl, sym, ap, subst, ◌∙◌, arith, Bool, true, false, List}
+use Rattle.std.proofs.Common.{◌≡◌, ℕ, zero, suc, ◌+◌, ◌<◌, ◌≤◌, refl, sym, ap, subst, ◌∙◌, arith, Bool, true, false}
+use Rattle.std.proofs.Common.{List}
 use Rattle.std.proofs.Common.{[], ◌∷◌, length}
 use Rattle.std.specs.Prelude.{Option, Some, nat_le, nat_lt, slice_get, ◌&&◌, if◌then◌else◌}
 use Rattle.std.specs.List.{Contains}
@@ -32,9 +33,9 @@ use Rattle.cjc_types.specs.TypeLaws.Closed.{IsClosedTable, Reaches}
 use Rattle.cjc_types.specs.TypeLaws.Places.{HasPlace}
 use Rattle.cjc_types.proofs.TypeLaws.Lowered.{least_closed}
 use Rattle.cjc_types.proofs.TypeLaws.Standing.{handler_placed, next_there, target_placed}
-use Rattle.cjc_emit.specs.Layout.Handlers.{AllLie}
-use Rattle.cjc_emit.specs.Layout.Layouts.{IsWhole}
-use Rattle.cjc_emit.specs.Layout.Sizes.{AllLead}
+use Rattle.cjc_emit.specs.LowerLayout.Handlers.{AllLie}
+use Rattle.cjc_emit.specs.LowerLayout.Layouts.{IsWhole}
+use Rattle.cjc_emit.specs.LowerLayout.Sizes.{AllLead}
 use Rattle.cjc_narrow_proof.proofs.SelectedLaws.Cuts.{few, stack_opcode}
 use Rattle.cjc_narrow_proof.proofs.SelectedLaws.Places.{all_sizes, between, place_below, place_low, place_up}
 use Rattle.cjc_narrow_proof.proofs.SelectedLaws.Places.{reached_at, reached_from, size, sizes}

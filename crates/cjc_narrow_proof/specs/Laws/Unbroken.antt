@@ -6,7 +6,7 @@ use Rattle.cjc_bytes.specs.declared.settings.Settings.{Settings}
 use Rattle.cjc_code.specs.ClassFile.Code.{CodeTree}
 use Rattle.cjc_code.specs.ClassFile.declared.tree.ClassTree.{ClassTree}
 use Rattle.cjc_code.specs.ClassFile.declared.tree.MethodTree.{MethodTree}
-use Rattle.cjc_vtable.specs.ClassOrder.Classes.Numbers.{class_count}
+use Rattle.cjc_vtable.specs.LowerClassOrder.Classes.Numbers.{class_count}
 use Rattle.cjc_code.specs.declared.insn.JInsn.{JInsn}
 use Rattle.cjc_code.specs.declared.insn.JOp.{JOp}
 use Rattle.cjc_code.specs.declared.method_code.MethodCode.{MethodCode}

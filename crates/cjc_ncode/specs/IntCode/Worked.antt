@@ -3,7 +3,7 @@ use Rattle.std.specs.Prelude.{ℕ, ℤ, List, [], ◌∷◌, Some, None, Bool, t
 use Rattle.cjc_code.specs.ClassFile.Code.{CodeTree}
 use Rattle.cjc_code.specs.declared.insn.JOp.{JOp}
 use Rattle.cjc_code.specs.declared.insn.JOp.TheVariants as jop
-use Rattle.cjc_script.specs.Sorts.{Sort, Byte, Short, Int, Reference, OfNumbers, Bytes}
+use Rattle.cjc_card_semantics.specs.Script.Sorts.{Sort, Byte, Short, Int, Reference, OfNumbers, Bytes}
 use Rattle.cjc_ncode.specs.declared.narrow.NInsn.{NInsn}
 use Rattle.cjc_ncode.specs.declared.narrow.NInsn.TheVariants as insns
 use Rattle.cjc_ncode.specs.Written.{Resolution}

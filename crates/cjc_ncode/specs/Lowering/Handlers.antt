@@ -3,7 +3,7 @@
 use Rattle.std.specs.Prelude.{◌≡◌, ℕ, suc, ◌+◌, ◌-◌, ◌<◌, ◌≤◌, List, [], ◌∷◌, Option, Some, None, Bool, true, false}
 use Rattle.std.specs.Prelude.{not, nat_lt, ◌&&◌, ◌||◌, codes}
 use Rattle.cjc_card_semantics.specs.CapRead.declared.tree.Handler.{Handler}
-use Rattle.cjc_script.specs.Sorts.{Shape, OfClass}
+use Rattle.cjc_card_semantics.specs.Script.Sorts.{Shape, OfClass}
 use Rattle.cjc_card_semantics.specs.Bytecode.Renaming.{shape_as}
 use Rattle.cjc_card_semantics.specs.Machine.Classes.{is_of}
 use Rattle.cjc_ncode.specs.declared.narrow.NCatch.{NCatch}

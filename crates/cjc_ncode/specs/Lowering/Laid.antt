@@ -5,7 +5,7 @@ use Rattle.std.specs.Prelude.{if◌then◌else◌, ℤ, pos, negsuc, ◌+ℤ◌,
 use Rattle.cjc_code.specs.Bytes.declared.fault.MemberId.{MemberId}
 use Rattle.cjc_card_semantics.specs.CapRead.Decode.{Instruction}
 use Rattle.cjc_card_semantics.specs.CapRead.Card as card
-use Rattle.cjc_script.specs.Sorts.{Element, Booleans, Bytes, Shorts, Ints}
+use Rattle.cjc_card_semantics.specs.Script.Sorts.{Element, Booleans, Bytes, Shorts, Ints}
 use Rattle.cjc_card_semantics.specs.Bytecode.Calculations.{Calculation, Test}
 use Rattle.cjc_card_semantics.specs.Bytecode.Meanings.{Meaning, Plain, Branches, Ranged, Paired, Uses, Casts, Asks, Use}
 use Rattle.cjc_card_semantics.specs.Bytecode.Meanings.{meaning}

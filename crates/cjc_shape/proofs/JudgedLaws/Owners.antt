@@ -6,7 +6,7 @@ use Rattle.std.specs.Str.{bytes_eq}
 use Rattle.std.proofs.lemmas.List.Quantifiers.{position-Some}
 use Rattle.std.proofs.lemmas.Option.{slice_get-get_or}
 use Rattle.std.proofs.lemmas.Slice.Eq.{bytes_eq-Decides}
-use Rattle.cjc_narrow_proof.specs.JvmSemantics.OnePackage.{method_hit}
+use Rattle.cjc_methods.specs.JvmSemantics.OnePackage.{method_hit}
 use Rattle.cjc_narrow_proof.proofs.VTableAsked.{Among, at_head, further}
 use Rattle.cjc_narrow_proof.proofs.VTableFiled.{at-number}
 use Rattle.cjc_narrow_proof.proofs.VTableStood.{gathered-named, upwards-named}
@@ -17,7 +17,7 @@ use Rattle.cjc_world.specs.Interfaces.{gathered, known}
 use Rattle.cjc_world.specs.Supertypes.{IsAcyclic, supertypes, line, upwards}
 use Rattle.cjc_world.specs.Lookup.{find_method, first, is_called, is_wanted, member_at, or_else, own_method}
 use Rattle.cjc_world.specs.declared.found.Found.{Found}
-use Rattle.cjc_bytes.proofs.Bools.{both_front, both_back}
+use Rattle.cjc_world.proofs.BytesBools.{both_front, both_back}
 
 -- A method at its place in its class.
 pub record IsOwn (owner : Class) (name desc : List ℕ) (f : Found) : Type 0 where

@@ -10,9 +10,9 @@ use Rattle.cjc_components.specs.ExportFile.{declares, is_listed, method_entry, m
 use Rattle.cjc_components.specs.ExportFile.{super_entry, supers_from}
 use Rattle.cjc_components.specs.Names.{member_token}
 use Rattle.cjc_components.specs.Package.{Package}
-use Rattle.cjc_export.specs.Members.{interface_token, interface_token_taken, not_special}
-use Rattle.cjc_export.specs.Writable.{EachAfter, MethodFits, MethodStands}
-use Rattle.cjc_export.specs.declared.tree.ExportMethod.{ExportMethod}
+use Rattle.cjc_world.specs.ExportFile.Members.{interface_token, interface_token_taken, not_special}
+use Rattle.cjc_world.specs.ExportFile.Writable.{EachAfter, MethodFits, MethodStands}
+use Rattle.cjc_world.specs.ExportFile.declared.tree.ExportMethod.{ExportMethod}
 use Rattle.cjc_tokens.specs.Members.{Signature}
 use Rattle.cjc_vtable.proofs.Filed.{Has, at_front, behind, has-either}
 use Rattle.cjc_world.specs.Classes.{Class, Member}
@@ -22,7 +22,7 @@ use Rattle.cjc_shape_proof.proofs.WrittenLaws.FittingLaws.Lists.{Apart, sum_with
 use Rattle.cjc_shape_proof.proofs.WrittenLaws.FittingLaws.Order.{has_cons, has_none, ones}
 use Rattle.cjc_shape_proof.proofs.WrittenLaws.FittingLaws.Standing.{listed_in, none_any}
 use Rattle.cjc_bytes.proofs.Numbers.{other_number as other}
-use Rattle.cjc_token_proof.proofs.TablesLaws.Filed.{has-front}
+use Rattle.cjc_check_proof.proofs.TokenProofFiled.{has-front}
 use Rattle.cjc_check_proof.proofs.ClassesLaws.Lists.{has-back}
 
 -- ---- no two of one token

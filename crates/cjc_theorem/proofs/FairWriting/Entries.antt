@@ -8,7 +8,7 @@ use Rattle.cjc_bytes.specs.AccessFlags.{is_private, is_protected, is_public, is_
 use Rattle.cjc_bytes.specs.declared.settings.Settings.{Settings}
 use Rattle.cjc_bytes.proofs.Bools.{both_front, both_back, or_left, or_right}
 use Rattle.cjc_bytes.proofs.Gets.{in_front, get_behind, mapped_at}
-use Rattle.cjc_classfile.specs.declared.tree.ClassTree.{ClassTree}
+use Rattle.cjc_code.specs.ClassFile.declared.tree.ClassTree.{ClassTree}
 use Rattle.cjc_code.specs.declared.method_code.MethodCode.{MethodCode}
 use Rattle.cjc_components.specs.Descriptor.{as_added, method_in, methods_with_added, no_member}
 use Rattle.cjc_components.specs.ExportFile.{added_from, export_class, inherited_from, is_listed, method_entry}

@@ -22,7 +22,8 @@ use Rattle.cjc_token_proof.specs.ByToken.Above.{IsAtOrAbove, itself, upwards}
 use Rattle.cjc_token_proof.specs.ByToken.Supers.{has_class, IsToldOf, listed_there, above_each, SaysSupers, of_package}
 use Rattle.cjc_token_proof.specs.ByToken.Supers.{of_file, SaysKinds, KindsAgree}
 use Rattle.cjc_token_proof.proofs.ByToken.Members.{bytes_tell}
-use Rattle.cjc_card_semantics.proofs.MachineLaws.Upwards.{head_in, later_in, first_or_later, front_in, behind_in, either_in}
+use Rattle.cjc_card_semantics.proofs.MachineLaws.Upwards.{head_in, later_in, first_or_later, front_in, behind_in}
+use Rattle.cjc_card_semantics.proofs.MachineLaws.Upwards.{either_in}
 use Rattle.cjc_token_proof.proofs.ByToken.Above.{told_above, above_told}
 
 abbrev CardClass : Type 0

@@ -6,7 +6,7 @@ use Rattle.cjc_world.specs.ExportFile.Root.{object}
 use Rattle.cjc_world.specs.ExportFile.Writable.{ClassFits, EachAfter, IsWritable}
 use Rattle.cjc_world.specs.ExportFile.declared.tree.ExportClass.{ExportClass}
 use Rattle.cjc_world.specs.ExportFile.declared.tree.ExportTree.{ExportTree}
-use Rattle.cjc_vtable.specs.Subset.Members.{imports}
+use Rattle.cjc_clinit.specs.Subset.Members.{imports}
 use Rattle.cjc_vtable.proofs.Filed.{Has, at_front, behind, get-has, has-get, of-imports}
 use Rattle.cjc_world.specs.Files.{Files}
 use Rattle.cjc_bytes.proofs.Lists.{bytes_true}

@@ -10,8 +10,8 @@ use Rattle.cjc_card_semantics.specs.Machine.Classes.{fault_name, external, exter
 use Rattle.cjc_card_semantics.specs.Machine.Classes.{offset_of}
 use Rattle.cjc_card_semantics.specs.Machine.Loaded.{Part}
 use Rattle.cjc_world.specs.Classes.{Class, class_named}
-use Rattle.cjc_components.specs.Narrow.Rows.Package.{name_there, plain_import, throwable_import}
-use Rattle.cjc_components.specs.Narrow.Rows.Package
+use Rattle.cjc_components.specs.LowerNarrow.Rows.Package.{name_there, plain_import, throwable_import}
+use Rattle.cjc_components.specs.LowerNarrow.Rows.Package
 use Rattle.cjc_ncode.specs.Lowering.Naming.{Naming}
 use Rattle.cjc_token_proof.specs.ByToken.Supers.{has_class}
 

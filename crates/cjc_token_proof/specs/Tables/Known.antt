@@ -13,7 +13,7 @@ use Rattle.cjc_world.specs.Classes.{Class, class_named}
 use Rattle.cjc_jvm_semantics.specs.OnePackage.{declared_fields, object_fields}
 use Rattle.cjc_clinit.specs.Fields.{is_cell}
 use Rattle.cjc_clinit.specs.Image.{field_id}
-use Rattle.cjc_components.specs.Narrow.Rows.Package.{fault_name}
+use Rattle.cjc_components.specs.LowerNarrow.Rows.Package.{fault_name}
 use Rattle.cjc_ncode.specs.ByLabel.{Callee}
 use Rattle.cjc_ncode.specs.PoolOrder.{same_member}
 use Rattle.cjc_token_proof.specs.ByToken.Cells.{Order, is_one_of}

@@ -3,7 +3,7 @@ use Rattle.std.proofs.Common.{◌≡◌, ℕ, suc, ◌+◌, ◌==◌, Bool, true
 use Rattle.std.specs.Prelude.{Option, Some, None, if◌then◌else◌, option_and_then, option_map, position}
 use Rattle.std.specs.Prelude.{slice_get}
 use Rattle.std.specs.List.{find}
-use Rattle.cjc_components.proofs.TokensFacts.{position-cons}
+use Rattle.cjc_classes.proofs.TokensFacts.{position-cons}
 use Rattle.cjc_check_rules.specs.Spots.{Placed, item_at, placed, starts}
 
 -- ---- an item by its place

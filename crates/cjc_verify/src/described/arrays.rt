@@ -12,7 +12,7 @@ ghost use Rattle.cjc_verify.specs.WantedDescriptor.{array_differs, arrays_differ
 
 use cjc_bytes::{MemberId, NoMemory, Row};
 use cjc_capread::{ArrayInit, StaticField};
-use cjc_check_index::lookup::{Comparison, first_beside, unless};
+use cjc_check::check_index::lookup::{Comparison, first_beside, unless};
 use cjc_check_rules::ComponentPlace;
 use cjc_world::{ArrayCell, StaticImage, ValueCell};
 use std::alloc::Global;

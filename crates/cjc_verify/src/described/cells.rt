@@ -3,7 +3,7 @@
 
 ghost use Rattle.std.specs.Prelude.{◌≡◌, ◌++◌, ◌==◌, map, option_and_then, option_map, position, slice_get, IfOk, OnOk};
 ghost use Rattle.cjc_bytes.specs.declared.fault.MemberId.{MemberId as Member};
-ghost use Rattle.cjc_components.specs.NCode.declared.narrow.PoolKey.TheVariants.{StaticField};
+ghost use Rattle.cjc_classes.specs.NCode.declared.narrow.PoolKey.TheVariants.{StaticField};
 ghost use Rattle.cjc_components.specs.Statics.{cell_order};
 ghost use Rattle.cjc_world.specs.declared.image.ArrayCell.{ArrayCell as Array};
 ghost use Rattle.cjc_world.specs.declared.image.ValueCell.{ValueCell as Value};

@@ -3,7 +3,7 @@
 
 ghost use Rattle.std.specs.Prelude.{◌≡◌, ◌+◌, ◌++◌, ◌<◌, ◌^◌, length, IfOk, OnOk};
 ghost use Rattle.std.specs.List.{flat_map};
-ghost use Rattle.cjc_components.specs.Script.Sorts.{field_sort};
+ghost use Rattle.cjc_card_acts.specs.Script.Sorts.{field_sort};
 ghost use Rattle.cjc_classes.specs.ClassInfo.Refs.{ref_of};
 ghost use Rattle.cjc_classes.specs.Descriptor.Working.Described.{number_in, token_in};
 ghost use Rattle.cjc_verify.specs.Made.{inputs_of};
@@ -14,11 +14,11 @@ ghost use Rattle.cjc_verify.specs.WantedMembers.{type_by};
 use crate::described::desc::card_nibbles;
 use crate::described::wanted::{WantedClass, WantedField, WantedMethod, WantedType};
 use cjc_bytes::{ACC_ABSTRACT, ACC_PUBLIC, MemberId, NoMemory, Row, is_static};
+use cjc_capread::FieldPlace;
 use cjc_classes::class_info::ClassRefs;
 use cjc_classes::descriptor::{class_flags, field_flags, is_constant, method_flags};
+use cjc_classes::tokens::Tokens;
 use cjc_classes::type_info::{Sort, field_sort};
-use cjc_components::capread::FieldPlace;
-use cjc_tokens::Tokens;
 use cjc_world::classfile::{ClassTree, FieldTree, MethodTree};
 use cjc_world::{Found, World};
 use std::alloc::Global;

@@ -6,10 +6,10 @@ ghost use Rattle.std.specs.Prelude.{position, slice_get};
 ghost use Rattle.std.specs.Option.{option_copied};
 ghost use Rattle.cjc_bytes.specs.AccessFlags.{is_static};
 ghost use Rattle.cjc_card_calls.specs.Files.Files.{classes_at};
-ghost use Rattle.cjc_export.specs.Supers.{is_virtual, virtual_method};
-ghost use Rattle.cjc_order.specs.Classes.Numbers.{declared_at};
+ghost use Rattle.cjc_world.specs.ExportFile.Supers.{is_virtual, virtual_method};
+ghost use Rattle.cjc_classes.specs.ClassOrder.Classes.Numbers.{declared_at};
 ghost use Rattle.cjc_components.specs.Class.{superclass};
-ghost use Rattle.cjc_tokens.specs.Tokens.{field_of_token, method_of_token};
+ghost use Rattle.cjc_methods.specs.Tokens.Tokens.{field_of_token, method_of_token};
 ghost use Rattle.cjc_world.specs.Classes.{all_classes, class_at as file_class, class_named, declared};
 ghost use Rattle.cjc_world.specs.Working.Known.{class_of};
 ghost use Rattle.cjc_verify.specs.Entries.{desc_in_export, desc_of_own, own_method_desc, own_tree};
@@ -24,8 +24,8 @@ use crate::methods::member_desc;
 use crate::named::{imported_method, is_virtual, line_named};
 use crate::package::Package;
 use cjc_bytes::is_static;
-use cjc_export::{ExportClass, ExportField, ExportMethod};
 use cjc_world::classfile::ClassTree;
+use cjc_world::export_file::{ExportClass, ExportField, ExportMethod};
 use cjc_world::{Found, Known, World};
 
 // ---- members of imported classes

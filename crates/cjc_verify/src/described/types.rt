@@ -7,7 +7,7 @@ ghost use Rattle.cjc_verify.specs.Types.{AreTypes};
 ghost use Rattle.cjc_verify.specs.WantedDescriptor.{says, is_type};
 
 use crate::described::wanted::WantedType;
-use cjc_capread::bytes::Bytes;
+use cjc_bytes::Bytes;
 use cjc_capread::{Descriptor, FieldType, TypeDescriptor};
 
 /// Descriptor, and where its types begin, in bytes from the number of pool entries on.

@@ -9,9 +9,9 @@ ghost use Rattle.cjc_verify.specs.WantedDescriptor.{all_differ, class_differs, e
 
 use crate::described::types::Types;
 use crate::described::wanted::{WantedClass, WantedEntry};
+use cjc_bytes::NoMemory;
 use cjc_capread::Descriptor;
-use cjc_capread::bytes::NoMemory;
-use cjc_check_index::lookup::{earlier, first_beside, pool_count_at, starts};
+use cjc_check::check_index::lookup::{earlier, first_beside, pool_count_at, starts};
 use cjc_check_rules::ComponentPlace;
 use std::alloc::Global;
 

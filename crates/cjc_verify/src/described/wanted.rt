@@ -1,7 +1,7 @@
 //! What the package wants of Descriptor, but for offsets in it.
 
+use cjc_bytes::{Bytes, Row};
 use cjc_capread::FieldPlace;
-use cjc_capread::bytes::{Bytes, Row};
 
 /// The type of a field.
 #[derive(Drop)]

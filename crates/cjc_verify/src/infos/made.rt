@@ -4,8 +4,8 @@
 ghost use Rattle.std.specs.Prelude.{◌≡◌, ◌++◌, ℕ, List, Bool, map, option_to_list, IfOk, OnOk};
 ghost use Rattle.cjc_world.specs.declared.found.Found.{Found as Member};
 ghost use Rattle.cjc_world.specs.Classes.{all_classes};
-ghost use Rattle.cjc_tokens.specs.Tokens.{assigned};
-ghost use Rattle.cjc_components.specs.ClassOrder.Classes.Numbers.{declared_at};
+ghost use Rattle.cjc_methods.specs.Tokens.Tokens.{assigned};
+ghost use Rattle.cjc_classes.specs.ClassOrder.Classes.Numbers.{declared_at};
 ghost use Rattle.cjc_classes.specs.ClassInfo.Refs.{ref_of};
 ghost use Rattle.cjc_classes.specs.ClassInfo.Entries.{entry_by, entry_by_offset};
 ghost use Rattle.cjc_verify.specs.Pairs.{Pair, class_ref, method_offset};
@@ -16,13 +16,13 @@ ghost use Rattle.cjc_verify.specs.WantedInfos.{wanted_infos};
 use crate::infos::offsets::{MethodAt, offset_among};
 use crate::infos::wanted::Wanted;
 use cjc_bytes::{NoMemory, Row};
+use cjc_capread::ClassEntry;
 use cjc_classes::class_info::{
     ClassRefs, field_cells, implemented_interfaces, info_flags, interface_entry,
 };
-use cjc_components::capread::ClassEntry;
+use cjc_classes::tokens::Tokens;
 use cjc_components::class_order::classes::{class_order, order_laws};
 use cjc_components::vtable::{ClassTable, tables};
-use cjc_tokens::Tokens;
 use cjc_world::classfile::ClassTree;
 use cjc_world::{Found, Known, World};
 use std::alloc::Global;

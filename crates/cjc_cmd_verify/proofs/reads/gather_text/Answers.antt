@@ -1,4 +1,4 @@
-use Rattle.cjc_cmd_jvm.proofs.RunningLaws.Gathers.{is_read}
+use Rattle.cjc_cmd_card.proofs.CmdJvmGathers.{is_read}
 use Rattle.cjc_cmd_verify.proofs.VerifyingLaws.Gathers.{text_then}
 use Rattle.cjc_cmd_verify.proofs.reads.gather_text.Goals as goal
 

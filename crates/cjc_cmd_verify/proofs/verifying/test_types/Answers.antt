@@ -1,11 +1,11 @@
 use Rattle.std.proofs.Common.{IsSome, refl, sym, subst}
 use Rattle.cjc_cmd_card.proofs.ReportLaws.Free.{few_cells, few_exported, has_tokens}
-use Rattle.cjc_cmd_check.proofs.CheckingLaws.Sizes.{small_cap}
+use Rattle.cjc_cmd_card.proofs.CmdCheckSizes.{small_cap}
 use Rattle.cjc_cmd_card.specs.Running.Ready.{tested}
 use Rattle.cjc_cmd_verify.proofs.VerifyingLaws.Free.{are_typed, types_fault}
 use Rattle.cjc_cmd_verify.proofs.VerifyingLaws.Spelt.{passed}
 use Rattle.cjc_cmd_verify.specs.Working.{ready_of}
-use Rattle.cjc_judge.specs.Rules.{has_applets}
+use Rattle.cjc_verify_theorem.specs.Judge.Rules.{has_applets}
 use Rattle.cjc_cmd_verify.proofs.verifying.test_types.Goals as goal
 
 pub tokens_of-requires-clause-exported : goal.tokens_of-requires-clause-exported

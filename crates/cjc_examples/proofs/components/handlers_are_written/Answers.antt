@@ -17,17 +17,17 @@ use Rattle.cjc_world.specs.Interfaces.{gathered, known}
 use Rattle.cjc_world.specs.Lookup.{first, own_field, find_field, own_method, find_method}
 use Rattle.cjc_world.specs.Added.{own_methods, methods_of, asked_by, has_open, lacking, added}
 use Rattle.cjc_world.specs.Order.{may_stand, next, lined_up, in_order, class_order, method_order}
-use Rattle.cjc_components.specs.Narrow.Pairs.Roles.{with_pairs}
-use Rattle.cjc_components.specs.Narrow.Rows.Resolved.{resolution}
+use Rattle.cjc_components.specs.LowerNarrow.Pairs.Roles.{with_pairs}
+use Rattle.cjc_components.specs.LowerNarrow.Rows.Resolved.{resolution}
 use Rattle.cjc_tokens.specs.Slots.{token, own, got, first_answer, taken_slots, token_among, shown_token}
 use Rattle.cjc_tokens.specs.Methods.{interfaces_at, interface_methods}
-use Rattle.cjc_components.specs.CheckRules.Spots.{placed}
+use Rattle.cjc_components.specs.LowerCheckRules.Spots.{placed}
 use Rattle.cjc_capwrite.specs.CapRead.Opcodes.{forms, form, op_info}
 use Rattle.cjc_card_semantics.specs.Bytecode.Meanings.{meaning}
 use Rattle.cjc_capwrite.specs.Method.{handler_bytes, method_bytes}
 use Rattle.cjc_capwrite.specs.Pool.{entry_bytes, pool_bytes}
 use Rattle.cjc_capwrite.specs.Statics.{reference_location_bytes}
-use Rattle.cjc_components.specs.CheckRules.Locations.{catch_places, distances}
+use Rattle.cjc_components.specs.LowerCheckRules.Locations.{catch_places, distances}
 use Rattle.cjc_examples.proofs.components.handlers_are_written.Goals as goal
 
 pub returns-clause-method : goal.returns-clause-method
@@ -35,7 +35,8 @@ unfolding int_wrap repeated raw front digits each desc_of parts_of bad_at after 
     opcode_at wide_opcode_at behind_opcode behind_first instruction cut_rest cut marks starts unfit_code named all_named
     least decoding decoded classes_from all_classes class_named class_at supertypes_within supertypes line gathered
     known first own_field find_field own_method find_method own_methods methods_of asked_by has_open lacking added
-    may_stand next lined_up in_order class_order method_order resolution with_pairs token own got first_answer taken_slots
+    may_stand next lined_up in_order class_order method_order resolution with_pairs token own got first_answer
+    taken_slots
     token_among shown_token interfaces_at interface_methods placed forms form meaning handler_bytes method_bytes
 returns-clause-method c = refl
 
@@ -44,7 +45,8 @@ unfolding int_wrap repeated raw front digits each desc_of parts_of bad_at after 
     opcode_at wide_opcode_at behind_opcode behind_first instruction cut_rest cut marks starts unfit_code named all_named
     least decoding decoded classes_from all_classes class_named class_at supertypes_within supertypes line gathered
     known first own_field find_field own_method find_method own_methods methods_of asked_by has_open lacking added
-    may_stand next lined_up in_order class_order method_order resolution with_pairs token own got first_answer taken_slots
+    may_stand next lined_up in_order class_order method_order resolution with_pairs token own got first_answer
+    taken_slots
     token_among shown_token interfaces_at interface_methods placed forms form entry_bytes pool_bytes
 returns-clause-pool c = refl
 
@@ -53,7 +55,8 @@ unfolding int_wrap repeated raw front digits each desc_of parts_of bad_at after 
     opcode_at wide_opcode_at behind_opcode behind_first instruction cut_rest cut marks starts unfit_code named all_named
     least decoding decoded classes_from all_classes class_named class_at supertypes_within supertypes line gathered
     known first own_field find_field own_method find_method own_methods methods_of asked_by has_open lacking added
-    may_stand next lined_up in_order class_order method_order resolution with_pairs token own got first_answer taken_slots
+    may_stand next lined_up in_order class_order method_order resolution with_pairs token own got first_answer
+    taken_slots
     token_among shown_token interfaces_at interface_methods placed forms form op_info meaning handler_bytes method_bytes
     reference_location_bytes catch_places distances
 returns-clause-locations c = refl

@@ -1,8 +1,8 @@
 -- What the code makes the export file from.
 use Rattle.std.specs.Prelude.{◌≡◌, ℕ, ◌+◌, List, [], ◌∷◌, ◌++◌, length, map, filter, nat_lt, Bool, true, false, not}
 use Rattle.std.specs.Prelude.{if◌then◌else◌, Some}
-use Rattle.cjc_export.specs.Bytes.declared.fault.MemberId.{MemberId}
-use Rattle.cjc_export.specs.declared.tree.ExportMethod.{ExportMethod}
+use Rattle.cjc_world.specs.Bytes.declared.fault.MemberId.{MemberId}
+use Rattle.cjc_world.specs.ExportFile.declared.tree.ExportMethod.{ExportMethod}
 use Rattle.cjc_world.specs.Classes.{Member, Class, all_classes, class_at}
 use Rattle.cjc_world.specs.Added.{added}
 use Rattle.cjc_world.specs.Lookup.{member_at}

@@ -1,9 +1,9 @@
 -- What is written of one method after the other.
 use Rattle.std.specs.Prelude.{◌≡◌, ℕ, ◌+◌, List, [], ◌∷◌, position, unwrap_or, ◌==◌, Bool, if◌then◌else◌}
-use Rattle.cjc_ncode.specs.CapRead.declared.tree.Handler.{Handler}
-use Rattle.cjc_ncode.specs.declared.narrow.PoolKey.{PoolKey}
-use Rattle.cjc_ncode.specs.PoolOrder.{same_key}
-use Rattle.cjc_ncode.specs.Lowering.Naming.{Naming}
+use Rattle.cjc_pool.specs.CapRead.declared.tree.Handler.{Handler}
+use Rattle.cjc_pool.specs.NCode.declared.narrow.PoolKey.{PoolKey}
+use Rattle.cjc_pool.specs.NCode.PoolOrder.{same_key}
+use Rattle.cjc_pool.specs.NCode.Lowering.Naming.{Naming}
 use Rattle.cjc_components.specs.Methods.{with_abstract}
 
 -- the index of each key is its place among these, 0 of others

@@ -6,15 +6,15 @@ use Rattle.std.proofs.lemmas.Bool.Decides.{nat_tests}
 use Rattle.std.proofs.lemmas.List.Sums.{sum_by-cons}
 use Rattle.cjc_bytes.specs.AccessFlags.{is_interface}
 use Rattle.cjc_vtable.proofs.ClassOrderDeclared.{order_declared}
-use Rattle.cjc_vtable.specs.ClassOrder.Classes.Numbers.{declared_at, numbered_from}
-use Rattle.cjc_classfile.specs.declared.tree.ClassTree.{ClassTree}
+use Rattle.cjc_classes.specs.ClassOrder.Classes.Numbers.{declared_at, numbered_from}
+use Rattle.cjc_world.specs.ClassFile.declared.tree.ClassTree.{ClassTree}
 use Rattle.cjc_vtable.proofs.Filed.{Has, at_front, behind, has-either}
 use Rattle.cjc_world.specs.Classes.{Class, all_classes, declared}
 use Rattle.cjc_world.specs.Files.{Files}
 use Rattle.cjc_world.specs.Order.{and_then, class_order, in_order, is_in, is_of_kind, lined_up, next, waits}
 use Rattle.cjc_shape_proof.proofs.WrittenLaws.FittingLaws.Lists.{Apart, sum_within}
 use Rattle.cjc_vtable.proofs.ClassOrderStanding.{next-waits}
-use Rattle.cjc_token_proof.proofs.ComponentsLaws.Apart.{in_neither}
+use Rattle.cjc_check_proof.proofs.TokenProofApart.{in_neither}
 
 -- ---- lists
 

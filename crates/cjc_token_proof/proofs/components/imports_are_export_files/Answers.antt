@@ -2,9 +2,9 @@ use Rattle.std.proofs.Common.{◌≡◌, ℕ, ◌+◌, ◌==◌, List, [], ◌�
 use Rattle.std.specs.Prelude.{map}
 use Rattle.std.proofs.lemmas.List.{length-map}
 use Rattle.cjc_world.specs.ExportFile.declared.tree.ExportTree.{ExportTree}
-use Rattle.cjc_check_rules.specs.Spots.{in_info, beside, bytes_differ}
-use Rattle.cjc_check_rules.specs.Complete.{package_size}
-use Rattle.cjc_check_rules.specs.Imports.{packages_agree}
+use Rattle.cjc_components.specs.LowerCheckRules.Spots.{in_info, beside, bytes_differ}
+use Rattle.cjc_components.specs.LowerCheckRules.Complete.{package_size}
+use Rattle.cjc_components.specs.LowerCheckRules.Imports.{packages_agree}
 use Rattle.cjc_components.specs.Components.{imported_package}
 use Rattle.cjc_token_proof.proofs.ComponentsLaws.Tests.{passes, none_in_both}
 use Rattle.cjc_bytes.proofs.Numbers.{like_number}

@@ -3,7 +3,7 @@ use Rattle.std.specs.Prelude.{nat_lt, Some}
 use Rattle.cjc_world.specs.Files.{Files}
 use Rattle.cjc_world.specs.Classes.{all_classes}
 use Rattle.cjc_world.specs.Order.{class_order}
-use Rattle.cjc_components.specs.Clinit.Image.{field_id}
+use Rattle.cjc_classes.specs.Clinit.Image.{field_id}
 use Rattle.cjc_components.specs.Statics.{cell_offset}
 use Rattle.cjc_components.specs.Names.{class_ref}
 use Rattle.cjc_classes.specs.ClassInfo.Refs.{ref_of}

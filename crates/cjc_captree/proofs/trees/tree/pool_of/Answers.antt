@@ -1,8 +1,8 @@
 use Rattle.std.proofs.Common.{◌∙◌, ap, sym, subst, map, length}
 use Rattle.std.specs.Prelude.{nat_lt}
-use Rattle.cjc_components.specs.List.Listed.{ListTree}
+use Rattle.cjc_classes.specs.List.Listed.{ListTree}
 use Rattle.cjc_world.specs.Files.{Files}
-use Rattle.cjc_classes.specs.Tokens.Tokens.{assigned}
+use Rattle.cjc_methods.specs.Tokens.Tokens.{assigned}
 use Rattle.cjc_components.specs.Package.{pool}
 use Rattle.cjc_components.specs.Statics.{cell_offset}
 use Rattle.cjc_classes.specs.ClassInfo.Entries.{AreOffsets}

@@ -5,7 +5,7 @@ use Rattle.std.proofs.lemmas.Option.{slice_get_within}
 use Rattle.cjc_card_frame.specs.declared.heap.slots.Slot.{Slot}
 use Rattle.cjc_card_frame.specs.Objects.{field_of, slot_by, place_in}
 use Rattle.cjc_card_frame.proofs.HeapLaws.Places.{none_put, put_at, place_below}
-use Rattle.cjc_script.proofs.BytesPlain.{none_is_some}
+use Rattle.cjc_card_semantics.proofs.BytesPlain.{none_is_some}
 use Rattle.cjc_card_frame.proofs.heap.slots.put_slot.Goals as goal
 
 pub returns-in_default : goal.returns-in_default

@@ -1,7 +1,7 @@
 use Rattle.std.proofs.Common.{sym, ◌∙◌, map}
 use Rattle.cjc_card_frame.specs.Objects.{field_of, slot_by}
 use Rattle.cjc_card_frame.proofs.HeapLaws.Places.{none_held, held_at, place_below}
-use Rattle.cjc_script.proofs.BytesPlain.{none_is_some}
+use Rattle.cjc_card_semantics.proofs.BytesPlain.{none_is_some}
 use Rattle.cjc_card_frame.proofs.heap.slots.slot_at.Goals as goal
 
 pub returns-in_default : goal.returns-in_default

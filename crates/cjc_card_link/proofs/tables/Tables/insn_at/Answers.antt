@@ -1,6 +1,6 @@
 use Rattle.std.proofs.Common.{refl, length}
 use Rattle.std.specs.Prelude.{option_map}
-use Rattle.cjc_capread.specs.Decoder.Decoded.{instruction_of}
+use Rattle.cjc_card_semantics.specs.CapRead.Decoder.Decoded.{instruction_of}
 use Rattle.cjc_card_frame.specs.Kinds.{code_of}
 use Rattle.cjc_card_link.specs.Group.{part_of}
 use Rattle.cjc_card_link.specs.Tables.{loaded_of}

@@ -1,11 +1,11 @@
 use Rattle.std.proofs.Common.{◌++◌, List, map, ap, ◌∙◌, Option}
 use Rattle.std.specs.Prelude.{option_to_list}
-use Rattle.cjc_capread.specs.declared.tree.ImplementedInterface.{ImplementedInterface}
+use Rattle.cjc_card_semantics.specs.CapRead.declared.tree.ImplementedInterface.{ImplementedInterface}
 use Rattle.cjc_card_semantics.specs.Machine.Classes.{Class, class_of as class_by_ref, some_of}
 use Rattle.cjc_card_frame.specs.Objects.{class_of}
 use Rattle.cjc_card_link.specs.Tables.{loaded_of}
 use Rattle.cjc_card_link.proofs.Climbing.{put_class}
-use Rattle.cjc_capread.proofs.BytesOptions.{on_ok}
+use Rattle.cjc_check_index.proofs.BytesOptions.{on_ok}
 use Rattle.cjc_card_link.proofs.tables.Tables.put_class.Goals as goal
 
 pub returns : goal.returns

@@ -1,5 +1,5 @@
 use Rattle.std.proofs.Common.{refl, length, ap, ◌∙◌, Some, None}
-use Rattle.cjc_capread.specs.Decoder.Decoded.{header_of}
+use Rattle.cjc_card_semantics.specs.CapRead.Decoder.Decoded.{header_of}
 use Rattle.cjc_card_link.specs.Group.{part_of}
 use Rattle.cjc_card_link.specs.Tables.{loaded_of}
 use Rattle.cjc_card_link.proofs.Lengths.{header_here, start_found, start_here}

@@ -11,7 +11,7 @@ use Rattle.cjc_components.specs.Package.{has_applets}
 use Rattle.cjc_exported.specs.ExportFile.Working.Sources.{is_of_kind}
 use Rattle.cjc_exported.proofs.ExportFile.Methods.{own-number}
 use Rattle.cjc_exported.proofs.ExportFile.Piles.{filtered-twice, mapped, piled, piled-all}
-use Rattle.cjc_export.proofs.BytesGets.{drop_at}
+use Rattle.cjc_world.proofs.BytesGets.{drop_at}
 use Rattle.cjc_exported.proofs.export_file.component.exported.Goals as goal
 
 pub put_exported-requires : goal.put_exported-requires

@@ -4,7 +4,7 @@ use Rattle.cjc_world.specs.ClassFile.declared.tree.FieldTree.{FieldTree}
 use Rattle.cjc_world.specs.Files.{Files}
 use Rattle.cjc_world.specs.Classes.{all_classes, class_at}
 use Rattle.cjc_world.specs.Working.Known.{class_of}
-use Rattle.cjc_components.specs.Clinit.Image.{field_id}
+use Rattle.cjc_components.specs.LowerClinit.Image.{field_id}
 use Rattle.cjc_tokens.specs.Fields.{is_open_static}
 use Rattle.cjc_components.specs.Package.{world}
 use Rattle.cjc_components.specs.Class.{fields_in}

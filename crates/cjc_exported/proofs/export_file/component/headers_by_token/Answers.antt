@@ -10,7 +10,7 @@ use Rattle.cjc_components.specs.Descriptor.{no_member}
 use Rattle.cjc_components.specs.Exports.{open_methods}
 use Rattle.cjc_exported.proofs.ExportFile.Exporting.{opened}
 use Rattle.cjc_exported.proofs.ExportFile.Piles.{piled, piled-all}
-use Rattle.cjc_export.proofs.BytesGets.{drop_at}
+use Rattle.cjc_world.proofs.BytesGets.{drop_at}
 use Rattle.cjc_exported.proofs.export_file.component.headers_by_token.Goals as goal
 
 pub loop-place-preserved : goal.loop-place-preserved

@@ -9,7 +9,7 @@ use Rattle.cjc_components.specs.ExportFile.{super_at, supers_from}
 use Rattle.cjc_exported.specs.ExportFile.Working.Sources.{world_in}
 use Rattle.cjc_exported.proofs.ExportFile.Methods.{slot-signed, supers-ended}
 use Rattle.cjc_exported.proofs.ExportFile.Piles.{piled, piled-all}
-use Rattle.cjc_export.proofs.BytesGets.{drop_at}
+use Rattle.cjc_world.proofs.BytesGets.{drop_at}
 use Rattle.cjc_exported.proofs.export_file.inherited.put_all_from_above.Goals as goal
 
 pub loop-token-preserved : goal.loop-token-preserved

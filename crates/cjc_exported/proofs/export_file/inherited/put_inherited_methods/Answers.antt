@@ -1,6 +1,6 @@
 use Rattle.std.proofs.Common.{◌≡◌, ◌∙◌, ◌++◌, ap, sym, subst, true, false}
 use Rattle.std.specs.Prelude.{if◌then◌else◌, OnOk, Some}
-use Rattle.cjc_export.specs.Bytes.AccessFlags.{is_interface}
+use Rattle.cjc_world.specs.Bytes.AccessFlags.{is_interface}
 use Rattle.cjc_world.specs.Classes.{class_at}
 use Rattle.cjc_world.specs.Working.Known.{class_of}
 use Rattle.cjc_tokens.specs.Lines.{line_at}

@@ -4,7 +4,7 @@ use Rattle.cjc_world.specs.Classes.{all_classes}
 use Rattle.cjc_world.specs.Working.Known.{class_of}
 use Rattle.cjc_exported.specs.ExportFile.Working.Sources.{is_of_kind}
 use Rattle.cjc_exported.proofs.ExportFile.Piles.{filtered, piled, piled-all}
-use Rattle.cjc_export.proofs.BytesGets.{drop_at, drop_behind}
+use Rattle.cjc_world.proofs.BytesGets.{drop_at, drop_behind}
 use Rattle.cjc_exported.proofs.export_file.numbered.classes_of_kind.Goals as goal
 
 pub loop-place-preserved : goal.loop-place-preserved

@@ -8,7 +8,7 @@ use Rattle.cjc_components.specs.ExportFile.{is_listed, method_entry, methods_fro
 use Rattle.cjc_components.specs.Names.{member_token}
 use Rattle.cjc_exported.specs.ExportFile.Working.Sources.{package_in}
 use Rattle.cjc_exported.proofs.ExportFile.Piles.{piled}
-use Rattle.cjc_export.proofs.BytesGets.{drop_at}
+use Rattle.cjc_world.proofs.BytesGets.{drop_at}
 use Rattle.cjc_exported.proofs.export_file.own.put_own.Goals as goal
 
 pub loop-place-preserved : goal.loop-place-preserved

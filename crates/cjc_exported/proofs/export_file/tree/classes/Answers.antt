@@ -10,7 +10,7 @@ use Rattle.cjc_components.specs.ExportFile.{export_class}
 use Rattle.cjc_exported.specs.ExportFile.Working.Sources.{is_of_kind, package_in, world_in}
 use Rattle.cjc_exported.proofs.ExportFile.Methods.{declared-at}
 use Rattle.cjc_exported.proofs.ExportFile.Piles.{filtered-twice, mapped, piled, piled-all}
-use Rattle.cjc_export.proofs.BytesGets.{drop_at}
+use Rattle.cjc_world.proofs.BytesGets.{drop_at}
 use Rattle.cjc_exported.proofs.export_file.tree.classes.Goals as goal
 
 pub put_class-requires-clause-numbered : goal.put_class-requires-clause-numbered

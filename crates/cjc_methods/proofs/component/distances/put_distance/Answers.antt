@@ -1,5 +1,5 @@
 use Rattle.std.proofs.Common.{◌∙◌, ap, ◌++◌, List, ℕ, ◌-◌}
-use Rattle.cjc_components.specs.CheckRules.Locations.{distance}
+use Rattle.cjc_pool.specs.CheckRules.Locations.{distance}
 use Rattle.cjc_methods.proofs.ComponentLaws.Listed.{full_more}
 use Rattle.cjc_methods.proofs.component.distances.put_distance.Goals as goal
 

@@ -1,2 +1,0 @@
--- What crates above take of cjc_script.
-pub use Rattle.cjc_script.specs.Sorts as Sorts

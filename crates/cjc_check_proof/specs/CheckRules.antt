@@ -1,0 +1,2 @@
+-- What crates above take of cjc_check_rules.
+pub use Rattle.cjc_check_rules.specs.Complete as Complete

@@ -1,0 +1,3 @@
+-- What crates above take of cjc_check_index.
+pub use Rattle.cjc_check_index.specs.Lookup as Lookup
+pub use Rattle.cjc_check_index.specs.declared as declared

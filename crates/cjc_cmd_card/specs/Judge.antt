@@ -1,2 +1,0 @@
--- What crates above take of cjc_judge.
-pub use Rattle.cjc_judge.specs.Rules as Rules

@@ -1,0 +1,2 @@
+-- What crates above take of LowerScriptText.
+pub use Rattle.cjc_cmd_card.specs.LowerScriptText.Printed as Printed

@@ -1,2 +1,0 @@
--- What crates above take of CardSemantics.
-pub use Rattle.cjc_narrow.specs.CardSemantics.Machine as Machine

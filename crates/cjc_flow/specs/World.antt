@@ -1,0 +1,3 @@
+-- What crates above take of World.
+pub use Rattle.cjc_types.specs.World.Classes as Classes
+pub use Rattle.cjc_types.specs.World.Files as Files

@@ -1,0 +1,3 @@
+-- What crates above take of World.
+pub use Rattle.cjc_flow.specs.World.Classes as Classes
+pub use Rattle.cjc_flow.specs.World.Files as Files

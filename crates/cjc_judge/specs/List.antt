@@ -1,2 +1,0 @@
--- What crates above take of cjc_list.
-pub use Rattle.cjc_list.specs.Listed as Listed

@@ -1,0 +1,2 @@
+-- What crates above take of LowerCheckIndex.
+pub use Rattle.cjc_card_link.specs.LowerCheckIndex.Lookup as Lookup

@@ -1,2 +1,0 @@
--- What crates above take of cjc_classfile.
-pub use Rattle.cjc_classfile.specs.declared as declared
