@@ -10,3 +10,4 @@ pub mod Bytecode
 pub mod LowerScript
 pub mod LowerWorld
 pub mod LowerCardSemantics
+pub mod JvmSemantics

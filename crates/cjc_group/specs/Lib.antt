@@ -7,3 +7,6 @@ pub mod Implementing
 pub mod Rules
 pub mod Agree
 pub mod Worked
+-- Definitions of lower crates, for those above.
+pub mod Bytes
+pub mod World

@@ -2,6 +2,27 @@
 //! linked. It knows no instruction, and no component but the export file.
 #![tactic(auto)]
 
+// Lower crates, for those above.
+/// What crates above take of cjc_bytes.
+pub mod bytes {
+    pub use cjc_bytes::{Bytes, Fault, FileLine, MemberId, NoMemory, Refusal, Row, refused};
+}
+
+/// What crates above take of cjc_list.
+pub mod list {
+    pub use cjc_list::List;
+}
+
+/// What crates above take of export_file.
+pub mod export_file {
+    pub use cjc_world::export_file::ExportTree;
+}
+
+/// What crates above take of cjc_world.
+pub mod world {
+    pub use cjc_world::{ArrayCell, StaticImage, ValueCell, World};
+}
+
 mod implementing;
 mod laws;
 mod line;

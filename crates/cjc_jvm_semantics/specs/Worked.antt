@@ -31,7 +31,6 @@ use Rattle.cjc_world.specs.Files.{Files}
 use Rattle.cjc_jvm_semantics.specs.Linked.{Method}
 use Rattle.cjc_jvm_semantics.specs.Effects.{Store}
 use Rattle.cjc_jvm_semantics.specs.ByName.{run}
-use Rattle.cjc_jvm_semantics.specs.Group.{Package}
 
 -- ---- how they are written here
 
@@ -485,5 +484,8 @@ app_package = record {
 }
 
 -- both together
-abbrev pub both : List Package
-both = record { files = library_package; image = no_image } ∷ record { files = app_package; image = no_image } ∷ []
+abbrev pub both : List Files
+both = library_package ∷ app_package ∷ []
+
+abbrev pub no_images : List StaticImage
+no_images = no_image ∷ no_image ∷ []

@@ -47,7 +47,8 @@ ghost use Rattle.cjc_code.specs.declared.insn.JInsn.{JInsn};
 ghost use Rattle.cjc_jvm_semantics.specs.ByName.{run};
 ghost use Rattle.cjc_jvm_semantics.specs.Group.{run_group};
 ghost use Rattle.cjc_jvm_semantics.specs.Worked.{id, object, call, send, answer, script, bare, ends, p, no_image, of_t};
-ghost use Rattle.cjc_jvm_semantics.specs.Worked.{both, app_package, a_b, an_a, r, r_image, cell, roomy, two_arrays};
+ghost use Rattle.cjc_jvm_semantics.specs.Worked.{both, no_images, app_package, a_b, an_a, r, r_image, cell, roomy};
+ghost use Rattle.cjc_jvm_semantics.specs.Worked.{two_arrays};
 ghost use Rattle.cjc_jvm_semantics.specs.Worked.{arrays_with};
 ghost use Rattle.cjc_jvm_semantics.specs.Wallet.{wallet_package, wallet_script, wallet_report};
 
@@ -186,9 +187,9 @@ pub fn statics_run()
 /// A package over another: a static call, constructors across both, and a package-visible method that the other
 /// package's does not override; alone, the upper one makes events of its calls.
 pub fn packages_run_together()
-    ensures across { run_group both (script (call (codes "app/M") (codes "f") (codes "(S)S") (Num (pos 32767) ∷ [])
+    ensures across { run_group both no_images (script (call (codes "app/M") (codes "f") (codes "(S)S") (Num (pos 32767) ∷ [])
         ∷ []) []) 100 ≡ ends (Result (Some (Num (negsuc 32767))) ∷ []) [] Done 8 }
-    ensures not_overridden { run_group both (script (call (codes "app/M") (codes "make") (codes "()Lapp/M;") []
+    ensures not_overridden { run_group both no_images (script (call (codes "app/M") (codes "make") (codes "()Lapp/M;") []
         ∷ send (codes "lib/L") (codes "w") (codes "()S") (Obj 0 ∷ []) ∷ send (codes "app/M") (codes "v") (codes "()S")
         (Obj 0 ∷ []) ∷ send (codes "lib/L") (codes "v") (codes "()S") (Obj 0 ∷ []) ∷ []) []) 100
         ≡ ends (Result (Some (Obj 0)) ∷ Result (Some (Num (pos 1))) ∷ Result (Some (Num (pos 2)))

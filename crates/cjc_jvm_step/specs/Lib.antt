@@ -7,3 +7,4 @@ pub mod Bytecode
 pub mod Script
 pub mod LowerWorld
 pub mod CardSemantics
+pub mod JvmSemantics

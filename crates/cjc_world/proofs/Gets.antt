@@ -40,7 +40,7 @@ module _ (w : List Class) where
       by true e = absurd (acyclic x ((stands_where_above w x x).0 e))
       by false e = refl
 
-  named-none : (p : Class → Bool) (cs : List Class) (x : List ℕ) (c : Class) → class_named cs x ≡ Some c
+  pub named-none : (p : Class → Bool) (cs : List Class) (x : List ℕ) (c : Class) → class_named cs x ≡ Some c
       → list_any p cs ≡ false → p c ≡ false
   unfolding class_named
   named-none p [] x c e none = cc

@@ -4,6 +4,7 @@ pub mod Counted
 pub mod Rising
 pub mod Settled
 pub mod Cycles
+pub mod Circles
 pub mod Subtypes
 pub mod Fronts
 pub mod Languages

@@ -1,7 +1,7 @@
 -- Walks over the places of a table find what is found in the tree.
 use Rattle.std.proofs.Common.{◌≡◌, ℕ, ◌<◌, ◌≤◌, ◌+◌, refl, sym, ap, ◌∙◌, arith, Bool, true, false, List, [], ◌∷◌, ◌++◌}
 use Rattle.std.proofs.Common.{length, get_or, drop, add-one}
-use Rattle.std.specs.Prelude.{◌||◌, Option, Some, None, option_to_list, slice_get}
+use Rattle.std.specs.Prelude.{◌||◌, Option, Some, None, option_and_then, option_to_list, slice_get}
 use Rattle.std.specs.List.{list_any}
 use Rattle.std.specs.Str.{bytes_eq}
 use Rattle.std.proofs.Math.Seq.{drop-cons}
@@ -18,7 +18,7 @@ use Rattle.cjc_world.specs.Interfaces.{gathered, has_interface, known}
 use Rattle.cjc_world.specs.Lookup.{or_else, first, own_field, field_in, find_field, own_method}
 use Rattle.cjc_world.specs.Subtype.{is_subclass}
 use Rattle.cjc_world.specs.Working.Places.{place_named, places_of, joined, first_place, field_of, method_of, has_name}
-use Rattle.cjc_world.specs.Working.Places.{names, names_of, names_super, names_super_of}
+use Rattle.cjc_world.specs.Working.Places.{names, names_of, names_super, names_super_of, IsWalk}
 use Rattle.cjc_world.specs.Working.Tables.{in_field_order, told, IsTable, row_at}
 use Rattle.cjc_world.proofs.Settled.{supertypes-AreSupertypes, supertypes-known}
 use Rattle.cjc_world.proofs.Cycles.{class_named-name}
@@ -189,6 +189,20 @@ module _ (w : List Class) (rows : List (Option Above)) (table : IsTable w rows) 
     unfolding told
     fields-row = ap (row_at orders.Fields) (table.tells x p place)
 
+    pub line-walks : IsWalk w (line w x) (row_at orders.Line (slice_get rows p))
+    unfolding line
+    line-walks own =
+        ap (first_place (λ q. option_and_then own (slice_get w q))) line-row
+        ∙ first-told w (λ q. option_and_then own (slice_get w q)) own (upwards (supertypes w (x ∷ [])))
+        (named-upwards w (x ∷ []) (supertypes w (x ∷ [])) is_tree) (λ d q e. ap (option_and_then own) e)
+
+    pub interfaces-walk : IsWalk w (known (gathered false (supertypes w (x ∷ []))))
+        (row_at orders.Interfaces (slice_get rows p))
+    interfaces-walk own =
+        ap (first_place (λ q. option_and_then own (slice_get w q))) interfaces-row
+        ∙ first-told w (λ q. option_and_then own (slice_get w q)) own (known (gathered false (supertypes w (x ∷ []))))
+        (named-known w false (x ∷ []) (supertypes w (x ∷ [])) is_tree) (λ d q e. ap (option_and_then own) e)
+
     pub line-finds : (selecting : Bool) (name desc : List ℕ)
         → first_place (λ q. method_of selecting name desc (slice_get w q)) (row_at orders.Line (slice_get rows p))
         ≡ first (own_method selecting name desc) (line w x)
@@ -313,6 +327,14 @@ module _ (w : List Class) (rows : List (Option Above)) (table : IsTable w rows) 
   pub none-field : (name desc : List ℕ) → place_named w x ≡ None → None ≡ find_field w x name desc
   unfolding find_field
   none-field name desc e = sym (ap (field_in (own_field name desc)) (nowhere e))
+
+  pub none-walks : place_named w x ≡ None → IsWalk w (line w x) []
+  unfolding line first first_place
+  none-walks e own = sym (ap (λ k. first own (upwards k)) (nowhere e))
+
+  pub none-walk : place_named w x ≡ None → IsWalk w (known (gathered false (supertypes w (x ∷ [])))) []
+  unfolding gathered known first first_place
+  none-walk e own = sym (ap (λ k. first own (known (gathered false k))) (nowhere e))
 
   pub none-interfaces : (name desc : List ℕ) → place_named w x ≡ None
       → None ≡ first (own_method false name desc) (known (gathered false (supertypes w (x ∷ []))))

@@ -111,6 +111,15 @@ lists_missing w c = list_any (λ x. is_missing w x) c.supers || list_any (λ x. 
 abbrev pub is_own_super : List Class → Class → Bool
 is_own_super w c = stands_above w c.name c.name
 
+-- there is a class, and it is its own super
+abbrev pub is_own_super_of : List Class → Option Class → Bool
+is_own_super_of w None = false
+is_own_super_of w (Some c) = is_own_super w c
+
+-- some class is its own super
+abbrev pub has_cycle : List Class → Bool
+has_cycle w = list_any (λ c. is_own_super w c) w
+
 -- some class that stands above this one is its own super; a class on a cycle stands above itself
 unfoldable pub is_under_cycle : List Class → Class → Bool
 is_under_cycle w c = list_any (λ d. stands d.name (supertypes w (c.supers ++ c.interfaces)) && is_own_super w d) w

@@ -12,7 +12,7 @@ ghost use Rattle.cjc_world.specs.Lookup.{find_field, find_method, first, method_
 ghost use Rattle.cjc_world.specs.Subtype.{is_subclass};
 ghost use Rattle.cjc_world.specs.Working.Tables.{IsTable};
 ghost use Rattle.cjc_world.specs.Working.Places.{field_of, first_place, has_name, method_of, names, names_of};
-ghost use Rattle.cjc_world.specs.Working.Places.{names_super, names_super_of};
+ghost use Rattle.cjc_world.specs.Working.Places.{names_super, names_super_of, IsWalk};
 
 use crate::class::Known;
 use crate::class_index::ClassIndex;
@@ -194,6 +194,29 @@ impl<'a> ClassIndex<'a> {
         match self.place_named(class) {
             Some(place) => self.first_field(row_at(rows, Order::Fields, place), name, desc),
             None => None,
+        }
+    }
+
+    /// Where a class and its superclasses stand, going upwards.
+    pub(crate) fn line_places<'s>(&self, rows: &'s [Option<Above>], class: &[u8]) -> &'s [u32]
+        requires { IsTable (all_classes self.now) rows.now }
+        ensures { IsWalk (all_classes self.now) (line (all_classes self.now) class.now) result.now }
+    {
+        match self.place_named(class) {
+            Some(place) => row_at(rows, Order::Line, place),
+            None => &[],
+        }
+    }
+
+    /// Where the interfaces of a class stand, in their order.
+    pub(crate) fn interface_places<'s>(&self, rows: &'s [Option<Above>], class: &[u8]) -> &'s [u32]
+        requires { IsTable (all_classes self.now) rows.now }
+        ensures { IsWalk (all_classes self.now) (known (gathered false (supertypes (all_classes self.now)
+            (class.now ∷ [])))) result.now }
+    {
+        match self.place_named(class) {
+            Some(place) => row_at(rows, Order::Interfaces, place),
+            None => &[],
         }
     }
 

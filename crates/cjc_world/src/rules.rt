@@ -15,7 +15,8 @@ ghost use Rattle.cjc_world.specs.Working.Numbers.{AreListed, IsListed};
 ghost use Rattle.cjc_world.specs.Lookup.{object};
 ghost use Rattle.cjc_world.specs.Rules.{breaks, breaks_from, class_breaks, class_file_breaks, classes_breaks};
 ghost use Rattle.cjc_world.specs.Rules.{export_file_breaks, is_second_package, class_rules, is_earlier, member_rules};
-ghost use Rattle.cjc_world.specs.Rules.{members, members_before, members_from, told, gets_missing};
+ghost use Rattle.cjc_world.specs.Rules.{members, members_before, members_from, told, gets_missing, has_cycle};
+ghost use Rattle.cjc_world.specs.Rules.{is_own_super_of};
 ghost use Rattle.cjc_world.specs.Rules.{has_array_exceptions, has_class, has_exception, has_language, has_needed};
 ghost use Rattle.cjc_world.specs.Rules.{has_other_exceptions, has_roots, head, is_class_of, is_desc_missing};
 ghost use Rattle.cjc_world.specs.Rules.{is_element_missing, is_interface_of, is_missing, is_of_class_file};
@@ -375,6 +376,29 @@ impl<'a> UncheckedWorld<'a> {
             None => false,
             Some(cycles) => self.class_index.is_own_super(cycles, class),
         }
+    }
+
+    /// Whether the class at a place is its own superclass or superinterface over steps.
+    fn is_own_super_at(&self, place: u32) -> bool
+        ensures { result ≡ is_own_super_of (all_classes self.now) (slice_get (all_classes self.now) place) }
+    {
+        match self.class_index.class_in(place) {
+            Some(class) => self.is_own_super(class.name()),
+            None => false,
+        }
+    }
+
+    /// Whether some class is.
+    #[tactic(auto, using(crate::proofs::Circles::circle_here, crate::proofs::Circles::circle_behind, crate::proofs::Circles::circle_end))]
+    pub(crate) fn has_cycle(&self) -> bool
+        ensures { result ≡ has_cycle (all_classes self.now) }
+    {
+        for place in 0..self.class_index.count() {
+            if self.is_own_super_at(place) {
+                return true;
+            }
+        }
+        false
     }
 
     /// Whether a class is java/lang/Throwable or has it as a superclass.

@@ -1,18 +1,18 @@
 //! `World`, the package with the export files that it stands on, once its rules are tested, and look-up of
 //! classes, fields and methods in it. Nothing here takes memory but `new`.
 
-ghost use Rattle.std.specs.Prelude.{◌≡◌, ◌<◌, [], ◌++◌, true, false, length, slice_get, option_map, IfSome, IfOk};
-ghost use Rattle.std.specs.Prelude.{IfErr, OnOk};
+ghost use Rattle.std.specs.Prelude.{◌≡◌, ◌<◌, [], ◌∷◌, ◌++◌, true, false, length, slice_get, option_map, IfSome, IfOk};
+ghost use Rattle.std.specs.Prelude.{IfErr, OnOk, MatchOption};
 ghost use Rattle.cjc_world.specs.Classes.{all_classes, class_at, class_named};
 ghost use Rattle.cjc_world.specs.Files.{files_of};
 ghost use Rattle.cjc_bytes.specs.Breaks.{IsFirstRefusal};
-ghost use Rattle.cjc_world.specs.Rules.{breaks};
+ghost use Rattle.cjc_world.specs.Rules.{breaks, has_cycle};
 ghost use Rattle.cjc_world.specs.Added.{added_at};
 ghost use Rattle.cjc_world.specs.Exported.{is_exported, is_imported, is_shareable};
-ghost use Rattle.cjc_world.specs.Supertypes.{IsAcyclic, is_below, supertypes, once, upwards};
+ghost use Rattle.cjc_world.specs.Supertypes.{IsAcyclic, is_below, line, supertypes, once, upwards};
 ghost use Rattle.cjc_world.specs.Interfaces.{each_once, gathered, has_interface, known};
 ghost use Rattle.cjc_world.specs.Working.Known.{class_of};
-ghost use Rattle.cjc_world.specs.Working.Places.{at_places};
+ghost use Rattle.cjc_world.specs.Working.Places.{at_places, IsWalk};
 ghost use Rattle.cjc_world.specs.Working.Spots.{IsCounted};
 ghost use Rattle.cjc_world.specs.Subtype.{element, inner, is_element, is_subclass, is_subtype, starts};
 ghost use Rattle.cjc_world.specs.Working.Tables.{IsTable};
@@ -87,6 +87,31 @@ impl<'a> World<'a> {
             class_index,
             tables,
         })
+    }
+
+    /// A world of files of which no rule is tested but that no class is its own super, such as those of packages that
+    /// run together. None where a class is its own superclass or superinterface over steps.
+    pub fn untested(
+        alloc: Global,
+        package_name: &[u8],
+        lines: Row<FileLine>,
+        classes: Row<ClassTree<'a>>,
+        exports: Row<ExportTree>,
+    ) -> Result<Option<World<'a>>, NoMemory>
+        ensures { IfOk result (λ o. MatchOption o
+            (has_cycle (all_classes (files_of package_name.now lines classes.entry exports)) ≡ true)
+            (λ w. w ≡ files_of package_name.now lines classes.entry exports)) }
+    {
+        let class_index = ClassIndex::new(alloc, package_name, lines, classes, exports)?;
+        let unchecked = UncheckedWorld::new(alloc, class_index)?;
+        if unchecked.has_cycle() {
+            return Ok(None);
+        }
+        let (class_index, tables) = unchecked.into_parts();
+        Ok(Some(World {
+            class_index,
+            tables,
+        }))
     }
 
     /// The class files, in list order.
@@ -183,6 +208,22 @@ impl<'a> World<'a> {
         self.rows();
     }
 
+    /// The class of a name and its superclasses going upwards, as places in the order of the list, for a look-up that
+    /// answers by the first of them.
+    pub fn line_above(&self, class: &[u8]) -> &[u32]
+        ensures { IsWalk (all_classes self.now) (line (all_classes self.now) class.now) result.now }
+    {
+        self.class_index.line_places(self.rows(), class)
+    }
+
+    /// The interfaces of the class of a name in their order, for a look-up that answers by the first of them.
+    pub fn interfaces_above(&self, class: &[u8]) -> &[u32]
+        ensures { IsWalk (all_classes self.now) (known (gathered false (supertypes (all_classes self.now)
+            (class.now ∷ [])))) result.now }
+    {
+        self.class_index.interface_places(self.rows(), class)
+    }
+
     /// Whether a class or interface is another or stands below it, over superclasses and superinterfaces.
     pub fn is_subclass(&self, sub: &[u8], sup: &[u8]) -> bool
         ensures { result ≡ is_subclass (all_classes self.now) sub.now sup.now }
@@ -276,12 +317,15 @@ impl<'a> World<'a> {
     pub fn find_field(&self, id: &MemberId) -> Option<Found>
         ensures { result ≡ find_field (all_classes self.now) id.now.class id.now.name id.now.desc }
     {
-        self.class_index.find_field(
-            self.rows(),
-            id.class.items(),
-            id.name.items(),
-            id.desc.items(),
-        )
+        self.find_field_from(id.class.items(), id)
+    }
+
+    /// The same from another class than the one that is named.
+    pub fn find_field_from(&self, class: &[u8], id: &MemberId) -> Option<Found>
+        ensures { result ≡ find_field (all_classes self.now) class.now id.now.name id.now.desc }
+    {
+        self.class_index
+            .find_field(self.rows(), class, id.name.items(), id.desc.items())
     }
 
     /// The method that is found by its class, name and descriptor: in the class, then in its superclasses upwards,

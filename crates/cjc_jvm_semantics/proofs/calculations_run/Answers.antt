@@ -18,7 +18,7 @@ use Rattle.cjc_world.specs.Lookup.{first, own_field, find_field, own_method, fin
 use Rattle.cjc_world.specs.Subtype.{is_subclass, is_element, is_subtype}
 use Rattle.cjc_jvm_semantics.specs.Effects.{effect}
 use Rattle.cjc_jvm_semantics.specs.ByName.{linked}
-use Rattle.cjc_jvm_semantics.specs.Group.{group}
+use Rattle.cjc_jvm_semantics.specs.Group.{group_linked}
 use Rattle.cjc_jvm_semantics.proofs.calculations_run.Goals as goal
 
 pub returns-clause-sum : goal.returns-clause-sum
@@ -26,7 +26,7 @@ unfolding int_wrap repeated raw front digits each desc_of parts_of bad_at after 
     opcode_at wide_opcode_at behind_opcode behind_first instruction cut_rest cut marks starts unfit_code named all_named
     least decoding decoded classes_from all_classes class_named class_at supertypes_within supertypes line gathered
     known first own_field find_field own_method find_method selected is_subclass is_element is_subtype effect linked
-    group
+    group_linked
 returns-clause-sum c = refl
 
 pub returns-clause-index : goal.returns-clause-index
@@ -34,7 +34,7 @@ unfolding int_wrap repeated raw front digits each desc_of parts_of bad_at after 
     opcode_at wide_opcode_at behind_opcode behind_first instruction cut_rest cut marks starts unfit_code named all_named
     least decoding decoded classes_from all_classes class_named class_at supertypes_within supertypes line gathered
     known first own_field find_field own_method find_method selected is_subclass is_element is_subtype effect linked
-    group
+    group_linked
 returns-clause-index c = refl
 
 pub returns-clause-element : goal.returns-clause-element
@@ -42,7 +42,7 @@ unfolding int_wrap repeated raw front digits each desc_of parts_of bad_at after 
     opcode_at wide_opcode_at behind_opcode behind_first instruction cut_rest cut marks starts unfit_code named all_named
     least decoding decoded classes_from all_classes class_named class_at supertypes_within supertypes line gathered
     known first own_field find_field own_method find_method selected is_subclass is_element is_subtype effect linked
-    group
+    group_linked
 returns-clause-element c = refl
 
 pub returns-clause-index_before : goal.returns-clause-index_before
@@ -50,7 +50,7 @@ unfolding int_wrap repeated raw front digits each desc_of parts_of bad_at after 
     opcode_at wide_opcode_at behind_opcode behind_first instruction cut_rest cut marks starts unfit_code named all_named
     least decoding decoded classes_from all_classes class_named class_at supertypes_within supertypes line gathered
     known first own_field find_field own_method find_method selected is_subclass is_element is_subtype effect linked
-    group
+    group_linked
 returns-clause-index_before c = refl
 
 pub returns-clause-empty_array : goal.returns-clause-empty_array
@@ -58,7 +58,7 @@ unfolding int_wrap repeated raw front digits each desc_of parts_of bad_at after 
     opcode_at wide_opcode_at behind_opcode behind_first instruction cut_rest cut marks starts unfit_code named all_named
     least decoding decoded classes_from all_classes class_named class_at supertypes_within supertypes line gathered
     known first own_field find_field own_method find_method selected is_subclass is_element is_subtype effect linked
-    group
+    group_linked
 returns-clause-empty_array c = refl
 
 pub returns-clause-zero_divisor : goal.returns-clause-zero_divisor
@@ -66,7 +66,7 @@ unfolding int_wrap repeated raw front digits each desc_of parts_of bad_at after 
     opcode_at wide_opcode_at behind_opcode behind_first instruction cut_rest cut marks starts unfit_code named all_named
     least decoding decoded classes_from all_classes class_named class_at supertypes_within supertypes line gathered
     known first own_field find_field own_method find_method selected is_subclass is_element is_subtype effect linked
-    group
+    group_linked
 returns-clause-zero_divisor c = refl
 
 pub returns-clause-least : goal.returns-clause-least
@@ -74,7 +74,7 @@ unfolding int_wrap repeated raw front digits each desc_of parts_of bad_at after 
     opcode_at wide_opcode_at behind_opcode behind_first instruction cut_rest cut marks starts unfit_code named all_named
     least decoding decoded classes_from all_classes class_named class_at supertypes_within supertypes line gathered
     known first own_field find_field own_method find_method selected is_subclass is_element is_subtype effect linked
-    group
+    group_linked
 returns-clause-least c = refl
 
 pub returns-clause-unsigned_shift : goal.returns-clause-unsigned_shift
@@ -82,7 +82,7 @@ unfolding int_wrap repeated raw front digits each desc_of parts_of bad_at after 
     opcode_at wide_opcode_at behind_opcode behind_first instruction cut_rest cut marks starts unfit_code named all_named
     least decoding decoded classes_from all_classes class_named class_at supertypes_within supertypes line gathered
     known first own_field find_field own_method find_method selected is_subclass is_element is_subtype effect linked
-    group
+    group_linked
 returns-clause-unsigned_shift c = refl
 
 pub returns-clause-shift_out : goal.returns-clause-shift_out
@@ -90,7 +90,7 @@ unfolding int_wrap repeated raw front digits each desc_of parts_of bad_at after 
     opcode_at wide_opcode_at behind_opcode behind_first instruction cut_rest cut marks starts unfit_code named all_named
     least decoding decoded classes_from all_classes class_named class_at supertypes_within supertypes line gathered
     known first own_field find_field own_method find_method selected is_subclass is_element is_subtype effect linked
-    group
+    group_linked
 returns-clause-shift_out c = refl
 
 pub returns-clause-handled : goal.returns-clause-handled
@@ -98,7 +98,7 @@ unfolding int_wrap repeated raw front digits each desc_of parts_of bad_at after 
     opcode_at wide_opcode_at behind_opcode behind_first instruction cut_rest cut marks starts unfit_code named all_named
     least decoding decoded classes_from all_classes class_named class_at supertypes_within supertypes line gathered
     known first own_field find_field own_method find_method selected is_subclass is_element is_subtype effect linked
-    group
+    group_linked
 returns-clause-handled c = refl
 
 pub returns-clause-not_handled : goal.returns-clause-not_handled
@@ -106,7 +106,7 @@ unfolding int_wrap repeated raw front digits each desc_of parts_of bad_at after 
     opcode_at wide_opcode_at behind_opcode behind_first instruction cut_rest cut marks starts unfit_code named all_named
     least decoding decoded classes_from all_classes class_named class_at supertypes_within supertypes line gathered
     known first own_field find_field own_method find_method selected is_subclass is_element is_subtype effect linked
-    group
+    group_linked
 returns-clause-not_handled c = refl
 
 pub returns-clause-ints : goal.returns-clause-ints
@@ -114,5 +114,5 @@ unfolding int_wrap repeated raw front digits each desc_of parts_of bad_at after 
     opcode_at wide_opcode_at behind_opcode behind_first instruction cut_rest cut marks starts unfit_code named all_named
     least decoding decoded classes_from all_classes class_named class_at supertypes_within supertypes line gathered
     known first own_field find_field own_method find_method selected is_subclass is_element is_subtype effect linked
-    group
+    group_linked
 returns-clause-ints c = refl

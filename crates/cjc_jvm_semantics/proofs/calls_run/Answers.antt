@@ -18,7 +18,7 @@ use Rattle.cjc_world.specs.Lookup.{first, own_field, find_field, own_method, fin
 use Rattle.cjc_world.specs.Subtype.{is_subclass, is_element, is_subtype}
 use Rattle.cjc_jvm_semantics.specs.Effects.{effect}
 use Rattle.cjc_jvm_semantics.specs.ByName.{linked}
-use Rattle.cjc_jvm_semantics.specs.Group.{group}
+use Rattle.cjc_jvm_semantics.specs.Group.{group_linked}
 use Rattle.cjc_jvm_semantics.proofs.calls_run.Goals as goal
 
 pub returns-clause-waits : goal.returns-clause-waits
@@ -26,7 +26,7 @@ unfolding int_wrap repeated raw front digits each desc_of parts_of bad_at after 
     opcode_at wide_opcode_at behind_opcode behind_first instruction cut_rest cut marks starts unfit_code named all_named
     least decoding decoded classes_from all_classes class_named class_at supertypes_within supertypes line gathered
     known first own_field find_field own_method find_method selected is_subclass is_element is_subtype effect linked
-    group
+    group_linked
 returns-clause-waits c = refl
 
 pub returns-clause-answered : goal.returns-clause-answered
@@ -34,7 +34,7 @@ unfolding int_wrap repeated raw front digits each desc_of parts_of bad_at after 
     opcode_at wide_opcode_at behind_opcode behind_first instruction cut_rest cut marks starts unfit_code named all_named
     least decoding decoded classes_from all_classes class_named class_at supertypes_within supertypes line gathered
     known first own_field find_field own_method find_method selected is_subclass is_element is_subtype effect linked
-    group
+    group_linked
 returns-clause-answered c = refl
 
 pub returns-clause-unfit : goal.returns-clause-unfit
@@ -42,7 +42,7 @@ unfolding int_wrap repeated raw front digits each desc_of parts_of bad_at after 
     opcode_at wide_opcode_at behind_opcode behind_first instruction cut_rest cut marks starts unfit_code named all_named
     least decoding decoded classes_from all_classes class_named class_at supertypes_within supertypes line gathered
     known first own_field find_field own_method find_method selected is_subclass is_element is_subtype effect linked
-    group
+    group_linked
 returns-clause-unfit c = refl
 
 pub returns-clause-out_of_range : goal.returns-clause-out_of_range
@@ -50,7 +50,7 @@ unfolding int_wrap repeated raw front digits each desc_of parts_of bad_at after 
     opcode_at wide_opcode_at behind_opcode behind_first instruction cut_rest cut marks starts unfit_code named all_named
     least decoding decoded classes_from all_classes class_named class_at supertypes_within supertypes line gathered
     known first own_field find_field own_method find_method selected is_subclass is_element is_subtype effect linked
-    group
+    group_linked
 returns-clause-out_of_range c = refl
 
 pub returns-clause-throws : goal.returns-clause-throws
@@ -58,7 +58,7 @@ unfolding int_wrap repeated raw front digits each desc_of parts_of bad_at after 
     opcode_at wide_opcode_at behind_opcode behind_first instruction cut_rest cut marks starts unfit_code named all_named
     least decoding decoded classes_from all_classes class_named class_at supertypes_within supertypes line gathered
     known first own_field find_field own_method find_method selected is_subclass is_element is_subtype effect linked
-    group
+    group_linked
 returns-clause-throws c = refl
 
 pub returns-clause-unfit_entry : goal.returns-clause-unfit_entry
@@ -66,7 +66,7 @@ unfolding int_wrap repeated raw front digits each desc_of parts_of bad_at after 
     opcode_at wide_opcode_at behind_opcode behind_first instruction cut_rest cut marks starts unfit_code named all_named
     least decoding decoded classes_from all_classes class_named class_at supertypes_within supertypes line gathered
     known first own_field find_field own_method find_method selected is_subclass is_element is_subtype effect linked
-    group
+    group_linked
 returns-clause-unfit_entry c = refl
 
 pub returns-clause-subclass : goal.returns-clause-subclass
@@ -74,7 +74,7 @@ unfolding int_wrap repeated raw front digits each desc_of parts_of bad_at after 
     opcode_at wide_opcode_at behind_opcode behind_first instruction cut_rest cut marks starts unfit_code named all_named
     least decoding decoded classes_from all_classes class_named class_at supertypes_within supertypes line gathered
     known first own_field find_field own_method find_method selected is_subclass is_element is_subtype effect linked
-    group
+    group_linked
 returns-clause-subclass c = refl
 
 pub returns-clause-superclass : goal.returns-clause-superclass
@@ -82,7 +82,7 @@ unfolding int_wrap repeated raw front digits each desc_of parts_of bad_at after 
     opcode_at wide_opcode_at behind_opcode behind_first instruction cut_rest cut marks starts unfit_code named all_named
     least decoding decoded classes_from all_classes class_named class_at supertypes_within supertypes line gathered
     known first own_field find_field own_method find_method selected is_subclass is_element is_subtype effect linked
-    group
+    group_linked
 returns-clause-superclass c = refl
 
 pub returns-clause-interface : goal.returns-clause-interface
@@ -90,7 +90,7 @@ unfolding int_wrap repeated raw front digits each desc_of parts_of bad_at after 
     opcode_at wide_opcode_at behind_opcode behind_first instruction cut_rest cut marks starts unfit_code named all_named
     least decoding decoded classes_from all_classes class_named class_at supertypes_within supertypes line gathered
     known first own_field find_field own_method find_method selected is_subclass is_element is_subtype effect linked
-    group
+    group_linked
 returns-clause-interface c = refl
 
 pub returns-clause-reaches_imported : goal.returns-clause-reaches_imported
@@ -98,7 +98,7 @@ unfolding int_wrap repeated raw front digits each desc_of parts_of bad_at after 
     opcode_at wide_opcode_at behind_opcode behind_first instruction cut_rest cut marks starts unfit_code named all_named
     least decoding decoded classes_from all_classes class_named class_at supertypes_within supertypes line gathered
     known first own_field find_field own_method find_method selected is_subclass is_element is_subtype effect linked
-    group
+    group_linked
 returns-clause-reaches_imported c = refl
 
 pub returns-clause-constructor : goal.returns-clause-constructor
@@ -106,7 +106,7 @@ unfolding int_wrap repeated raw front digits each desc_of parts_of bad_at after 
     opcode_at wide_opcode_at behind_opcode behind_first instruction cut_rest cut marks starts unfit_code named all_named
     least decoding decoded classes_from all_classes class_named class_at supertypes_within supertypes line gathered
     known first own_field find_field own_method find_method selected is_subclass is_element is_subtype effect linked
-    group
+    group_linked
 returns-clause-constructor c = refl
 
 pub returns-clause-kept : goal.returns-clause-kept
@@ -114,7 +114,7 @@ unfolding int_wrap repeated raw front digits each desc_of parts_of bad_at after 
     opcode_at wide_opcode_at behind_opcode behind_first instruction cut_rest cut marks starts unfit_code named all_named
     least decoding decoded classes_from all_classes class_named class_at supertypes_within supertypes line gathered
     known first own_field find_field own_method find_method selected is_subclass is_element is_subtype effect linked
-    group
+    group_linked
 returns-clause-kept c = refl
 
 pub returns-clause-passed : goal.returns-clause-passed
@@ -122,7 +122,7 @@ unfolding int_wrap repeated raw front digits each desc_of parts_of bad_at after 
     opcode_at wide_opcode_at behind_opcode behind_first instruction cut_rest cut marks starts unfit_code named all_named
     least decoding decoded classes_from all_classes class_named class_at supertypes_within supertypes line gathered
     known first own_field find_field own_method find_method selected is_subclass is_element is_subtype effect linked
-    group
+    group_linked
 returns-clause-passed c = refl
 
 pub returns-clause-sent_by_imported : goal.returns-clause-sent_by_imported
@@ -130,7 +130,7 @@ unfolding int_wrap repeated raw front digits each desc_of parts_of bad_at after 
     opcode_at wide_opcode_at behind_opcode behind_first instruction cut_rest cut marks starts unfit_code named all_named
     least decoding decoded classes_from all_classes class_named class_at supertypes_within supertypes line gathered
     known first own_field find_field own_method find_method selected is_subclass is_element is_subtype effect linked
-    group
+    group_linked
 returns-clause-sent_by_imported c = refl
 
 pub returns-clause-private_method : goal.returns-clause-private_method
@@ -138,7 +138,7 @@ unfolding int_wrap repeated raw front digits each desc_of parts_of bad_at after 
     opcode_at wide_opcode_at behind_opcode behind_first instruction cut_rest cut marks starts unfit_code named all_named
     least decoding decoded classes_from all_classes class_named class_at supertypes_within supertypes line gathered
     known first own_field find_field own_method find_method selected is_subclass is_element is_subtype effect linked
-    group
+    group_linked
 returns-clause-private_method c = refl
 
 pub returns-clause-only_in_interface : goal.returns-clause-only_in_interface
@@ -146,7 +146,7 @@ unfolding int_wrap repeated raw front digits each desc_of parts_of bad_at after 
     opcode_at wide_opcode_at behind_opcode behind_first instruction cut_rest cut marks starts unfit_code named all_named
     least decoding decoded classes_from all_classes class_named class_at supertypes_within supertypes line gathered
     known first own_field find_field own_method find_method selected is_subclass is_element is_subtype effect linked
-    group
+    group_linked
 returns-clause-only_in_interface c = refl
 
 pub returns-clause-interface_abroad : goal.returns-clause-interface_abroad
@@ -154,7 +154,7 @@ unfolding int_wrap repeated raw front digits each desc_of parts_of bad_at after 
     opcode_at wide_opcode_at behind_opcode behind_first instruction cut_rest cut marks starts unfit_code named all_named
     least decoding decoded classes_from all_classes class_named class_at supertypes_within supertypes line gathered
     known first own_field find_field own_method find_method selected is_subclass is_element is_subtype effect linked
-    group
+    group_linked
 returns-clause-interface_abroad c = refl
 
 pub returns-clause-first_imported : goal.returns-clause-first_imported
@@ -162,7 +162,7 @@ unfolding int_wrap repeated raw front digits each desc_of parts_of bad_at after 
     opcode_at wide_opcode_at behind_opcode behind_first instruction cut_rest cut marks starts unfit_code named all_named
     least decoding decoded classes_from all_classes class_named class_at supertypes_within supertypes line gathered
     known first own_field find_field own_method find_method selected is_subclass is_element is_subtype effect linked
-    group
+    group_linked
 returns-clause-first_imported c = refl
 
 pub returns-clause-super_abroad : goal.returns-clause-super_abroad
@@ -170,7 +170,7 @@ unfolding int_wrap repeated raw front digits each desc_of parts_of bad_at after 
     opcode_at wide_opcode_at behind_opcode behind_first instruction cut_rest cut marks starts unfit_code named all_named
     least decoding decoded classes_from all_classes class_named class_at supertypes_within supertypes line gathered
     known first own_field find_field own_method find_method selected is_subclass is_element is_subtype effect linked
-    group
+    group_linked
 returns-clause-super_abroad c = refl
 
 pub returns-clause-cut_off : goal.returns-clause-cut_off
@@ -178,7 +178,7 @@ unfolding int_wrap repeated raw front digits each desc_of parts_of bad_at after 
     opcode_at wide_opcode_at behind_opcode behind_first instruction cut_rest cut marks starts unfit_code named all_named
     least decoding decoded classes_from all_classes class_named class_at supertypes_within supertypes line gathered
     known first own_field find_field own_method find_method selected is_subclass is_element is_subtype effect linked
-    group
+    group_linked
 returns-clause-cut_off c = refl
 
 pub returns-clause-sent : goal.returns-clause-sent
@@ -186,5 +186,5 @@ unfolding int_wrap repeated raw front digits each desc_of parts_of bad_at after 
     opcode_at wide_opcode_at behind_opcode behind_first instruction cut_rest cut marks starts unfit_code named all_named
     least decoding decoded classes_from all_classes class_named class_at supertypes_within supertypes line gathered
     known first own_field find_field own_method find_method selected is_subclass is_element is_subtype effect linked
-    group
+    group_linked
 returns-clause-sent c = refl

@@ -18,7 +18,7 @@ use Rattle.cjc_world.specs.Lookup.{first, own_field, find_field, own_method, fin
 use Rattle.cjc_world.specs.Subtype.{is_subclass, is_element, is_subtype}
 use Rattle.cjc_jvm_semantics.specs.Effects.{effect}
 use Rattle.cjc_jvm_semantics.specs.ByName.{linked}
-use Rattle.cjc_jvm_semantics.specs.Group.{group}
+use Rattle.cjc_jvm_semantics.specs.Group.{group_linked}
 use Rattle.cjc_jvm_semantics.proofs.ends_are_met.Goals as goal
 
 pub returns-clause-no_room_for_exception : goal.returns-clause-no_room_for_exception
@@ -26,7 +26,7 @@ unfolding int_wrap repeated raw front digits each desc_of parts_of bad_at after 
     opcode_at wide_opcode_at behind_opcode behind_first instruction cut_rest cut marks starts unfit_code named all_named
     least decoding decoded classes_from all_classes class_named class_at supertypes_within supertypes line gathered
     known first own_field find_field own_method find_method selected is_subclass is_element is_subtype effect linked
-    group
+    group_linked
 returns-clause-no_room_for_exception c = refl
 
 pub returns-clause-no_room_for_result : goal.returns-clause-no_room_for_result
@@ -34,7 +34,7 @@ unfolding int_wrap repeated raw front digits each desc_of parts_of bad_at after 
     opcode_at wide_opcode_at behind_opcode behind_first instruction cut_rest cut marks starts unfit_code named all_named
     least decoding decoded classes_from all_classes class_named class_at supertypes_within supertypes line gathered
     known first own_field find_field own_method find_method selected is_subclass is_element is_subtype effect linked
-    group
+    group_linked
 returns-clause-no_room_for_result c = refl
 
 pub returns-clause-no_room_for_answer : goal.returns-clause-no_room_for_answer
@@ -42,7 +42,7 @@ unfolding int_wrap repeated raw front digits each desc_of parts_of bad_at after 
     opcode_at wide_opcode_at behind_opcode behind_first instruction cut_rest cut marks starts unfit_code named all_named
     least decoding decoded classes_from all_classes class_named class_at supertypes_within supertypes line gathered
     known first own_field find_field own_method find_method selected is_subclass is_element is_subtype effect linked
-    group
+    group_linked
 returns-clause-no_room_for_answer c = refl
 
 pub returns-clause-other_sort : goal.returns-clause-other_sort
@@ -50,7 +50,7 @@ unfolding int_wrap repeated raw front digits each desc_of parts_of bad_at after 
     opcode_at wide_opcode_at behind_opcode behind_first instruction cut_rest cut marks starts unfit_code named all_named
     least decoding decoded classes_from all_classes class_named class_at supertypes_within supertypes line gathered
     known first own_field find_field own_method find_method selected is_subclass is_element is_subtype effect linked
-    group
+    group_linked
 returns-clause-other_sort c = refl
 
 pub returns-clause-nowhere_before_null : goal.returns-clause-nowhere_before_null
@@ -58,7 +58,7 @@ unfolding int_wrap repeated raw front digits each desc_of parts_of bad_at after 
     opcode_at wide_opcode_at behind_opcode behind_first instruction cut_rest cut marks starts unfit_code named all_named
     least decoding decoded classes_from all_classes class_named class_at supertypes_within supertypes line gathered
     known first own_field find_field own_method find_method selected is_subclass is_element is_subtype effect linked
-    group
+    group_linked
 returns-clause-nowhere_before_null c = refl
 
 pub returns-clause-null : goal.returns-clause-null
@@ -66,7 +66,7 @@ unfolding int_wrap repeated raw front digits each desc_of parts_of bad_at after 
     opcode_at wide_opcode_at behind_opcode behind_first instruction cut_rest cut marks starts unfit_code named all_named
     least decoding decoded classes_from all_classes class_named class_at supertypes_within supertypes line gathered
     known first own_field find_field own_method find_method selected is_subclass is_element is_subtype effect linked
-    group
+    group_linked
 returns-clause-null c = refl
 
 pub returns-clause-other_receiver : goal.returns-clause-other_receiver
@@ -74,7 +74,7 @@ unfolding int_wrap repeated raw front digits each desc_of parts_of bad_at after 
     opcode_at wide_opcode_at behind_opcode behind_first instruction cut_rest cut marks starts unfit_code named all_named
     least decoding decoded classes_from all_classes class_named class_at supertypes_within supertypes line gathered
     known first own_field find_field own_method find_method selected is_subclass is_element is_subtype effect linked
-    group
+    group_linked
 returns-clause-other_receiver c = refl
 
 pub returns-clause-arrays : goal.returns-clause-arrays
@@ -82,7 +82,7 @@ unfolding int_wrap repeated raw front digits each desc_of parts_of bad_at after 
     opcode_at wide_opcode_at behind_opcode behind_first instruction cut_rest cut marks starts unfit_code named all_named
     least decoding decoded classes_from all_classes class_named class_at supertypes_within supertypes line gathered
     known first own_field find_field own_method find_method selected is_subclass is_element is_subtype effect linked
-    group
+    group_linked
 returns-clause-arrays c = refl
 
 pub returns-clause-array_thrown : goal.returns-clause-array_thrown
@@ -90,7 +90,7 @@ unfolding int_wrap repeated raw front digits each desc_of parts_of bad_at after 
     opcode_at wide_opcode_at behind_opcode behind_first instruction cut_rest cut marks starts unfit_code named all_named
     least decoding decoded classes_from all_classes class_named class_at supertypes_within supertypes line gathered
     known first own_field find_field own_method find_method selected is_subclass is_element is_subtype effect linked
-    group
+    group_linked
 returns-clause-array_thrown c = refl
 
 pub returns-clause-abstract_call : goal.returns-clause-abstract_call
@@ -98,7 +98,7 @@ unfolding int_wrap repeated raw front digits each desc_of parts_of bad_at after 
     opcode_at wide_opcode_at behind_opcode behind_first instruction cut_rest cut marks starts unfit_code named all_named
     least decoding decoded classes_from all_classes class_named class_at supertypes_within supertypes line gathered
     known first own_field find_field own_method find_method selected is_subclass is_element is_subtype effect linked
-    group
+    group_linked
 returns-clause-abstract_call c = refl
 
 pub returns-clause-abstract_entry : goal.returns-clause-abstract_entry
@@ -106,7 +106,7 @@ unfolding int_wrap repeated raw front digits each desc_of parts_of bad_at after 
     opcode_at wide_opcode_at behind_opcode behind_first instruction cut_rest cut marks starts unfit_code named all_named
     least decoding decoded classes_from all_classes class_named class_at supertypes_within supertypes line gathered
     known first own_field find_field own_method find_method selected is_subclass is_element is_subtype effect linked
-    group
+    group_linked
 returns-clause-abstract_entry c = refl
 
 pub returns-clause-abstract_class : goal.returns-clause-abstract_class
@@ -114,7 +114,7 @@ unfolding int_wrap repeated raw front digits each desc_of parts_of bad_at after 
     opcode_at wide_opcode_at behind_opcode behind_first instruction cut_rest cut marks starts unfit_code named all_named
     least decoding decoded classes_from all_classes class_named class_at supertypes_within supertypes line gathered
     known first own_field find_field own_method find_method selected is_subclass is_element is_subtype effect linked
-    group
+    group_linked
 returns-clause-abstract_class c = refl
 
 pub returns-clause-other_sort_abroad : goal.returns-clause-other_sort_abroad
@@ -122,7 +122,7 @@ unfolding int_wrap repeated raw front digits each desc_of parts_of bad_at after 
     opcode_at wide_opcode_at behind_opcode behind_first instruction cut_rest cut marks starts unfit_code named all_named
     least decoding decoded classes_from all_classes class_named class_at supertypes_within supertypes line gathered
     known first own_field find_field own_method find_method selected is_subclass is_element is_subtype effect linked
-    group
+    group_linked
 returns-clause-other_sort_abroad c = refl
 
 pub returns-clause-act_unfit : goal.returns-clause-act_unfit
@@ -130,7 +130,7 @@ unfolding int_wrap repeated raw front digits each desc_of parts_of bad_at after 
     opcode_at wide_opcode_at behind_opcode behind_first instruction cut_rest cut marks starts unfit_code named all_named
     least decoding decoded classes_from all_classes class_named class_at supertypes_within supertypes line gathered
     known first own_field find_field own_method find_method selected is_subclass is_element is_subtype effect linked
-    group
+    group_linked
 returns-clause-act_unfit c = refl
 
 pub returns-clause-long_array : goal.returns-clause-long_array
@@ -138,7 +138,7 @@ unfolding int_wrap repeated raw front digits each desc_of parts_of bad_at after 
     opcode_at wide_opcode_at behind_opcode behind_first instruction cut_rest cut marks starts unfit_code named all_named
     least decoding decoded classes_from all_classes class_named class_at supertypes_within supertypes line gathered
     known first own_field find_field own_method find_method selected is_subclass is_element is_subtype effect linked
-    group
+    group_linked
 returns-clause-long_array c = refl
 
 pub returns-clause-other_object : goal.returns-clause-other_object
@@ -146,7 +146,7 @@ unfolding int_wrap repeated raw front digits each desc_of parts_of bad_at after 
     opcode_at wide_opcode_at behind_opcode behind_first instruction cut_rest cut marks starts unfit_code named all_named
     least decoding decoded classes_from all_classes class_named class_at supertypes_within supertypes line gathered
     known first own_field find_field own_method find_method selected is_subclass is_element is_subtype effect linked
-    group
+    group_linked
 returns-clause-other_object c = refl
 
 pub returns-clause-sent_to_other : goal.returns-clause-sent_to_other
@@ -154,7 +154,7 @@ unfolding int_wrap repeated raw front digits each desc_of parts_of bad_at after 
     opcode_at wide_opcode_at behind_opcode behind_first instruction cut_rest cut marks starts unfit_code named all_named
     least decoding decoded classes_from all_classes class_named class_at supertypes_within supertypes line gathered
     known first own_field find_field own_method find_method selected is_subclass is_element is_subtype effect linked
-    group
+    group_linked
 returns-clause-sent_to_other c = refl
 
 pub returns-clause-not_static : goal.returns-clause-not_static
@@ -162,7 +162,7 @@ unfolding int_wrap repeated raw front digits each desc_of parts_of bad_at after 
     opcode_at wide_opcode_at behind_opcode behind_first instruction cut_rest cut marks starts unfit_code named all_named
     least decoding decoded classes_from all_classes class_named class_at supertypes_within supertypes line gathered
     known first own_field find_field own_method find_method selected is_subclass is_element is_subtype effect linked
-    group
+    group_linked
 returns-clause-not_static c = refl
 
 pub returns-clause-throws_own : goal.returns-clause-throws_own
@@ -170,7 +170,7 @@ unfolding int_wrap repeated raw front digits each desc_of parts_of bad_at after 
     opcode_at wide_opcode_at behind_opcode behind_first instruction cut_rest cut marks starts unfit_code named all_named
     least decoding decoded classes_from all_classes class_named class_at supertypes_within supertypes line gathered
     known first own_field find_field own_method find_method selected is_subclass is_element is_subtype effect linked
-    group
+    group_linked
 returns-clause-throws_own c = refl
 
 pub returns-clause-unset : goal.returns-clause-unset
@@ -178,7 +178,7 @@ unfolding int_wrap repeated raw front digits each desc_of parts_of bad_at after 
     opcode_at wide_opcode_at behind_opcode behind_first instruction cut_rest cut marks starts unfit_code named all_named
     least decoding decoded classes_from all_classes class_named class_at supertypes_within supertypes line gathered
     known first own_field find_field own_method find_method selected is_subclass is_element is_subtype effect linked
-    group
+    group_linked
 returns-clause-unset c = refl
 
 pub returns-clause-negative_count : goal.returns-clause-negative_count
@@ -186,7 +186,7 @@ unfolding int_wrap repeated raw front digits each desc_of parts_of bad_at after 
     opcode_at wide_opcode_at behind_opcode behind_first instruction cut_rest cut marks starts unfit_code named all_named
     least decoding decoded classes_from all_classes class_named class_at supertypes_within supertypes line gathered
     known first own_field find_field own_method find_method selected is_subclass is_element is_subtype effect linked
-    group
+    group_linked
 returns-clause-negative_count c = refl
 
 pub returns-clause-other_class : goal.returns-clause-other_class
@@ -194,7 +194,7 @@ unfolding int_wrap repeated raw front digits each desc_of parts_of bad_at after 
     opcode_at wide_opcode_at behind_opcode behind_first instruction cut_rest cut marks starts unfit_code named all_named
     least decoding decoded classes_from all_classes class_named class_at supertypes_within supertypes line gathered
     known first own_field find_field own_method find_method selected is_subclass is_element is_subtype effect linked
-    group
+    group_linked
 returns-clause-other_class c = refl
 
 pub returns-clause-other_element : goal.returns-clause-other_element
@@ -202,5 +202,5 @@ unfolding int_wrap repeated raw front digits each desc_of parts_of bad_at after 
     opcode_at wide_opcode_at behind_opcode behind_first instruction cut_rest cut marks starts unfit_code named all_named
     least decoding decoded classes_from all_classes class_named class_at supertypes_within supertypes line gathered
     known first own_field find_field own_method find_method selected is_subclass is_element is_subtype effect linked
-    group
+    group_linked
 returns-clause-other_element c = refl

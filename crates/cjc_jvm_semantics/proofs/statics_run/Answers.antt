@@ -18,7 +18,7 @@ use Rattle.cjc_world.specs.Lookup.{first, own_field, find_field, own_method, fin
 use Rattle.cjc_world.specs.Subtype.{is_subclass, is_element, is_subtype}
 use Rattle.cjc_jvm_semantics.specs.Effects.{effect}
 use Rattle.cjc_jvm_semantics.specs.ByName.{linked}
-use Rattle.cjc_jvm_semantics.specs.Group.{group}
+use Rattle.cjc_jvm_semantics.specs.Group.{group_linked}
 use Rattle.cjc_jvm_semantics.proofs.statics_run.Goals as goal
 
 pub returns-clause-at_first : goal.returns-clause-at_first
@@ -26,7 +26,7 @@ unfolding int_wrap repeated raw front digits each desc_of parts_of bad_at after 
     opcode_at wide_opcode_at behind_opcode behind_first instruction cut_rest cut marks starts unfit_code named all_named
     least decoding decoded classes_from all_classes class_named class_at supertypes_within supertypes line gathered
     known first own_field find_field own_method find_method selected is_subclass is_element is_subtype effect linked
-    group
+    group_linked
 returns-clause-at_first c = refl
 
 pub returns-clause-next : goal.returns-clause-next
@@ -34,5 +34,5 @@ unfolding int_wrap repeated raw front digits each desc_of parts_of bad_at after 
     opcode_at wide_opcode_at behind_opcode behind_first instruction cut_rest cut marks starts unfit_code named all_named
     least decoding decoded classes_from all_classes class_named class_at supertypes_within supertypes line gathered
     known first own_field find_field own_method find_method selected is_subclass is_element is_subtype effect linked
-    group
+    group_linked
 returns-clause-next c = refl

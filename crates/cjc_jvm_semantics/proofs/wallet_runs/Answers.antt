@@ -18,7 +18,7 @@ use Rattle.cjc_world.specs.Lookup.{first, own_field, find_field, own_method, fin
 use Rattle.cjc_world.specs.Subtype.{is_subclass, is_element, is_subtype}
 use Rattle.cjc_jvm_semantics.specs.Effects.{effect}
 use Rattle.cjc_jvm_semantics.specs.ByName.{linked}
-use Rattle.cjc_jvm_semantics.specs.Group.{group}
+use Rattle.cjc_jvm_semantics.specs.Group.{group_linked}
 use Rattle.cjc_jvm_semantics.proofs.wallet_runs.Goals as goal
 
 pub returns-clause-whole : goal.returns-clause-whole
@@ -26,7 +26,7 @@ unfolding int_wrap repeated raw front digits each desc_of parts_of bad_at after 
     opcode_at wide_opcode_at behind_opcode behind_first instruction cut_rest cut marks starts unfit_code named all_named
     least decoding decoded classes_from all_classes class_named class_at supertypes_within supertypes line gathered
     known first own_field find_field own_method find_method selected is_subclass is_element is_subtype effect linked
-    group
+    group_linked
 returns-clause-whole c = refl
 
 pub returns-clause-to_the_last : goal.returns-clause-to_the_last
@@ -34,7 +34,7 @@ unfolding int_wrap repeated raw front digits each desc_of parts_of bad_at after 
     opcode_at wide_opcode_at behind_opcode behind_first instruction cut_rest cut marks starts unfit_code named all_named
     least decoding decoded classes_from all_classes class_named class_at supertypes_within supertypes line gathered
     known first own_field find_field own_method find_method selected is_subclass is_element is_subtype effect linked
-    group
+    group_linked
 returns-clause-to_the_last c = refl
 
 pub returns-clause-cut_off : goal.returns-clause-cut_off
@@ -42,5 +42,5 @@ unfolding int_wrap repeated raw front digits each desc_of parts_of bad_at after 
     opcode_at wide_opcode_at behind_opcode behind_first instruction cut_rest cut marks starts unfit_code named all_named
     least decoding decoded classes_from all_classes class_named class_at supertypes_within supertypes line gathered
     known first own_field find_field own_method find_method selected is_subclass is_element is_subtype effect linked
-    group
+    group_linked
 returns-clause-cut_off c = refl

@@ -1,11 +1,11 @@
 -- Classes by their places in the order of the list, and lists of places without repeats.
 use Rattle.std.specs.Prelude.{ℕ, suc, List, [], ◌∷◌, ◌++◌, ◌==◌, ◌||◌, Bool, false, if◌then◌else◌, Option, Some, None}
-use Rattle.std.specs.Prelude.{option_map, option_to_list, slice_get}
+use Rattle.std.specs.Prelude.{◌≡◌, option_and_then, option_map, option_to_list, slice_get}
 use Rattle.std.specs.List.{list_any}
 use Rattle.std.specs.Str.{bytes_eq}
 use Rattle.cjc_world.specs.declared.found.Found.{Found}
 use Rattle.cjc_world.specs.Classes.{Class}
-use Rattle.cjc_world.specs.Lookup.{or_else, own_field, own_method}
+use Rattle.cjc_world.specs.Lookup.{or_else, first, own_field, own_method}
 
 -- the place of the first class of a name
 unfoldable pub place_named : List Class → List ℕ → Option ℕ
@@ -35,6 +35,11 @@ joined ps (q ∷ qs) = if is_in q ps then joined ps qs else joined (ps ++ q ∷ 
 unfoldable pub first_place : (ℕ → Option Found) → List ℕ → Option Found
 first_place own [] = None
 first_place own (p ∷ ps) = or_else (own p) (first_place own ps)
+
+-- What the first of these places answers is what the first of these classes does.
+abbrev pub IsWalk : List Class → List Class → List ℕ → Type 0
+IsWalk w classes places = (own : Class → Option Found) → first_place (λ p. option_and_then own (slice_get w p)) places
+    ≡ first own classes
 
 -- ---- what the class at a place answers
 
