@@ -1,8 +1,8 @@
 -- Names that are put behind others, each once, and walks that pass over what they are done with.
 use Rattle.std.proofs.Common.{◌≡◌, ◌⊎◌, ℕ, ◌+◌, ◌<◌, ◌≤◌, Bool, true, false, cond, ◌||◌, List, [], ◌∷◌, ◌++◌, map}
 use Rattle.std.proofs.Common.{append_assoc, append-nil, refl, sym, ap, subst, ◌∙◌, length, get_or, slice_get, take}
-use Rattle.std.proofs.Common.{Some, drop, inl, inr}
-use Rattle.std.specs.List.{flat_map, list_any}
+use Rattle.std.proofs.Common.{Some, drop, inl, inr, arith, not}
+use Rattle.std.specs.List.{flat_map}
 use Rattle.std.specs.Str.{bytes_eq}
 use Rattle.std.proofs.lemmas.List.{drop_all, map-append, take_more}
 use Rattle.std.proofs.lemmas.Option.{slice_get_within, get_or_from_slice_get}
@@ -12,10 +12,12 @@ use Rattle.indexmap.specs.IndexSet.{insert_key}
 use Rattle.cjc_world.specs.ExportFile.Supers.{is_one_of}
 use Rattle.cjc_world.specs.Interfaces.{Interface, is_among}
 use Rattle.cjc_world.specs.Interfaces
+use Rattle.cjc_world.specs.Classes.{Class}
+use Rattle.cjc_world.specs.Supertypes.{supertypes}
 use Rattle.cjc_order.specs.Supers.Supers.{each_once, name_of}
-use Rattle.cjc_order.specs.Supers.Working.Walk.{names-equivalence, Seen, put, finish, with_all, AreIn, AreDone}
+use Rattle.cjc_order.specs.Supers.Working.Walk.{names-equivalence, has, put, with_all, AreIn, AreDone, StandAbove, size}
 use Rattle.cjc_world.proofs.BytesLists.{name_is}
-use Rattle.cjc_world.proofs.BytesBools.{or_true, or_cases}
+use Rattle.cjc_world.proofs.BytesBools.{not_false, or_true, or_cases}
 use Rattle.cjc_world.proofs.BytesGets.{get_step}
 
 -- ---- one after the other
@@ -38,9 +40,6 @@ pub walk_end : (f : List ℕ → List (List ℕ)) (ks : List (List ℕ)) (list :
 walk_end f ks list i total le so_far = ap (λ xs. with_all ks (flat_map f xs)) (sym (drop_all i list le)) ∙ so_far
 
 -- ---- members
-
-abbrev has : List (List ℕ) → List ℕ → Bool
-has ks x = list_any (bytes_eq x) ks
 
 has_last : (ks : List (List ℕ)) (x : List ℕ) → has (ks ++ x ∷ []) x ≡ true
 has_last ks x = list_any-append (bytes_eq x) ks (x ∷ []) ∙ (ap (λ b. has ks x || (b || false)) (name_is x)
@@ -99,23 +98,90 @@ none_new ks (n ∷ ns) h = ap (λ b. with_all (cond b ks (ks ++ n ∷ [])) ns) h
 
 -- ---- a walk
 
--- what is done stays so where names are put
-pub done_more : (adds : List ℕ → List (List ℕ)) (s t : Seen) (xs : List (List ℕ)) → t.names ≡ with_all s.names xs
-    → t.done ≡ s.done → AreDone adds s → AreDone adds t
-done_more adds s t xs names done h x e =
-    subst (λ ks. AreIn ks (adds x)) (sym names) (in_more s.names xs (adds x) (h x (sym (ap (λ ks. has ks x) done) ∙ e)))
+in_longer : (ks ls xs ns : List (List ℕ)) → ls ≡ with_all ks xs → AreIn ks ns → AreIn ls ns
+in_longer ks ls xs ns same h = subst (λ ms. AreIn ms ns) (sym same) (in_more ks xs ns h)
 
-pub done_put : (adds : List ℕ → List (List ℕ)) (s : Seen) (x : List ℕ) → AreDone adds s → AreDone adds (put s x)
-done_put adds s x h = done_more adds s (put s x) (x ∷ []) refl refl h
+-- a name that is not new was there
+pub was_there : (ks : List (List ℕ)) (x : List ℕ) → not (has ks x) ≡ false → has ks x ≡ true
+was_there ks x h = not_false (has ks x) h
 
--- a name is done once all that it adds has been seen
-pub done_finish : (adds : List ℕ → List (List ℕ)) (s : Seen) (x : List ℕ) → AreDone adds s → AreIn s.names (adds x)
-    → AreDone adds (finish s x)
-done_finish adds s x h all y e = go (insert_cases s.done x y e)
-  where
-    go : (has s.done y ≡ true) ⊎ (y ≡ x) → AreIn s.names (adds y)
-    go (inl old) = h y old
-    go (inr same) = subst (λ z. AreIn s.names (adds z)) (sym same) all
+-- a name that is there is not put once more
+pub put_old : (ks ls : List (List ℕ)) (x : List ℕ) → ls ≡ put ks x → has ks x ≡ true → ls ≡ ks
+put_old ks ls x same h = same ∙ ap (λ b. cond b ks (ks ++ x ∷ [])) h
+
+module _ (adds : List ℕ → List (List ℕ)) where
+  -- one part of a walk after another
+  pub done_then : (before c d n m xs : List (List ℕ)) → m ≡ with_all n xs → AreDone adds before c n
+      → AreDone adds c d m → AreDone adds before d m
+  done_then before c d n m xs same first second y e = go (second y e)
+    where
+      pick : (has before y ≡ true) ⊎ AreIn n (adds y) → (has before y ≡ true) ⊎ AreIn m (adds y)
+      pick (inl older) = inl older
+      pick (inr done) = inr (in_longer n m xs (adds y) same done)
+
+      go : (has c y ≡ true) ⊎ AreIn m (adds y) → (has before y ≡ true) ⊎ AreIn m (adds y)
+      go (inl old) = pick (first y old)
+      go (inr done) = inr done
+
+  -- all that a name adds has been seen, so the walk is done with it
+  pub done_one : (c begun d m : List (List ℕ)) (x : List ℕ) → begun ≡ put c x → AreDone adds begun d m
+      → AreIn m (adds x) → AreDone adds c d m
+  done_one c begun d m x begins done all y e = go (done y e)
+    where
+      pick : (has c y ≡ true) ⊎ (y ≡ x) → (has c y ≡ true) ⊎ AreIn m (adds y)
+      pick (inl old) = inl old
+      pick (inr same) = inr (subst (λ z. AreIn m (adds z)) (sym same) all)
+
+      go : (has begun y ≡ true) ⊎ AreIn m (adds y) → (has c y ≡ true) ⊎ AreIn m (adds y)
+      go (inl old) = pick (insert_cases c x y (sym (ap (λ ks. has ks y) begins) ∙ old))
+      go (inr more) = inr more
+
+  -- before the first step
+  pub none_above : (w : List Class) (c n names : List (List ℕ)) → c ≡ [] → StandAbove w adds c n names
+  none_above w c n names is y e = let no : false ≡ true = sym (ap (λ ks. has ks y) is) ∙ e in absurd cc
+
+  -- of what stands above the same names, after a part of the walk
+  pub above_then : (w : List Class) (c d n m xs names : List (List ℕ)) → m ≡ with_all n xs
+      → StandAbove w adds c n names → AreDone adds c d m → StandAbove w adds d m names
+  above_then w c d n m xs names same above done y e = go (done y e)
+    where
+      pick : AreIn n (adds y) ⊎ (size (supertypes w names) < size (supertypes w (y ∷ []))) → AreIn m (adds y)
+          ⊎ (size (supertypes w names) < size (supertypes w (y ∷ [])))
+      pick (inl old) = inl (in_longer n m xs (adds y) same old)
+      pick (inr more) = inr more
+
+      go : (has c y ≡ true) ⊎ AreIn m (adds y) → AreIn m (adds y)
+          ⊎ (size (supertypes w names) < size (supertypes w (y ∷ [])))
+      go (inl old) = pick (above y old)
+      go (inr now) = inl now
+
+  -- a step upwards, from a name to those that its class lists
+  pub above_step : (w : List Class) (c begun n m xs names listed : List (List ℕ)) (x : List ℕ) → begun ≡ put c x
+      → m ≡ with_all n xs
+      → size (supertypes w listed) < size (supertypes w names)
+      → size (supertypes w listed) < size (supertypes w (x ∷ []))
+      → StandAbove w adds c n names → StandAbove w adds begun m listed
+  above_step w c begun n m xs names listed x begins same less here above y e =
+      go (insert_cases c x y (sym (ap (λ ks. has ks y) begins) ∙ e))
+    where
+      pick : AreIn n (adds y) ⊎ (size (supertypes w names) < size (supertypes w (y ∷ []))) → AreIn m (adds y)
+          ⊎ (size (supertypes w listed) < size (supertypes w (y ∷ [])))
+      pick (inl old) = inl (in_longer n m xs (adds y) same old)
+      pick (inr more) = inr (omega (arith, less, more))
+
+      go : (has c y ≡ true) ⊎ (y ≡ x) → AreIn m (adds y)
+          ⊎ (size (supertypes w listed) < size (supertypes w (y ∷ [])))
+      go (inl old) = pick (above y old)
+      go (inr is) = inr (subst (λ z. size (supertypes w listed) < size (supertypes w (z ∷ []))) (sym is) here)
+
+  -- the walk came to one of the names before: all that it adds has been seen
+  pub seen_before : (w : List Class) (c n names : List (List ℕ)) (x : List ℕ) → StandAbove w adds c n names
+      → has c x ≡ true → size (supertypes w (x ∷ [])) ≤ size (supertypes w names) → AreIn n (adds x)
+  seen_before w c n names x above is within = go (above x is)
+    where
+      go : AreIn n (adds x) ⊎ (size (supertypes w names) < size (supertypes w (x ∷ []))) → AreIn n (adds x)
+      go (inl old) = old
+      go (inr more) = absurd (omega (arith, within, more))
 
 -- ---- each once
 

@@ -177,3 +177,23 @@ less_above w acyclic (x ∷ xs) (suc i) d lt =
     let supers = later.0 in
     let interfaces = later.1 in
     (omega (arith, supers, fits, same), omega (arith, interfaces, fits, same))
+
+one_within : (w : List Class) (x : List ℕ) (o : Option Class) (next : Supertypes)
+    → size (known_as (supertypes w) x o (supertypes w [])) ≤ size (known_as (supertypes w) x o next)
+one_within w x None next = let none = ap size (supertypes_none w) in omega (arith, none)
+one_within w x (Some c) next = let none = ap size (supertypes_none w) in omega (arith, none)
+
+-- above one of the names stands no more than above all
+pub within_all : (w : List Class) → IsAcyclic w → (xs : List (List ℕ)) (i : ℕ) (d : List ℕ) → i < length xs
+    → size (supertypes w (get_or xs i d ∷ [])) ≤ size (supertypes w xs)
+within_all w acyclic [] i d lt = absurd (omega (arith, lt))
+within_all w acyclic (x ∷ xs) zero d lt =
+    let within = one_within w x (class_named w x) (supertypes w xs) in
+    let one = ap size (supertypes_step w acyclic x []) in
+    let same = ap size (supertypes_step w acyclic x xs) in
+    omega (arith, within, one, same)
+within_all w acyclic (x ∷ xs) (suc i) d lt =
+    let later = within_all w acyclic xs i d (omega (arith, lt)) in
+    let fits = rest_fits w x (class_named w x) (supertypes w xs) in
+    let same = ap size (supertypes_step w acyclic x xs) in
+    omega (arith, later, fits, same)

@@ -1,9 +1,9 @@
-//! Names in the order in which a walk came to them, and those that it is done with. Called by the walks.
+//! Names in the order in which a walk came to them, each once. Called by the walks.
 
-ghost use Rattle.std.specs.Prelude.{◌≡◌, ◌<◌, length, slice_get, Some, IfOk, OnOk};
+ghost use Rattle.std.specs.Prelude.{◌≡◌, ◌<◌, [], length, not, slice_get, Some, IfOk, OnOk};
 ghost use Rattle.std.specs.Str.{bytes_eq};
 ghost use Rattle.std.specs.Cmp.{partial_equiv_from_equiv};
-ghost use Rattle.cjc_order.specs.Supers.Working.Walk.{fed, finish, is_done, names-equivalence, nothing, put, same-fed};
+ghost use Rattle.cjc_order.specs.Supers.Working.Walk.{fed, has, names-equivalence, put, same-fed};
 
 use cjc_world::bytes::{Bytes, NoMemory, Row};
 use indexmap::IndexSet;
@@ -49,71 +49,55 @@ impl<'a> Hash for Name<'a> {
     }
 }
 
-/// What a walk has seen so far.
+/// The names that a walk came to, each once. Contracts see them as a list.
 #[derive(Drop)]
 pub(crate) struct Seen<'a> {
     names: IndexSet<Name<'a>>,
-    done: IndexSet<Name<'a>>,
 }
 
 impl<'a> Model for Seen<'a> {
-    ghost use Rattle.cjc_order.specs.Supers.Working.Walk.{Seen as Names};
+    ghost use Rattle.std.specs.Prelude.{ℕ, List};
 
-    ghost Value = { Names };
+    ghost Value = { List (List ℕ) };
 
-    ghost view = { λ s. record { names = s.names.keys; done = s.done.keys } };
+    ghost view = { λ s. s.names.keys };
 }
 
 impl<'a> Seen<'a> {
-    /// Nothing is seen yet.
+    /// No name yet.
     pub(crate) fn new(alloc: Global) -> Seen<'a>
-        ensures { result ≡ nothing }
+        ensures { result ≡ [] }
     {
         Seen {
             names: IndexSet::new(alloc),
-            done: IndexSet::new(alloc),
         }
     }
 
-    /// Puts a name behind the others, where it is not among them.
-    pub(crate) fn put(&mut self, name: &'a [u8]) -> Result<(), NoMemory>
-        ensures { OnOk result (self.new ≡ put self.old name.now) }
+    /// Puts a name behind the others where it is not among them, and tells whether it was not.
+    pub(crate) fn put(&mut self, name: &'a [u8]) -> Result<bool, NoMemory>
+        ensures new { IfOk result (λ is_new. is_new ≡ not (has self.old name.now)) }
+        ensures put { OnOk result (self.new ≡ put self.old name.now) }
     {
-        self.names.insert_full(Name { bytes: name })?;
-        Ok(())
-    }
-
-    /// Notes that all that stands above a name has been seen.
-    pub(crate) fn finish(&mut self, name: &'a [u8]) -> Result<(), NoMemory>
-        ensures { OnOk result (self.new ≡ finish self.old name.now) }
-    {
-        self.done.insert_full(Name { bytes: name })?;
-        Ok(())
-    }
-
-    /// Whether all that stands above a name has been seen.
-    pub(crate) fn is_done(&self, name: &'a [u8]) -> bool
-        ensures { result ≡ is_done self.now name.now }
-    {
-        self.done.contains(&Name { bytes: name })
+        let (_place, is_new) = self.names.insert_full(Name { bytes: name })?;
+        Ok(is_new)
     }
 
     fn len(&self) -> usize
-        ensures { result ≡ length self.now.names }
+        ensures { result ≡ length self.now }
     {
         self.names.len()
     }
 
     fn at(&self, place: usize) -> &[u8]
-        requires { place < length self.now.names }
-        ensures { slice_get self.now.names place ≡ Some result.now }
+        requires { place < length self.now }
+        ensures { slice_get self.now place ≡ Some result.now }
     {
         self.names[place].bytes
     }
 
     /// The names in memory of their own.
     pub(crate) fn copies(&self, alloc: Global) -> Result<Row<Bytes>, NoMemory>
-        ensures { IfOk result (λ names. names ≡ self.now.names) }
+        ensures { IfOk result (λ names. names ≡ self.now) }
     {
         let mut names = Row::new(alloc);
         for place in 0..self.len() {

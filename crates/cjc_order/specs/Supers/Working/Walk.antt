@@ -1,5 +1,5 @@
--- What a walk upwards has seen and is done with.
-use Rattle.std.specs.Prelude.{◌≡◌, ℕ, suc, ◌+◌, true, Bool, List, [], ◌∷◌, map, Option, Some, None}
+-- What a walk upwards came to and has seen.
+use Rattle.std.specs.Prelude.{◌≡◌, ◌⊎◌, ℕ, suc, ◌+◌, ◌<◌, true, Bool, List, [], ◌∷◌, map, Option, Some, None}
 use Rattle.std.specs.List.{list_any}
 use Rattle.std.specs.Str.{bytes_eq}
 use Rattle.std.specs.Cmp.{IsEquivalence, decided}
@@ -29,28 +29,13 @@ same-fed x y h = ap fed ((bytes_eq-Decides x y).0 h)
 
 -- ---- a walk
 
--- what a walk has seen so far
-pub record Seen : Type 0 where
-  -- in the order in which the walk came to them
-  pub names : List (List ℕ)
-  -- all that stands above these has been seen
-  pub done : List (List ℕ)
-
--- before the first step
-abbrev pub nothing : Seen
-nothing = record { names = []; done = [] }
+-- the name is one of these
+abbrev pub has : List (List ℕ) → List ℕ → Bool
+has names name = list_any (bytes_eq name) names
 
 -- one more name behind the others, where it is not among them
-abbrev pub put : Seen → List ℕ → Seen
-put s name = record { names = insert_key bytes_eq s.names name; done = s.done }
-
--- all that stands above one more name has been seen
-abbrev pub finish : Seen → List ℕ → Seen
-finish s name = record { names = s.names; done = insert_key bytes_eq s.done name }
-
--- all that stands above the name has been seen
-abbrev pub is_done : Seen → List ℕ → Bool
-is_done s name = list_any (bytes_eq name) s.done
+abbrev pub put : List (List ℕ) → List ℕ → List (List ℕ)
+put names name = insert_key bytes_eq names name
 
 -- the names with these behind them, each once
 abbrev pub with_all : List (List ℕ) → List (List ℕ) → List (List ℕ)
@@ -76,15 +61,6 @@ upwards_from w name = names_upwards (supertypes w (name ∷ []))
 abbrev pub interfaces_from : List Class → (listed : Bool) → List ℕ → List (List ℕ)
 interfaces_from w listed name = map name_of (gathered listed (supertypes w (name ∷ [])))
 
--- each of the second is one of the first
-abbrev pub AreIn : List (List ℕ) → List (List ℕ) → Type 0
-AreIn names [] = Unit {0}
-AreIn names (x ∷ xs) = (list_any (bytes_eq x) names ≡ true) × AreIn names xs
-
--- what each name that is done adds has been seen
-abbrev pub AreDone : (List ℕ → List (List ℕ)) → Seen → Type 0
-AreDone adds s = (x : List ℕ) → is_done s x ≡ true → AreIn s.names (adds x)
-
 -- ---- how far a walk goes on
 
 -- how many names stand in the tree
@@ -92,3 +68,19 @@ abbrev pub size : Supertypes → ℕ
 size End = 0
 size (Unknown name next) = suc (size next)
 size (Known c supers interfaces next) = suc (size supers + size interfaces + size next)
+
+-- ---- what a walk is done with
+
+-- each of the second is one of the first
+abbrev pub AreIn : List (List ℕ) → List (List ℕ) → Type 0
+AreIn names [] = Unit {0}
+AreIn names (x ∷ xs) = (has names x ≡ true) × AreIn names xs
+
+-- what each name that the walk came to adds has been seen, but for those that it came to before
+abbrev pub AreDone : (adds : List ℕ → List (List ℕ)) → (before came seen : List (List ℕ)) → Type 0
+AreDone adds before came seen = (x : List ℕ) → has came x ≡ true → (has before x ≡ true) ⊎ AreIn seen (adds x)
+
+-- what each name that the walk came to adds has been seen, but for those that have more above them than these names
+abbrev pub StandAbove : List Class → (adds : List ℕ → List (List ℕ)) → (came seen names : List (List ℕ)) → Type 0
+StandAbove w adds came seen names = (x : List ℕ) → has came x ≡ true → AreIn seen (adds x)
+    ⊎ (size (supertypes w names) < size (supertypes w (x ∷ [])))

@@ -7,10 +7,32 @@ use Rattle.cjc_world.specs.Interfaces.{gathered}
 use Rattle.cjc_world.specs.Supertypes.{supertypes}
 use Rattle.cjc_world.specs.Working.Known.{class_of}
 use Rattle.cjc_order.specs.Supers.Supers.{each_once, name_of}
-use Rattle.cjc_order.specs.Supers.Working.Walk.{Seen, interfaces_from, with_all}
-use Rattle.cjc_order.proofs.SupersLaws.Sets.{all_append, all_once, interfaces_once}
+use Rattle.cjc_order.specs.Supers.Working.Walk.{interfaces_from, with_all}
+use Rattle.cjc_order.proofs.SupersLaws.Sets.{all_append, all_once, interfaces_once, none_above, above_then}
 use Rattle.cjc_order.proofs.SupersLaws.Trees.{interface_names}
 use Rattle.cjc_order.proofs.supers.upwards.interfaces.Goals as goal
+
+pub put_interfaces-requires : goal.put_interfaces-requires
+put_interfaces-requires c =
+    let w = all_classes c.args.world.now in
+    record {
+      acyclic = c.acyclic.ensures;
+      above = none_above (interfaces_from w false) w c.new-came.result c.new-seen.result c.supers.result.now
+          c.new-came.ensures;
+    }
+
+pub put_interfaces-requires-2 : goal.put_interfaces-requires-2
+put_interfaces-requires-2 c =
+    let w = all_classes c.args.world.now in
+    let listed = c.interfaces.result.now in
+    record {
+      acyclic = c.acyclic.ensures;
+      above = above_then (interfaces_from w false) w c.new-came.result c.put_interfaces.new.came c.new-seen.result
+          c.put_interfaces.new.seen (flat_map (interfaces_from w false) c.supers.result.now) listed
+          c.in_ok-put_interfaces.ensures.put
+          (none_above (interfaces_from w false) w c.new-came.result c.new-seen.result listed c.new-came.ensures)
+          c.in_ok-put_interfaces.ensures.done;
+    }
 
 pub returns : goal.returns
 returns c =
@@ -23,7 +45,7 @@ returns c =
     ∙ (c.in_ok-put_interfaces-2.ensures.put
     ∙ (ap (λ ks. with_all ks (flat_map (interfaces_from w true) c.interfaces.result.now))
     c.in_ok-put_interfaces.ensures.put
-    ∙ (ap (λ (s : Seen). with_all (with_all s.names (flat_map (interfaces_from w false) c.supers.result.now))
+    ∙ (ap (λ ks. with_all (with_all ks (flat_map (interfaces_from w false) c.supers.result.now))
     (flat_map (interfaces_from w true) c.interfaces.result.now)) c.new-seen.ensures
     ∙ (ap (λ ns. with_all (with_all [] (flat_map (interfaces_from w false) ns)) (flat_map (interfaces_from w true)
     c.interfaces.result.now)) c.supers.ensures
