@@ -1,0 +1,84 @@
+-- What is named in int mode is of the kind that its opcode uses.
+use Rattle.std.proofs.Common.{◌≡◌, ℕ, refl, sym, ap, subst, ◌∙◌, Bool, true, false, List, [], ◌∷◌, ◌++◌, append-nil}
+use Rattle.std.specs.Prelude.{Some, flat_map, slice_get}
+use Rattle.cjc_bytes.specs.declared.fault.MemberId.{MemberId}
+use Rattle.cjc_script.specs.Sorts.{Sort, Boolean, Byte, Short, Int, Reference, NoValue, field_sort}
+use Rattle.cjc_world.specs.Files.{Files}
+use Rattle.cjc_card_semantics.specs.Bytecode.Meanings.{Meaning, Uses, meaning}
+use Rattle.cjc_code.specs.declared.insn.JInsn.{JInsn}
+use Rattle.cjc_code.specs.declared.insn.JOp.{JOp}
+use Rattle.cjc_ncode.specs.Written.{Resolution, static_access, written, written_for}
+use Rattle.cjc_ncode.specs.declared.narrow.NInsn.{NInsn}
+use Rattle.cjc_ncode.specs.declared.narrow.NInsn.TheVariants as insns
+use Rattle.cjc_ncode.specs.declared.narrow.PairRole.{PairRole}
+use Rattle.cjc_ncode.specs.declared.narrow.PairRole.TheVariants.{Alone}
+use Rattle.cjc_ncode.specs.declared.narrow.PoolKey.{PoolKey}
+use Rattle.cjc_ncode.specs.declared.narrow.PoolKey.TheVariants as keys
+use Rattle.cjc_narrow.proofs.PairsLaws.Roles.{written_as_same}
+use Rattle.cjc_narrow.specs.Rows.Resolved.{resolution}
+use Rattle.cjc_check_proof.proofs.PromisesLaws.KeyKinds.{code_has_kinds}
+use Rattle.cjc_check_proof.specs.Code.Kinds.{HasKind, is_for}
+use Rattle.cjc_int_proof.specs.Operands.{names_nothing}
+use Rattle.cjc_int_components.specs.Names.{NamesAs, nothing, outside, static_field}
+
+-- no instruction opens or closes a pair
+abbrev pub alone : ℕ → PairRole
+alone offset = Alone
+
+-- an instruction by itself
+abbrev pub lone : JOp → JInsn
+lone op = record { at = 0; op = op }
+
+-- what is written for one by itself
+pub lone_written : (r : Resolution) (place : ℕ → ℕ) (op : JOp)
+    → flat_map (written_for (record r { role = alone }) place) (lone op ∷ []) ≡ written r place op
+lone_written r place op = append-nil (written_for (record r { role = alone }) place (lone op))
+    ∙ written_as_same r alone Alone place op
+
+-- an instruction that names nothing
+pub plain_kind : (i : NInsn) → names_nothing i ≡ true → HasKind i
+plain_kind (insns.Op op) e = tt
+plain_kind (insns.Push op value) e = tt
+plain_kind (insns.Local op index) e = tt
+plain_kind (insns.Inc op index by) e = tt
+plain_kind (insns.Words op a b) e = tt
+plain_kind (insns.Jump op target) e = tt
+plain_kind (insns.Switch op other low cases) e = tt
+plain_kind (insns.Named op key) e = absurd cc
+plain_kind (insns.Interface nargs m) e = tt
+plain_kind (insns.NewArray kind) e = tt
+plain_kind (insns.TypeTest op kind class) e = tt
+
+abbrev suits : Meaning → PoolKey → Bool
+suits (Uses how) key = is_for how key
+suits m key = true
+
+static_suits : (put : Bool) (sort : Sort) (f : MemberId) → suits (meaning (static_access put sort)) (keys.StaticField f)
+    ≡ true
+unfolding meaning
+static_suits true Boolean f = refl
+static_suits true Byte f = refl
+static_suits true Short f = refl
+static_suits true Int f = refl
+static_suits true (Reference shape) f = refl
+static_suits true NoValue f = refl
+static_suits false Boolean f = refl
+static_suits false Byte f = refl
+static_suits false Short f = refl
+static_suits false Int f = refl
+static_suits false (Reference shape) f = refl
+static_suits false NoValue f = refl
+
+static_kind : (put : Bool) (sort : Sort) (f : MemberId) → HasKind (insns.Named (static_access put sort)
+    (keys.StaticField f))
+static_kind put sort f how is = ap (λ m. suits m (keys.StaticField f)) (sym is) ∙ static_suits put sort f
+
+pub named_kind : (files : Files) (near : List MemberId) (holder : List ℕ) (op : JOp) (i : NInsn)
+    → NamesAs (resolution files near holder) op i → HasKind i
+named_kind files near holder op i (nothing e) = plain_kind i e
+named_kind files near holder op i (static_field put f is_op is) =
+    subst HasKind (sym is) (static_kind put (field_sort f.desc) (let r = resolution files near holder in r.field f))
+named_kind files near holder op i (outside has k e) =
+    let r = resolution files near holder in
+    code_has_kinds files near holder alone (λ o. 0) (lone op ∷ []) k i
+    (ap (λ xs. slice_get xs k) (lone_written r (λ o. 0) op) ∙ e)

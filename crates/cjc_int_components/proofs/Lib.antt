@@ -1,0 +1,11 @@
+pub mod Naming
+pub mod KeyKinds
+pub mod Numbers
+pub mod Said
+pub mod Ending
+pub mod Layouts
+pub mod Made
+pub mod ByTables
+pub mod ByModes
+pub mod Selectable
+pub mod Operands

@@ -1,0 +1,94 @@
+//! What is written for methods in int mode is what laying out, emitting and consistent components ask. Laws alone:
+//! nothing here runs.
+ghost use Rattle.std.specs.Prelude.{◌≡◌, ◌+◌, ◌*◌, ◌<◌, ◌≤◌, ℕ, ℤ, List, Option, Some, length, slice_get, true};
+ghost use Rattle.cjc_bytes.specs.declared.fault.MemberId.{MemberId as Member};
+ghost use Rattle.cjc_code.specs.declared.insn.JInsn.{JInsn};
+ghost use Rattle.cjc_code.specs.declared.method_code.MethodCode.{MethodCode};
+ghost use Rattle.cjc_emit.specs.Said.{CanBeSaid};
+ghost use Rattle.cjc_fixpoint.specs.Tables.{HasRow};
+ghost use Rattle.cjc_intervals.specs.Frames.{RangeState};
+ghost use Rattle.cjc_narrow.specs.Rows.Resolved.{resolution};
+ghost use Rattle.cjc_narrow.specs.Rows.Selected.{near_fields};
+ghost use Rattle.cjc_ncode.specs.IntCode.IntCode.{Frame, Reached, int_method, nargs, widest};
+ghost use Rattle.cjc_ncode.specs.Lowering.Naming.{Naming};
+ghost use Rattle.cjc_ncode.specs.Written.{Resolution};
+ghost use Rattle.cjc_ncode.specs.declared.narrow.NInsn.{NInsn};
+ghost use Rattle.cjc_ncode.specs.declared.narrow.PoolKey.{PoolKey as Key};
+ghost use Rattle.cjc_types.specs.Flow.{body_of};
+ghost use Rattle.cjc_types.specs.Tables.{IsLeastTable, IsMethodOf};
+ghost use Rattle.cjc_types.specs.declared.state.State.{State};
+ghost use Rattle.cjc_world.specs.ClassFile.Code.{CodeTree};
+ghost use Rattle.cjc_world.specs.ClassFile.declared.tree.ClassTree.{ClassTree};
+ghost use Rattle.cjc_world.specs.ClassFile.declared.tree.MethodTree.{MethodTree};
+ghost use Rattle.cjc_world.specs.Files.{Files};
+ghost use Rattle.cjc_narrow_proof.specs.Selected.Keeps.{IsSpelt};
+ghost use Rattle.cjc_narrow_proof.specs.Selected.Operands.{IsSmall, NumbersFit};
+ghost use Rattle.cjc_check_proof.specs.Code.Ends.{last_ends};
+ghost use Rattle.cjc_check_proof.specs.Code.Kinds.{HasKind};
+ghost use Rattle.cjc_int_mode.specs.Room.{IsRoom};
+ghost use Rattle.cjc_int_mode.specs.Written.{int_frame, written_in_int_mode};
+ghost use Rattle.cjc_int_mode.specs.declared.modes.Mode.TheVariants as modes;
+ghost use Rattle.cjc_int_proof.specs.Operands.{IsInt, OperandsFit};
+ghost use Rattle.cjc_int_components.specs.Names.{NamesAsOneOf, WordsFit};
+ghost use Rattle.cjc_int_components.specs.Switches.{SwitchFits};
+
+/// Each instruction that is written names nothing, or what one of the reached instructions of the class file names.
+pub fn written_code_names_what_is_named()
+    ensures { (f : Frame) (r : Resolution) (code : CodeTree) (reached : List Reached) (places : List ℕ) (k : ℕ)
+        (insn : NInsn) → (let m = int_method f r code reached places in slice_get m.insns k ≡ Some insn)
+        → NamesAsOneOf r reached insn }
+{}
+
+/// What is written for a method that was decoded, of the instructions that its least type table reaches, does not go on
+/// behind its last instruction: where its code has a byte.
+pub fn int_code_ends()
+    ensures { (files : Files) (code : MethodCode) (class : ClassTree) (method : MethodTree) (tree : CodeTree)
+        → IsMethodOf files code class method tree → (rows : List (Option State))
+        → IsLeastTable (body_of class method tree code.insns) rows → 0 < length tree.bytes
+        → (ranges : List (Option RangeState)) (r : Resolution)
+        → (let m = written_in_int_mode r tree (body_of class method tree code.insns) rows ranges
+        in last_ends m.insns ≡ true) }
+{}
+
+/// Each key that is written is of the kind that its opcode uses, whichever instructions are reached.
+pub fn int_keys_have_kinds()
+    ensures { (files : Files) (near : List Member) (code : MethodCode) (class : ClassTree) (method : MethodTree)
+        (tree : CodeTree) (rows : List (Option State)) (ranges : List (Option RangeState)) (k : ℕ) (insn : NInsn)
+        → (let m = written_in_int_mode (resolution files near class.name) tree
+        (body_of class method tree code.insns) rows ranges in slice_get m.insns k ≡ Some insn) → HasKind insn }
+{}
+
+/// The indices, words and tokens of what is written by a pool of at most 16,383 keys fit their operands, where one byte
+/// says the words of each method of an interface that a reached instruction calls: a field has an index of one byte
+/// only where the pool has it among its first 256 keys.
+pub fn int_numbers_fit()
+    ensures { (n : Naming) (pool : List Key) → IsSmall n pool → (files : Files) (holder : List ℕ) (f : Frame)
+        (code : CodeTree) (reached : List Reached) (places : List ℕ)
+        → ((k : ℕ) (i : Reached) → slice_get reached k ≡ Some i → WordsFit (let j = i.insn in j.op))
+        → (k : ℕ) (insn : NInsn)
+        → (let m = int_method f (resolution files (near_fields pool) holder) code reached places
+        in slice_get m.insns k ≡ Some insn) → NumbersFit n insn }
+{}
+
+/// Bytes can say each instruction that is written, distances to its labels aside: where one byte says the words of the
+/// arguments and of their locals, the operands of the reached instructions fit, and so do the indices, words and tokens
+/// of the package.
+pub fn int_code_can_be_said()
+    ensures { (n : Naming) (r : Resolution) (f : Frame) (code : CodeTree) (reached : List Reached) (places : List ℕ)
+        → nargs f + 2 * length f.params ≤ 256
+        → ((k : ℕ) (i : Reached) → slice_get reached k ≡ Some i → OperandsFit f r (let j = i.insn in j.op))
+        → (k : ℕ) (insn : NInsn) → (let m = int_method f r code reached places in slice_get m.insns k ≡ Some insn)
+        → NumbersFit n insn → CanBeSaid n insn }
+{}
+
+/// The operands of a reached instruction of a method that was decoded fit what is written for it, where its file spells
+/// its class, there is room for the method (417), constants of fields have 32 bits, the numbers of its switches do, and
+/// its own widest size is at most 32,767.
+pub fn decoded_operands_fit_int_mode()
+    ensures { (files : Files) (code : MethodCode) (class : ClassTree) (method : MethodTree) (tree : CodeTree)
+        → IsMethodOf files code class method tree → (bytes : List ℕ) → IsSpelt class bytes
+        → (rows : List (Option State)) → IsRoom (body_of class method tree code.insns) rows modes.Int true
+        → (r : Resolution) → ((g : Member) (z : ℤ) → r.constant g ≡ Some z → IsInt z)
+        → (k : ℕ) (i : JInsn) (x : State) → slice_get code.insns k ≡ Some i → HasRow rows k x → SwitchFits i.op
+        → widest r i.op ≤ 32767 → OperandsFit (int_frame (body_of class method tree code.insns)) r i.op }
+{}

@@ -1,0 +1,87 @@
+//! Packages some of whose methods are in int mode, and their components. Laws alone: nothing here runs.
+ghost use Rattle.std.specs.Prelude.{◌≡◌, ℕ, List, Some, [], false, map, length};
+ghost use Rattle.std.specs.List.{Contains};
+ghost use Rattle.cjc_capwrite.specs.Size.{info_of};
+ghost use Rattle.cjc_check_rules.specs.Codes.{whole_spots};
+ghost use Rattle.cjc_check_rules.specs.Handlers.{handler_spots, stop_spots};
+ghost use Rattle.cjc_check_rules.specs.Instructions.{index_spots, jump_spots};
+ghost use Rattle.cjc_check_rules.specs.Locations.{location_spots};
+ghost use Rattle.cjc_code.specs.PackageCodes.{all_codes};
+ghost use Rattle.cjc_code.specs.declared.method_code.MethodCode.{MethodCode};
+ghost use Rattle.cjc_components.specs.Components.{components_of, method, tags};
+ghost use Rattle.cjc_components.specs.Names.{names};
+ghost use Rattle.cjc_components.specs.Package.{Package, world};
+ghost use Rattle.cjc_components.specs.Written.{IsPackage};
+ghost use Rattle.cjc_jvm_semantics.specs.OnePackage.{method_by};
+ghost use Rattle.cjc_list.specs.Listed.{ListTree};
+ghost use Rattle.cjc_types.specs.Tables.{IsMethodOf};
+ghost use Rattle.cjc_world.specs.ClassFile.Code.{CodeTree};
+ghost use Rattle.cjc_world.specs.ClassFile.declared.tree.ClassTree.{ClassTree};
+ghost use Rattle.cjc_world.specs.ClassFile.declared.tree.MethodTree.{MethodTree};
+ghost use Rattle.cjc_world.specs.Files.{Files};
+ghost use Rattle.cjc_world.specs.Order.{class_order};
+ghost use Rattle.cjc_token_proof.specs.Components.Methods.{HasMethods};
+ghost use Rattle.cjc_token_proof.specs.Components.OwnNames.{HaveOwnNames};
+ghost use Rattle.cjc_token_proof.specs.Components.Whole.{whole};
+ghost use Rattle.cjc_int_mode.specs.declared.modes.Mode.TheVariants as modes;
+ghost use Rattle.cjc_int_components.specs.Components.{components_by_modes, has_int_mode};
+ghost use Rattle.cjc_int_components.specs.Made.{AllAreMadeByMode};
+ghost use Rattle.cjc_int_components.specs.Modes.{AreModes, Tables};
+ghost use Rattle.cjc_int_components.specs.Written.{IsPackageByModes};
+
+use crate::methods::methods_by_modes_are_consistent;
+use cjc_check_proof::code::{
+    handlers_stand_in_code, index_places_are_listed, indices_name_entries, jumps_land_in_code,
+    methods_are_cut, stop_bits_end_searches,
+};
+
+/// Where no method is in int mode, a package by modes is what a package is without them, and so are its components.
+pub fn packages_without_int_mode_are_as_before()
+    ensures package { (list : ListTree) (files : Files) (codes : List MethodCode) (t : Tables) (p : Package)
+        → has_int_mode t p ≡ false → IsPackageByModes list files codes t p → IsPackage list files codes t.types p }
+    ensures by_modes { (list : ListTree) (files : Files) (codes : List MethodCode) (t : Tables) (p : Package)
+        → has_int_mode t p ≡ false → IsPackage list files codes t.types p → IsPackageByModes list files codes t p }
+    ensures components { (t : Tables) (p : Package) → has_int_mode t p ≡ false
+        → components_by_modes t p ≡ components_of p }
+{}
+
+/// Without the line `int` in the list no method with code is in int mode.
+pub fn modes_are_short_without_int()
+    ensures { (files : Files) (t : Tables) → AreModes false files t
+        → (code : MethodCode) (class : ClassTree) (method : MethodTree) (tree : CodeTree)
+        → Contains (all_codes files.classes) code → IsMethodOf files code class method tree
+        → t.mode (method_by class method (Some tree)) ≡ modes.Short }
+{}
+
+/// Directory has the size of each component, whatever the flags of Header are.
+pub fn directory_has_sizes_by_modes()
+    ensures { (t : Tables) (p : Package) → let c = components_by_modes t p in let d = c.directory in d.component_sizes
+        ≡ map (λ tag. length (info_of c tag)) tags }
+{}
+
+/// The code of a package by the modes of its methods is consistent, where no two of its classes have one name and its
+/// methods stand in their order: the methods fill Method and are whole instructions, jumps land on instructions of
+/// their method and no method goes on behind its last one, indices have the tags that opcodes need, handlers are in
+/// order and cover instructions of one method, stop bits end searches, and ReferenceLocation lists the places of
+/// indices.
+pub fn code_by_modes_is_consistent()
+    ensures whole { (p : Package) → HaveOwnNames (class_order (world p)) → HasMethods p
+        → AllAreMadeByMode (names p) p.files p.methods → whole_spots (whole p) ≡ [] }
+    ensures jumps { (p : Package) → HaveOwnNames (class_order (world p)) → HasMethods p
+        → AllAreMadeByMode (names p) p.files p.methods → jump_spots (whole p) ≡ [] }
+    ensures indices { (p : Package) → HaveOwnNames (class_order (world p)) → HasMethods p
+        → AllAreMadeByMode (names p) p.files p.methods → index_spots (whole p) ≡ [] }
+    ensures handlers { (p : Package) → HaveOwnNames (class_order (world p)) → HasMethods p
+        → AllAreMadeByMode (names p) p.files p.methods → handler_spots (whole p) ≡ [] }
+    ensures stops { (p : Package) → AllAreMadeByMode (names p) p.files p.methods → stop_spots (method p) ≡ [] }
+    ensures locations { (p : Package) → HaveOwnNames (class_order (world p)) → HasMethods p
+        → AllAreMadeByMode (names p) p.files p.methods → location_spots (whole p) ≡ [] }
+{
+    handlers_stand_in_code();
+    index_places_are_listed();
+    indices_name_entries();
+    jumps_land_in_code();
+    methods_are_cut();
+    methods_by_modes_are_consistent();
+    stop_bits_end_searches();
+}
