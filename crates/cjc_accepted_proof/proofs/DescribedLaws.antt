@@ -160,7 +160,7 @@ module _ (p : Package) where
       ∙ ap Some (nibbles_alike desc (signature_of desc))
 
   -- the type at the offset that is written for a descriptor
-  type_there : (desc : List ℕ) → is_type (descriptor p) (type_offset p desc) ≡ true
+  pub type_there : (desc : List ℕ) → is_type (descriptor p) (type_offset p desc) ≡ true
       → nibbles_at (descriptor p) (type_offset p desc) ≡ Some (nibbles_of p desc)
   type_there desc e = by (position (bytes_eq (nibbles_of p desc)) (types_of p)) refl
     where

@@ -74,7 +74,8 @@ operand_there w b op count k (y ∷ s) e (suc j) x f lt =
     rest true r g = absurd cc
     rest false r g = g
 
-first_operand : (w : List Class) (b : Body) (op : JOp) (count : ℕ) (s : List Cell) → has_wrong_by_name w b op count 0 s
+pub first_operand : (w : List Class) (b : Body) (op : JOp) (count : ℕ) (s : List Cell)
+    → has_wrong_by_name w b op count 0 s
     ≡ false → (k : ℕ) (x : Cell) → slice_get s k ≡ Some x → k < count → accepts w b op k x ≡ true
 first_operand w b op count s e k x f lt =
     let none : 0 + k ≡ k = omega arith in
@@ -88,7 +89,7 @@ module _ (card_type : List ℕ → Option (List ℕ)) (is_of : Subtype) (w : Lis
   -- ---- values of a type
 
   -- a value by name is one by token
-  value_passes : (kind : Kind) (class : List ℕ) (t : ValueType) → IsTypeFor card_type kind class t → is_void kind ≡
+  pub value_passes : (kind : Kind) (class : List ℕ) (t : ValueType) → IsTypeFor card_type kind class t → is_void kind ≡
       false
       → (x : Cell) → is_value w kind class x ≡ true → (rest : List Need) (s : List Cell) → has_wrong is_of rest (cells
       s)

@@ -11,3 +11,7 @@ pub mod AcceptedLaws
 pub mod SubtypesLaws
 pub mod PairsLaws
 pub mod CardedLaws
+pub mod InstructionsLaws
+pub mod BlocksLaws
+pub mod FramesLaws
+pub mod MethodsLaws

@@ -7,7 +7,9 @@ use Rattle.std.specs.List.{AllZip, list_all}
 use Rattle.cjc_types.proofs.BytesBools.{both_back, both_front}
 use Rattle.cjc_verify.specs.CapRead.declared.tree.ClassRef.{ClassRef}
 use Rattle.cjc_types.specs.Cells.{IsCell, IsCellBelow, most_names}
-use Rattle.cjc_types.specs.Names.{In, IsSet, IsWithin, insert}
+use Rattle.std.specs.declared.cmp.Ordering.{Ordering}
+use Rattle.std.specs.declared.cmp.Ordering.TheVariants.{Less, Equal, Greater}
+use Rattle.cjc_types.specs.Names.{In, IsSet, IsWithin, compare, insert, placed}
 use Rattle.cjc_types.specs.Rules.{all_types, is_reference}
 use Rattle.cjc_types.specs.Working.NameLaws.{insert_cases, insert_new, insert_old, set_insert}
 use Rattle.cjc_types.specs.declared.cell.Cell.{Cell}
@@ -26,7 +28,7 @@ all_in p (x ∷ xs) h = ap (λ b. b && list_all p xs) (h x (inl refl)) ∙ all_i
 
 module _ (card_type : List ℕ → Option (List ℕ)) where
   -- a type is that of one of the names
-  type_from : (names : List (List ℕ)) (t : List ℕ) → In t (types_named card_type names) → (name : List ℕ) × In name
+  pub type_from : (names : List (List ℕ)) (t : List ℕ) → In t (types_named card_type names) → (name : List ℕ) × In name
       names × (card_type name ≡ Some t)
   type_from [] t h = absurd h
   type_from (name ∷ names) t h = by (card_type name) refl h (λ g. let r = type_from names t g in (r.0, inr r.1, r.2))
@@ -39,7 +41,7 @@ module _ (card_type : List ℕ → Option (List ℕ)) where
           (λ (g : In t (types_named card_type names)). later g) (insert_cases u t (types_named card_type names) i)
 
   -- and each name with a type gives it
-  type_in : (names : List (List ℕ)) (name t : List ℕ) → In name names → card_type name ≡ Some t → In t (types_named
+  pub type_in : (names : List (List ℕ)) (name t : List ℕ) → In name names → card_type name ≡ Some t → In t (types_named
       card_type names)
   type_in [] name t h e = absurd h
   type_in (x ∷ names) name t (inl same) e = subst (λ (o : Option (List ℕ)). In t (with_type o (types_named card_type
@@ -92,3 +94,34 @@ module _ (card_type : List ℕ → Option (List ℕ)) where
   references_stay Number e = absurd cc
   references_stay (Refs names) e = refl
   references_stay Unusable e = absurd cc
+
+  -- ---- sets of types
+
+  shorter : (n : List ℕ) (xs : List (List ℕ)) → length (insert n xs) ≤ suc (length xs)
+  shorter n [] = omega arith
+  shorter n (x ∷ xs) = by (compare n x) (shorter n xs)
+    where
+      by : (o : Ordering) → length (insert n xs) ≤ suc (length xs)
+          → length (placed o n x xs (insert n xs)) ≤ suc (suc (length xs))
+      by Less h = omega arith
+      by Equal h = omega arith
+      by Greater h = omega (arith, h)
+
+  -- the card's types of names are a set, of no more
+  pub types_set : (names : List (List ℕ)) → IsSet (types_named card_type names)
+  types_set [] = tt
+  types_set (name ∷ names) = by (card_type name) (types_set names)
+    where
+      by : (o : Option (List ℕ)) → IsSet (types_named card_type names) → IsSet (with_type o (types_named card_type
+          names))
+      by None h = h
+      by (Some t) h = set_insert t (types_named card_type names) h
+
+  pub types_few : (names : List (List ℕ)) → length (types_named card_type names) ≤ length names
+  types_few [] = omega arith
+  types_few (name ∷ names) = by (card_type name) (types_few names)
+    where
+      by : (o : Option (List ℕ)) → length (types_named card_type names) ≤ length names → length (with_type o
+          (types_named card_type names)) ≤ suc (length names)
+      by None h = omega (arith, h)
+      by (Some t) h = let more = shorter t (types_named card_type names) in omega (arith, h, more)

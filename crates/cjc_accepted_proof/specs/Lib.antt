@@ -4,3 +4,8 @@ pub mod Tables
 pub mod Frames
 pub mod Accepted
 pub mod Read
+pub mod Elements
+pub mod Members
+pub mod Plain
+pub mod Blocks
+pub mod Methods

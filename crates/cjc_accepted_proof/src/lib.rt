@@ -3,12 +3,21 @@
 #![tactic(auto)]
 
 pub mod accepted;
+pub mod alone;
 pub mod arrays;
+pub mod blocks;
 pub mod carded;
 pub mod described;
+pub mod emptied;
 pub mod frames;
 pub mod infos;
+pub mod inside;
 pub mod kinds;
+pub mod laid;
+pub mod members;
+pub mod methods;
+pub mod objects;
 pub mod pairs;
+pub mod plain;
 pub mod rows;
 pub mod subtypes;
