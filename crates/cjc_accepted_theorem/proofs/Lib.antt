@@ -1,0 +1,9 @@
+mod CardTypes
+mod CellsLaws
+mod EntriesLaws
+mod HeadersLaws
+mod LeftLaws
+mod MethodsLaws
+mod OwnMethodsLaws
+mod RefsLaws
+mod SpeltBackLaws

@@ -1,0 +1,17 @@
+use Rattle.cjc_accepted_theorem.proofs.LeftLaws.{all_named}
+use Rattle.cjc_accepted_theorem.proofs.entries.converted_packages_have_named_entries.Goals as goal
+use Rattle.cjc_code.specs.PackageCodes.{all_codes}
+use Rattle.cjc_theorem.proofs.AlikeLaws.MetLaws.Cells.{cells_fit}
+use Rattle.cjc_theorem.proofs.AlikeLaws.MetLaws.LaidOut.{laid_out}
+use Rattle.cjc_token_proof.specs.Tables.Known.{statics_of}
+
+pub returns : goal.returns
+returns c = λ list files judged p is others.
+    let its = c.converted_files_are_sound.ensures in
+    let classes = (let w = p.files in w.classes) in
+    let told = c.static_fields_are_told.ensures.cells list.name p (all_codes classes) (its.sound list files judged p is)
+    (its.typed list files judged p is) (its.image list files judged p is) (its.once list files judged p is) in
+    let fit = cells_fit p.image (statics_of classes) told (c.static_images_fit.ensures list files judged p
+    (laid_out list files judged p is)) in
+    all_named list files judged p is (c.converted_methods_are_consistent.ensures.methods list files judged p is) told
+    fit others (c.calls_have_opcodes.ensures list files judged is.sound)

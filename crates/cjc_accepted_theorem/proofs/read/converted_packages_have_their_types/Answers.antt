@@ -1,0 +1,17 @@
+use Rattle.cjc_accepted_theorem.proofs.RefsLaws.{refs_read}
+use Rattle.cjc_accepted_theorem.proofs.read.converted_packages_have_their_types.Goals as goal
+use Rattle.cjc_components.specs.Package.{world}
+use Rattle.cjc_shape_proof.proofs.WrittenLaws.Files.{files_sound}
+use Rattle.cjc_theorem.proofs.AlikeLaws.MetLaws.LaidOut.{laid_out}
+use Rattle.cjc_token_proof.proofs.TablesLaws.Above.{says_kinds}
+use Rattle.cjc_token_proof.specs.Tables.Loading.{naming}
+
+pub returns-clause-refs : goal.returns-clause-refs
+returns-clause-refs c = λ list files judged p is. refs_read list.name p (files_sound list files judged p is)
+    (c.laid_out_packages_fit.ensures.limited list files judged p (laid_out list files judged p is) is.sizes)
+
+pub returns-clause-subtypes : goal.returns-clause-subtypes
+returns-clause-subtypes c = λ list files judged p is.
+    let kinds = c.kinds_are_subtypes.ensures (world p) (naming p) (says_kinds list.name p (files_sound list files judged
+    p is)) in
+    c.subtypes_are_read.ensures (world p) (naming p) kinds (returns-clause-refs c list files judged p is)

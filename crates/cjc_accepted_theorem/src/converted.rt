@@ -1,0 +1,35 @@
+//! All rules: what is written for a converted package breaks none of the type checker's, where its parts break none.
+ghost use Rattle.std.specs.Prelude.{ℕ, List};
+ghost use Rattle.cjc_components.specs.Package.{Package};
+ghost use Rattle.cjc_shape_proof.specs.LowerJudge.declared.judged.Judged.{Judged};
+ghost use Rattle.cjc_token_proof.specs.List.Listed.{ListTree};
+ghost use Rattle.cjc_shape_proof.specs.Written.Converted.{IsConverted};
+ghost use Rattle.cjc_verify.specs.Verified.{IsVerified};
+ghost use Rattle.cjc_accepted_proof.specs.Accepted.{CodeStands, HasNoAbstract};
+ghost use Rattle.cjc_accepted_proof.specs.Written.{written_pair};
+ghost use Rattle.cjc_accepted_theorem.specs.Left.{OthersAreNamed};
+
+use crate::carded::converted_packages_have_card_types;
+use crate::entries::converted_packages_have_named_entries;
+use crate::headers::converted_packages_have_fit_headers;
+use cjc_accepted_proof::accepted::written_packages_are_accepted;
+use cjc_shape_proof::written::{
+    converted_files_are_sound, converted_methods_are_consistent, sizes_fit,
+};
+
+/// What is written for a converted package breaks no rule of the type checker, where the entries of its pool that are
+/// left name members of their descriptors, no class of which objects are made has an abstract method for a token, and
+/// each method has a closed table that breaks no rule.
+pub fn converted_packages_are_accepted()
+    ensures { (list : ListTree) (files : List (List ℕ)) (judged : Judged) (p : Package)
+        → IsConverted list files judged p → OthersAreNamed p → HasNoAbstract p → CodeStands p
+        → IsVerified (written_pair p) }
+{
+    converted_files_are_sound();
+    converted_methods_are_consistent();
+    converted_packages_have_card_types();
+    converted_packages_have_fit_headers();
+    converted_packages_have_named_entries();
+    sizes_fit();
+    written_packages_are_accepted();
+}

@@ -1,0 +1,64 @@
+//! Entries of the constant pool: each names a member of its key's descriptor. Those of static fields, and of the static
+//! methods, constructors and private methods of the package, are shown to; the others are a premise.
+ghost use Rattle.std.specs.Prelude.{◌≡◌, ℕ, false, List, Some};
+ghost use Rattle.cjc_bytes.specs.AccessFlags.{is_interface};
+ghost use Rattle.cjc_bytes.specs.declared.fault.MemberId.{MemberId};
+ghost use Rattle.cjc_check_proof.specs.Code.Members.{IsOwnCell};
+ghost use Rattle.cjc_code.specs.ClassFile.declared.tree.ClassTree.{ClassTree};
+ghost use Rattle.cjc_code.specs.declared.insn.JOp.TheVariants as jop;
+ghost use Rattle.cjc_components.specs.Names.{names};
+ghost use Rattle.cjc_components.specs.Package.{Package, world};
+ghost use Rattle.cjc_narrow.specs.Rows.Resolved.{resolved_method};
+ghost use Rattle.cjc_narrow_proof.specs.Laws.Unbroken.{IsInsnOf};
+ghost use Rattle.cjc_ncode.specs.Lowering.Naming.{entry_of};
+ghost use Rattle.cjc_ncode.specs.declared.narrow.PoolKey.TheVariants as keys;
+ghost use Rattle.cjc_shape_proof.specs.LowerJudge.declared.judged.Judged.{Judged};
+ghost use Rattle.cjc_shape_proof.specs.Written.Converted.{IsConverted};
+ghost use Rattle.cjc_token_proof.specs.Components.OwnNames.{HaveOwnNames};
+ghost use Rattle.cjc_token_proof.specs.List.Listed.{ListTree};
+ghost use Rattle.cjc_verify.specs.Named.{named_desc};
+ghost use Rattle.cjc_world.specs.Classes.{Class, class_named};
+ghost use Rattle.cjc_world.specs.Order.{class_order};
+ghost use Rattle.cjc_accepted_proof.specs.Carded.{EntriesAreNamed};
+ghost use Rattle.cjc_accepted_proof.specs.Written.{written_pair};
+ghost use Rattle.cjc_accepted_theorem.specs.Left.{OthersAreNamed};
+
+use cjc_shape_proof::written::{
+    converted_files_are_sound, converted_methods_are_consistent, static_images_fit,
+};
+use cjc_theorem::alike::calls_have_opcodes;
+use cjc_token_proof::tables::static_fields_are_told;
+
+/// The entry of a static field of the package names the field of its descriptor: no other has a cell where its own
+/// stands.
+pub fn static_fields_are_named()
+    ensures { (p : Package) → HaveOwnNames (class_order (world p)) → (f : MemberId) → IsOwnCell p f
+        → named_desc (written_pair p) (entry_of (names p) (keys.StaticField f)) ≡ Some f.desc }
+{}
+
+/// The entry of a method that code calls, by the class that declares it, names the method of its descriptor, where that
+/// is a class of the package: no other method begins where its own header stands.
+pub fn own_methods_are_named()
+    ensures { (list : ListTree) (files : List (List ℕ)) (judged : Judged) (p : Package)
+        → IsConverted list files judged p
+        → (class : ClassTree) (op : ℕ) (id : MemberId) → IsInsnOf p.files judged.codes class (jop.Call op id)
+        → (c : Class) → (let m = resolved_method (world p) id in class_named (world p) m.class ≡ Some c)
+        → c.is_imported ≡ false → is_interface c.flags ≡ false
+        → named_desc (written_pair p) (entry_of (names p) (keys.StaticMethod (resolved_method (world p) id)))
+        ≡ Some id.desc }
+{
+    converted_methods_are_consistent();
+}
+
+/// So each entry of a converted package's pool names a member of its key's descriptor, where those of instance fields,
+/// of virtual methods, of a superclass's methods and of imported static methods, constructors and private methods do.
+pub fn converted_packages_have_named_entries()
+    ensures { (list : ListTree) (files : List (List ℕ)) (judged : Judged) (p : Package)
+        → IsConverted list files judged p → OthersAreNamed p → EntriesAreNamed p }
+{
+    calls_have_opcodes();
+    converted_files_are_sound();
+    converted_methods_are_consistent();
+    static_fields_are_told();
+    static_images_fit();
+}

@@ -1,0 +1,28 @@
+//! Class_refs in types: those that are written are read back as the classes that they name.
+ghost use Rattle.std.specs.Prelude.{ℕ, List};
+ghost use Rattle.cjc_components.specs.Package.{Package, world};
+ghost use Rattle.cjc_shape_proof.specs.LowerJudge.declared.judged.Judged.{Judged};
+ghost use Rattle.cjc_token_proof.specs.List.Listed.{ListTree};
+ghost use Rattle.cjc_token_proof.specs.Tables.Loading.{naming};
+ghost use Rattle.cjc_shape_proof.specs.Written.Converted.{IsConverted};
+ghost use Rattle.cjc_card_acts.specs.CardTypes.{is_type_of};
+ghost use Rattle.cjc_accepted_proof.specs.Frames.{SubtypesAgree, type_named};
+ghost use Rattle.cjc_accepted_proof.specs.Read.{RefsAreRead};
+
+use cjc_accepted_proof::subtypes::subtypes_are_read;
+use cjc_shape_proof::written::laid_out_packages_fit;
+use cjc_token_proof::by_token::kinds_are_subtypes;
+
+/// The class_refs that are written for a converted package are read back from the nibbles of types as the classes that
+/// they name, so a type that is a subtype of another by name is of it by token.
+pub fn converted_packages_have_their_types()
+    ensures refs { (list : ListTree) (files : List (List ℕ)) (judged : Judged) (p : Package)
+        → IsConverted list files judged p → RefsAreRead (world p) (naming p) }
+    ensures subtypes { (list : ListTree) (files : List (List ℕ)) (judged : Judged) (p : Package)
+        → IsConverted list files judged p
+        → (let n = naming p in SubtypesAgree (type_named (world p) n.class_ref) (is_type_of n.loaded) (world p)) }
+{
+    kinds_are_subtypes();
+    laid_out_packages_fit();
+    subtypes_are_read();
+}

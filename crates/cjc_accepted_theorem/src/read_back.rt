@@ -1,0 +1,34 @@
+//! What is read back: the type checker finds nothing in the components that are written for a converted package, beside
+//! the files that it was converted from.
+ghost use Rattle.std.specs.Prelude.{◌≡◌, ℕ, List, Some};
+ghost use Rattle.cjc_check_rules.specs.Complete.{Complete, complete};
+ghost use Rattle.cjc_code.specs.PackageCodes.{all_codes};
+ghost use Rattle.cjc_components.specs.Components.{components_of};
+ghost use Rattle.cjc_components.specs.Package.{Package};
+ghost use Rattle.cjc_shape_proof.specs.LowerJudge.Rules.{files_spelt, has_applets};
+ghost use Rattle.cjc_shape_proof.specs.LowerJudge.Spelt.{FileTree, SpellTrees, classes_of};
+ghost use Rattle.cjc_shape_proof.specs.LowerJudge.declared.judged.Judged.{Judged};
+ghost use Rattle.cjc_shape_proof.specs.Written.Converted.{IsConverted};
+ghost use Rattle.cjc_token_proof.specs.Clinit.Image.{IsImage};
+ghost use Rattle.cjc_token_proof.specs.List.Listed.{ListTree};
+ghost use Rattle.cjc_verify.specs.Pairs.{pair_of};
+ghost use Rattle.cjc_verify.specs.Verified.{IsVerified};
+ghost use Rattle.cjc_world.specs.declared.image.StaticImage.{StaticImage};
+ghost use Rattle.cjc_accepted_proof.specs.Written.{written_pair};
+
+use cjc_check_proof::code::components_are_whole;
+use cjc_shape_proof::written::converted_files_are_sound;
+
+/// Where what is written for a converted package breaks no rule of the type checker, what is read back breaks none:
+/// whatever trees its files spell, and whatever image their initialisers make, beside the components that are written.
+pub fn written_components_are_accepted()
+    ensures { (list : ListTree) (files : List (List ℕ)) (judged : Judged) (p : Package)
+        → IsConverted list files judged p → IsVerified (written_pair p)
+        → (trees : List FileTree) → SpellTrees list.lines files trees
+        → (image : StaticImage) → IsImage (files_spelt list trees) (all_codes (classes_of trees)) image
+        → (c : Complete) → complete (components_of p) ≡ Some c
+        → IsVerified (pair_of (has_applets list) (files_spelt list trees) image c) }
+{
+    components_are_whole();
+    converted_files_are_sound();
+}
