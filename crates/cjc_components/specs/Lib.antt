@@ -17,6 +17,7 @@ pub mod Range
 pub mod Fixpoint
 pub mod LowerList
 pub mod Bytecode
+pub mod LowerExportFile
 pub mod LowerScript
 pub mod LowerCapRead
 pub mod LowerCapWrite

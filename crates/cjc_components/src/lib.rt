@@ -67,11 +67,6 @@ pub mod ncode {
     pub use cjc_narrow::ncode::{NMethod, PoolKey};
 }
 
-/// What crates above take of cjc_narrow.
-pub mod narrow {
-    pub use cjc_narrow::{keys, select};
-}
-
 /// What crates above take of layout.
 pub mod layout {
     pub use cjc_emit::layout::{

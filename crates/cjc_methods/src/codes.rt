@@ -15,9 +15,9 @@ use crate::places::class_places;
 use crate::selecting::{Sources, codes_at};
 use cjc_bytes::{NoMemory, Row};
 use cjc_components::bytecode::MethodCode;
-use cjc_components::narrow::keys::{Numbers, number};
 use cjc_components::ncode::NMethod;
 use cjc_components::types::TypeTable;
+use cjc_narrow::keys::{Numbers, number};
 use cjc_world::{Found, World};
 use std::alloc::Global;
 

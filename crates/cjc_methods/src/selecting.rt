@@ -26,10 +26,10 @@ use crate::places::place_in;
 use crate::reached::reached;
 use cjc_bytes::{NoMemory, Row};
 use cjc_components::bytecode::MethodCode;
-use cjc_components::narrow::keys::Numbers;
-use cjc_components::narrow::select::{argument_words, select};
 use cjc_components::ncode::NMethod;
 use cjc_components::types::TypeTable;
+use cjc_narrow::keys::Numbers;
+use cjc_narrow::select::{argument_words, select};
 use cjc_world::{Found, World};
 use std::alloc::Global;
 

@@ -1,4 +1,5 @@
 pub mod Cuts
+pub mod SomeInsns
 pub mod Places
 pub mod Leads
 pub mod Sizes

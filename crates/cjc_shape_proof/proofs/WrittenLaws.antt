@@ -1,5 +1,6 @@
 pub mod PackageNames
 pub mod Places
+pub mod Lines
 pub mod Files
 pub mod Subtypes
 pub mod Tokens

@@ -10,9 +10,11 @@ pub use Rattle.cjc_vtable.proofs.Read as VTableRead
 pub use Rattle.cjc_narrow_proof.proofs.TablesLaws.Spelt as NarrowProofSpelt
 pub use Rattle.cjc_shape_proof.proofs.JudgeFirsts as JudgeFirsts
 pub use Rattle.cjc_shape_proof.proofs.ShapeLimited as ShapeLimited
+pub use Rattle.cjc_shape_proof.proofs.ShapeSound as ShapeSound
 pub use Rattle.cjc_shape_proof.proofs.FindsLaws.Descs as ShapeProofDescs
 pub use Rattle.cjc_shape_proof.proofs.WrittenLaws.FittingLaws.Initialisers as ShapeProofInitialisers
 pub use Rattle.cjc_shape_proof.proofs.WrittenLaws.FittingLaws.Interfaces as ShapeProofInterfaces
+pub use Rattle.cjc_shape_proof.proofs.WrittenLaws.Lines as ShapeProofLines
 pub use Rattle.cjc_shape_proof.proofs.WrittenLaws.PackageNames as ShapeProofPackageNames
 pub use Rattle.cjc_shape_proof.proofs.WrittenLaws.Subtypes as ShapeProofSubtypes
 pub use Rattle.cjc_shape_proof.proofs.WrittenLaws.Tokens as ShapeProofTokens

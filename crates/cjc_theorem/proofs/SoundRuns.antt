@@ -4,7 +4,6 @@ pub mod Ranges
 pub mod Same
 pub mod Coded
 pub mod Lookups
-pub mod Begins
 pub mod Listed
 pub mod Tabled
 pub mod Placed

@@ -2,6 +2,7 @@ pub mod Extents
 pub mod Held
 pub mod Fitting
 pub mod Called
+pub mod Flags
 pub mod Objects
 pub mod Knowing
 pub mod Ids

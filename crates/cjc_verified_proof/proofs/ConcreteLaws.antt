@@ -50,7 +50,8 @@ use Rattle.cjc_verify.specs.Infos.{abstract_spots, all_tokens, has_abstract_meth
 use Rattle.cjc_verify.specs.Named.{is_abstract_selection, is_unmade}
 use Rattle.cjc_verify.specs.Pairs.{Pair}
 use Rattle.cjc_verified_proof.specs.Checked.{Checked, HasCode, IsChecked, pair}
-use Rattle.cjc_verified_proof.specs.ClassInfos.{wanted_class, wanted_info}
+use Rattle.cjc_verified_proof.specs.ClassInfos.{wanted_info}
+use Rattle.cjc_verify.specs.WantedInfos.{wanted_entry}
 use Rattle.cjc_verified_proof.specs.Dispatching.{TablesFit, package_of}
 use Rattle.cjc_verified_proof.specs.Kept.{KeepsCalls}
 use Rattle.cjc_verified_proof.specs.Selecting.{IsConcrete}
@@ -199,16 +200,16 @@ module _ (c : Checked) (ok : IsChecked c) (has : HasCode c) (keep : KeepsCalls c
         own in
         let clean = abstract_clean c.name applets c.files c.image c.components ok.sound ok.paired ok.verified in
         let x = c.components in
-        let there : slice_get (infos x.class) s.number ≡ Some (IsClass (wanted_class p k)) = ap (λ is. slice_get is
+        let there : slice_get (infos x.class) s.number ≡ Some (IsClass (wanted_entry p k)) = ap (λ is. slice_get is
         s.number) (infos_are c.name applets c.files c.image c.components ok.sound ok.paired ok.verified)
         ∙ slice_get-map (wanted_info p) (class_order w) s.number ∙ ap (option_map (wanted_info p)) s.ordered
         ∙ ap (λ b. Some (if b then Rattle.cjc_card_semantics.specs.Machine.Classes.IsInterface
         (Rattle.cjc_components.specs.Class.interface_entry (Rattle.cjc_verify.specs.Pairs.class_ref p)
-        (Rattle.cjc_verify.specs.Pairs.world p) k) else IsClass (wanted_class p k))) plain in
+        (Rattle.cjc_verify.specs.Pairs.world p) k) else IsClass (wanted_entry p k))) plain in
         let from : offset_from 2 (infos x.class) s.number ≡ Some s.offset = sym (starts_read 2 (infos x.class) s.number)
         ∙ sym (ap (λ (xs : List ℕ). slice_get xs s.number) (starts_of_infos x.class)) ∙ s.starts in
         let spots = beside_place (abstract_spots p) first_interface (infos x.class) (class_order w) s.number (IsClass
-        (wanted_class p k)) k s.offset clean there s.ordered from in
+        (wanted_entry p k)) k s.offset clean there s.ordered from in
         let fine = unless_holds (is_unmade k.flags || not (has_abstract_method p s.offset)) (in_info 6 s.offset) spots
         in
         let none = not_true (has_abstract_method p s.offset) (sym (ap (λ b. b || not (has_abstract_method p s.offset))

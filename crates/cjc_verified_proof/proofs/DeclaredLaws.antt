@@ -17,12 +17,11 @@ use Rattle.cjc_world.specs.ClassFile.declared.tree.ClassTree.{ClassTree}
 use Rattle.cjc_world.specs.ClassFile.declared.tree.FieldTree.{FieldTree}
 use Rattle.cjc_world.specs.declared.image.StaticImage.{StaticImage}
 use Rattle.cjc_world.specs.Classes.{Class, Member, all_classes, declared, field_of_class}
-use Rattle.cjc_world.specs.Exported.{is_exported}
 use Rattle.cjc_world.specs.Files.{Files}
 use Rattle.cjc_world.specs.Order.{class_order}
 use Rattle.cjc_tokens.specs.Fields.{instance_cells, instance_field_token, instance_token, instance_tokens, is_instance}
 use Rattle.cjc_tokens.specs.Fields.{is_reference}
-use Rattle.cjc_tokens.specs.Tokens.{assigned, classes_from, field_of_token, has_token, of_class, one_more}
+use Rattle.cjc_tokens.specs.Tokens.{assigned, field_of_token, has_token}
 use Rattle.cjc_tokens.specs.Tokens as tokens
 use Rattle.cjc_script.specs.Sorts.{Booleans, Bytes, Shorts, Ints, OfClass, OfNumbers, OfReferences, Sort}
 use Rattle.cjc_script.specs.Sorts.{Boolean, Byte, Short, Int, Reference, NoValue, Signature, field_sort, result_by}
@@ -55,22 +54,9 @@ use Rattle.cjc_token_proof.proofs.TablesLaws.Order.{order_in}
 use Rattle.cjc_token_proof.proofs.TablesLaws.Spans.{token_below, span_is}
 use Rattle.cjc_verify_proof.proofs.FreshLaws.{number_within}
 use Rattle.cjc_verified_proof.proofs.EntryLaws.{beside_none, infos_none}
+use Rattle.cjc_tokens.proofs.Means.{kept-at}
 
 -- ---- tokens
-
-class_row : (w : List Class) (applets : Bool) (b k : ℕ) (ts : List ClassTree) (n : ℕ) (t : ClassTree)
-    → slice_get ts n ≡ Some t → (a : ℕ) × (slice_get (classes_from w applets b k ts) n
-    ≡ Some (of_class w applets a (k + n) t))
-unfolding classes_from
-class_row w applets b k [] n t e = cc
-class_row w applets b k (u ∷ ts) zero t e =
-    let is : u ≡ t = cc in
-    let z : k ≡ k + 0 = omega arith in
-    (b, ap (λ v. Some (of_class w applets b k v)) is ∙ ap (λ m. Some (of_class w applets b m t)) z)
-class_row w applets b k (u ∷ ts) (suc n) t e =
-    let r = class_row w applets (one_more (is_exported w applets (declared k u)) b) (k + 1) ts n t e in
-    let s : k + 1 + n ≡ k + suc n = omega arith in
-    (r.0, r.1 ∙ ap (λ m. Some (of_class w applets r.0 m t)) s)
 
 instance_row : (fs : List FieldTree) (k : ℕ) (rest : List FieldTree) (i : ℕ) (x : Option ℕ)
     → slice_get (instance_tokens fs k rest) i ≡ Some x
@@ -110,7 +96,7 @@ module _ (applets : Bool) (files : Files) (n : ℕ) (t : ClassTree)
       → position (λ (o : Option ℕ). has_token token o) (instance_tokens t.fields 0 t.fields) ≡ Some i
   unfolding assigned
   place_of token i e =
-      let r = class_row (all_classes files) applets 0 0 files.classes n t is_class in
+      let r = kept-at files applets n t is_class in
       sym (ap (option_and_then (λ (c : tokens.OfClass). position (λ
       (o : Option ℕ). has_token token o) c.instances)) r.1) ∙ e
 

@@ -80,7 +80,8 @@ use Rattle.cjc_verify_proof.specs.Frames.{Program}
 use Rattle.cjc_verify_proof.specs.Memories.{SupersStand}
 use Rattle.cjc_verify_proof.specs.Turns.{IsMade}
 use Rattle.cjc_verified_proof.specs.Checked.{Checked, HasCode, IsChecked, pair}
-use Rattle.cjc_verified_proof.specs.ClassInfos.{wanted_class, wanted_info}
+use Rattle.cjc_verified_proof.specs.ClassInfos.{wanted_info}
+use Rattle.cjc_verify.specs.WantedInfos.{wanted_entry}
 use Rattle.cjc_verified_proof.specs.Dispatching.{package_of}
 use Rattle.cjc_verified_proof.specs.Kept.{KeepsCalls}
 use Rattle.cjc_verified_proof.specs.Programs.{IsProgramOf}
@@ -945,7 +946,7 @@ module _ (c : Checked) (ok : IsChecked c) (has : HasCode c) (keep : KeepsCalls c
         stood k number i ordered_i = kinds.ordered_at c.name c.list c.files c.image c.components ok.sound ok.paired
             ok.verified
             k offset i ordered_i (ap (λ (xs : List ℕ). slice_get xs k)
-            (Rattle.cjc_card_link.proofs.InfoPlaces.all_starts (let
+            (Rattle.cjc_verify.proofs.CardLinkInfoPlaces.all_starts (let
             x = c.components in x.class)) ∙ Rattle.cjc_verified_proof.proofs.NameLaws.starts_read 2 (infos (let x =
             c.components
             in x.class)) k ∙ at_number 2 (infos (let x = c.components in x.class)) k number)
@@ -1038,7 +1039,7 @@ module _ (c : Checked) (ok : IsChecked c) (has : HasCode c) (keep : KeepsCalls c
             by_kind i s same false f g =
                 let no : None ≡ Some desc = sym (ap (λ b. if card.is_interface_info (Some (if b then IsInterface
                 (Rattle.cjc_components.specs.Class.interface_entry (Rattle.cjc_verify.specs.Pairs.class_ref p)
-                (Rattle.cjc_verify.specs.Pairs.world p) i) else IsClass (wanted_class p i))) then selection_desc
+                (Rattle.cjc_verify.specs.Pairs.world p) i) else IsClass (wanted_entry p i))) then selection_desc
                 (of_names (Some
                 (class_names c.files (assigned applets c.files) i)) token) else None) f) ∙ g in
                 absurd cc
@@ -1048,7 +1049,7 @@ module _ (c : Checked) (ok : IsChecked c) (has : HasCode c) (keep : KeepsCalls c
                 token))
                 ≡ Some desc = sym (ap (λ b. if card.is_interface_info (Some (if b then IsInterface
                 (Rattle.cjc_components.specs.Class.interface_entry (Rattle.cjc_verify.specs.Pairs.class_ref p)
-                (Rattle.cjc_verify.specs.Pairs.world p) i) else IsClass (wanted_class p i))) then selection_desc
+                (Rattle.cjc_verify.specs.Pairs.world p) i) else IsClass (wanted_entry p i))) then selection_desc
                 (of_names (Some
                 (class_names c.files (assigned applets c.files) i)) token) else None) f) ∙ g in
                 by_slot (slice_get (map Rattle.cjc_components.specs.Paired.Naming.signature_name (interface_methods w

@@ -58,7 +58,7 @@ use Rattle.cjc_verify.specs.Described.{member_token}
 use Rattle.cjc_verify.specs.Named.{first_of}
 use Rattle.cjc_verify.specs.Pairs.{Pair, class_ref, member_of, pair_of}
 use Rattle.cjc_verify.specs.Verified.{IsVerified}
-use Rattle.cjc_verified_proof.specs.ClassInfos.{wanted_class}
+use Rattle.cjc_verify.specs.WantedInfos.{wanted_entry}
 use Rattle.cjc_verified_proof.specs.Dispatching.{FilesAgree, naming_of, package_of}
 use Rattle.cjc_bytes.proofs.Bools.{and_true}
 use Rattle.cjc_bytes.proofs.Gets.{in_front}
@@ -500,7 +500,7 @@ module _ (name : List ℕ) (list : ListTree) (files : Files) (image : StaticImag
       ∙ ap (superclass_by l 0) (own_info name list files image c sound paired verified k h)
       ∙ ap (λ b. superclass_by l 0 (Some (if b then card.IsInterface (interface_entry
       (class_ref p) w k) else card.IsClass
-      (wanted_class p k)))) class_here
+      (wanted_entry p k)))) class_here
       ∙ ap (λ ss. card.class_of l 0 (class_ref p (unwrap_or (slice_get ss 0) []))) supers
       ∙ ap (card.class_of l 0) (ref_same name list files image c sound paired verified super)
       ∙ told.class_ref super (ap is_some up.1) in

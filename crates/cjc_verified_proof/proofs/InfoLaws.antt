@@ -37,7 +37,8 @@ use Rattle.cjc_verify.specs.Infos.{map_spots}
 use Rattle.cjc_verify.specs.Infos.{public_entry, refs_differ, table_items, table_spots}
 use Rattle.cjc_verify.specs.Pairs.{Pair, class_ref, method_offset, pair_of, world}
 use Rattle.cjc_verify.specs.Verified.{IsVerified, class_breaks, header_breaks, listed}
-use Rattle.cjc_verified_proof.specs.ClassInfos.{wanted_class, wanted_info, wanted_infos}
+use Rattle.cjc_verified_proof.specs.ClassInfos.{wanted_info, wanted_infos}
+use Rattle.cjc_verify.specs.WantedInfos.{wanted_entry}
 use Rattle.cjc_bytes.proofs.BrokenRules.{among_left, among_right}
 use Rattle.cjc_bytes.proofs.Bools.{and_true}
 use Rattle.cjc_bytes.proofs.Lists.{none_left, none_right}
@@ -224,7 +225,7 @@ module _ (p : Pair) where
     abbrev t : ClassTable
     t = table_of (world p) c
 
-    class_same : x ≡ wanted_class p c
+    class_same : x ≡ wanted_entry p c
     class_same =
         let fields = fields_of p.files c in
         let maps = beside map_size (map_interface p) (maps_begin at x) x.interfaces t.maps in
@@ -304,7 +305,7 @@ module _ (p : Pair) where
           ∷ []) is) ∙ h in
           ap IsInterface (interface_same at e c spots) ∙ sym (ap (λ b. if b then IsInterface (interface_entry
           (class_ref p)
-          (world p) c) else IsClass (wanted_class p c)) is)
+          (world p) c) else IsClass (wanted_entry p c)) is)
       by (IsInterface e) false is h g = let no : in_info 6 at ∷ [] ≡ [] = sym (ap
           (λ b. if b then interface_spots p at e c
           else in_info 6 at ∷ []) is) ∙ h in cc
@@ -319,7 +320,7 @@ module _ (p : Pair) where
           ap IsClass (class_same at below e c spots (no_head (table_items p below e (table_of (world p) c)) tables))
           ∙ sym
           (ap (λ b. if b then IsInterface (interface_entry (class_ref p) (world p) c) else IsClass
-          (wanted_class p c)) is)
+          (wanted_entry p c)) is)
 
 -- ---- interfaces before classes
 
@@ -446,8 +447,8 @@ module _ (list : List ℕ) (applets : Bool) (files : Files) (image : StaticImage
         let i = c.class in
         let w = world p in
         let r = split_infos i.interfaces (map (interface_entry (class_ref p) w) (in_order w true)) i.classes (map
-        (wanted_class p) (in_order w false)) (infos_are ∙ sym (infos_by_order list files sound w refl (interface_entry
-        (class_ref p) w) (wanted_class p))) in
+        (wanted_entry p) (in_order w false)) (infos_are ∙ sym (infos_by_order list files sound w refl (interface_entry
+        (class_ref p) w) (wanted_entry p))) in
         ap (λ v. record i { interfaces = v }) r.0 ∙ ap (λ v. record {
           interfaces = map (interface_entry (class_ref p) w) (in_order w true);
           classes = v;

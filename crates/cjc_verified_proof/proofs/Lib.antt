@@ -36,7 +36,6 @@ pub mod SentLaws
 pub mod KeptLaws
 pub mod HoldsLaws
 pub mod KindLaws
-pub mod StaticFlags
 pub mod SelectedLaws
 pub mod ConcreteLaws
 pub mod ReachedLaws
@@ -57,3 +56,4 @@ pub use Rattle.cjc_token_proof.proofs.TablesLaws.Clean as TokenProofClean
 pub use Rattle.cjc_token_proof.proofs.TablesLaws.Filed as TokenProofFiled
 pub use Rattle.cjc_token_proof.proofs.TablesLaws.Order as TokenProofOrder
 pub use Rattle.cjc_token_proof.proofs.TablesLaws.Typing as TokenProofTyping
+pub use Rattle.cjc_token_proof.proofs.WrittenCalls.Flags as TokenProofFlags

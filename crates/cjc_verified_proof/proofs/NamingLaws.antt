@@ -48,7 +48,8 @@ use Rattle.cjc_verify.specs.Infos.{infos, public_entry}
 use Rattle.cjc_verify.specs.Pairs.{Pair, class_named as class_on_card, class_ref, pair_of}
 use Rattle.cjc_verify.specs.Pairs as pairs
 use Rattle.cjc_verify.specs.Verified.{IsVerified}
-use Rattle.cjc_verified_proof.specs.ClassInfos.{wanted_class, wanted_info, wanted_infos}
+use Rattle.cjc_verified_proof.specs.ClassInfos.{wanted_info, wanted_infos}
+use Rattle.cjc_verify.specs.WantedInfos.{wanted_entry}
 use Rattle.cjc_verified_proof.specs.Dispatching.{naming_of, package_of}
 use Rattle.cjc_verify.proofs.CardLinkInfoPlaces as places
 use Rattle.cjc_token_proof.proofs.ComponentsLaws.Starts.{infos_stand_alike}
@@ -112,10 +113,10 @@ module _ (name : List ℕ) (list : ListTree) (files : Files) (image : StaticImag
     interface_alike i = let is = interfaces_of w i in ap (λ n. 1 + 2 * n) (length-map is (λ (s : Class). class_ref p
         s.name) ∙ sym (length-map is (λ (s : Class). ref s.name)))
 
-    class_alike : (k : Class) → class_size (wanted_class p k) ≡ class_size (class_entry ref q k)
+    class_alike : (k : Class) → class_size (wanted_entry p k) ≡ class_size (class_entry ref q k)
     class_alike k =
         let t = table_of w k in
-        let wanted = wanted_class p k in
+        let wanted = wanted_entry p k in
         let entry = class_entry ref q k in
         ap (λ n. 10 + 2 * n + 2 * length wanted.package_methods + sum_by map_size wanted.interfaces)
         (length-map t.public
@@ -129,14 +130,14 @@ module _ (name : List ℕ) (list : ListTree) (files : Files) (image : StaticImag
     starts_by =
         let is = in_order w true in
         let cs = in_order w false in
-        ap (λ ss. ss ++ starts class_size (first_class (wanted_infos p)) (map (wanted_class p) cs)) (starts_same
+        ap (λ ss. ss ++ starts class_size (first_class (wanted_infos p)) (map (wanted_entry p) cs)) (starts_same
         interface_size (interface_entry (class_ref p) w) (interface_entry ref w) interface_alike first_interface is)
         ∙ ap (λ n. starts interface_size first_interface (map (interface_entry ref w) is) ++ starts class_size
-        (first_interface + n) (map (wanted_class p) cs)) (sums_same interface_size (interface_entry (class_ref p) w)
+        (first_interface + n) (map (wanted_entry p) cs)) (sums_same interface_size (interface_entry (class_ref p) w)
         (interface_entry ref w) interface_alike is)
         ∙ ap (λ ss. starts interface_size first_interface (map (interface_entry ref w) is) ++ ss)
         (starts_same class_size
-        (wanted_class p) (class_entry ref q) class_alike (first_class (class_info ref q)) cs)
+        (wanted_entry p) (class_entry ref q) class_alike (first_class (class_info ref q)) cs)
 
   starts_alike : pairs.starts p ≡ info_starts q
   starts_alike = ap all_starts here ∙ starts_by (λ (x : List ℕ). Inside 0)
@@ -237,7 +238,7 @@ module _ (name : List ℕ) (list : ListTree) (files : Files) (image : StaticImag
           (λ (x : ImplementedInterface). x.interface) (implemented (written_ref q)) (let t = table_of w k in t.maps))
 
       by : (b : Bool) → info_supers (if b then IsInterface (interface_entry (class_ref p) w k) else IsClass
-          (wanted_class p
+          (wanted_entry p
           k)) ≡ info_supers (if b then IsInterface (interface_entry (written_ref q) w k) else IsClass (class_entry
           (written_ref q) q k))
       by true = listed
@@ -248,7 +249,7 @@ module _ (name : List ℕ) (list : ListTree) (files : Files) (image : StaticImag
   above_alike k = by (is_interface k.flags)
     where
       by : (b : Bool) → object_above l (Some (if b then IsInterface (interface_entry (class_ref p) w k) else IsClass
-          (wanted_class p k))) ≡ object_above m (Some (if b then IsInterface (interface_entry (written_ref q) w k)
+          (wanted_entry p k))) ≡ object_above m (Some (if b then IsInterface (interface_entry (written_ref q) w k)
           else IsClass (class_entry (written_ref q) q k)))
       by true = ap option_to_list objects_alike
       by false = refl

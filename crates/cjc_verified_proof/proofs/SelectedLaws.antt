@@ -72,7 +72,7 @@ use Rattle.cjc_verified_proof.proofs.NameLaws.{holder_there, own_meant, starts_l
 use Rattle.cjc_verified_proof.proofs.NamingLaws.{n as names}
 use Rattle.cjc_verified_proof.proofs.PlaceLaws.{all_read, found_token}
 use Rattle.cjc_verified_proof.proofs.ReachLaws.{among_there, as_described}
-use Rattle.cjc_verified_proof.proofs.StaticFlags.{static_same}
+use Rattle.cjc_token_proof.proofs.WrittenCalls.Flags.{static_same}
 
 -- ---- methods of classes
 

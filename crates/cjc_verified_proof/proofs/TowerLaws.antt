@@ -32,7 +32,7 @@ use Rattle.cjc_token_proof.specs.Tables.Sound.{IsSound}
 use Rattle.cjc_verify.specs.Infos.{public_entry}
 use Rattle.cjc_verify.specs.Pairs.{Pair, class_ref, method_offset, pair_of}
 use Rattle.cjc_verify.specs.Verified.{IsVerified}
-use Rattle.cjc_verified_proof.specs.ClassInfos.{wanted_class}
+use Rattle.cjc_verify.specs.WantedInfos.{wanted_entry}
 use Rattle.cjc_verified_proof.specs.Dispatching.{FilesAgree, IsReachedBy, IsHiddenBy, TablesFit, offset_in}
 use Rattle.cjc_token_proof.proofs.CallsLaws.Dispatch as dispatch
 use Rattle.cjc_token_proof.proofs.TablesLaws.Above.{info_of_name}
@@ -97,10 +97,10 @@ module _ (name : List ℕ) (list : ListTree) (files : Files) (image : StaticImag
         let up = facts.super_there x s k e own supers in
         record {
           at = h.offset;
-          entry = wanted_class p k;
+          entry = wanted_entry p k;
           on_card = sym (ap (class_at q) (class_named-name w x k e)) ∙ h.on_card;
           there = own_info name list files image c sound paired verified k h ∙ ap (λ b. Some (if b then IsInterface
-              (interface_entry (class_ref p) w k) else IsClass (wanted_class p k))) class_here;
+              (interface_entry (class_ref p) w k) else IsClass (wanted_entry p k))) class_here;
           superclass = ap (λ ss. class_of p.loaded 0 (class_ref p (unwrap_or (slice_get ss 0) []))) supers
               ∙ ap (class_of p.loaded 0) (ref_same name list files image c sound paired verified s)
               ∙ (let z = kinds name list files image c sound paired verified in z.class_ref s (ap is_some up.1));

@@ -1,6 +1,6 @@
 -- What the files of a package keep that breaks none of the rules of files, of classes and names, of limits and of
 -- tokens.
-use Rattle.std.proofs.Common.{◌≡◌, ℕ, zero, suc, ◌<◌, ◌≤◌, ◌^◌, refl, sym, ap, subst, ◌∙◌, arith, Bool, true, false}
+use Rattle.std.proofs.Common.{◌≡◌, ℕ, zero, suc, ◌<◌, ◌≤◌, ◌^◌, refl, sym, ap, subst, ◌∙◌, arith}
 use Rattle.std.proofs.Common.{List, []}
 use Rattle.std.proofs.Common.{◌∷◌, length}
 use Rattle.std.specs.Prelude.{Some, slice_get}
@@ -10,7 +10,6 @@ use Rattle.cjc_verified_proof.specs.Bytes.Format.{FileSpells}
 use Rattle.cjc_verified_proof.specs.Bytes.declared.settings.FileLine.{FileLine}
 use Rattle.cjc_verified_proof.proofs.BytesBrokenRules.{no_breaks}
 use Rattle.cjc_verified_proof.proofs.BytesGets.{all_at}
-use Rattle.cjc_verified_proof.proofs.BytesNumbers.{one_file}
 use Rattle.cjc_verified_proof.proofs.BytesPlain.{same_some}
 use Rattle.cjc_verified_proof.proofs.ClassFileFitting.{spelt_fits}
 use Rattle.cjc_verified_proof.specs.ClassFile.ClassFile.{class_file}
@@ -30,7 +29,6 @@ use Rattle.cjc_theorem.specs.LowerJudge.declared.groups.Group.TheVariants as gro
 use Rattle.cjc_theorem.specs.LowerJudge.declared.judged.Judged.{Judged}
 use Rattle.cjc_theorem.proofs.JudgeFirsts.{all_spell}
 use Rattle.cjc_verified_proof.specs.List.Listed.{ListTree}
-use Rattle.cjc_verified_proof.proofs.ClassOrderStanding.{class_count-cons}
 use Rattle.cjc_theorem.proofs.NarrowProofSpelt.{class_read}
 use Rattle.cjc_theorem.proofs.BytecodeMembers.{read_class}
 use Rattle.cjc_verified_proof.specs.ClassOrder.Classes.Numbers.{class_count}
@@ -40,49 +38,12 @@ use Rattle.cjc_theorem.specs.Subset.Checks.{check_breaks}
 use Rattle.cjc_theorem.proofs.FairExports.Listed.{names}
 use Rattle.cjc_verified_proof.specs.Tokens.Rules.{tested_breaks, token_breaks}
 use Rattle.cjc_verified_proof.specs.TokenProof.Tables.Sound.{AreFieldDescs, IsSound, export_count}
-use Rattle.cjc_verified_proof.proofs.TokenProofFiled.{export_count-cons}
 use Rattle.cjc_verified_proof.specs.World.Files.{Files}
 use Rattle.cjc_verified_proof.specs.World.Rules.{breaks}
 use Rattle.cjc_verified_proof.specs.WorldProof.Files.{AreReadFiles}
 use Rattle.cjc_verify_theorem.specs.Passed.{AreBytes, IsAmong}
-
--- ---- the lines
-
-classes_few : (lines : List FileLine) (files : List (List ℕ)) (trees : List FileTree) → AllSpelt lines files trees
-    → length (classes_of trees) ≤ class_count lines
-classes_few [] files trees h = let none : trees ≡ [] = h.1 in subst (λ ts. length (classes_of ts) ≤ 0) (sym none)
-    (omega arith)
-classes_few (line ∷ lines) [] trees h = absurd h
-classes_few (line ∷ lines) (bytes ∷ files) [] h = absurd h
-classes_few (line ∷ lines) (bytes ∷ files) (of_class tree ∷ trees) h =
-    let rest = classes_few lines files trees h.1 in
-    let one = counted line.class_file h.0.0 in
-    let all = class_count-cons line lines in
-    omega (arith, rest, one, all)
-  where
-    counted : (b : Bool) → b ≡ true → ◌≡◌ {A = ℕ} (Rattle.std.specs.Prelude.cond b 1 0) 1
-    counted true e = refl
-    counted false e = cc
-classes_few (line ∷ lines) (bytes ∷ files) (of_export tree ∷ trees) h =
-    let rest = classes_few lines files trees h.1 in
-    let all = class_count-cons line lines in
-    omega (arith, rest, all)
-
-exports_few : (lines : List FileLine) (files : List (List ℕ)) (trees : List FileTree) → AllSpelt lines files trees
-    → length (exports_of trees) ≤ export_count lines
-exports_few [] files trees h = let none : trees ≡ [] = h.1 in subst (λ ts. length (exports_of ts) ≤ 0) (sym none)
-    (omega arith)
-exports_few (line ∷ lines) [] trees h = absurd h
-exports_few (line ∷ lines) (bytes ∷ files) [] h = absurd h
-exports_few (line ∷ lines) (bytes ∷ files) (of_class tree ∷ trees) h =
-    let rest = exports_few lines files trees h.1 in
-    let all = export_count-cons line lines in
-    omega (arith, rest, all)
-exports_few (line ∷ lines) (bytes ∷ files) (of_export tree ∷ trees) h =
-    let rest = exports_few lines files trees h.1 in
-    let one = one_file line.class_file h.0.0 in
-    let all = export_count-cons line lines in
-    omega (arith, rest, one, all)
+use Rattle.cjc_theorem.proofs.ShapeProofLines.{exports_few}
+use Rattle.cjc_theorem.proofs.ShapeSound.{lines_few}
 
 -- ---- trees
 
@@ -206,7 +167,7 @@ module _ (list : ListTree) (files : List (List ℕ)) (tested : List Group) (judg
   read_files = record { classes = class_bytes; exports = writable }
 
   pub listed : length w.classes ≤ class_count w.lines
-  listed = subst (λ (v : Files). length v.classes ≤ class_count v.lines) (sym same) (classes_few list.lines files trees
+  listed = subst (λ (v : Files). length v.classes ≤ class_count v.lines) (sym same) (lines_few list.lines files trees
       spelt)
 
   few_lines : length w.exports ≤ export_count list.lines

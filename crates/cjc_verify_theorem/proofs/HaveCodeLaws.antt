@@ -30,7 +30,7 @@ use Rattle.cjc_verified_proof.specs.Verify.Verified.{IsVerified}
 use Rattle.cjc_verified_proof.specs.Suited.{HaveCode}
 use Rattle.cjc_verified_proof.proofs.DescribedLaws.{described_said, either_part, in_got}
 use Rattle.cjc_verified_proof.proofs.FoundLaws.{written_got}
-use Rattle.cjc_verified_proof.proofs.StaticFlags.{static_same}
+use Rattle.cjc_verified_proof.proofs.TokenProofFlags.{static_same}
 use Rattle.cjc_theorem.proofs.VTableFiled.{get-has}
 use Rattle.cjc_verified_proof.specs.World.declared.found.Found.{Found}
 use Rattle.cjc_verified_proof.specs.World.declared.image.StaticImage.{StaticImage}
@@ -197,7 +197,7 @@ module _ (name : List ℕ) (applets : Bool) (files : Files) (image : StaticImage
   -- methods of classes of files
   own_typed : (x : List ℕ) (d : Class) → class_named w x ≡ Some d → Each IsTyped d.methods
   own_typed x d known i m e = (member_desc files read d (ap (class_named w)
-      (Rattle.cjc_world.proofs.Cycles.class_named-name
+      (Rattle.cjc_verified_proof.proofs.WorldCycles.class_named-name
       w x d known) ∙ known) i m e).0
 
   -- and those that a class gets
@@ -256,8 +256,8 @@ module _ (name : List ℕ) (applets : Bool) (files : Files) (image : StaticImage
           let at : length k.fields + length k.methods + b.0 ≡ length k.fields +
           (length k.methods + b.0) = omega arith in
           got_method b.0 m.0 m.1 (ap (λ (y : Found). method_in w k y.member) (r.0 ∙ ap (member_at k) at) ∙ member_is k
-          (length k.methods + b.0) (as_added m.0) (Rattle.cjc_bytes.proofs.Gets.get_behind k.methods (map as_added
-          (added w k)) b.0 ∙ Rattle.cjc_bytes.proofs.Gets.item_there as_added (added w k) b.0 m.0 m.1))
+          (length k.methods + b.0) (as_added m.0) (Rattle.cjc_verified_proof.proofs.BytesGets.get_behind k.methods (map as_added
+          (added w k)) b.0 ∙ Rattle.cjc_verified_proof.proofs.BytesGets.item_there as_added (added w k) b.0 m.0 m.1))
           ))
           (either_part (written k (length k.fields) k.methods) (places k (length k.fields + length k.methods)
           (length (added w k))) i d.member f)

@@ -33,7 +33,7 @@ use Rattle.cjc_tokens.specs.Lines.{line_at}
 use Rattle.cjc_tokens.specs.Members.{Signature, is_initialiser, same, signature_of}
 use Rattle.cjc_tokens.specs.Methods.{class_method_tokens, interface_methods, interface_token, interfaces_at}
 use Rattle.cjc_tokens.specs.Slots.{hidden_slots, shown_token}
-use Rattle.cjc_tokens.specs.Tokens.{OfClass, assigned, classes_from, joined, method_tokens, of_class, one_more}
+use Rattle.cjc_tokens.specs.Tokens.{OfClass, assigned, joined, method_tokens, of_class}
 use Rattle.cjc_vtable.specs.Tables.{interface_map, or_zero, table_of}
 use Rattle.cjc_vtable.proofs.Filed.{Has, at_front, behind, get-has, has-either}
 use Rattle.cjc_components.specs.Package.{Package, has_applets, world}
@@ -48,9 +48,11 @@ use Rattle.cjc_token_proof.proofs.TablesLaws.Interfaces.{interface_is}
 use Rattle.cjc_token_proof.proofs.TablesLaws.Named.{has_entry, has_info}
 use Rattle.cjc_token_proof.proofs.TablesLaws.Order.{kind-in, order_in}
 use Rattle.cjc_check_proof.specs.Classes.Premises.{ImportsAreWhole}
-use Rattle.cjc_check_proof.proofs.ClassesLaws.Exporting.{fields_long, one_offset}
+use Rattle.cjc_check_proof.proofs.ClassesLaws.Exporting.{one_offset}
+use Rattle.cjc_token_proof.proofs.WrittenSends.Tokens.{fields_long}
 use Rattle.cjc_check_proof.proofs.ClassesLaws.Lists.{has-mapped}
 use Rattle.cjc_check_proof.proofs.ClassesLaws.Supers.{entry_there, is_one}
+use Rattle.cjc_tokens.proofs.Means.{kept-at}
 
 -- ---- lists
 
@@ -105,20 +107,6 @@ of_class_at w c f h =
 
 -- ---- tokens
 
-class_row : (w : List Class) (applets : Bool) (b k : ℕ) (ts : List ClassTree) (n : ℕ) (t : ClassTree)
-    → slice_get ts n ≡ Some t → (a : ℕ) × (slice_get (classes_from w applets b k ts) n
-    ≡ Some (of_class w applets a (k + n) t))
-unfolding classes_from
-class_row w applets b k [] n t e = absurd (cc)
-class_row w applets b k (u ∷ ts) zero t e =
-    let is : u ≡ t = cc in
-    let z : k ≡ k + 0 = omega arith in
-    (b, ap (λ v. Some (of_class w applets b k v)) is ∙ ap (λ m. Some (of_class w applets b m t)) z)
-class_row w applets b k (u ∷ ts) (suc n) t e =
-    let r = class_row w applets (one_more (is_exported w applets (declared k u)) b) (k + 1) ts n t e in
-    let s : k + 1 + n ≡ k + suc n = omega arith in
-    (r.0, r.1 ∙ ap (λ m. Some (of_class w applets r.0 m t)) s)
-
 -- a token that so many indices hold
 abbrev is_held : (count token : ℕ) → Bool
 is_held count token = token == 0xFF || nat_lt token count
@@ -152,8 +140,7 @@ module _ (list : List ℕ) (p : Package) (sound : IsSound list p.files) where
   unfolding assigned
   its_token n t e kind j =
       let c = declared n t in
-      let r = class_row w (has_applets p) 0 0 (let files = p.files in files.classes) n t e in
-      let z : 0 + n ≡ n = omega arith in
+      let r = kept-at p.files (has_applets p) n t e in
       let ex = is_exported w (has_applets p) c in
       let all = of_class w (has_applets p) r.0 n t in
       let fields = field_tokens ex t.fields 0 t.fields in
@@ -172,7 +159,7 @@ module _ (list : List ℕ) (p : Package) (sound : IsSound list p.files) where
       let is : member_token p (Some (member_at c (length c.fields + j)))
       ≡ unwrap_or (joined (option_map (interface_token ss) (slice_get c.methods j))) 0xFF =
       ap (λ o. unwrap_or (option_and_then (λ (k : OfClass). joined (slice_get k.members (length c.fields + j))) o) 0xFF)
-      (r.1 ∙ ap (λ m. Some (of_class w (has_applets p) r.0 m t)) z)
+      r.1
       ∙ ap (λ o. unwrap_or (joined o) 0xFF) there in
       ap (is_held (length ss)) is ∙ small ss (slice_get c.methods j)
 

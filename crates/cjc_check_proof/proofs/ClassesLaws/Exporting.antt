@@ -71,6 +71,7 @@ use Rattle.cjc_check_proof.proofs.ClassesLaws.Listing.{exported_at, kept_at, ope
 use Rattle.cjc_check_proof.proofs.ClassesLaws.Lists.{has-back, has-front, has-map}
 use Rattle.cjc_check_proof.proofs.ClassesLaws.Refs.{class_begins_at, info, interface_begins}
 use Rattle.cjc_check_proof.proofs.ClassesLaws.Supers.{in_place}
+use Rattle.cjc_token_proof.proofs.WrittenSends.Tokens.{fields_long, method_row}
 
 -- ---- lists
 
@@ -177,12 +178,6 @@ field_row exported fs k (g ∷ rest) zero f e = let is : g ≡ f = cc in let z :
 field_row exported fs k (g ∷ rest) (suc i) f e = let s : k + 1 + i ≡ k + suc i = omega arith
     in field_row exported fs (k + 1) rest i f e ∙ ap (λ m. Some (field_token exported fs m f)) s
 
-pub fields_long : (exported : Bool) (fs : List FieldTree) (k : ℕ) (rest : List FieldTree)
-    → length (field_tokens exported fs k rest) ≡ length rest
-unfolding field_tokens
-fields_long exported fs k [] = refl
-fields_long exported fs k (f ∷ rest) = ap suc (fields_long exported fs (k + 1) rest)
-
 open_field : (fs : List FieldTree) (i : ℕ) (f : FieldTree) → is_open_static f ≡ true → field_token true fs i f
     ≡ Some (count_by is_open_static (take i fs))
 unfolding field_token
@@ -191,18 +186,6 @@ open_field fs i f e =
     ap (λ b. if not b then Some (instance_token fs i f) else if is_open_static f
     then Some (count_by is_open_static (take i fs)) else None) s.0
     ∙ ap (λ b. if b then Some (count_by is_open_static (take i fs)) else None) e
-
-module _ (exported : Bool) (shown : Signature → Option ℕ) (hidden : Slots) (ms : List Member) where
-  method_row : (k : ℕ) (rest : List Member) (i : ℕ) (m : Member) → slice_get rest i ≡ Some m
-      → slice_get (class_method_tokens exported shown hidden ms k rest) i
-      ≡ Some (class_method_token exported shown hidden ms (k + i) m)
-  unfolding class_method_tokens
-  method_row k [] i m e = absurd (cc)
-  method_row k (n ∷ rest) zero m e = let is : n ≡ m = cc in let z : k ≡ k + 0 = omega arith
-      in ap (λ v. Some (class_method_token exported shown hidden ms k v)) is
-      ∙ ap (λ j. Some (class_method_token exported shown hidden ms j m)) z
-  method_row k (n ∷ rest) (suc i) m e = let s : k + 1 + i ≡ k + suc i = omega arith in method_row (k + 1) rest i m e
-      ∙ ap (λ j. Some (class_method_token exported shown hidden ms j m)) s
 
 open_method : (shown : Signature → Option ℕ) (hidden : Slots) (ms : List Member) (i : ℕ) (m : Member) → is_open_bound
     m ≡ true

@@ -1,11 +1,10 @@
 -- References to classes and to static members.
-use Rattle.std.proofs.Common.{◌≡◌, ℕ, ◌+◌, ◌*◌, ◌^◌, ◌<◌, ◌≤◌, refl, sym, ap, subst, ◌∙◌, Bool, true, false, List, []}
+use Rattle.std.proofs.Common.{◌≡◌, ℕ, ◌+◌, ◌^◌, ◌<◌, ◌≤◌, refl, ap, subst, ◌∙◌, Bool, true, false, List, []}
 use Rattle.std.proofs.Common.{◌∷◌, ◌++◌, map, length, arith, Option, Some, None}
 use Rattle.std.specs.Prelude.{slice_get, sum_by, position, option_and_then, option_map, unwrap_or}
 use Rattle.std.specs.Prelude.{if◌then◌else◌}
 use Rattle.std.specs.List.{AllByRecursion}
 use Rattle.std.specs.Str.{bytes_eq}
-use Rattle.std.proofs.lemmas.List.{length-map}
 use Rattle.std.proofs.lemmas.List.Sums.{sum_by-cons}
 use Rattle.cjc_bytes.specs.declared.fault.MemberId.{MemberId}
 use Rattle.cjc_bytes.proofs.Gets.{all_at}
@@ -24,15 +23,14 @@ use Rattle.cjc_world.specs.ExportFile.declared.tree.ExportTree.{ExportTree}
 use Rattle.cjc_world.specs.ExportFile.Writable.{EachAfter, IsWritable}
 use Rattle.cjc_world.specs.ExportFile.Writable as Writable
 use Rattle.cjc_check_rules.specs.Spots.{placed, starts}
-use Rattle.cjc_check_rules.specs.Complete.{interface_size, class_size, map_size, class_info_size}
+use Rattle.cjc_check_rules.specs.Complete.{interface_size, class_size, class_info_size}
 use Rattle.cjc_check_rules.specs.Classes.{first_interface, first_class}
 use Rattle.cjc_world.specs.declared.found.Found.{Found}
 use Rattle.cjc_world.specs.Classes.{Class}
 use Rattle.cjc_world.specs.Lookup.{find_method}
 use Rattle.cjc_world.specs.Order.{class_order, in_order}
-use Rattle.cjc_vtable.specs.Tables.{table_of}
 use Rattle.cjc_components.specs.Package.{Package, world}
-use Rattle.cjc_components.specs.Class.{class_info, class_entry, interface_entry, interfaces_of, implemented}
+use Rattle.cjc_components.specs.Class.{class_info, class_entry, interface_entry}
 use Rattle.cjc_components.specs.Names.{class_at, class_offset, class_ref, field_ref, info_starts, member_ref}
 use Rattle.cjc_components.specs.Names.{method_ref, offset_where, ref_to}
 use Rattle.cjc_check_proof.specs.Limits.Premises.{IsLimited}
@@ -40,28 +38,19 @@ use Rattle.cjc_check_proof.proofs.LimitsLaws.Lists.{all_of}
 use Rattle.cjc_check_proof.proofs.LimitsLaws.Limits.{components_short, sizes_kept}
 use Rattle.cjc_check_proof.proofs.LimitsLaws.Offsets.{cell_low, offset_low}
 use Rattle.cjc_token_proof.proofs.ComponentsLaws.Sizes.{class_is}
+use Rattle.cjc_token_proof.proofs.ComponentsLaws.Starts.{class_same, interface_same}
 
 -- ---- the bytes of Class, whatever class_refs it holds
 
 module _ (ref other : List ℕ → ClassRef) (p : Package) where
-  interface_same : (i : Class) → interface_size (interface_entry ref (world p) i)
-      ≡ interface_size (interface_entry other (world p) i)
-  interface_same i =
-      let is = interfaces_of (world p) i in
-      ap (λ n. 1 + 2 * n) (length-map is (λ s. ref s.name) ∙ sym (length-map is (λ s. other s.name)))
-
-  class_same : (c : Class) → class_size (class_entry ref p c) ≡ class_size (class_entry other p c)
-  class_same c =
-      let table = table_of (world p) c in
-      ap (λ n. 10 + 2 * length (let e = class_entry ref p c in e.public_methods) + 2 * length (let e = class_entry ref p
-      c in e.package_methods) + n) (sums_same map_size (implemented ref) (implemented other) (λ m. refl) table.maps)
-
   info_same : class_info_size (class_info ref p) ≡ class_info_size (class_info other p)
   info_same =
       ap (λ n. 2 + n + sum_by class_size (map (class_entry ref p) (in_order (world p) false))) (sums_same interface_size
-      (interface_entry ref (world p)) (interface_entry other (world p)) interface_same (in_order (world p) true))
+      (interface_entry ref (world p)) (interface_entry other (world p)) (interface_same ref other p)
+      (in_order (world p) true))
       ∙ ap (λ n. 2 + sum_by interface_size (map (interface_entry other (world p)) (in_order (world p) true)) + n)
-      (sums_same class_size (class_entry ref p) (class_entry other p) class_same (in_order (world p) false))
+      (sums_same class_size (class_entry ref p) (class_entry other p) (class_same ref other p)
+      (in_order (world p) false))
 
 -- ---- starts
 

@@ -2,19 +2,11 @@
 use Rattle.std.proofs.Common.{◌≡◌, ℕ, suc, ◌+◌, ◌<◌, refl, sym, ap, subst, ◌∙◌, arith, Bool, true, false, List, [], ◌∷◌}
 use Rattle.std.proofs.Common.{◌++◌, length, append-nil}
 use Rattle.std.specs.Prelude.{Option, Some, None, flat_map, slice_get, ◌==◌, if◌then◌else◌, ℤ, pos}
-use Rattle.std.specs.List.{Contains}
-use Rattle.std.proofs.lemmas.Bool.{lt-ltb}
-use Rattle.std.proofs.lemmas.List.Elements.{Contains-append_left}
-use Rattle.cjc_vtable.specs.Fixpoint.Working.Edges.{contains_head}
 use Rattle.cjc_bytes.specs.declared.fault.MemberId.{MemberId}
 use Rattle.cjc_bytes.proofs.Gets.{get_inside}
 use Rattle.cjc_world.specs.ClassFile.Code.{CodeTree}
 use Rattle.cjc_world.specs.ClassFile.declared.tree.ClassTree.{ClassTree}
 use Rattle.cjc_world.specs.ClassFile.declared.tree.MethodTree.{MethodTree}
-use Rattle.std.proofs.lemmas.List.{length-map}
-use Rattle.cjc_components.specs.Bytecode.Cut.{cut, IsCutFrom}
-use Rattle.cjc_components.specs.Bytecode.Rules.{stopped, with_names}
-use Rattle.cjc_ncode.proofs.BytecodeOneCut.{is_cut}
 use Rattle.cjc_components.specs.Bytecode.declared.insn.JInsn.{JInsn}
 use Rattle.cjc_components.specs.Bytecode.declared.insn.JOp.{JOp}
 use Rattle.cjc_components.specs.Bytecode.declared.insn.JOp.TheVariants as jop
@@ -30,15 +22,14 @@ use Rattle.cjc_pool.specs.Narrow.Rows.Resolved.{argument_words}
 use Rattle.cjc_pool.specs.Narrow.Rows.Selected.{paired, selected_code}
 use Rattle.cjc_pool.specs.Narrow.Written.Rows.{by_rows_there, has_rows, has_rows_by, rows_by}
 use Rattle.cjc_pool.specs.Types.declared.state.State.{State}
-use Rattle.cjc_pool.specs.Types.Flow.{body_of, next_place, successors}
+use Rattle.cjc_pool.specs.Types.Flow.{body_of}
 use Rattle.cjc_pool.specs.Types.Steps.{goes_on}
 use Rattle.cjc_pool.specs.Types.Tables.{IsLeastTable, IsMethodOf}
-use Rattle.cjc_pool.specs.Types.TypeLaws.Closed.{IsClosedTable}
-use Rattle.cjc_narrow_proof.proofs.TypesLowered.{least_closed}
 use Rattle.cjc_narrow_proof.proofs.TypesStanding.{next_there}
-use Rattle.cjc_narrow_proof.proofs.SelectedLaws.Cuts.{decoded, few}
 use Rattle.cjc_check_rules.specs.Instructions.{ends_code}
 use Rattle.cjc_check_proof.specs.Code.Ends.{last_ends}
+use Rattle.cjc_narrow_proof.proofs.SelectedLaws.SomeInsns.{some_insns}
+use Rattle.cjc_narrow_proof.proofs.SelectedLaws.Whole.{closed, next_on}
 
 -- ---- lists
 
@@ -156,49 +147,23 @@ module _ (r : Resolution) (place : ℕ → ℕ) where
 module _ (files : Files) (code : MethodCode) (class : ClassTree) (method : MethodTree) (tree : CodeTree)
     (is : IsMethodOf files code class method tree)
     (rows : List (Option State)) (least : IsLeastTable (body_of class method tree code.insns) rows) where
-  closed : IsClosedTable (body_of class method tree code.insns) rows
-  closed = least_closed (body_of class method tree code.insns) rows least (few files code class method tree is)
-
-  next_on : (at : ℕ) (i : JInsn) → goes_on i.op ≡ true → at + 1 < length code.insns
-      → Contains (successors code.insns at i.op) (at + 1)
-  next_on at i goes lt =
-      Contains-append_left _ _ (at + 1) (subst (λ b. Contains (next_place b (length code.insns) at) (at + 1)) (sym goes)
-      (subst (λ b. Contains (if b then (at + 1) ∷ [] else []) (at + 1)) (sym (lt-ltb (at + 1) (length code.insns) lt))
-      (contains_head (at + 1) [])))
-
   leads_on : LeadsOn code.insns rows
   leads_on at i x e row goes =
       let lt = next_there files code class method tree is at i e goes in
       let next = get_inside code.insns (at + 1) lt in
-      let on = closed.next at x i row e (at + 1) (next_on at i goes lt) in
+      let on = (closed files code class method tree is rows least).next at x i row e (at + 1)
+      (next_on files code class method tree is rows least at i goes lt) in
       let one : at + 1 ≡ suc at = omega arith in
       (next.0, on.row, ap (slice_get code.insns) (sym one) ∙ next.1, ap (slice_get rows) (sym one) ∙ on.is_row)
-
-  -- code with a byte has an instruction
-  some_insns : 0 < length tree.bytes → 0 < length code.insns
-  unfolding IsCutFrom
-  some_insns some = by (cut tree.bytes).insns refl
-    where
-      by : (insns : List _) → (cut tree.bytes).insns ≡ insns → 0 < length code.insns
-      by [] e =
-          let ended : IsCutFrom 0 tree.bytes [] (cut tree.bytes).stop =
-          subst (λ insns. IsCutFrom 0 tree.bytes insns (cut tree.bytes).stop) e (is_cut tree.bytes) in
-          let at : (cut tree.bytes).stop ≡ 0 = ended.0 in
-          let told = decoded files code class method tree is in
-          absurd (told.fit (cut tree.bytes).stop (stopped (omega (arith, some, at))))
-      by (i ∷ insns) e =
-          let told = decoded files code class method tree is in
-          let many : length code.insns ≡ length (i ∷ insns) = ap length told.insns_are
-          ∙ length-map (cut tree.bytes).insns (with_names class.pool) ∙ ap length e in
-          omega (arith, many)
 
   pub selected_ends : 0 < length tree.bytes → (near : List MemberId)
       → last_ends (selected_code files near class method tree code.insns (rows_by (has_rows rows))).insns ≡ true
   selected_ends some near =
       let r = paired files near class method tree code.insns (has_rows rows) in
       let nargs = argument_words method.flags method.desc in
-      let front = get_inside code.insns 0 (some_insns some) in
-      let on = closed.first (some_insns some) in
+      let front = get_inside code.insns 0 (some_insns files code class method tree is some) in
+      let on = (closed files code class method tree is rows least).first
+      (some_insns files code class method tree is some) in
       let there = first_reached code.insns rows front.0 on.row front.1 on.is_row in
       subst (λ (m : NMethod). last_ends m.insns ≡ true) (by_rows_there r tree nargs code.insns rows
       ∙ ap (λ hs. narrow_method (paired files near class method tree code.insns hs) tree nargs code.insns (rows_by

@@ -5,12 +5,10 @@ use Rattle.std.specs.Prelude.{Option, Some, None, if◌then◌else◌, filter, i
 use Rattle.std.specs.Prelude.{option_map, unwrap_or, ◌||◌}
 use Rattle.std.proofs.Math.ListN.{drop_of_length-le}
 use Rattle.std.proofs.lemmas.Option.{slice_get-map}
-use Rattle.cjc_world.specs.ClassFile.declared.tree.ClassTree.{ClassTree}
 use Rattle.cjc_world.specs.Bytes.AccessFlags.{is_interface}
 use Rattle.cjc_world.specs.Files.{Files}
-use Rattle.cjc_world.specs.Classes.{Member, Class, all_classes, class_at, declared}
+use Rattle.cjc_world.specs.Classes.{Member, Class, all_classes, class_at}
 use Rattle.cjc_world.specs.Added.{added, added_at, added_to, named_by}
-use Rattle.cjc_world.specs.Exported.{is_exported}
 use Rattle.cjc_world.specs.declared.class.Known.{Known}
 use Rattle.cjc_world.specs.declared.found.Found.{Found}
 use Rattle.cjc_world.specs.Working.Known.{class_of}
@@ -19,7 +17,7 @@ use Rattle.cjc_tokens.specs.Members.{Signature, has, signatures}
 use Rattle.cjc_tokens.specs.Lines.{line_at}
 use Rattle.cjc_tokens.specs.Methods.{interface_row}
 use Rattle.cjc_tokens.specs.Slots.{row}
-use Rattle.cjc_tokens.specs.Tokens.{classes_from, of_class, one_more, assigned, public_in, public_methods_of}
+use Rattle.cjc_tokens.specs.Tokens.{assigned, public_in, public_methods_of}
 use Rattle.cjc_tokens.specs.declared.slot.Slot.{Slot}
 use Rattle.cjc_tokens.specs.Working.{signature_in, signs}
 use Rattle.cjc_tokens.proofs.Facts.{position-cons}
@@ -33,6 +31,7 @@ use Rattle.cjc_exported.specs.ExportFile.Working.Sources.{world_in}
 use Rattle.cjc_exported.specs.declared.export_file.source.Source.{Source}
 use Rattle.cjc_exported.proofs.ExportFile.ByNumber.{of-number}
 use Rattle.cjc_world.proofs.BytesGets.{get_back}
+use Rattle.cjc_tokens.proofs.Means.{kept-at}
 
 -- ---- the class of a number
 
@@ -87,29 +86,14 @@ has-declared (m ∷ ms) s = ap is_some (position-cons (λ m. is_called s.name s.
 
 -- ---- the methods that tokens mean
 
-module _ (w : List Class) (applets : Bool) where
-  at-number : (before k : ℕ) (cs : List ClassTree) (n : ℕ) (c : ClassTree) → slice_get cs n ≡ Some c → (b : ℕ)
-      × (slice_get (classes_from w applets before k cs) n ≡ Some (of_class w applets b (k + n) c))
-  unfolding classes_from
-  at-number before k [] n c e = cc
-  at-number before k (d ∷ cs) zero c e =
-      let is : d ≡ c = cc in
-      let m : k ≡ k + 0 = omega arith in
-      (before, ap (λ q. Some (of_class w applets before k q)) is ∙ ap (λ q. Some (of_class w applets before q c)) m)
-  at-number before k (d ∷ cs) (suc n) c e =
-      let r = at-number (one_more (is_exported w applets (declared k d)) before) (k + 1) cs n c e in
-      let m : k + 1 + n ≡ k + suc n = omega arith in
-      (r.0, r.1 ∙ ap (λ q. Some (of_class w applets r.0 q c)) m)
-
 pub public-methods : (files : Files) (applets : Bool) (c : Class) → class_at (all_classes files) false c.number ≡ Some c
     → public_methods_of (assigned applets files) c.number ≡ (if is_interface c.flags
     then interface_row (all_classes files) c else row (line_at (all_classes files) c))
 unfolding assigned
 public-methods files applets c there =
     let t = at-tree files c.number c there in
-    let r = at-number (all_classes files) applets 0 0 files.classes c.number t.0 t.1 in
-    let m : 0 + c.number ≡ c.number = omega arith in
-    ap public_in (r.1 ∙ ap (λ q. Some (of_class (all_classes files) applets r.0 q t.0)) m)
+    let r = kept-at files applets c.number t.0 t.1 in
+    ap public_in r.1
     ∙ ap (λ (q : Class). if is_interface q.flags then interface_row (all_classes files) q
     else row (line_at (all_classes files) q)) (sym t.2)
 

@@ -15,7 +15,7 @@ use Rattle.cjc_world.specs.Exported.{is_exported}
 use Rattle.cjc_world.specs.Lookup.{member_at}
 use Rattle.cjc_tokens.specs.Fields.{cells, cells_of, field_token, field_tokens, group, instance_cells, instance_token}
 use Rattle.cjc_tokens.specs.Fields.{is_instance, is_open_static}
-use Rattle.cjc_tokens.specs.Tokens.{OfClass, assigned, classes_from, joined, method_tokens, of_class, one_more}
+use Rattle.cjc_tokens.specs.Tokens.{OfClass, assigned, joined, method_tokens}
 use Rattle.cjc_tokens.specs.Rules.{at_class, breaks_from, breaks_where, has_high_token, token_breaks}
 use Rattle.cjc_tokens.proofs.Sums.{some_cells, cells-cons}
 use Rattle.cjc_components.specs.Package.{Package, has_applets, world}
@@ -23,22 +23,9 @@ use Rattle.cjc_components.specs.Names.{member_token}
 use Rattle.cjc_exported.proofs.ExportLaws.Own.{IsOwn}
 use Rattle.cjc_world.proofs.BytesLists.{none_left, none_right}
 use Rattle.cjc_world.proofs.BytesGets.{in_front}
+use Rattle.cjc_tokens.proofs.Means.{kept-at}
 
 -- ---- where a token stands
-
-class_row : (w : List Class) (applets : Bool) (b m : ℕ) (cs : List ClassTree) (n : ℕ) (c : ClassTree)
-    → slice_get cs n ≡ Some c → (a : ℕ) × (slice_get (classes_from w applets b m cs) n
-    ≡ Some (of_class w applets a (m + n) c))
-unfolding classes_from
-class_row w applets b m [] n c e = cc
-class_row w applets b m (x ∷ cs) zero c e =
-    let same : x ≡ c = cc in
-    let z : m ≡ m + 0 = omega arith in
-    (b, ap (λ (t : ClassTree). Some (of_class w applets b m t)) same ∙ ap (λ k. Some (of_class w applets b k c)) z)
-class_row w applets b m (x ∷ cs) (suc n) c e =
-    let r = class_row w applets (one_more (is_exported w applets (declared m x)) b) (m + 1) cs n c e in
-    let s : m + 1 + n ≡ m + suc n = omega arith in
-    (r.0, r.1 ∙ ap (λ k. Some (of_class w applets r.0 k c)) s)
 
 field_row : (exported : Bool) (fs : List FieldTree) (i : ℕ) (rest : List FieldTree) (k : ℕ) (f : FieldTree)
     → slice_get rest k ≡ Some f → slice_get (field_tokens exported fs i rest) k
@@ -63,20 +50,19 @@ field_has p c own k f at =
     let files = p.files in
     let w = world p in
     let applets = has_applets p in
-    let r = class_row w applets 0 0 files.classes n t own.is_tree in
+    let r = kept-at files applets n t own.is_tree in
     let row = r.1 in
-    let z : 0 + n ≡ n = omega arith in
     let zk : 0 + k ≡ k = omega arith in
-    let exported : is_exported w applets (declared (0 + n) t) ≡ true = ap (λ j. is_exported w applets (declared j t)) z
-    ∙ ap (is_exported w applets) (sym own.is) ∙ own.exported in
-    let front = field_row (is_exported w applets (declared (0 + n) t)) t.fields 0 t.fields k f at in
-    let member = in_front (field_tokens (is_exported w applets (declared (0 + n) t)) t.fields 0 t.fields)
-    (method_tokens w (is_exported w applets (declared (0 + n) t)) (declared (0 + n) t)) k _ front in
+    let exported : is_exported w applets (declared n t) ≡ true = ap (is_exported w applets) (sym own.is)
+    ∙ own.exported in
+    let front = field_row (is_exported w applets (declared n t)) t.fields 0 t.fields k f at in
+    let member = in_front (field_tokens (is_exported w applets (declared n t)) t.fields 0 t.fields)
+    (method_tokens w (is_exported w applets (declared n t)) (declared n t)) k _ front in
     ap (λ (d : Class). member_token p (Some (member_at d k))) own.is
     ∙ ap (λ (o : Option OfClass). unwrap_or (option_and_then (λ (x : OfClass). joined (slice_get x.members k)) o) 0xFF)
     row
     ∙ ap (λ (o : Option (Option ℕ)). unwrap_or (joined o) 0xFF) member
-    ∙ ap (λ j. unwrap_or (field_token (is_exported w applets (declared (0 + n) t)) t.fields j f) 0xFF) zk
+    ∙ ap (λ j. unwrap_or (field_token (is_exported w applets (declared n t)) t.fields j f) 0xFF) zk
     ∙ ap (λ b. unwrap_or (field_token b t.fields k f) 0xFF) exported
 
 -- ---- static fields

@@ -3,7 +3,7 @@
 
 ghost use Rattle.std.specs.Prelude.{◌≡◌, ◌+◌, ◌++◌, map, IfOk, OnOk};
 ghost use Rattle.cjc_pool.specs.CheckRules.Locations.{catch_places};
-ghost use Rattle.cjc_methods.specs.Component.Working.Parts.{catch_place};
+ghost use Rattle.cjc_check.specs.Jumps.Listing.{catch_place};
 
 use cjc_bytes::{NoMemory, Row};
 use cjc_components::capread::Handler;

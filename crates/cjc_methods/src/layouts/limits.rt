@@ -12,8 +12,8 @@ ghost use Rattle.cjc_methods.specs.Ready.{IsOwn};
 
 use crate::method_spot;
 use cjc_bytes::{Break, NoMemory, RulePlace, broken, first};
-use cjc_components::narrow::keys::number;
 use cjc_components::ncode::NMethod;
+use cjc_narrow::keys::number;
 use cjc_pool::MOST_ENTRIES;
 use cjc_world::{Found, World};
 use std::alloc::Global;

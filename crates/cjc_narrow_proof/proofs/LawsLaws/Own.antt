@@ -40,7 +40,7 @@ use Rattle.cjc_vtable.proofs.ClassOrderStanding.{class_count-cons}
 -- ---- what is broken at a class file
 
 -- nothing at the class of this number and at its members
-IsClean : Files → List Class → ℕ → ClassTree → Type 0
+unfoldable pub IsClean : Files → List Class → ℕ → ClassTree → Type 0
 IsClean files w n c = (file : FileKey) × (name : List ℕ) × (class_breaks files.package_name file name 1 w (declared n c)
     ≡ [])
 
@@ -50,7 +50,7 @@ clean_file : (files : Files) (w : List Class) (file : FileKey) (name : List ℕ)
 unfolding IsClean
 clean_file files w file name n t is e = (file, name, sym (ap (class_file_breaks files file name w n) is) ∙ e)
 
-clean_from : (files : Files) (w : List Class) (k c e i : ℕ) (lines : List FileLine) (n : ℕ) (t : ClassTree)
+pub clean_from : (files : Files) (w : List Class) (k c e i : ℕ) (lines : List FileLine) (n : ℕ) (t : ClassTree)
     → slice_get files.classes n ≡ Some t → breaks_from files w k c e i lines ≡ [] → c ≤ n → n < c + class_count lines
     → IsClean files w n t
 unfolding breaks_from
@@ -100,11 +100,12 @@ pub record KeepsOwn (package_name : List ℕ) (w : List Class) (n : ℕ) (c : Cl
       → (is_twice (map method_of_class c.methods) k m.name m.desc ≡ false) × (is_desc_missing w m.desc ≡ false)
 
 module _ (file : FileKey) (file_name : List ℕ) (w : List Class) (c : Class) (field : Bool) where
-  abbrev of_member : ℕ → Member → List ℕ
+  abbrev pub of_member : ℕ → Member → List ℕ
   of_member i m = member_rules w c (members field c) i m.name m.desc
 
-  clean_members : (i : ℕ) (ms : List Member) (k : ℕ) (m : Member) → members_from file file_name 1 w c field i ms ≡ []
-      → slice_get ms k ≡ Some m → of_member (i + k) m ≡ []
+  -- nothing is broken at one of the members
+  pub clean_members : (i : ℕ) (ms : List Member) (k : ℕ) (m : Member)
+      → members_from file file_name 1 w c field i ms ≡ [] → slice_get ms k ≡ Some m → of_member (i + k) m ≡ []
   unfolding members_from
   clean_members i [] k m e is = cc
   clean_members i (x ∷ ms) zero m e is =

@@ -45,11 +45,11 @@ use Rattle.cjc_narrow_proof.proofs.SelectedLaws.Sizes.{code_low, widest_is}
 module _ (files : Files) (code : MethodCode) (class : ClassTree) (method : MethodTree) (tree : CodeTree)
     (is : IsMethodOf files code class method tree)
     (rows : List (Option State)) (least : IsLeastTable (body_of class method tree code.insns) rows) where
-  closed : IsClosedTable (body_of class method tree code.insns) rows
+  pub closed : IsClosedTable (body_of class method tree code.insns) rows
   closed = least_closed (body_of class method tree code.insns) rows least (few files code class method tree is)
 
   -- an instruction that goes on leads to the next
-  next_on : (at : ℕ) (i : JInsn) → goes_on i.op ≡ true → at + 1 < length code.insns
+  pub next_on : (at : ℕ) (i : JInsn) → goes_on i.op ≡ true → at + 1 < length code.insns
       → Contains (successors code.insns at i.op) (at + 1)
   next_on at i goes lt =
       Contains-append_left _ _ (at + 1) (subst (λ b. Contains (next_place b (length code.insns) at) (at + 1)) (sym goes)

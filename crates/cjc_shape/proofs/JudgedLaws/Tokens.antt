@@ -218,13 +218,13 @@ listed_at [] i m e = cc
 listed_at (x ∷ ms) zero m e = (x, refl, cc)
 listed_at (x ∷ ms) (suc i) m e = listed_at ms i m e
 
-module _ (files : Files) (applets : Bool) (writable : (e : ℕ) (t : ExportTree) → slice_get files.exports e ≡ Some t
-    → IsWritable t) where
-  in_export : (n : ℕ) (c : ExportClass) → slice_get (imports files.exports) n ≡ Some c
-      → (name desc : List ℕ) (f : Found) → IsOwn (imported n c) name desc f → is_initialiser name ≡ false
-      → (t : ℕ) × (token_of_member (assigned applets files) f ≡ Some t) × (t < 256)
+-- a method of an export file has the token that its file gives it
+module _ (files : Files) (applets : Bool) where
+  pub import_token : (n : ℕ) (c : ExportClass) → slice_get (imports files.exports) n ≡ Some c
+      → (name desc : List ℕ) (f : Found) → (own : IsOwn (imported n c) name desc f) → is_initialiser name ≡ false
+      → token_of_member (assigned applets files) f ≡ (let m = own.member in Some m.token)
   unfolding assigned
-  in_export n c there name desc f own plain =
+  import_token n c there name desc f own plain =
       let d = imported n c in
       let i = own.place in
       let fields = map listed_field_token c.fields in
@@ -237,17 +237,27 @@ module _ (files : Files) (applets : Bool) (writable : (e : ℕ) (t : ExportTree)
       let m = listed_at c.methods i own.member own.is_member in
       let named : is_initialiser m.0.name ≡ false = ap (λ (x : Member). is_initialiser x.name) m.2
       ∙ ap is_initialiser own.has_name ∙ plain in
+      ap (token_of_member (assigned applets files)) own.is_place
+      ∙ ap (option_and_then (λ k. joined (slice_get k (length d.fields + i)))) kept
+      ∙ ap (λ k. joined (slice_get (fields ++ methods) (k + i))) counted
+      ∙ ap joined (get_behind fields methods i)
+      ∙ ap joined (slice_get-map listed_method_token c.methods i)
+      ∙ ap (λ o. joined (option_map listed_method_token o)) m.1
+      ∙ ap (λ b. if b then None else Some m.0.token) named
+      ∙ ap (λ (x : Member). Some x.token) m.2
+
+module _ (files : Files) (applets : Bool) (writable : (e : ℕ) (t : ExportTree) → slice_get files.exports e ≡ Some t
+    → IsWritable t) where
+  in_export : (n : ℕ) (c : ExportClass) → slice_get (imports files.exports) n ≡ Some c
+      → (name desc : List ℕ) (f : Found) → IsOwn (imported n c) name desc f → is_initialiser name ≡ false
+      → (t : ℕ) × (token_of_member (assigned applets files) f ≡ Some t) × (t < 256)
+  in_export n c there name desc f own plain =
+      let m = listed_at c.methods own.place own.member own.is_member in
       let tree = of-imports c files.exports (get-has c (imports files.exports) n there) in
       let place = has-get tree.0 files.exports tree.1 in (
         m.0.token,
-        ap (token_of_member (assigned applets files)) own.is_place
-            ∙ ap (option_and_then (λ k. joined (slice_get k (length d.fields + i)))) kept
-            ∙ ap (λ k. joined (slice_get (fields ++ methods) (k + i))) counted
-            ∙ ap joined (get_behind fields methods i)
-            ∙ ap joined (slice_get-map listed_method_token c.methods i)
-            ∙ ap (λ o. joined (option_map listed_method_token o)) m.1
-            ∙ ap (λ b. if b then None else Some m.0.token) named,
-        small_token tree.0 c m.0 (writable place.0 tree.0 place.1) tree.2 (get-has m.0 c.methods i m.1),
+        import_token files applets n c there name desc f own plain ∙ ap (λ (x : Member). Some x.token) (sym m.2),
+        small_token tree.0 c m.0 (writable place.0 tree.0 place.1) tree.2 (get-has m.0 c.methods own.place m.1),
       )
 
 -- ---- any class

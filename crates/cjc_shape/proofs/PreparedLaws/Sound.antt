@@ -46,7 +46,8 @@ counted : (b : Bool) → b ≡ true → ◌≡◌ {A = ℕ} (cond b 1 0) 1
 counted true e = refl
 counted false e = cc
 
-lines_few : (lines : List FileLine) (files : List (List ℕ)) (trees : List FileTree) → AllSpelt lines files trees
+-- there are no more class files than lines of class files
+pub lines_few : (lines : List FileLine) (files : List (List ℕ)) (trees : List FileTree) → AllSpelt lines files trees
     → length (classes_of trees) ≤ class_count lines
 lines_few [] files trees h = let none : trees ≡ [] = h.1 in subst (λ ts. length (classes_of ts) ≤ 0) (sym none)
     (omega arith)

@@ -1,22 +1,21 @@
 -- The methods of an exported interface can stand in an export file: each has a token of its own below their number, and
 -- none is named as a constructor or an initialiser is.
-use Rattle.std.proofs.Common.{◌≡◌, ℕ, zero, suc, ◌+◌, ◌*◌, ◌-◌, ◌<◌, ◌≤◌, ◌^◌, refl, sym, ap, subst, ◌∙◌, arith, Bool}
+use Rattle.std.proofs.Common.{◌≡◌, ℕ, zero, suc, ◌+◌, ◌-◌, ◌<◌, ◌≤◌, ◌^◌, refl, sym, ap, subst, ◌∙◌, arith, Bool}
 use Rattle.std.proofs.Common.{true, false, List, [], ◌∷◌, ◌++◌, length, map, ⊎_elim, Option, Some, None}
-use Rattle.std.specs.Prelude.{not, ◌&&◌, ◌||◌, ◌/◌, ◌%◌, count_by, nat_lt, option_and_then, option_map, position}
+use Rattle.std.specs.Prelude.{not, ◌&&◌, ◌||◌, count_by, nat_lt, option_and_then, option_map, position}
 use Rattle.std.specs.Prelude.{slice_get, unwrap_or, if◌then◌else◌}
 use Rattle.std.proofs.lemmas.Bool.{ltb-false}
 use Rattle.std.proofs.lemmas.Bool.Decides.{nat_tests}
 use Rattle.std.proofs.lemmas.List.{length-map}
-use Rattle.std.proofs.lemmas.Nat.Bits.{and_pow}
 use Rattle.std.proofs.lemmas.Option.{slice_get-map, slice_get_cases, slice_get_within}
-use Rattle.cjc_bytes.specs.AccessFlags.{acc_shareable, acc_super, is_abstract, is_interface}
+use Rattle.cjc_bytes.specs.AccessFlags.{is_abstract, is_interface}
 use Rattle.cjc_bytes.proofs.Bools.{or_left}
 use Rattle.cjc_bytes.proofs.Gets.{in_front as at_front, get_behind, mapped_at}
 use Rattle.cjc_world.specs.ClassFile.declared.tree.ClassTree.{ClassTree}
 use Rattle.cjc_components.specs.Class.{is_shareable}
 use Rattle.cjc_components.specs.Descriptor.{as_added, method_in, methods_with_added, no_member}
 use Rattle.cjc_components.specs.ExportFile.{added_from, declares, export_class, inherited, inherited_from, is_listed}
-use Rattle.cjc_components.specs.ExportFile.{method_entry, method_meant, methods_from, supers_from, without}
+use Rattle.cjc_components.specs.ExportFile.{method_entry, method_meant, methods_from, supers_from}
 use Rattle.cjc_components.specs.Exports.{exported_classes}
 use Rattle.cjc_components.specs.Names.{member_token}
 use Rattle.cjc_components.specs.Package.{Package, has_applets, world}
@@ -67,32 +66,7 @@ use Rattle.cjc_shape_proof.proofs.WritingLaws.Signatures.{asked_plain, new_has, 
 use Rattle.cjc_classes.proofs.KeyTokens.Kept.{fields_long}
 use Rattle.cjc_check_proof.proofs.TokenProofFiled.{has-front}
 use Rattle.cjc_check_proof.proofs.ClassesLaws.Lists.{has-back, has-mapped}
-
--- ---- flags
-
--- the flags of an exported class tell an interface as those of its file do
-interface_kept : (f : ℕ) (shareable : Bool) → is_interface (without (without f acc_super) acc_shareable + (if shareable
-    then acc_shareable else 0)) ≡ is_interface f
-interface_kept f shareable = ap (nat_lt 0) (and_pow r 9 ∙ ap (λ b. b * 2 ^ 9) (by shareable) ∙ sym (and_pow f 9))
-  where
-    g : ℕ
-    g = without f acc_super
-
-    h : ℕ
-    h = without g acc_shareable
-
-    r : ℕ
-    r = h + (if shareable then acc_shareable else 0)
-
-    first : g ≡ f - f / 32 % 2 * 32
-    first = ap (λ b. f - b) (and_pow f 5)
-
-    second : h ≡ g - g / 2048 % 2 * 2048
-    second = ap (λ b. g - b) (and_pow g 11)
-
-    by : (b : Bool) → (h + (if b then acc_shareable else 0)) / 512 % 2 ≡ f / 512 % 2
-    by true = omega (arith, first, second)
-    by false = omega (arith, first, second)
+use Rattle.cjc_shape_proof.proofs.WritingLaws.Flags.{interface_kept}
 
 -- ---- names and look-up
 

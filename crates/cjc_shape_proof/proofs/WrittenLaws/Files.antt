@@ -7,7 +7,6 @@ use Rattle.cjc_bytes.specs.Descriptor.{IsClassName}
 use Rattle.cjc_bytes.specs.Format.{FileSpells}
 use Rattle.cjc_bytes.specs.declared.settings.FileLine.{FileLine}
 use Rattle.cjc_bytes.proofs.Gets.{all_at}
-use Rattle.cjc_bytes.proofs.Numbers.{one_file}
 use Rattle.cjc_world.proofs.ClassFileFitting.{spelt_fits}
 use Rattle.cjc_world.specs.ClassFile.ClassFile.{class_file}
 use Rattle.cjc_world.specs.ClassFile.Fits as fits
@@ -15,7 +14,7 @@ use Rattle.cjc_world.specs.ClassFile.declared.tree.ClassTree.{ClassTree}
 use Rattle.cjc_clinit.specs.Image.{IsImage}
 use Rattle.cjc_check_proof.specs.WorldProof.Initialisers.Values.{StandOnce}
 use Rattle.cjc_clinit.specs.Bytecode.PackageCodes.{all_codes}
-use Rattle.cjc_components.specs.Package.{Package, world}
+use Rattle.cjc_components.specs.Package.{Package}
 use Rattle.cjc_shape.specs.LowerJudge.Rules.{settings_of}
 use Rattle.cjc_shape.specs.LowerJudge.Spelt.{FileTree, classes_of, exports_of}
 use Rattle.cjc_shape.specs.LowerJudge.Spelt as spelt_files
@@ -39,28 +38,10 @@ use Rattle.cjc_shape.proofs.WholeLaws.Second.{package_is_draft}
 use Rattle.cjc_world.specs.Files.{Files}
 use Rattle.cjc_world.specs.Rules.{breaks}
 use Rattle.cjc_check_proof.specs.TokenProof.WrittenCalls.Standing.{AreMethods}
-use Rattle.cjc_check_proof.proofs.TokenProofFiled.{export_count-cons}
 use Rattle.cjc_shape_proof.specs.Written.Converted.{IsConverted}
 use Rattle.cjc_shape_proof.proofs.WrittenLaws.PackageNames.{package_named}
 use Rattle.cjc_shape_proof.proofs.WrittenLaws.FittingLaws.Initialisers.{stand_once}
-
--- ---- the lines
-
-exports_few : (lines : List FileLine) (files : List (List ℕ)) (trees : List FileTree) → AllSpelt lines files trees
-    → length (exports_of trees) ≤ export_count lines
-exports_few [] files trees h = let none : trees ≡ [] = h.1 in subst (λ ts. length (exports_of ts) ≤ 0) (sym none)
-    (omega arith)
-exports_few (line ∷ lines) [] trees h = absurd h
-exports_few (line ∷ lines) (bytes ∷ files) [] h = absurd h
-exports_few (line ∷ lines) (bytes ∷ files) (spelt_files.of_class tree ∷ trees) h =
-    let rest = exports_few lines files trees h.1 in
-    let all = export_count-cons line lines in
-    omega (arith, rest, all)
-exports_few (line ∷ lines) (bytes ∷ files) (spelt_files.of_export tree ∷ trees) h =
-    let rest = exports_few lines files trees h.1 in
-    let one = one_file line.class_file h.0.0 in
-    let all = export_count-cons line lines in
-    omega (arith, rest, one, all)
+use Rattle.cjc_shape_proof.proofs.WrittenLaws.Lines.{exports_few}
 
 -- ---- the files
 

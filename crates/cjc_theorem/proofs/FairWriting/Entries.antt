@@ -1,12 +1,12 @@
 -- What holds of each method that the export file of a package lists of its classes.
-use Rattle.std.proofs.Common.{◌≡◌, ℕ, zero, suc, ◌+◌, ◌-◌, refl, sym, ap, subst, ◌∙◌, arith, Bool, true, false, List}
+use Rattle.std.proofs.Common.{◌≡◌, ℕ, ◌+◌, ◌-◌, refl, sym, ap, subst, ◌∙◌, arith, Bool, true, false, List}
 use Rattle.std.proofs.Common.{[], ◌∷◌, ◌++◌, length, map, ⊎_elim, Option, Some, None}
 use Rattle.std.specs.Prelude.{not, ◌&&◌, ◌||◌, option_map, position, slice_get, unwrap_or, if◌then◌else◌, is_some}
 use Rattle.std.proofs.lemmas.Option.{slice_get-map}
-use Rattle.cjc_bytes.specs.AccessFlags.{acc_native, acc_strict, acc_synchronized, has, is_abstract, is_interface}
+use Rattle.cjc_bytes.specs.AccessFlags.{is_interface}
 use Rattle.cjc_bytes.specs.AccessFlags.{is_private, is_protected, is_public, is_static}
 use Rattle.cjc_bytes.specs.declared.settings.Settings.{Settings}
-use Rattle.cjc_bytes.proofs.Bools.{both_front, both_back, or_left, or_right}
+use Rattle.cjc_bytes.proofs.Bools.{both_front, both_back}
 use Rattle.cjc_bytes.proofs.Gets.{in_front, get_behind, mapped_at}
 use Rattle.cjc_code.specs.ClassFile.declared.tree.ClassTree.{ClassTree}
 use Rattle.cjc_code.specs.declared.method_code.MethodCode.{MethodCode}
@@ -23,7 +23,7 @@ use Rattle.cjc_shape_proof.proofs.WrittenLaws.FittingLaws.Standing.{IsInheritedA
 use Rattle.cjc_token_proof.proofs.TablesLaws.Clean.{own_name}
 use Rattle.cjc_token_proof.proofs.TablesLaws.Filed.{own_in, has-front}
 use Rattle.cjc_subset.specs.Checks.{check_breaks}
-use Rattle.cjc_subset.specs.Flags.{has_two_accesses, is_unfit_method}
+use Rattle.cjc_subset.specs.Flags.{has_two_accesses}
 use Rattle.cjc_token_proof.specs.Tables.Sound.{IsSound}
 use Rattle.cjc_tokens.proofs.Facts.{same-true}
 use Rattle.cjc_tokens.specs.Lines.{Declared, Imported, line_at, line_in, line_of}
@@ -33,7 +33,7 @@ use Rattle.cjc_tokens.specs.Methods.{interface_methods, interface_row}
 use Rattle.cjc_tokens.specs.Slots.{got, implementing, meant_by, own, row, shown_token, slots, token}
 use Rattle.cjc_world.proofs.UpwardLaws.Lines.{first_has, has-cons, line_named, listed_line}
 use Rattle.cjc_world.specs.Upwards.{IsOrdered}
-use Rattle.cjc_vtable.proofs.Filed.{Has, at-number, at_front, behind}
+use Rattle.cjc_vtable.proofs.Filed.{Has, at-number}
 use Rattle.cjc_vtable.proofs.Filed.{has-either}
 use Rattle.cjc_vtable.proofs.SlotNames.{position-at}
 use Rattle.cjc_vtable.proofs.Worlds.{told-class}
@@ -41,16 +41,18 @@ use Rattle.cjc_vtable.specs.Calls.{IsTold}
 use Rattle.cjc_vtable.specs.Laws.{KeepsRules}
 use Rattle.cjc_world.proofs.Cycles.{class_named-name}
 use Rattle.cjc_world.proofs.Settled.{AreSupertypes-one, supertypes-AreSupertypes, supertypes-known}
-use Rattle.cjc_world.specs.Added.{added, asked_by, declares_open, has_open, is_one_of, lacking, own_methods}
+use Rattle.cjc_world.specs.Added.{added, asked_by, declares_open, has_open, lacking, own_methods}
 use Rattle.cjc_world.specs.Added.{takes_added}
 use Rattle.cjc_world.specs.Classes.{Class, Member, class_named, declared, field_of_class, method_of_class}
 use Rattle.cjc_world.specs.Classes.{method_of_export}
 use Rattle.cjc_world.specs.Supertypes.{End, AreSupertypes, Supertypes, Known, Unknown, ends, supertypes, known_here}
 use Rattle.cjc_world.specs.Supertypes.{unknown_here, upwards}
-use Rattle.cjc_world.specs.Lookup.{first, is_called, member_at, or_else}
+use Rattle.cjc_world.specs.Lookup.{is_called, member_at, or_else}
 use Rattle.cjc_world.specs.declared.found.Found.{Found}
 use Rattle.cjc_shape_proof.proofs.WritingLaws.Signatures.{asked_plain}
 use Rattle.cjc_theorem.proofs.FairWriting.Once.{place_token}
+use Rattle.cjc_shape_proof.proofs.WritingLaws.Lacking.{lacking_has}
+use Rattle.cjc_shape_proof.proofs.WritingLaws.Flags.{one_access}
 
 -- ---- tests and lists
 
@@ -65,19 +67,6 @@ virtual_plain m e = by (is_private m.flags) (is_static m.flags) (is_constructor 
     by false false false true e = cc
     by false false false false e = (refl, refl)
 
--- a method that breaks no 304 has one access at most
-one_access : (interface : Bool) (flags : ℕ) (name : List ℕ) (coded : Bool) → is_unfit_method interface flags name coded
-    ≡ false → has_two_accesses flags ≡ false
-one_access interface flags name coded fit =
-    let A = has flags acc_native || has flags acc_synchronized || has flags acc_strict || has_two_accesses flags in
-    let kind = A || (is_abstract flags && (is_static flags || is_private flags)) in
-    let special = is_abstract flags && (is_constructor name || is_initialiser name) in
-    let bare = is_initialiser name && not (is_static flags) in
-    let three = or_left (kind || special || bare) (interface && coded && not (is_initialiser name)) fit in
-    let first = or_left kind special (or_left (kind || special) bare three) in
-    or_right (has flags acc_native || has flags acc_synchronized || has flags acc_strict) (has_two_accesses flags)
-    (or_left A (is_abstract flags && (is_static flags || is_private flags)) first)
-
 exposed_visible : (flags : ℕ) → has_two_accesses flags ≡ false → is_exposed flags ≡ true → is_private flags ≡ false
 exposed_visible flags one e = by (is_public flags) (is_protected flags) (is_private flags) one e
   where
@@ -86,21 +75,6 @@ exposed_visible flags one e = by (is_public flags) (is_protected flags) (is_priv
     by true b true e f = cc
     by false true true e f = cc
     by false false true e f = cc
-
-lacking_has : (there : Member → Bool) (given ms : List Member) (k : ℕ) (m : Member)
-    → slice_get (lacking there given ms) k ≡ Some m → Has m ms
-unfolding lacking
-lacking_has there given [] k m e = cc
-lacking_has there given (x ∷ ms) k m e = by (there x || is_one_of given x.name x.desc) k e (λ j f. lacking_has there
-    given ms j m f) (λ j f. lacking_has there (given ++ x ∷ []) ms j m f)
-  where
-    by : (b : Bool) (k : ℕ) → slice_get (if b then lacking there given ms else x ∷ lacking there (given ++ x ∷ []) ms) k
-        ≡ Some m
-        → ((j : ℕ) → slice_get (lacking there given ms) j ≡ Some m → Has m ms)
-        → ((j : ℕ) → slice_get (lacking there (given ++ x ∷ []) ms) j ≡ Some m → Has m ms) → Has m (x ∷ ms)
-    by true k e old fresh = behind (old k e)
-    by false zero e old fresh = let same : x ≡ m = cc in subst (λ (y : Member). Has y (x ∷ ms)) same at_front
-    by false (suc k) e old fresh = behind (fresh k e)
 
 -- a method that a class got is no initialiser
 added_plain : (w : List Class) (c : Class) (k : ℕ) (m : Member) → slice_get (added w c) k ≡ Some m

@@ -1,16 +1,15 @@
 -- The export file that a package writes is fair with files beside it that are fair: field by field.
-use Rattle.std.proofs.Common.{◌≡◌, ℕ, ◌+◌, ◌-◌, ◌*◌, ◌^◌, refl, sym, ap, subst, ◌∙◌, arith, Bool, true, false}
+use Rattle.std.proofs.Common.{◌≡◌, ℕ, ◌+◌, ◌-◌, refl, sym, ap, subst, ◌∙◌, Bool, true, false}
 use Rattle.std.proofs.Common.{List, [], ◌∷◌, ◌++◌, map, inl, inr, ⊎_elim, Some}
-use Rattle.std.specs.Prelude.{◌⊎◌, not, ◌&&◌, ◌/◌, ◌%◌, nat_lt, slice_get, if◌then◌else◌}
-use Rattle.std.proofs.lemmas.Nat.Bits.{and_pow}
+use Rattle.std.specs.Prelude.{◌⊎◌, not, ◌&&◌, slice_get}
 use Rattle.std.proofs.lemmas.Bool.{and_from}
-use Rattle.cjc_bytes.specs.AccessFlags.{acc_shareable, acc_super, is_interface}
+use Rattle.cjc_bytes.specs.AccessFlags.{is_interface}
 use Rattle.cjc_bytes.specs.declared.settings.Settings.{Settings}
 use Rattle.cjc_bytes.proofs.Gets.{mapped_at}
 use Rattle.cjc_bytes.proofs.Plain.{no_both}
 use Rattle.cjc_code.specs.declared.method_code.MethodCode.{MethodCode}
 use Rattle.cjc_components.specs.Class.{is_shareable}
-use Rattle.cjc_components.specs.ExportFile.{export_class, export_of, without}
+use Rattle.cjc_components.specs.ExportFile.{export_class, export_of}
 use Rattle.cjc_components.specs.Exports.{exported_classes}
 use Rattle.cjc_components.specs.Package.{Package, world}
 use Rattle.cjc_world.specs.ExportFile.declared.tree.ExportClass.{ExportClass}
@@ -47,32 +46,7 @@ use Rattle.cjc_theorem.proofs.FairWriting.Hidden.{both_told, hidden_alone}
 use Rattle.cjc_theorem.specs.Built.{AreDistinct, StandsOver}
 use Rattle.cjc_theorem.specs.FairExports.Fair.{ExportsAreFair, world_of}
 use Rattle.cjc_theorem.proofs.AlikeLaws.VirtualCalls.MethodKinds.{in_get}
-
--- ---- flags
-
--- the flags of an exported class tell an interface as those of its file do
-interface_kept : (f : ℕ) (shareable : Bool) → is_interface (without (without f acc_super) acc_shareable + (if shareable
-    then acc_shareable else 0)) ≡ is_interface f
-interface_kept f shareable = ap (nat_lt 0) (and_pow r 9 ∙ ap (λ b. b * 2 ^ 9) (by shareable) ∙ sym (and_pow f 9))
-  where
-    g : ℕ
-    g = without f acc_super
-
-    h : ℕ
-    h = without g acc_shareable
-
-    r : ℕ
-    r = h + (if shareable then acc_shareable else 0)
-
-    first : g ≡ f - f / 32 % 2 * 32
-    first = ap (λ b. f - b) (and_pow f 5)
-
-    second : h ≡ g - g / 2048 % 2 * 2048
-    second = ap (λ b. g - b) (and_pow g 11)
-
-    by : (b : Bool) → (h + (if b then acc_shareable else 0)) / 512 % 2 ≡ f / 512 % 2
-    by true = omega (arith, first, second)
-    by false = omega (arith, first, second)
+use Rattle.cjc_shape_proof.proofs.WritingLaws.Flags.{interface_kept}
 
 -- ---- lists
 

@@ -45,7 +45,7 @@ use Rattle.cjc_shape_proof.specs.Intervals.Frames.{RangeState}
 use Rattle.cjc_shape_proof.specs.Intervals.Tables.{IsLeastRanges}
 use Rattle.cjc_token_proof.specs.Script.declared.script.Script.{Script}
 use Rattle.cjc_shape_proof.specs.WorldProof.Files.{ExportsAreSound}
-use Rattle.cjc_theorem.proofs.SoundRuns.Begins.{begins}
+use Rattle.cjc_narrow_proof.proofs.SelectedLaws.SomeInsns.{some_insns}
 use Rattle.cjc_theorem.proofs.SoundRuns.Coded.{IsCoded}
 use Rattle.cjc_theorem.proofs.SoundRuns.Laid.{IsOfFile, bare_code, id_of, none_among, of_file, told_among}
 use Rattle.cjc_theorem.proofs.SoundRuns.Lookups.{same_look_ups}
@@ -91,7 +91,8 @@ module _ (list : ListTree) (files : List (List ℕ)) (judged : Judged) (is : IsS
   least_of n i class method tree e f g plain =
       has_least judged.world judged.codes judged.types ready own_rows (rows_are list files judged is) least n i class
       method tree e f g plain (read_of judged.world (read_files list files judged is) n class e) (fitting n class e)
-      (λ code of. begins judged.world code class method tree of) (λ k code is_code of. ranges_pass list files judged is
+      (λ code of. some_insns judged.world code class method tree of)
+      (λ k code is_code of. ranges_pass list files judged is
       k code is_code class method tree of)
 
   found : (m : Method) (at : ℕ) (t : State) → HasRow (own_tables.types m) at t → IsCoded world.classes m

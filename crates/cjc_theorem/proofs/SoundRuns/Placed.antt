@@ -9,18 +9,15 @@ use Rattle.cjc_jvm_semantics.specs.Linked.{Method}
 use Rattle.cjc_jvm_semantics.specs.OnePackage.{is_constructor, is_initialiser, method_at, method_by, method_in}
 use Rattle.cjc_bytes.specs.AccessFlags.{is_abstract, is_interface, is_static}
 use Rattle.cjc_bytes.specs.Descriptor.{IsClassName, IsName, inside, last, more, simple}
-use Rattle.cjc_bytes.specs.declared.settings.FileLine.{FileLine}
 use Rattle.cjc_bytes.proofs.Bools.{or_right}
-use Rattle.cjc_bytes.proofs.Numbers.{first_byte, one_file}
+use Rattle.cjc_bytes.proofs.Numbers.{first_byte}
 use Rattle.cjc_token_proof.proofs.WorldProofOwn.{mapped_at, method_is}
 use Rattle.cjc_code.specs.ClassFile.Code.{CodeTree}
 use Rattle.cjc_code.specs.ClassFile.declared.tree.ClassTree.{ClassTree}
 use Rattle.cjc_code.specs.ClassFile.declared.tree.MethodTree.{MethodTree}
 use Rattle.cjc_world.specs.ExportFile.declared.tree.ExportClass.{ExportClass}
 use Rattle.cjc_shape_proof.specs.LowerJudge.Rules.{settings_of}
-use Rattle.cjc_shape_proof.specs.LowerJudge.Spelt.{FileTree, IsRead, exports_of}
-use Rattle.cjc_shape_proof.specs.LowerJudge.Spelt as spelt_files
-use Rattle.cjc_shape_proof.specs.LowerJudge.Trees.{AllSpelt}
+use Rattle.cjc_shape_proof.specs.LowerJudge.Spelt.{IsRead, exports_of}
 use Rattle.cjc_shape_proof.specs.LowerJudge.declared.judged.Judged.{Judged}
 use Rattle.cjc_token_proof.specs.List.Listed.{ListTree}
 use Rattle.cjc_narrow_proof.proofs.LawsLaws.Own.{class_by_name}
@@ -34,7 +31,7 @@ use Rattle.cjc_subset.specs.Members.{imports}
 use Rattle.cjc_token_proof.proofs.TablesLaws.Clean.{has_named}
 use Rattle.cjc_token_proof.proofs.TablesLaws.Order.{kind-has, kind-in}
 use Rattle.cjc_token_proof.specs.Tables.Sound.{IsSound as IsSoundPackage, export_count}
-use Rattle.cjc_token_proof.proofs.TablesLaws.Filed.{has-back, has-front, own_filed, export_count-cons}
+use Rattle.cjc_token_proof.proofs.TablesLaws.Filed.{has-back, has-front, own_filed}
 use Rattle.cjc_vtable.proofs.Filed.{Has, at_front, behind, get-has, has-get, has-either}
 use Rattle.cjc_world.specs.Added.{added}
 use Rattle.cjc_world.specs.Classes.{Class, Member, all_classes, declared, field_of_class, method_of_class}
@@ -43,6 +40,7 @@ use Rattle.cjc_world.specs.Lookup.{member_at}
 use Rattle.cjc_world.specs.Order.{in_order, method_order, methods_in_turn, methods_of_class, places, written}
 use Rattle.cjc_world.specs.Subtype.{starts}
 use Rattle.cjc_world.specs.declared.found.Found.{Found}
+use Rattle.cjc_shape_proof.proofs.WrittenLaws.Lines.{exports_few}
 
 -- ---- names
 
@@ -57,24 +55,6 @@ no_array name (simple n) = ap (starts 91) (sym (end name)) ∙ plain_name name [
     end [] = refl
     end (x ∷ xs) = ap (λ ys. x ∷ ys) (end xs)
 no_array _ (inside {front = front} {back = back} n rest) = plain_name front (47 ∷ back) n
-
--- ---- the lines
-
-exports_few : (lines : List FileLine) (files : List (List ℕ)) (trees : List FileTree) → AllSpelt lines files trees
-    → length (exports_of trees) ≤ export_count lines
-exports_few [] files trees h = let none : trees ≡ [] = h.1 in subst (λ ts. length (exports_of ts) ≤ 0) (sym none)
-    (omega arith)
-exports_few (line ∷ lines) [] trees h = absurd h
-exports_few (line ∷ lines) (bytes ∷ files) [] h = absurd h
-exports_few (line ∷ lines) (bytes ∷ files) (spelt_files.of_class tree ∷ trees) h =
-    let rest = exports_few lines files trees h.1 in
-    let all = export_count-cons line lines in
-    omega (arith, rest, all)
-exports_few (line ∷ lines) (bytes ∷ files) (spelt_files.of_export tree ∷ trees) h =
-    let rest = exports_few lines files trees h.1 in
-    let all = export_count-cons line lines in
-    let one = one_file line.class_file h.0.0 in
-    omega (arith, rest, all, one)
 
 -- ---- the order of methods
 

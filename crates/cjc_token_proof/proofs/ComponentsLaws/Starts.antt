@@ -38,13 +38,14 @@ starts_long size at (x ∷ xs) = ap suc (starts_long size (at + size x) xs)
 -- ---- infos
 
 module _ (ref other : List ℕ → ClassRef) (p : Package) where
-  interface_same : (i : Class) → interface_size (interface_entry ref (world p) i)
+  -- an info is as long with other class_refs
+  pub interface_same : (i : Class) → interface_size (interface_entry ref (world p) i)
       ≡ interface_size (interface_entry other (world p) i)
   interface_same i =
       let is = interfaces_of (world p) i in
       ap (λ n. 1 + 2 * n) (length-map is (λ s. ref s.name) ∙ sym (length-map is (λ s. other s.name)))
 
-  class_same : (c : Class) → class_size (class_entry ref p c) ≡ class_size (class_entry other p c)
+  pub class_same : (c : Class) → class_size (class_entry ref p c) ≡ class_size (class_entry other p c)
   class_same c =
       let table = table_of (world p) c in
       ap (λ n. 10 + 2 * length (let e = class_entry ref p c in e.public_methods) + 2 * length (let e = class_entry ref p

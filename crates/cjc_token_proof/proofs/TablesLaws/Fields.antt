@@ -13,7 +13,7 @@ use Rattle.cjc_world.specs.ClassFile.declared.tree.FieldTree.{FieldTree}
 use Rattle.cjc_card_semantics.specs.Machine.Loaded.{FieldName}
 use Rattle.cjc_clinit.specs.Image.{field_id}
 use Rattle.cjc_tokens.specs.Fields.{field_token, field_tokens, instance_token, is_instance, is_open_static}
-use Rattle.cjc_tokens.specs.Tokens.{OfClass, assigned, classes_from, joined, method_tokens, of_class, one_more}
+use Rattle.cjc_tokens.specs.Tokens.{OfClass, assigned, joined, method_tokens, of_class}
 use Rattle.cjc_tokens.specs.Tokens.{token_of_member}
 use Rattle.cjc_tokens.proofs.Facts.{position-cons}
 use Rattle.cjc_vtable.proofs.Filed.{Has}
@@ -38,6 +38,7 @@ use Rattle.cjc_token_proof.specs.Tables.Loading.{naming}
 use Rattle.cjc_token_proof.specs.Tables.Sound.{IsSound}
 use Rattle.cjc_token_proof.proofs.TablesLaws.Clean.{kept, own_name}
 use Rattle.cjc_token_proof.proofs.TablesLaws.Filed.{own_in}
+use Rattle.cjc_tokens.proofs.Means.{kept-at}
 
 pub first_here : {A : Type 0} (p : A → Bool) (xs : List A) (k : ℕ) (x : A) → slice_get xs k ≡ Some x → p x ≡ true
     → is_earlier (position p xs) k ≡ false → position p xs ≡ Some k
@@ -54,20 +55,6 @@ first_here p (y ∷ xs) (suc k) x e h once = position-cons p y xs
     by false None f rest = let none = rest refl in cc
     by false (Some j) f rest = let e : nat_lt j k ≡ nat_lt (suc j) (suc k) = grind arith
         in ap (option_map suc) (rest (e ∙ f))
-
-class_row : (w : List Class) (applets : Bool) (b k : ℕ) (ts : List ClassTree) (n : ℕ) (t : ClassTree)
-    → slice_get ts n ≡ Some t → (a : ℕ) × (slice_get (classes_from w applets b k ts) n
-    ≡ Some (of_class w applets a (k + n) t))
-unfolding classes_from
-class_row w applets b k [] n t e = cc
-class_row w applets b k (u ∷ ts) zero t e =
-    let is : u ≡ t = cc in
-    let z : k ≡ k + 0 = omega arith in
-    (b, ap (λ v. Some (of_class w applets b k v)) is ∙ ap (λ m. Some (of_class w applets b m t)) z)
-class_row w applets b k (u ∷ ts) (suc n) t e =
-    let r = class_row w applets (one_more (is_exported w applets (declared k u)) b) (k + 1) ts n t e in
-    let s : k + 1 + n ≡ k + suc n = omega arith in
-    (r.0, r.1 ∙ ap (λ m. Some (of_class w applets r.0 m t)) s)
 
 field_row : (exported : Bool) (fs : List FieldTree) (k : ℕ) (rest : List FieldTree) (i : ℕ) (f : FieldTree)
     → slice_get rest i ≡ Some f → slice_get (field_tokens exported fs k rest) i
@@ -148,8 +135,7 @@ module _ (list : List ℕ) (p : Package) (sound : IsSound list p.files) (n : ℕ
       → token_of_member (tokens p) (member_at c i) ≡ Some (instance_token t.fields i f)
   unfolding assigned
   member_token i f e h =
-      let r = class_row w (has_applets p) 0 0 (let files = p.files in files.classes) n t is_class in
-      let z : 0 + n ≡ n = omega arith in
+      let r = kept-at p.files (has_applets p) n t is_class in
       let zi : 0 + i ≡ i = omega arith in
       let row = of_class w (has_applets p) r.0 n t in
       let exported = is_exported w (has_applets p) (declared n t) in
@@ -157,8 +143,7 @@ module _ (list : List ℕ) (p : Package) (sound : IsSound list p.files) (n : ℕ
       in_front (field_tokens exported t.fields 0 t.fields) (method_tokens w exported (declared n t)) i
       (field_token exported t.fields i f) (field_row exported t.fields 0 t.fields i f e
       ∙ ap (λ m. Some (field_token exported t.fields m f)) zi) in
-      ap (option_and_then (λ (k : OfClass). joined (slice_get k.members i))) (r.1
-      ∙ ap (λ m. Some (of_class w (has_applets p) r.0 m t)) z)
+      ap (option_and_then (λ (k : OfClass). joined (slice_get k.members i))) r.1
       ∙ ap joined there
       ∙ instance_has exported t.fields i f h
 

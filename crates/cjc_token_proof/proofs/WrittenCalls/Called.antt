@@ -1,11 +1,10 @@
 -- A static method that a script calls begins by token as it does by name.
 use Rattle.std.proofs.Common.{◌≡◌, ℕ, zero, suc, ◌+◌, ◌-◌, refl, sym, ap, subst, ◌∙◌, arith, Bool, true, false, List}
 use Rattle.std.proofs.Common.{[], ◌∷◌, ◌++◌, length}
-use Rattle.std.specs.Prelude.{Option, Some, None, slice_get, map, option_map, option_and_then, unwrap_or, not, position}
+use Rattle.std.specs.Prelude.{Option, Some, None, slice_get, map, option_map, option_and_then, unwrap_or, position}
 use Rattle.std.specs.Prelude.{◌&&◌, ◌||◌, if◌then◌else◌, codes}
 use Rattle.std.specs.Str.{bytes_eq}
-use Rattle.cjc_bytes.specs.AccessFlags.{has, is_interface, is_private, is_static, acc_abstract, acc_final, acc_private}
-use Rattle.cjc_bytes.specs.AccessFlags.{acc_protected, acc_public}
+use Rattle.cjc_bytes.specs.AccessFlags.{is_interface, is_private, is_static}
 use Rattle.cjc_bytes.specs.declared.fault.MemberId.{MemberId}
 use Rattle.cjc_bytes.proofs.Numbers.{like_number, number_same}
 use Rattle.cjc_bytes.proofs.Gets.{in_front}
@@ -20,7 +19,7 @@ use Rattle.cjc_token_proof.specs.Calls.Reaching.{BeginsAtOffsets, is_in_method, 
 use Rattle.cjc_card_semantics.specs.CapRead.declared.tree.ClassDescriptor.{ClassDescriptor}
 use Rattle.cjc_card_semantics.specs.CapRead.declared.tree.MethodDescriptor.{MethodDescriptor}
 use Rattle.cjc_card_semantics.specs.CapRead.ClassRefs.{is_inside}
-use Rattle.cjc_card_semantics.specs.Machine.Calls.{acc_constructor, called, class_among, declared, has_no_token}
+use Rattle.cjc_card_semantics.specs.Machine.Calls.{called, class_among, declared, has_no_token}
 use Rattle.cjc_card_semantics.specs.Machine.Calls.{is_named, named_among, named_in_part, static_start}
 use Rattle.cjc_card_semantics.specs.Machine.Classes.{number_of}
 use Rattle.cjc_card_semantics.specs.Machine.Classes as card
@@ -47,91 +46,10 @@ use Rattle.cjc_world.specs.Order.{class_order, in_order, places, written}
 use Rattle.cjc_token_proof.specs.ByToken.Names.{NamesAgree}
 use Rattle.cjc_token_proof.specs.WrittenCalls.Calls.{NoStaticMethods}
 use Rattle.cjc_token_proof.proofs.WrittenCalls.Facts.{Facts}
+use Rattle.cjc_token_proof.proofs.WrittenCalls.Flags.{no_token, static_same, token_same}
 use Rattle.cjc_token_proof.proofs.WrittenCalls.Found.{Own as OwnMethod, own_is, stands_in_method}
 use Rattle.cjc_token_proof.proofs.WrittenCalls.Orders.{order_own}
 use Rattle.cjc_world_proof.proofs.CallsLaws.Scripts.{alone}
-
--- ---- flags
-
-all_of : (Bool → Bool) → Bool
-all_of f = f true && f false
-
-all_tell : (f : Bool → Bool) → all_of f ≡ true → (b : Bool) → f b ≡ true
-unfolding all_of
-all_tell f e true = by (f true) (f false) e
-  where
-    by : (a b : Bool) → (a && b) ≡ true → a ≡ true
-    by true b h = refl
-    by false b h = absurd (cc)
-all_tell f e false = by (f true) (f false) e
-  where
-    by : (a b : Bool) → (a && b) ≡ true → b ≡ true
-    by true b h = h
-    by false b h = absurd (cc)
-
-alike : Bool → Bool → Bool
-alike true b = b
-alike false b = not b
-
-are_alike : (a b : Bool) → alike a b ≡ true → b ≡ a
-unfolding alike
-are_alike true b e = e
-are_alike false true e = absurd (cc)
-are_alike false false e = refl
-
-flags_by : (a b c d e g h : Bool) → ℕ
-flags_by a b c d e g h = (((if a then 0x01 else 0) + (if b then 0x02 else 0) + (if c then 0x04 else 0) + (if d then 0x08
-    else 0) + (if e then 0x10 else 0)) + (if g then 0x40 else 0)) + (if h then 0x80 else 0)
-
-static_by : (a b c d e g h : Bool) → is_static (flags_by a b c d e g h) ≡ d
-unfolding flags_by alike all_of
-static_by a b c d e g h =
-    are_alike d (is_static (flags_by a b c d e g h))
-    (all_tell (λ h. alike d (is_static (flags_by a b c d e g h)))
-    (all_tell (λ g. all_of (λ h. alike d (is_static (flags_by a b c d e g h))))
-    (all_tell (λ e. all_of (λ g. all_of (λ h. alike d (is_static (flags_by a b c d e g h)))))
-    (all_tell (λ d. all_of (λ e. all_of (λ g. all_of (λ h. alike d (is_static (flags_by a b c d e g h))))))
-    (all_tell (λ c. all_of
-    (λ d. all_of (λ e. all_of (λ g. all_of (λ h. alike d (is_static (flags_by a b c d e g h)))))))
-    (all_tell (λ b. all_of
-    (λ c. all_of (λ d. all_of (λ e. all_of (λ g. all_of (λ h. alike d (is_static (flags_by a b c d e g h))))))))
-    (all_tell (λ a. all_of
-    (λ b. all_of (λ c. all_of
-    (λ d. all_of (λ e. all_of (λ g. all_of (λ h. alike d (is_static (flags_by a b c d e g h)))))))))
-    refl a) b) c) d) e) g) h)
-
-static_same : (m : Member) → is_static (method_flags m) ≡ is_static m.flags
-unfolding flags_by
-static_same m = static_by (has m.flags acc_public) (has m.flags acc_private) (has m.flags acc_protected)
-    (is_static m.flags) (has m.flags acc_final) (has m.flags acc_abstract) (is_constructor m.name)
-
--- a descriptor of these flags has no token
-no_token : ℕ → Bool
-no_token n = is_static n || (is_private n || has n acc_constructor)
-
-token_by : (a b c d e g h : Bool) → no_token (flags_by a b c d e g h) ≡ (d || (b || h))
-unfolding flags_by alike all_of no_token
-token_by a b c d e g h =
-    are_alike (d || (b || h)) (no_token (flags_by a b c d e g h))
-    (all_tell (λ h. alike (d || (b || h)) (no_token (flags_by a b c d e g h)))
-    (all_tell (λ g. all_of (λ h. alike (d || (b || h)) (no_token (flags_by a b c d e g h))))
-    (all_tell (λ e. all_of (λ g. all_of (λ h. alike (d || (b || h)) (no_token (flags_by a b c d e g h)))))
-    (all_tell (λ d. all_of (λ e. all_of (λ g. all_of (λ h. alike (d || (b || h)) (no_token (flags_by a b c d e g h))))))
-    (all_tell (λ c. all_of
-    (λ d. all_of (λ e. all_of (λ g. all_of (λ h. alike (d || (b || h)) (no_token (flags_by a b c d e g h)))))))
-    (all_tell (λ b. all_of
-    (λ c. all_of (λ d. all_of
-    (λ e. all_of (λ g. all_of (λ h. alike (d || (b || h)) (no_token (flags_by a b c d e g h))))))))
-    (all_tell (λ a. all_of
-    (λ b. all_of (λ c. all_of
-    (λ d. all_of (λ e. all_of (λ g. all_of (λ h. alike (d || (b || h)) (no_token (flags_by a b c d e g h)))))))))
-    refl a) b) c) d) e) g) h)
-
-token_same : (m : Member) → no_token (method_flags m) ≡ (is_static m.flags || (is_private m.flags
-    || is_constructor m.name))
-unfolding flags_by no_token
-token_same m = token_by (has m.flags acc_public) (has m.flags acc_private) (has m.flags acc_protected)
-    (is_static m.flags) (has m.flags acc_final) (has m.flags acc_abstract) (is_constructor m.name)
 
 own_same : (c : Class) (id : MemberId) → option_map (λ j. member_at c (length c.fields + j))
     (position (λ (m : Member). is_called id.name id.desc m) c.methods) ≡ own_method false id.name id.desc c

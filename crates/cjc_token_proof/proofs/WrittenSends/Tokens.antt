@@ -9,7 +9,6 @@ use Rattle.cjc_bytes.specs.AccessFlags.{is_interface, is_private, is_static}
 use Rattle.cjc_bytes.proofs.Gets.{in_front, get_behind}
 use Rattle.cjc_card_semantics.specs.Machine.Calls.{Described, described_token}
 use Rattle.cjc_card_semantics.specs.Machine.Dispatch.{Hidden, Open, Token}
-use Rattle.cjc_world.specs.ClassFile.declared.tree.ClassTree.{ClassTree}
 use Rattle.cjc_world.specs.ClassFile.declared.tree.FieldTree.{FieldTree}
 use Rattle.cjc_components.specs.Descriptor.{method_descriptor}
 use Rattle.cjc_components.specs.Package.{Package, has_applets, tokens, world}
@@ -23,7 +22,7 @@ use Rattle.cjc_tokens.specs.Members.{Signature, chosen, is_constructor, is_hidde
 use Rattle.cjc_tokens.specs.Members.{signature_of}
 use Rattle.cjc_tokens.specs.Methods.{class_method_token, class_method_tokens, with_high_bit}
 use Rattle.cjc_tokens.specs.Slots.{Slots, hidden_slots, shown_token, slots, token}
-use Rattle.cjc_tokens.specs.Tokens.{OfClass, assigned, classes_from, joined, method_tokens, of_class, one_more}
+use Rattle.cjc_tokens.specs.Tokens.{OfClass, assigned, joined, method_tokens, of_class}
 use Rattle.cjc_tokens.specs.Tokens.{token_of_member}
 use Rattle.cjc_vtable.proofs.Worlds.{shown-place}
 use Rattle.cjc_vtable.specs.Calls.{any_method}
@@ -33,31 +32,18 @@ use Rattle.cjc_world.specs.Exported.{is_exported}
 use Rattle.cjc_world.specs.Lookup.{is_called, member_at}
 use Rattle.cjc_token_proof.proofs.WrittenCalls.Facts.{Facts}
 use Rattle.cjc_token_proof.proofs.WrittenCalls.Called.{token_there}
+use Rattle.cjc_tokens.proofs.Means.{kept-at}
 
 -- ---- tokens by place
 
-class_row : (w : List Class) (applets : Bool) (b k : ℕ) (ts : List ClassTree) (n : ℕ) (t : ClassTree)
-    → slice_get ts n ≡ Some t → (a : ℕ) × (slice_get (classes_from w applets b k ts) n
-    ≡ Some (of_class w applets a (k + n) t))
-unfolding classes_from
-class_row w applets b k [] n t e = absurd (cc)
-class_row w applets b k (u ∷ ts) zero t e =
-    let is : u ≡ t = cc in
-    let z : k ≡ k + 0 = omega arith in
-    (b, ap (λ v. Some (of_class w applets b k v)) is ∙ ap (λ m. Some (of_class w applets b m t)) z)
-class_row w applets b k (u ∷ ts) (suc n) t e =
-    let r = class_row w applets (one_more (is_exported w applets (declared k u)) b) (k + 1) ts n t e in
-    let s : k + 1 + n ≡ k + suc n = omega arith in
-    (r.0, r.1 ∙ ap (λ m. Some (of_class w applets r.0 m t)) s)
-
-fields_long : (exported : Bool) (fs : List FieldTree) (k : ℕ) (rest : List FieldTree)
+pub fields_long : (exported : Bool) (fs : List FieldTree) (k : ℕ) (rest : List FieldTree)
     → length (field_tokens exported fs k rest) ≡ length rest
 unfolding field_tokens
 fields_long exported fs k [] = refl
 fields_long exported fs k (f ∷ rest) = ap suc (fields_long exported fs (k + 1) rest)
 
 module _ (exported : Bool) (shown : Signature → Option ℕ) (hidden : Slots) (ms : List Member) where
-  method_row : (k : ℕ) (rest : List Member) (i : ℕ) (m : Member) → slice_get rest i ≡ Some m
+  pub method_row : (k : ℕ) (rest : List Member) (i : ℕ) (m : Member) → slice_get rest i ≡ Some m
       → slice_get (class_method_tokens exported shown hidden ms k rest) i
       ≡ Some (class_method_token exported shown hidden ms (k + i) m)
   unfolding class_method_tokens
@@ -135,8 +121,7 @@ module _ (list : List ℕ) (p : Package) (sound : IsSound list p.files) (facts :
         let f = own_filed p.files sound.classes sound.exports c (has_named w x c known) own in
         let n = f.0 in
         let t = f.1 in
-        let r = class_row w (has_applets p) 0 0 (let files = p.files in files.classes) n t f.2 in
-        let z : 0 + n ≡ n = omega arith in
+        let r = kept-at p.files (has_applets p) n t f.2 in
         let zi : 0 + i ≡ i = omega arith in
         let exported = is_exported w (has_applets p) (declared n t) in
         let d = declared n t in
@@ -166,8 +151,7 @@ module _ (list : List ℕ) (p : Package) (sound : IsSound list p.files) (facts :
         ∙ ap (λ j. Some (class_method_token exported shown hidden d.methods j m)) zi) in (
           exported,
           ap (λ (q : Class). token_of_member (tokens p) (member_at q (length q.fields + i))) f.3
-              ∙ ap (option_and_then (λ (k : OfClass). joined (slice_get k.members (length d.fields + i)))) (r.1
-              ∙ ap (λ k. Some (of_class w (has_applets p) r.0 k t)) z)
+              ∙ ap (option_and_then (λ (k : OfClass). joined (slice_get k.members (length d.fields + i)))) r.1
               ∙ ap joined in_row
               ∙ ap (λ (q : Class). class_method_token exported (shown_token (line_at w q)) (hidden_slots (line_at w q))
               q.methods i m) (sym f.3),

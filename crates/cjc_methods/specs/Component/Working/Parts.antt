@@ -1,6 +1,5 @@
 -- What is written of one method after the other.
-use Rattle.std.specs.Prelude.{◌≡◌, ℕ, ◌+◌, List, [], ◌∷◌, position, unwrap_or, ◌==◌, Bool, if◌then◌else◌}
-use Rattle.cjc_pool.specs.CapRead.declared.tree.Handler.{Handler}
+use Rattle.std.specs.Prelude.{◌≡◌, ℕ, List, position, unwrap_or, Bool, if◌then◌else◌}
 use Rattle.cjc_pool.specs.NCode.declared.narrow.PoolKey.{PoolKey}
 use Rattle.cjc_pool.specs.NCode.PoolOrder.{same_key}
 use Rattle.cjc_pool.specs.NCode.Lowering.Naming.{Naming}
@@ -13,7 +12,3 @@ IsIndexed ks n = (key : PoolKey) → n.index key ≡ unwrap_or (position (same_k
 -- the bytes of a method, with ACC_ABSTRACT where it is a header alone
 abbrev pub flagged : (is_abstract : Bool) → List ℕ → List ℕ
 flagged is_abstract bytes = if is_abstract then with_abstract bytes else bytes
-
--- where the catch index of a handler stands that begins at an offset, where it is not 0
-abbrev pub catch_place : (at : ℕ) → Handler → List ℕ
-catch_place at h = if h.catch_index == 0 then [] else (at + 6) ∷ []

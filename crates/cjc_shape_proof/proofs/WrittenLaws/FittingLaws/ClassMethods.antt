@@ -1,25 +1,22 @@
 -- The methods of an exported class that is no interface can stand in an export file: each fits, and no two have one
 -- token of a kind.
-use Rattle.std.proofs.Common.{◌≡◌, ℕ, ◌+◌, ◌*◌, ◌-◌, ◌<◌, ◌≤◌, ◌^◌, refl, sym, ap, subst, ◌∙◌, arith, Bool, true, false}
+use Rattle.std.proofs.Common.{◌≡◌, ℕ, ◌+◌, ◌-◌, ◌<◌, ◌≤◌, ◌^◌, refl, sym, ap, subst, ◌∙◌, arith, Bool, true, false}
 use Rattle.std.proofs.Common.{List, [], ◌∷◌, ◌++◌, length, map, take, take_all, inl, inr, ⊎_elim, Option, Some, None}
-use Rattle.std.specs.Prelude.{not, ◌&&◌, ◌||◌, ◌==◌, ◌⊎◌, ◌/◌, ◌%◌, count_by, nat_lt, option_map, slice_get, unwrap_or}
+use Rattle.std.specs.Prelude.{◌&&◌, ◌||◌, ◌==◌, ◌⊎◌, count_by, nat_lt, option_map, slice_get, unwrap_or}
 use Rattle.std.specs.Prelude.{if◌then◌else◌}
 use Rattle.std.specs.List.{AllByRecursion, IsDistinct, list_any}
 use Rattle.std.proofs.lemmas.Bool.{eqb-true}
 use Rattle.std.proofs.lemmas.Bool.Decides.{nat_tests}
 use Rattle.std.proofs.lemmas.List.{length-map}
 use Rattle.std.proofs.lemmas.Map.Steps.{length-le_from_distinct_below}
-use Rattle.std.proofs.lemmas.Nat.Bits.{and_pow}
 use Rattle.std.proofs.lemmas.Option.{slice_get_within}
-use Rattle.cjc_bytes.specs.AccessFlags.{acc_native, acc_shareable, acc_strict, acc_super, acc_synchronized, has}
-use Rattle.cjc_bytes.specs.AccessFlags.{is_abstract, is_interface, is_private, is_static}
-use Rattle.cjc_bytes.proofs.Bools.{or_left, or_right}
+use Rattle.cjc_bytes.specs.AccessFlags.{is_interface}
 use Rattle.cjc_bytes.proofs.Gets.{mapped_at}
 use Rattle.cjc_world.specs.ClassFile.declared.tree.ClassTree.{ClassTree}
 use Rattle.cjc_components.specs.Class.{is_shareable}
 use Rattle.cjc_components.specs.Descriptor.{as_added, method_in}
 use Rattle.cjc_components.specs.ExportFile.{added_from, export_class, inherited_from, is_listed, method_entry}
-use Rattle.cjc_components.specs.ExportFile.{methods_from, supers_from, without}
+use Rattle.cjc_components.specs.ExportFile.{methods_from, supers_from}
 use Rattle.cjc_components.specs.Exports.{exported_classes}
 use Rattle.cjc_components.specs.Names.{member_token}
 use Rattle.cjc_components.specs.Package.{Package, has_applets, world}
@@ -32,9 +29,9 @@ use Rattle.cjc_shape.specs.LowerJudge.Rules.{settings_of}
 use Rattle.cjc_shape.specs.LowerJudge.declared.judged.Judged.{Judged}
 use Rattle.cjc_classes.specs.List.Listed.{ListTree}
 use Rattle.cjc_narrow_proof.proofs.LawsLaws.Own.{class_by_name, own_kept}
-use Rattle.cjc_clinit.specs.Subset.Flags.{has_two_accesses, is_unfit_method}
+use Rattle.cjc_clinit.specs.Subset.Flags.{has_two_accesses}
 use Rattle.cjc_tokens.specs.Lines.{line_at}
-use Rattle.cjc_tokens.specs.Members.{Signature, is_constructor, is_initialiser, is_shown, signature_of}
+use Rattle.cjc_tokens.specs.Members.{Signature, is_shown, signature_of}
 use Rattle.cjc_tokens.specs.Methods.{interface_methods, interface_row, is_open_bound}
 use Rattle.cjc_tokens.specs.Slots.{Slots, implementing, meant_by, row, shown_token, slots}
 use Rattle.cjc_vtable.proofs.Filed.{Has, at_front, behind, has-either}
@@ -63,19 +60,7 @@ use Rattle.cjc_shape_proof.proofs.WrittenLaws.FittingLaws.Standing.{listed_alone
 use Rattle.cjc_shape_proof.proofs.WrittenLaws.FittingLaws.Tables.{few_slots}
 use Rattle.cjc_shape_proof.specs.Written.LaidOut.{ExportedInterfacesStand, ExportedMethodsStand, IsLaidOut}
 use Rattle.cjc_shape_proof.specs.Written.LaidOut.{MethodsStand}
-
--- a method that breaks no 304 has one access at most
-one_access : (interface : Bool) (flags : ℕ) (name : List ℕ) (coded : Bool) → is_unfit_method interface flags name coded
-    ≡ false → has_two_accesses flags ≡ false
-one_access interface flags name coded fit =
-    let A = has flags acc_native || has flags acc_synchronized || has flags acc_strict || has_two_accesses flags in
-    let kind = A || (is_abstract flags && (is_static flags || is_private flags)) in
-    let special = is_abstract flags && (is_constructor name || is_initialiser name) in
-    let bare = is_initialiser name && not (is_static flags) in
-    let three = or_left (kind || special || bare) (interface && coded && not (is_initialiser name)) fit in
-    let first = or_left kind special (or_left (kind || special) bare three) in
-    or_right (has flags acc_native || has flags acc_synchronized || has flags acc_strict) (has_two_accesses flags)
-    (or_left A (is_abstract flags && (is_static flags || is_private flags)) first)
+use Rattle.cjc_shape_proof.proofs.WritingLaws.Flags.{interface_kept, one_access}
 
 -- methods of two kinds have no token in common
 kinds_apart : (x y : ExportMethod) (a b : Bool) → is_unbound x.flags x.name ≡ a → is_unbound y.flags y.name ≡ b
@@ -161,32 +146,6 @@ few xs alone good =
     let le = length-le_from_distinct_below (map code_of xs) 384 (codes_distinct xs alone good) (codes_low xs good) in
     let same = length-map xs code_of in
     omega (arith, le, same)
-
--- ---- flags
-
--- the flags of an exported class tell an interface as those of its file do
-interface_kept : (f : ℕ) (shareable : Bool) → is_interface (without (without f acc_super) acc_shareable + (if shareable
-    then acc_shareable else 0)) ≡ is_interface f
-interface_kept f shareable = ap (nat_lt 0) (and_pow r 9 ∙ ap (λ b. b * 2 ^ 9) (by shareable) ∙ sym (and_pow f 9))
-  where
-    g : ℕ
-    g = without f acc_super
-
-    h : ℕ
-    h = without g acc_shareable
-
-    r : ℕ
-    r = h + (if shareable then acc_shareable else 0)
-
-    first : g ≡ f - f / 32 % 2 * 32
-    first = ap (λ b. f - b) (and_pow f 5)
-
-    second : h ≡ g - g / 2048 % 2 * 2048
-    second = ap (λ b. g - b) (and_pow g 11)
-
-    by : (b : Bool) → (h + (if b then acc_shareable else 0)) / 512 % 2 ≡ f / 512 % 2
-    by true = omega (arith, first, second)
-    by false = omega (arith, first, second)
 
 -- ---- a class
 

@@ -36,7 +36,7 @@ use Rattle.cjc_vtable.proofs.Filed.{in_export_file, of-imports, has-either}
 use Rattle.cjc_vtable.proofs.SlotNames.{position-at}
 use Rattle.cjc_vtable.proofs.Read.{each-after}
 use Rattle.cjc_world.proofs.Cycles.{class_named-name}
-use Rattle.cjc_world.specs.Added.{added, asked_by, by_token, declares_open, has_open, is_one_of, lacking, methods_of}
+use Rattle.cjc_world.specs.Added.{added, asked_by, by_token, declares_open, has_open, lacking, methods_of}
 use Rattle.cjc_world.specs.Added.{own_methods, takes_added, with_token, without_initialiser}
 use Rattle.cjc_world.specs.Classes.{Class, Member, class_at, class_named, method_of_class, method_of_export}
 use Rattle.cjc_world.specs.Interfaces.{gathered, known}
@@ -52,6 +52,7 @@ use Rattle.cjc_shape_proof.proofs.WrittenLaws.FittingLaws.Limited.{unbroken, wri
 use Rattle.cjc_shape_proof.proofs.WrittenLaws.FittingLaws.Order.{has_cons, has_none}
 use Rattle.cjc_shape_proof.proofs.WrittenLaws.FittingLaws.Rules as Rules
 use Rattle.cjc_shape_proof.specs.Written.LaidOut.{IsLaidOut}
+use Rattle.cjc_shape_proof.proofs.WritingLaws.Lacking.{lacking_has}
 
 -- a method as a file gives it: flags of two bytes, texts, and the descriptor of a method
 pub record IsMethodRead (m : Member) : Type 0 where
@@ -109,21 +110,6 @@ unfolding methods_of
 asked_has [] m h = has_none m h
 asked_has (d ∷ ds) m h = ⊎_elim (λ g. (d, at_front, g)) (λ g. let r = asked_has ds m g in (r.0, behind r.1, r.2))
     (has-either m (own_methods d) (methods_of ds) h)
-
-lacking_has : (there : Member → Bool) (given ms : List Member) (k : ℕ) (m : Member)
-    → slice_get (lacking there given ms) k ≡ Some m → Has m ms
-unfolding lacking
-lacking_has there given [] k m e = cc
-lacking_has there given (x ∷ ms) k m e = by (there x || is_one_of given x.name x.desc) k e (λ j f. lacking_has there
-    given ms j m f) (λ j f. lacking_has there (given ++ x ∷ []) ms j m f)
-  where
-    by : (b : Bool) (k : ℕ) → slice_get (if b then lacking there given ms else x ∷ lacking there (given ++ x ∷ []) ms) k
-        ≡ Some m
-        → ((j : ℕ) → slice_get (lacking there given ms) j ≡ Some m → Has m ms)
-        → ((j : ℕ) → slice_get (lacking there (given ++ x ∷ []) ms) j ≡ Some m → Has m ms) → Has m (x ∷ ms)
-    by true k e old fresh = behind (old k e)
-    by false zero e old fresh = let same : x ≡ m = cc in subst (λ (y : Member). Has y (x ∷ ms)) same at_front
-    by false (suc k) e old fresh = behind (fresh k e)
 
 added_asked : (w : List Class) (c : Class) (k : ℕ) (m : Member) → slice_get (added w c) k ≡ Some m → (d : Class)
     × Has d (known (gathered false (supertypes w c.supers) ++ gathered true (supertypes w c.interfaces)))

@@ -22,7 +22,7 @@ use Rattle.cjc_world.specs.ExportFile.declared.tree.ExportMethod.{ExportMethod}
 use Rattle.cjc_world.specs.ExportFile.declared.tree.ExportTree.{ExportTree}
 use Rattle.cjc_shape.proofs.JudgedLaws.Called.{IsDeclared}
 use Rattle.cjc_shape.proofs.JudgedLaws.Owners.{IsOwn}
-use Rattle.cjc_shape.proofs.JudgedLaws.Tokens.{listed_at, imports_are}
+use Rattle.cjc_shape.proofs.JudgedLaws.Tokens.{listed_at, import_token}
 use Rattle.cjc_narrow_proof.proofs.LawsLaws.Own.{first_here}
 use Rattle.cjc_shape.specs.Pool.Pool.{token_of}
 use Rattle.cjc_clinit.specs.Subset.Members.{imports}
@@ -32,13 +32,13 @@ use Rattle.cjc_tokens.specs.Lines.{line_at}
 use Rattle.cjc_tokens.specs.Members.{Signature, is_initialiser, same, signature_of}
 use Rattle.cjc_tokens.specs.Methods.{class_method_tokens, interface_methods, interface_token}
 use Rattle.cjc_tokens.specs.Slots.{hidden_slots, shown_token}
-use Rattle.cjc_tokens.specs.Tokens.{assigned, imports_of, joined, listed_field_token, listed_method_token}
-use Rattle.cjc_tokens.specs.Tokens.{method_tokens, of_import, token_of_member}
+use Rattle.cjc_tokens.specs.Tokens.{assigned, joined}
+use Rattle.cjc_tokens.specs.Tokens.{method_tokens, token_of_member}
 use Rattle.cjc_vtable.proofs.Filed.{IsFiled, filed, get-has, has-get, in_class_file}
 use Rattle.cjc_vtable.proofs.Filed.{in_export_file, of-imports}
 use Rattle.cjc_vtable.proofs.Read.{each-after}
 use Rattle.cjc_world.specs.Added.{added, own_methods}
-use Rattle.cjc_world.specs.Classes.{Class, Member, all_classes, class_named, declared, field_of_class, field_of_export}
+use Rattle.cjc_world.specs.Classes.{Class, Member, all_classes, class_named, declared, field_of_class}
 use Rattle.cjc_world.specs.Classes.{imported, method_of_export}
 use Rattle.cjc_world.specs.Exported.{is_exported}
 use Rattle.cjc_world.specs.Files.{Files}
@@ -177,32 +177,6 @@ module _ (list : List ℕ) (files : Files) (unbroken : breaks list files ≡ [])
       ∙ ap (λ b. if b then None else position (λ s. same s (signature_of own.member)) (interface_methods w d))
       (ap is_initialiser own.has_name ∙ plain)
 
-  in_export : (n : ℕ) (c : ExportClass) → slice_get (imports files.exports) n ≡ Some c
-      → (name desc : List ℕ) (f : Found) → (own : IsOwn (imported n c) name desc f) → is_initialiser name ≡ false
-      → token_of_member (assigned applets files) f ≡ (let m = own.member in Some m.token)
-  unfolding assigned
-  in_export n c there name desc f own plain =
-      let d = imported n c in
-      let i = own.place in
-      let fields = map listed_field_token c.fields in
-      let methods = map listed_method_token c.methods in
-      let counted : length d.fields ≡ length fields = length-map c.fields field_of_export
-      ∙ sym (length-map c.fields listed_field_token) in
-      let kept : slice_get (imports_of files.exports) n ≡ Some (of_import c) =
-      ap (λ rows. slice_get rows n) (imports_are files.exports) ∙ slice_get-map of_import (imports files.exports) n
-      ∙ ap (option_map of_import) there in
-      let m = listed_at c.methods i own.member own.is_member in
-      let named : is_initialiser m.0.name ≡ false = ap (λ (x : Member). is_initialiser x.name) m.2
-      ∙ ap is_initialiser own.has_name ∙ plain in
-      ap (token_of_member (assigned applets files)) own.is_place
-      ∙ ap (option_and_then (λ k. joined (slice_get k (length d.fields + i)))) kept
-      ∙ ap (λ k. joined (slice_get (fields ++ methods) (k + i))) counted
-      ∙ ap joined (get_behind fields methods i)
-      ∙ ap joined (slice_get-map listed_method_token c.methods i)
-      ∙ ap (λ o. joined (option_map listed_method_token o)) m.1
-      ∙ ap (λ b. if b then None else Some m.0.token) named
-      ∙ ap (λ (x : Member). Some x.token) m.2
-
   -- the place in an interface of an export file
   pub place_there : (n : ℕ) (c : ExportClass) → slice_get (imports files.exports) n ≡ Some c → class_named w c.name
       ≡ Some (imported n c) → is_interface c.flags ≡ true
@@ -284,7 +258,7 @@ module _ (list : List ℕ) (files : Files) (unbroken : breaks list files ≡ [])
       sym (in_package n c there name desc f own interface plain) ∙ e
   of_owner o (in_export_file n c there) named name desc f own interface plain t e =
       place_there n c there named interface own.place own.member own.is_member
-      ∙ sym (in_export n c there name desc f own plain) ∙ e
+      ∙ sym (import_token files applets n c there name desc f own plain) ∙ e
 
   -- so the token of a method that an interface declares is its place there
   pub declared_place : (id : MemberId) (d : IsDeclared files id) (t : ℕ) → token_of files (assigned applets files) id

@@ -1,15 +1,12 @@
 -- What a class of a package that breaks no rule of classes and names keeps of 203: descriptors of its members name
 -- classes that some file has.
-use Rattle.std.proofs.Common.{◌≡◌, ℕ, zero, suc, ◌+◌, ◌<◌, ◌≤◌, refl, sym, ap, subst, ◌∙◌, arith, Bool, true, false}
+use Rattle.std.proofs.Common.{◌≡◌, ℕ, ◌+◌, ◌<◌, ◌≤◌, refl, sym, ap, subst, ◌∙◌, arith, Bool, true, false}
 use Rattle.std.proofs.Common.{not, List, [], ◌∷◌, ◌++◌, length}
-use Rattle.std.specs.Prelude.{map, ◌&&◌, ◌||◌, ◌==◌, Some, cond, option_map, slice_get, if◌then◌else◌}
+use Rattle.std.specs.Prelude.{map, ◌&&◌, ◌||◌, Some, option_map, slice_get}
 use Rattle.std.specs.List.{list_any}
-use Rattle.std.proofs.lemmas.Bool.{eqb-false, eqb-true}
 use Rattle.std.proofs.lemmas.Option.{slice_get-map}
 use Rattle.cjc_bytes.specs.Breaks.{broken_at, list_spot}
 use Rattle.cjc_bytes.specs.declared.order.FileKey.{FileKey}
-use Rattle.cjc_bytes.specs.declared.order.FileKey.TheVariants as keys
-use Rattle.cjc_bytes.specs.declared.settings.FileLine.{FileLine}
 use Rattle.cjc_bytes.proofs.Lists.{none_left, none_right}
 use Rattle.cjc_token_proof.specs.ClassOrder.Classes.Numbers.{class_count}
 use Rattle.cjc_code.specs.ClassFile.declared.tree.ClassTree.{ClassTree}
@@ -17,16 +14,16 @@ use Rattle.cjc_code.specs.ClassFile.declared.tree.FieldTree.{FieldTree}
 use Rattle.cjc_code.specs.ClassFile.declared.tree.MethodTree.{MethodTree}
 use Rattle.cjc_vtable.proofs.Filed.{Has, at_front, behind}
 use Rattle.cjc_world.specs.Added.{added}
-use Rattle.cjc_world.specs.Classes.{Class, Member, all_classes, declared, field_of_class, method_of_class, size}
+use Rattle.cjc_world.specs.Classes.{Class, Member, all_classes, declared, field_of_class, method_of_class}
 use Rattle.cjc_world.specs.Files.{Files}
 use Rattle.cjc_world.specs.Supertypes.{IsAcyclic, supertypes, stands}
-use Rattle.cjc_world.specs.Rules.{at_class, at_member, breaks, breaks_from, class_breaks, class_file_breaks}
-use Rattle.cjc_world.specs.Rules.{class_rules, export_file_breaks, gets_missing, has_language, is_desc_missing}
+use Rattle.cjc_world.specs.Rules.{at_class, breaks, breaks_from, class_breaks}
+use Rattle.cjc_world.specs.Rules.{class_rules, gets_missing, has_language, is_desc_missing}
 use Rattle.cjc_world.specs.Rules.{is_of_package, is_own_super, is_second, is_twice, is_under_cycle, lists_missing}
-use Rattle.cjc_world.specs.Rules.{lists_wrong, member_rules, members, members_before, members_from, told, when}
+use Rattle.cjc_world.specs.Rules.{lists_wrong, member_rules, members, members_from, when}
 use Rattle.cjc_world.proofs.Cycles.{stands_where_above}
 use Rattle.cjc_world.proofs.Unbroken.{nil_of_map, not_when, unbroken_is_acyclic}
-use Rattle.cjc_vtable.proofs.ClassOrderStanding.{class_count-cons}
+use Rattle.cjc_narrow_proof.proofs.LawsLaws.Own.{IsClean, clean_from, clean_members, of_member}
 
 -- ---- tests of lists
 
@@ -48,78 +45,9 @@ none_pass : {A : Type 0} (test : A → Bool) (xs : List A) → ((x : A) → test
 none_pass test [] none = refl
 none_pass test (x ∷ xs) none = ap (λ b. b || list_any test xs) (none x) ∙ none_pass test xs none
 
--- ---- what is broken at a class file
-
--- nothing at the class of this number and at its members
-IsClean : Files → List Class → ℕ → ClassTree → Type 0
-IsClean files w n c = (file : FileKey) × (name : List ℕ) × (class_breaks files.package_name file name 1 w (declared n c)
-    ≡ [])
-
-clean_from : (files : Files) (w : List Class) (k c e i : ℕ) (lines : List FileLine) (n : ℕ) (t : ClassTree)
-    → slice_get files.classes n ≡ Some t → breaks_from files w k c e i lines ≡ [] → c ≤ n → n < c + class_count lines
-    → IsClean files w n t
-unfolding IsClean breaks_from
-clean_from files w k c e i [] n t is p le lt = absurd (omega arith)
-clean_from files w k c e i (line ∷ lines) n t is p le lt =
-    by line.class_file p (subst (λ q. n < c + q) (class_count-cons line lines) lt)
-    (clean_from files w (k + 1) (c + 1) e i lines n t is)
-    (λ q more. clean_from files w (k + 1) c (e + 1) (i + size (slice_get files.exports e)) lines n t is q le more)
-  where
-    by : (b : Bool)
-        → (if b
-        then class_file_breaks files (keys.Line k) line.name w c (slice_get files.classes c)
-        ++ breaks_from files w (k + 1) (c + 1) e i lines
-        else export_file_breaks files (keys.Line k) line.name w e i (slice_get files.exports e)
-        ++ breaks_from files w (k + 1) c (e + 1) (i + size (slice_get files.exports e)) lines) ≡ []
-        → n < c + (cond b 1 0 + class_count lines)
-        → (breaks_from files w (k + 1) (c + 1) e i lines ≡ [] → c + 1 ≤ n → n < c + 1 + class_count lines
-        → IsClean files w n t)
-        → (breaks_from files w (k + 1) c (e + 1) (i + size (slice_get files.exports e)) lines ≡ []
-        → n < c + class_count lines → IsClean files w n t)
-        → IsClean files w n t
-    by true q h r s = go (c == n) refl
-      where
-        go : (b : Bool) → (c == n) ≡ b → IsClean files w n t
-        go true f =
-            let here = class_file_breaks files (keys.Line k) line.name w c (slice_get files.classes c) in
-            let own = subst (λ m. class_file_breaks files (keys.Line k) line.name w m (slice_get files.classes m) ≡ [])
-            (eqb-true c n f) (none_left here (breaks_from files w (k + 1) (c + 1) e i lines) q) in
-            (keys.Line k, line.name, sym (ap (class_file_breaks files (keys.Line k) line.name w n) is) ∙ own)
-        go false f =
-            let here = class_file_breaks files (keys.Line k) line.name w c (slice_get files.classes c) in
-            r (none_right here (breaks_from files w (k + 1) (c + 1) e i lines) q) (let ne = eqb-false c n f
-            in omega (arith, ne)) (omega arith)
-    by false q h r s =
-        let here = export_file_breaks files (keys.Line k) line.name w e i (slice_get files.exports e) in
-        s (none_right here (breaks_from files w (k + 1) c (e + 1) (i + size (slice_get files.exports e)) lines) q)
-        (omega arith)
-
 -- ---- what a class keeps
 
 module _ (file : FileKey) (file_name : List ℕ) (w : List Class) (c : Class) (field : Bool) where
-  abbrev of_member : ℕ → Member → List ℕ
-  of_member i m = member_rules w c (members field c) i m.name m.desc
-
-  clean_members : (i : ℕ) (ms : List Member) (k : ℕ) (m : Member) → members_from file file_name 1 w c field i ms ≡ []
-      → slice_get ms k ≡ Some m → of_member (i + k) m ≡ []
-  unfolding members_from
-  clean_members i [] k m e is = cc
-  clean_members i (x ∷ ms) zero m e is =
-      let same : x ≡ m = cc in
-      let at = λ (rule : ℕ). at_member file file_name 1 c.name (members_before field c + i + 1)
-      (told field x.name x.desc) rule in
-      let here : of_member i x ≡ [] = nil_of_map at (of_member i x) (none_left (map at (of_member i x))
-      (members_from file file_name 1 w c field (i + 1) ms) e) in
-      let place : i + 0 ≡ i = omega arith in
-      ap (λ j. of_member j m) place ∙ ap (of_member i) (sym same) ∙ here
-  clean_members i (x ∷ ms) (suc k) m e is =
-      let at = λ (rule : ℕ). at_member file file_name 1 c.name (members_before field c + i + 1)
-      (told field x.name x.desc) rule in
-      let rest = clean_members (i + 1) ms k m (none_right (map at (of_member i x)) (members_from file file_name 1 w c
-      field (i + 1) ms) e) is in
-      let place : i + suc k ≡ i + 1 + k = omega arith in
-      ap (λ j. of_member j m) place ∙ rest
-
   there_members : c.is_imported ≡ false → (k : ℕ) (m : Member)
       → members_from file file_name 1 w c field 0 (members field c) ≡ [] → slice_get (members field c) k ≡ Some m
       → is_desc_missing w m.desc ≡ false
@@ -127,7 +55,8 @@ module _ (file : FileKey) (file_name : List ℕ) (w : List Class) (c : Class) (f
   there_members own k m e is =
       let z : 0 + k ≡ k = omega arith in
       let twice = when (is_twice (members field c) k m.name m.desc) 202 in
-      let here = subst (λ j. of_member j m ≡ []) z (clean_members 0 (members field c) k m e is) in
+      let here = subst (λ j. of_member file file_name w c field j m ≡ []) z (clean_members file file_name w c field 0
+      (members field c) k m e is) in
       let missing = not_when (not c.is_imported && is_desc_missing w m.desc) 203
       (none_right twice (when (not c.is_imported && is_desc_missing w m.desc) 203) here) in
       sym (ap (λ b. not b && is_desc_missing w m.desc) own) ∙ missing

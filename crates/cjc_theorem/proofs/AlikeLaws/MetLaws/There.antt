@@ -57,7 +57,7 @@ module _ (list : ListTree) (files : List (List ℕ)) (judged : Judged) (p : Pack
   codes = judged.codes
 
   -- what an invokevirtual names, by the class that declares it or the class of the package that is named
-  virtual_key : (P : MemberId → Type 0) (class : ClassTree) (id : MemberId) (n : Names_method list files judged p is
+  pub virtual_key : (P : MemberId → Type 0) (class : ClassTree) (id : MemberId) (n : Names_method list files judged p is
       class 0xB6 id) → P (of_class (let d = n.owner in d.name) id) → ((let c = n.named_class in c.is_imported) ≡ false
       → P id) → P (virtual_by w id (class_named w id.class))
   virtual_key P class id n by_owner by_name = subst (λ o. P (virtual_by w id o)) (sym n.names_class)
@@ -69,7 +69,7 @@ module _ (list : ListTree) (files : List (List ℕ)) (judged : Judged) (p : Pack
 
   -- what an invokespecial names: a constructor or a private method by the class that declares it, another by the class
   -- of the code
-  special_key : (P : PoolKey → Type 0) (holder : List ℕ) (class : ClassTree) (id : MemberId) (n : Names_method list
+  pub special_key : (P : PoolKey → Type 0) (holder : List ℕ) (class : ClassTree) (id : MemberId) (n : Names_method list
       files judged p is class 0xB7 id)
       → (is_constructor id.name ≡ true → P (keys.StaticMethod (of_class (let d = n.owner in d.name) id)))
       → (is_private (let a = n.at in let m = a.member in m.flags) ≡ true

@@ -1,6 +1,6 @@
 use Rattle.std.proofs.Common.{◌∙◌, ap, ◌++◌, ℕ}
 use Rattle.cjc_pool.specs.CheckRules.Locations.{distance}
-use Rattle.cjc_methods.proofs.ComponentLaws.Listed.{distances_all, distances_more}
+use Rattle.cjc_check.proofs.JumpsLaws.Listed.{distances_all, distances_more}
 use Rattle.cjc_bytes.proofs.Gets.{same_item}
 use Rattle.cjc_methods.proofs.component.distances.distances.Goals as goal
 

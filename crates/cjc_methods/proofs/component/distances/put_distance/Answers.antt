@@ -1,6 +1,6 @@
 use Rattle.std.proofs.Common.{◌∙◌, ap, ◌++◌, List, ℕ, ◌-◌}
 use Rattle.cjc_pool.specs.CheckRules.Locations.{distance}
-use Rattle.cjc_methods.proofs.ComponentLaws.Listed.{full_more}
+use Rattle.cjc_check.proofs.JumpsLaws.Listed.{full_more}
 use Rattle.cjc_methods.proofs.component.distances.put_distance.Goals as goal
 
 pub loop-left-preserved : goal.loop-left-preserved

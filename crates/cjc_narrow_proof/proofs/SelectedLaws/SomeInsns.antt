@@ -12,10 +12,10 @@ use Rattle.cjc_narrow_proof.proofs.SelectedLaws.Cuts.{decoded}
 use Rattle.cjc_narrow.specs.Types.Tables.{IsMethodOf}
 use Rattle.cjc_world.specs.Files.{Files}
 
-pub begins : (files : Files) (code : MethodCode) (class : ClassTree) (method : MethodTree) (tree : CodeTree)
+pub some_insns : (files : Files) (code : MethodCode) (class : ClassTree) (method : MethodTree) (tree : CodeTree)
     → IsMethodOf files code class method tree → 0 < length tree.bytes → 0 < length code.insns
 unfolding IsCutFrom
-begins files code class method tree is some = by (cut tree.bytes).insns refl
+some_insns files code class method tree is some = by (cut tree.bytes).insns refl
   where
     by : (insns : List _) → (cut tree.bytes).insns ≡ insns → 0 < length code.insns
     by [] e =
