@@ -6,4 +6,5 @@ pub mod Ready
 pub mod ClassFile
 pub mod Bytecode
 pub mod CapRead
+pub mod JvmSemantics
 pub mod CardLink

@@ -27,6 +27,11 @@ pub mod card_frame {
     pub use cjc_card_frame::parts;
 }
 
+/// What crates above take of cjc_jvm.
+pub mod jvm {
+    pub use cjc_jvm::runs;
+}
+
 pub mod acts;
 pub mod group;
 pub mod runs;

@@ -19,7 +19,7 @@ pub mod card_frame {
 
 /// What crates above take of cjc_card_link.
 pub mod card_link {
-    pub use cjc_card_link::{ClassNames, FieldName, Part, Tables};
+    pub use cjc_card_link::{ClassNames, FieldName, GroupPart, Part, Tables};
 }
 
 pub mod calls;

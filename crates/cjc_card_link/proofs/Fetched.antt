@@ -29,17 +29,14 @@ is_decoded methods begin first end at None e = tt
 is_decoded methods begin first end at (Some i) e = by_first (nat_le first at) (bytes_at methods begin at) end at
     (instruction_of i) (sym e)
 
--- what is fetched in the one package of a group
-pub fetched_here : (l : Loaded) (part : Part) (code : Code) (at begin : ℕ) (methods : List ℕ) (r : Option Instruction)
-    → slice_get l.parts 0 ≡ Some part → code.part ≡ 0
-    → methods ≡ part.method.methods → begin ≡ methods_begin part → r ≡ insn_at methods begin code.first code.end at
-    → (slice_get l.parts code.part ≡ Some part → fetch l code at ≡ option_map (fetched_as l code.part part.pool at)
-    (insn_at part.method.methods (methods_begin part) code.first code.end at))
+-- what is fetched of a package that is there
+pub fetched_here : (l : Loaded) (part : Part) (code : Code) (at : ℕ) (r : Option Instruction)
+    → slice_get l.parts code.part ≡ Some part
+    → r ≡ insn_at part.method.methods (methods_begin part) code.first code.end at
+    → fetch l code at ≡ option_map (fetched_as l code.part part.pool at)
+    (insn_at part.method.methods (methods_begin part) code.first code.end at)
     → option_map (fetched_as l code.part (pool_of l code.part) at) r ≡ fetch l code at
-fetched_here l part code at begin methods r only zero ms b is law =
-    let here : slice_get l.parts code.part ≡ Some part = ap (λ n. slice_get l.parts n) zero ∙ only in
+fetched_here l part code at r here is law =
     ap (λ (o : Option Part). option_map (fetched_as l code.part (pool_in o) at) r) here
-    ∙ ap (option_map (fetched_as l code.part part.pool at)) (is
-    ∙ ap (λ (xs : List ℕ). insn_at xs begin code.first code.end at) ms
-    ∙ ap (λ n. insn_at part.method.methods n code.first code.end at) b)
-    ∙ sym (law here)
+    ∙ ap (option_map (fetched_as l code.part part.pool at)) is
+    ∙ sym law

@@ -1,18 +1,18 @@
 -- The lengths of methods, kept one by one.
 use Rattle.std.proofs.Common.{◌≡◌, ℕ, ◌<◌, ◌≤◌, ◌^◌, ◌+◌, List, [], ◌∷◌, length, get_or, drop, refl, sym, ap, ◌∙◌, Bool}
 use Rattle.std.proofs.Common.{true, false, Option, Some, None, subst, arith}
-use Rattle.std.specs.Prelude.{option_map, option_and_then, if◌then◌else◌, ◌==◌, slice_get}
+use Rattle.std.specs.Prelude.{option_map, option_and_then, if◌then◌else◌, ◌==◌}
 use Rattle.cjc_card_semantics.specs.CapRead.declared.tree.ClassDescriptor.{ClassDescriptor}
 use Rattle.cjc_card_semantics.specs.CapRead.declared.tree.ClassRef.{ClassRef}
 use Rattle.cjc_card_semantics.specs.CapRead.declared.tree.ClassRef.TheVariants.{Inside, Outside}
 use Rattle.cjc_card_semantics.specs.CapRead.declared.tree.MethodDescriptor.{MethodDescriptor}
 use Rattle.cjc_card_semantics.specs.CapRead.MethodHeader.{MethodHeader, method_header, extended_header, short_header}
 use Rattle.cjc_card_semantics.specs.CapRead.MethodHeader.{is_extended}
-use Rattle.cjc_card_semantics.specs.Machine.Loaded.{Part, Loaded}
+use Rattle.cjc_card_semantics.specs.Machine.Loaded.{Part}
 use Rattle.cjc_card_frame.specs.Codes.{bytes_at}
 use Rattle.cjc_card_semantics.specs.Machine.Classes.{or_else}
 use Rattle.cjc_card_semantics.specs.Machine.Methods.{is_class_at, method_among, described, bytes_from, methods_begin}
-use Rattle.cjc_card_semantics.specs.Machine.Methods.{start_at, start_in, start_of}
+use Rattle.cjc_card_semantics.specs.Machine.Methods.{start_at, start_in}
 use Rattle.cjc_card_link.specs.declared.indices.Numbers.{Numbers}
 use Rattle.cjc_card_link.specs.Indices.{number_under}
 use Rattle.cjc_card_link.proofs.OrElse.{note_more}
@@ -108,26 +108,20 @@ started_by p o h None = refl
 started_by p o h (Some m) = refl
 
 -- by its header and its length, as they are looked up
-pub start_found : (part : Part) (o : ℕ) (header : Option MethodHeader) (bytes : Option ℕ)
+pub start_found : (p : ℕ) (part : Part) (o : ℕ) (header : Option MethodHeader) (bytes : Option ℕ)
     → header ≡ method_header (bytes_from part o) → bytes ≡ bytes_among part.class part.descriptor o
-    → option_and_then (λ h. option_map (started 0 o h) bytes) header ≡ start_in 0 o part
-start_found part o header bytes e f =
-    ap (λ (b : Option ℕ). option_and_then (λ h. option_map (started 0 o h) b) header) (f
+    → option_and_then (λ h. option_map (started p o h) bytes) header ≡ start_in p o part
+start_found p part o header bytes e f =
+    ap (λ (b : Option ℕ). option_and_then (λ h. option_map (started p o h) b) header) (f
     ∙ length_described part part.descriptor o)
-    ∙ ap (option_and_then (λ h. option_map (started 0 o h) (option_map bytes_of (described part part.descriptor o)))) e
+    ∙ ap (option_and_then (λ h. option_map (started p o h) (option_map bytes_of (described part part.descriptor o)))) e
     ∙ by (method_header (bytes_from part o)) where
       by : (header : Option MethodHeader)
-          → option_and_then (λ h. option_map (started 0 o h) (option_map bytes_of (described part part.descriptor o)))
+          → option_and_then (λ h. option_map (started p o h) (option_map bytes_of (described part part.descriptor o)))
           header
-          ≡ option_and_then (λ h. option_map (start_at 0 o h) (described part part.descriptor o)) header
+          ≡ option_and_then (λ h. option_map (start_at p o h) (described part part.descriptor o)) header
       by None = refl
-      by (Some h) = started_by 0 o h (described part part.descriptor o)
-
--- in the one package of a group
-pub start_here : (l : Loaded) (part : Part) (p o : ℕ) → slice_get l.parts 0 ≡ Some part → p ≡ 0
-    → start_in 0 o part ≡ start_of l p o
-start_here l part p o only zero = sym (ap (λ n. option_and_then (start_in n o) (slice_get l.parts n)) zero
-    ∙ ap (option_and_then (start_in 0 o)) only)
+      by (Some h) = started_by p o h (described part part.descriptor o)
 
 pub header_here : (part : Part) (o begin : ℕ) (methods bytes : List ℕ) (header : Option MethodHeader)
     → methods ≡ part.method.methods → begin ≡ methods_begin part

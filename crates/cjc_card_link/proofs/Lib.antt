@@ -7,6 +7,8 @@ pub mod Alone
 pub mod Fetched
 pub mod Slots
 mod ByPlace
+mod Gathering
+mod Exporting
 mod Climbing
 mod Stepping
 mod Outer

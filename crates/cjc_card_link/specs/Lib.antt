@@ -4,6 +4,7 @@ pub mod Indices
 pub mod Infos
 pub mod Described
 pub mod Exported
+pub mod Packages
 pub mod Tables
 pub mod Walks
 pub mod MetClasses

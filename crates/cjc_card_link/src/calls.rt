@@ -1,18 +1,22 @@
 //! The methods that entries of the constant pool name, by how they are called (Java Card Virtual Machine Specification
 //! 2.2.2, section 6.7.2).
 
-ghost use Rattle.std.specs.Prelude.{◌≡◌, option_map, option_and_then};
+ghost use Rattle.std.specs.Prelude.{◌≡◌, option_map, option_and_then, slice_get};
 ghost use Rattle.std.specs.Option.{option_copied};
-ghost use Rattle.cjc_card_semantics.specs.CapRead.declared.tree.StaticRef.TheVariants.{Outside as OutsideRef};
 ghost use Rattle.cjc_check_index.specs.ExportFile.Members.{is_unbound};
 ghost use Rattle.cjc_card_frame.specs.Meanings.{mode_of};
 ghost use Rattle.cjc_card_semantics.specs.Machine.Classes.{class_of as class_by_ref};
-ghost use Rattle.cjc_card_semantics.specs.Machine.Operations.{OnObject, OnSuper, calling, entry, outer, static_method};
+ghost use Rattle.cjc_card_semantics.specs.Machine.Operations.{Fixed, OnObject, OnSuper, calling, entry, outer};
+ghost use Rattle.cjc_card_semantics.specs.Machine.Operations.{static_method};
+ghost use Rattle.cjc_card_semantics.specs.Machine.Operations.{method_through};
+ghost use Rattle.cjc_card_semantics.specs.Machine.Loaded.{OfFile, OfGroup};
+ghost use Rattle.cjc_card_link.specs.Group.{import_of};
 ghost use Rattle.cjc_card_semantics.specs.Machine.Operations.{token_of as token_by, unbound_of};
 ghost use Rattle.cjc_card_frame.specs.Objects.{class_of};
 ghost use Rattle.cjc_card_frame.specs.Kinds.{callee_of, pool_of, token_of};
 ghost use Rattle.cjc_card_link.specs.Tables.{AreKept, loaded_of};
 
+use crate::part::Import;
 use crate::tables::Tables;
 use cjc_card_frame::heap::Class;
 use cjc_card_frame::opcodes::Mode;
@@ -88,21 +92,62 @@ fn outer_of<'a>(on_object: bool, class: &'a ExportClass, token: u8) -> Option<Ca
     }
 }
 
+// The method of a token among the offsets of a class's static methods.
+fn fixed_at<'a>(on_object: bool, part: u32, offsets: &[u64], token: u8) -> Option<Callee<'a>>
+    ensures { option_map callee_of result ≡ option_map (Fixed on_object part) (slice_get offsets.now token) }
+{
+    match offsets.get(usize::from(token)) {
+        Some(offset) => Some(Callee::Fixed(on_object, part, *offset)),
+        None => None,
+    }
+}
+
 impl<'a> Tables<'a> {
+    // The static method that a package of the group exports by the tokens of a class and of a method.
+    fn exported_method(
+        &self,
+        on_object: bool,
+        part: u32,
+        class: u8,
+        token: u8,
+    ) -> Option<Callee<'a>>
+        ensures { option_map callee_of result ≡ method_through (loaded_of self.now) on_object class token
+            (OfGroup part) }
+    {
+        match self.package(part) {
+            Some(package) => match package.exported(class) {
+                Some(class) => fixed_at(on_object, part, class.methods.items(), token),
+                None => None,
+            },
+            None => None,
+        }
+    }
+
+    // The static method or constructor of an export file by the tokens of its class and of itself.
+    fn file_method(&self, on_object: bool, tree: u32, class: u8, token: u8) -> Option<Callee<'a>>
+        ensures { option_map callee_of result ≡ method_through (loaded_of self.now) on_object class token
+            (OfFile tree) }
+    {
+        match self.external(tree, class) {
+            Some(class) => outer_of(on_object, class, token),
+            None => None,
+        }
+    }
+
     // The method of a static reference through an import.
     fn method_through(
         &self,
         on_object: bool,
-        import: u8,
         class: u8,
         token: u8,
+        import: Import,
     ) -> Option<Callee<'a>>
-        ensures { option_map callee_of result ≡ static_method (loaded_of self.now) 0 on_object (OutsideRef import class
-            token) }
+        ensures { option_map callee_of result ≡ method_through (loaded_of self.now) on_object class token
+            (import_of import) }
     {
-        match self.external(u32::from(import), class) {
-            Some(class) => outer_of(on_object, class, token),
-            None => None,
+        match import {
+            Import::OfFile(tree) => self.file_method(on_object, tree, class, token),
+            Import::OfGroup(part) => self.exported_method(on_object, part, class, token),
         }
     }
 
@@ -116,13 +161,10 @@ impl<'a> Tables<'a> {
                 package,
                 class,
                 token,
-            } => {
-                if part == 0 {
-                    self.method_through(on_object, package, class, token)
-                } else {
-                    None
-                }
-            }
+            } => match self.import(part, u32::from(package)) {
+                Some(import) => self.method_through(on_object, class, token, import),
+                None => None,
+            },
         }
     }
 

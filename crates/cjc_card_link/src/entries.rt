@@ -1,12 +1,15 @@
 //! Entries of the constant pool by their indices (Java Card Virtual Machine Specification 2.2.2, section 6.7).
 
-ghost use Rattle.std.specs.Prelude.{◌≡◌, option_map, option_and_then};
+ghost use Rattle.std.specs.Prelude.{◌≡◌, option_map, option_and_then, slice_get};
 ghost use Rattle.cjc_card_semantics.specs.Machine.Classes.{class_of as class_by_ref};
-ghost use Rattle.cjc_card_semantics.specs.Machine.Operations.{class_at, entry, static_cell};
+ghost use Rattle.cjc_card_semantics.specs.Machine.Loaded.{OfGroup};
+ghost use Rattle.cjc_card_semantics.specs.Machine.Operations.{cell_through, class_at, entry, static_cell};
+ghost use Rattle.cjc_card_link.specs.Group.{import_of};
 ghost use Rattle.cjc_card_frame.specs.Objects.{class_of, field_of};
 ghost use Rattle.cjc_card_frame.specs.Kinds.{cell_by, cell_of, field_by, pool_of};
 ghost use Rattle.cjc_card_link.specs.Tables.{AreKept, loaded_of};
 
+use crate::part::Import;
 use crate::tables::Tables;
 use cjc_card_frame::heap::{Class, Field};
 use cjc_card_frame::parts::StaticCell;
@@ -23,24 +26,29 @@ fn entry(pool: &[PoolEntry], index: i32) -> Option<PoolEntry>
     }
 }
 
+// The cell of a token among the offsets of a class's static fields.
+fn cell_at(part: u32, offsets: &[u64], token: u8) -> Option<StaticCell>
+    ensures { option_map cell_of result ≡ option_map (λ offset. record { part = part; offset = offset })
+        (slice_get offsets.now token) }
+{
+    match offsets.get(usize::from(token)) {
+        Some(offset) => Some(StaticCell {
+            part,
+            offset: *offset,
+        }),
+        None => None,
+    }
+}
+
 impl<'a> Tables<'a> {
     /// The entry of an index in a package.
     pub(crate) fn pool_entry(&self, part: u32, index: i32) -> Option<PoolEntry>
         ensures { result ≡ entry (pool_of (loaded_of self.now) part) index }
     {
-        if part == 0 {
-            entry(self.part.pool, index)
-        } else {
-            entry(&[], index)
+        match self.package(part) {
+            Some(package) => entry(package.pool(), index),
+            None => entry(&[], index),
         }
-    }
-
-    /// The class of a class_ref of a package, where there is one.
-    pub fn class_in(&self, part: u32, class: ClassRef) -> Option<Class>
-        requires { AreKept self.now }
-        ensures { option_map class_of result ≡ class_by_ref (loaded_of self.now) part class }
-    {
-        if part == 0 { self.class(class) } else { None }
     }
 
     /// The class that an entry names.
@@ -89,13 +97,43 @@ impl<'a> Tables<'a> {
         }
     }
 
-    // The cell of a static reference; a field of another package has none.
+    // The cell that a package of the group exports by the tokens of a class and of a field.
+    fn exported_cell(&self, part: u32, class: u8, token: u8) -> Option<StaticCell>
+        ensures { option_map cell_of result ≡ cell_through (loaded_of self.now) class token (OfGroup part) }
+    {
+        match self.package(part) {
+            Some(package) => match package.exported(class) {
+                Some(class) => cell_at(part, class.fields.items(), token),
+                None => None,
+            },
+            None => None,
+        }
+    }
+
+    // The cell of a static field through an import; one outside the group has none.
+    fn cell_through(&self, class: u8, token: u8, import: Import) -> Option<StaticCell>
+        ensures { option_map cell_of result ≡ cell_through (loaded_of self.now) class token (import_of import) }
+    {
+        match import {
+            Import::OfFile(_) => None,
+            Import::OfGroup(part) => self.exported_cell(part, class, token),
+        }
+    }
+
+    // The cell of a static reference.
     fn static_cell(&self, part: u32, field: StaticRef) -> Option<StaticCell>
         ensures { option_map cell_of result ≡ static_cell (loaded_of self.now) part field }
     {
         match field {
             StaticRef::Inside(offset) => Some(StaticCell { part, offset }),
-            StaticRef::Outside { .. } => None,
+            StaticRef::Outside {
+                package,
+                class,
+                token,
+            } => match self.import(part, u32::from(package)) {
+                Some(import) => self.cell_through(class, token, import),
+                None => None,
+            },
         }
     }
 

@@ -58,7 +58,7 @@ impl<'a> Tables<'a> {
         ensures depth { result ≡ depth (loaded_of self.now) }
         ensures small { result + 1 < 2 ^ 32 }
     {
-        1 + self.infos.count() as u32
+        1 + self.count
     }
 
     // Puts the slots of an info at the end.

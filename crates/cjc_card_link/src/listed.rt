@@ -1,12 +1,13 @@
 //! The parts of a group, and its classes by their numbers. Called by whoever makes further tables over them.
 
-ghost use Rattle.std.specs.Prelude.{◌≡◌, ℕ, length, option_map, option_and_then, slice_get};
-ghost use Rattle.cjc_card_semantics.specs.Machine.Classes.{Own, info_count, offset_of};
+ghost use Rattle.std.specs.Prelude.{◌≡◌, List, Some, None, length, option_map, option_and_then, slice_get, MatchOption};
+ghost use Rattle.cjc_card_semantics.specs.Machine.Loaded.{Import};
+ghost use Rattle.cjc_card_semantics.specs.Machine.Classes.{Own, offset_of};
 ghost use Rattle.cjc_card_semantics.specs.Machine.Operations.{class_at};
 ghost use Rattle.cjc_card_frame.specs.Objects.{class_of};
 ghost use Rattle.cjc_card_frame.specs.Kinds.{pool_of};
-ghost use Rattle.cjc_card_link.specs.Group.{part_of};
-ghost use Rattle.cjc_card_link.specs.Tables.{AreKept, loaded_of};
+ghost use Rattle.cjc_card_link.specs.Group.{part_with};
+ghost use Rattle.cjc_card_link.specs.Tables.{AreKept, class_count, loaded_of};
 
 use crate::part::Part;
 use crate::tables::Tables;
@@ -14,13 +15,23 @@ use cjc_card_frame::heap::Class;
 use cjc_card_semantics::capread::PoolEntry;
 use cjc_check_index::export_file::ExportTree;
 
+// The entry of a number.
+fn entry_at(pool: &[PoolEntry], index: u64) -> Option<PoolEntry>
+    ensures { result ≡ slice_get pool.now index }
+{
+    pool.get(index as usize).copied()
+}
+
 impl<'a> Tables<'a> {
     /// A package by its number.
     pub fn part(&self, part: u32) -> Option<Part<'a>>
-        ensures { option_map (λ p. part_of (length (loaded_of self.now).trees) p) result
-            ≡ slice_get (loaded_of self.now).parts part }
+        ensures { MatchOption result (None ≡ slice_get (loaded_of self.now).parts part)
+            (λ p. (imports : List Import) × (Some (part_with imports p) ≡ slice_get (loaded_of self.now).parts part)) }
     {
-        if part == 0 { Some(self.part) } else { None }
+        match self.package(part) {
+            Some(package) => Some(package.part()),
+            None => None,
+        }
     }
 
     /// The export files.
@@ -30,22 +41,45 @@ impl<'a> Tables<'a> {
         self.exported.trees()
     }
 
-    /// How many classes and interfaces the package has.
-    pub fn class_count(&self) -> usize
+    /// How many packages there are.
+    pub fn part_count(&self) -> u32
         requires { AreKept self.now }
-        ensures { result ≡ info_count (loaded_of self.now).parts }
+        ensures { result ≡ length (loaded_of self.now).parts }
     {
-        self.infos.count()
+        self.packages.items().len() as u32
     }
 
-    /// The class with a number, in the order of Class.
-    pub fn class_numbered(&self, number: u64) -> Option<Class>
-        requires { AreKept self.now }
-        ensures { option_map class_of result ≡ option_map (Own 0) (option_and_then (λ p. offset_of p number)
-            (slice_get (loaded_of self.now).parts 0)) }
+    /// How many classes and interfaces a package has.
+    pub fn class_count(&self, part: u32) -> usize
+        ensures { result ≡ class_count (slice_get (loaded_of self.now).parts part) }
     {
-        match self.infos.offset_of(number) {
-            Some(offset) => Some(Class::Own(0, offset as u32)),
+        match self.package(part) {
+            Some(package) => package.count(),
+            None => 0,
+        }
+    }
+
+    /// The class of a package with a number, in the order of Class.
+    pub fn class_numbered(&self, part: u32, number: u64) -> Option<Class>
+        requires { AreKept self.now }
+        ensures { option_map class_of result ≡ option_map (Own part) (option_and_then (λ p. offset_of p number)
+            (slice_get (loaded_of self.now).parts part)) }
+    {
+        match self.package(part) {
+            Some(package) => match package.offset_of(number) {
+                Some(offset) => Some(Class::Own(part, offset as u32)),
+                None => None,
+            },
+            None => None,
+        }
+    }
+
+    // The entry of a number in a package.
+    fn entry_numbered(&self, part: u32, index: u64) -> Option<PoolEntry>
+        ensures { result ≡ slice_get (pool_of (loaded_of self.now) part) index }
+    {
+        match self.package(part) {
+            Some(package) => entry_at(package.pool(), index),
             None => None,
         }
     }
@@ -56,10 +90,7 @@ impl<'a> Tables<'a> {
         ensures { option_map class_of result ≡ class_at (loaded_of self.now) part
             (slice_get (pool_of (loaded_of self.now) part) index) }
     {
-        if part != 0 {
-            return None;
-        }
-        match self.part.pool.get(index as usize).copied() {
+        match self.entry_numbered(part, index) {
             Some(PoolEntry::Classref(class)) => self.class_in(part, class),
             Some(PoolEntry::InstanceFieldref { .. }) => None,
             Some(PoolEntry::VirtualMethodref { .. }) => None,

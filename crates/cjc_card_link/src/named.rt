@@ -1,12 +1,13 @@
 //! The part of `Tables` that tells the name of a class and finds a class by its name: for scripts, reports,
 //! descriptors, and the classes that the machine itself names.
 
-ghost use Rattle.std.specs.Prelude.{◌≡◌, ◌==◌, ℕ, option_map, option_and_then};
+ghost use Rattle.std.specs.Prelude.{◌≡◌, option_map, option_and_then, slice_get};
 ghost use Rattle.std.specs.Option.{option_copied};
 ghost use Rattle.std.specs.Str.{bytes_eq};
 ghost use Rattle.cjc_card_semantics.specs.Machine.Classes.{class_named, is_interface, name_of, names_of, own_from};
 ghost use Rattle.cjc_card_frame.specs.Objects.{class_of};
 ghost use Rattle.cjc_card_link.specs.Names.{class_names_of};
+ghost use Rattle.cjc_card_link.specs.Packages.{named_class};
 ghost use Rattle.cjc_card_link.specs.Tables.{AreKept, loaded_of};
 
 use crate::infos::Info;
@@ -21,11 +22,8 @@ impl<'a> Tables<'a> {
         requires { AreKept self.now }
         ensures { option_map class_names_of (option_copied result) ≡ names_of (loaded_of self.now) part offset }
     {
-        if part != 0 {
-            return None;
-        }
-        match self.infos.number_of(u64::from(offset)) {
-            Some(number) => self.part.classes.get(number as usize),
+        match self.package(part) {
+            Some(package) => package.names(u64::from(offset)),
             None => None,
         }
     }
@@ -47,21 +45,34 @@ impl<'a> Tables<'a> {
         }
     }
 
-    // A class of the package by its name.
-    fn own_named(&self, name: &[u8]) -> Option<Class>
-        requires { AreKept self.now }
-        ensures { option_map class_of result ≡ own_from 0 (loaded_of self.now).parts name.now }
+    // A class of a package by its name.
+    fn named_in(&self, part: u32, name: &[u8]) -> Option<Class>
+        ensures { option_map class_of result ≡ option_and_then (λ q. named_class part q name.now)
+            (slice_get (loaded_of self.now).parts part) }
     {
-        match self.own.get(name) {
-            Some(number) => match self.infos.offset_of(number) {
-                Some(offset) => Some(Class::Own(0, offset as u32)),
+        match self.package(part) {
+            Some(package) => match package.offset_named(name) {
+                Some(offset) => Some(Class::Own(part, offset as u32)),
                 None => None,
             },
             None => None,
         }
     }
 
-    /// A class of the package by its name, else of the export files.
+    // The first class of the packages with a name.
+    fn own_named(&self, name: &[u8]) -> Option<Class>
+        requires { AreKept self.now }
+        ensures { option_map class_of result ≡ own_from 0 (loaded_of self.now).parts name.now }
+    {
+        for part in 0..self.part_count() {
+            if let Some(class) = self.named_in(part, name) {
+                return Some(class);
+            }
+        }
+        None
+    }
+
+    /// The first class of the packages with a name, else of the export files.
     pub fn class_named(&self, name: &[u8]) -> Option<Class>
         requires { AreKept self.now }
         ensures { option_map class_of result ≡ class_named (loaded_of self.now) name.now }

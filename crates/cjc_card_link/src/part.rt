@@ -6,6 +6,14 @@ use cjc_card_frame::parts::CellName;
 use cjc_card_semantics::capread::{
     ClassDescriptor, ClassInfo, ExportedClass, Method, PoolEntry, StaticField,
 };
+use cjc_check_index::bytes::Row;
+
+/// What a package imports: another of the group by its number, or one outside by the number of its export file.
+#[derive(Clone, Copy)]
+pub enum Import {
+    OfGroup(u32),
+    OfFile(u32),
+}
 
 /// The components of a package that are looked into when it runs, and names.
 #[derive(Clone, Copy)]
@@ -20,4 +28,11 @@ pub struct Part<'a> {
     pub classes: &'a [ClassNames],
     /// In the order of a report.
     pub cells: &'a [CellName],
+}
+
+/// A package of a group, with what it imports, by package token.
+#[derive(Drop)]
+pub struct GroupPart<'a> {
+    pub part: Part<'a>,
+    pub imports: Row<Import>,
 }

@@ -2,10 +2,11 @@
 
 ghost use Rattle.std.specs.Prelude.{◌≡◌, ◌+◌, map, IfOk};
 ghost use Rattle.cjc_card_semantics.specs.Machine.Classes.{IsClass, IsInterface, class_steps, info_steps, steps};
-ghost use Rattle.cjc_card_semantics.specs.Machine.Classes.{tree_steps};
+ghost use Rattle.cjc_card_semantics.specs.Machine.Classes.{part_steps, tree_steps};
 ghost use Rattle.cjc_card_link.specs.Infos.{infos_in};
 ghost use Rattle.cjc_card_link.specs.Tables.{AreKept, loaded_of};
 
+use crate::package::Package;
 use crate::tables::Tables;
 use cjc_card_semantics::capread::{ClassEntry, ClassInfo, InterfaceEntry};
 use cjc_check_index::bytes::NoMemory;
@@ -75,13 +76,24 @@ fn tree_steps(trees: &[ExportTree]) -> Result<u64, NoMemory>
     Ok(steps)
 }
 
+// Those of packages.
+fn part_steps(packages: &[Package<'_>]) -> Result<u64, NoMemory>
+    ensures { IfOk result (λ n. n ≡ part_steps packages.now) }
+{
+    let mut steps = 0;
+    for package in packages {
+        steps = sum(steps, infos_steps(package.class())?)?;
+    }
+    Ok(steps)
+}
+
 impl<'a> Tables<'a> {
     /// The steps that reach all that stands above any class.
     pub fn steps(&self) -> Result<u64, NoMemory>
         requires { AreKept self.now }
         ensures { IfOk result (λ n. n ≡ steps (loaded_of self.now)) }
     {
-        let own = infos_steps(self.part.class)?;
+        let own = part_steps(self.packages.items())?;
         let listed = tree_steps(self.exported.trees())?;
         sum(sum(own, listed)?, 2)
     }

@@ -15,6 +15,7 @@ pub mod World
 pub mod Clinit
 pub mod CheckRules
 pub mod CheckIndex
+pub mod JvmSemantics
 pub mod Components
 pub mod LowerCmdJvm
 pub mod CmdCheck

@@ -17,9 +17,14 @@ pub mod list {
     pub use cjc_judge::list::{List, read_list};
 }
 
+/// What crates above take of script.
+pub mod script {
+    pub use cjc_card::script::{Report, Script};
+}
+
 /// What crates above take of script_text.
 pub mod script_text {
-    pub use cjc_cmd_jvm::script_text::print;
+    pub use cjc_cmd_jvm::script_text::{print, read};
 }
 
 /// What crates above take of world.
@@ -42,14 +47,44 @@ pub mod check {
     pub use cjc_cmd_check::check::Checked;
 }
 
+/// What crates above take of card_frame.
+pub mod card_frame {
+    pub use cjc_card::card_frame::parts;
+}
+
+/// What crates above take of card_link.
+pub mod card_link {
+    pub use cjc_pairing::card_link::{ClassNames, GroupPart, Import};
+}
+
+/// What crates above take of jvm.
+pub mod jvm {
+    pub use cjc_card::jvm::runs;
+}
+
+/// What crates above take of cjc_card.
+pub mod card {
+    pub use cjc_card::{group, runs};
+}
+
+/// What crates above take of jvm_link.
+pub mod jvm_link {
+    pub use cjc_cmd_jvm::jvm_link::{GroupLinks, Package, indices_of, joint_image, joint_world};
+}
+
 /// What crates above take of cjc_pairing.
 pub mod pairing {
-    pub use cjc_pairing::test_pair;
+    pub use cjc_pairing::{card_names, test_pair};
+}
+
+/// What crates above take of exported.
+pub mod exported {
+    pub use cjc_shape::exported::export_file;
 }
 
 /// What crates above take of cjc_judge.
 pub mod judge {
-    pub use cjc_judge::{Judged, image_of, tokens_of};
+    pub use cjc_judge::{Codes, JointTrees, Judged, image_of, tokens_of, trees_of};
 }
 
 /// What crates above take of cjc_cmd_jvm.

@@ -7,5 +7,6 @@ mod reporting;
 mod running;
 
 pub use laws::one_answer;
+pub use parts::part_of;
 pub use reporting::report_of;
 pub use running::gather_card;

@@ -12,5 +12,10 @@ pub mod script_text {
     pub use cjc_script_text::{print, read};
 }
 
+/// What crates above take of cjc_jvm_link.
+pub mod jvm_link {
+    pub use cjc_jvm_link::{GroupLinks, Package, indices_of, joint_image, joint_world};
+}
+
 pub mod report;
 pub mod running;

@@ -4,5 +4,5 @@ mod reporting;
 mod room;
 mod running;
 
-pub use reporting::report_of;
+pub use reporting::{has_room, report_of};
 pub use running::gather_run;

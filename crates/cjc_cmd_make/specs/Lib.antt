@@ -3,3 +3,4 @@ pub mod Laws
 pub mod Report
 -- Definitions of lower crates, for those above.
 pub mod CmdConvert
+pub mod CmdCard

@@ -17,6 +17,7 @@ pub mod ToldRules
 pub mod OneRefusal
 pub mod RangesLaws
 pub mod Unbroken
+pub mod JointLaws
 -- Lemmas of lower crates, for those above.
 pub use Rattle.cjc_bytes.proofs.Bools as BytesBools
 pub use Rattle.cjc_bytes.proofs.BrokenRules as BytesBrokenRules

@@ -4,6 +4,7 @@ pub mod Rules
 pub mod Trees
 pub mod Types
 pub mod Judged
+pub mod Joint
 pub mod Working
 pub mod OutOfRange
 -- Definitions of lower crates, for those above.

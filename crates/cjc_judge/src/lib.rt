@@ -19,6 +19,7 @@ pub mod world {
 }
 
 mod groups;
+mod joint;
 mod judged;
 mod judging;
 mod laws;
@@ -26,7 +27,9 @@ mod parts;
 pub mod ranges;
 mod reading;
 
+pub use cjc_vtable::bytecode::Codes;
 pub use groups::Group;
+pub use joint::{JointTrees, trees_of};
 pub use judged::{Judged, judge, test_files};
 pub use laws::{files_first, one_refusal};
 pub use parts::{image_of, tokens_of};

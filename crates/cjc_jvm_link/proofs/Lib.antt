@@ -9,3 +9,6 @@ pub mod Keeping
 pub mod Calling
 pub mod Found
 pub mod Walks
+pub mod Packages
+pub mod Grouping
+pub mod Together

@@ -1,5 +1,8 @@
 pub mod Linkage
 pub mod Found
+pub mod Wanted
+pub mod Group
+pub mod Joint
 pub mod Methods
 pub mod Fresh
 pub mod Keys

@@ -8,15 +8,18 @@ ghost use Rattle.cjc_world.specs.Classes.{all_classes, class_named};
 ghost use Rattle.cjc_world.specs.Supertypes.{line};
 ghost use Rattle.cjc_world.specs.Lookup.{is_selectable, receiver, find_method};
 ghost use Rattle.cjc_world.specs.Working.Known.{class_of};
-ghost use Rattle.cjc_jvm_semantics.specs.OnePackage.{callee_at, first_imported, first_super, selected_from, select_in};
+ghost use Rattle.cjc_jvm_semantics.specs.OnePackage.{callee_at, first_imported, first_super, selected_from};
 ghost use Rattle.cjc_jvm_semantics.specs.OnePackage.{on_class, interface_callee, direct_call, super_call, special_call};
 ghost use Rattle.cjc_jvm_semantics.specs.OnePackage.{static_call, virtual_call, interface_call, call_by, call_named};
 ghost use Rattle.cjc_jvm_semantics.specs.OnePackage.{method_hit, method_at, is_constructor, is_initialiser};
 ghost use Rattle.cjc_jvm_step.specs.Step.Names.{callee_of, selection_of, IsCall};
 ghost use Rattle.cjc_jvm_link.specs.Found.{hit_of};
+ghost use Rattle.cjc_jvm_link.specs.Wanted.{selection_by};
+ghost use Rattle.cjc_jvm_link.specs.declared.wanted.Wanted.TheVariants as Wants;
 
 use crate::hits::{Owner, owner_of};
 use crate::links::Links;
+use crate::wanted::Wanted;
 use cjc_jvm_semantics::bytecode::jvm;
 use cjc_jvm_step::step::{Call, Callee};
 use cjc_world::bytes::{MemberId, is_interface, is_private, is_static};
@@ -24,8 +27,8 @@ use cjc_world::{Found, Known};
 
 const OBJECT: &[u8] = b"java/lang/Object";
 
-// An array counts as java/lang/Object.
-fn receiver(class: &[u8]) -> &[u8]
+/// An array counts as java/lang/Object.
+pub(crate) fn receiver(class: &[u8]) -> &[u8]
     ensures { result.now ≡ receiver class.now }
 {
     match class {
@@ -55,11 +58,12 @@ pub(crate) fn is_initialiser(name: &[u8]) -> bool
     name == b"<clinit>".as_slice()
 }
 
-/// A method that a look-up found, with its class and its flags.
+/// A method that a look-up found, with its class and its flags, and how one is selected for it.
 #[derive(Clone, Copy)]
 pub(crate) struct FoundMethod<'w, 'a> {
     pub(crate) found: Found,
     pub(crate) owner: Owner<'w, 'a>,
+    pub(crate) wanted: Wanted<'w>,
 }
 
 impl<'w, 'a> Links<'w, 'a> {
@@ -69,7 +73,7 @@ impl<'w, 'a> Links<'w, 'a> {
             (option_and_then (λ f. method_hit (all_classes self.now.files) f) (find_method (all_classes self.now.files)
             id.now.class id.now.name id.now.desc) ≡ None)
             (λ m. (find_method (all_classes self.now.files) id.now.class id.now.name id.now.desc ≡ Some m.found)
-            × (method_hit (all_classes self.now.files) m.found ≡ Some (hit_of m.owner))) }
+            × (method_hit (all_classes self.now.files) m.found ≡ Some (hit_of m.owner)) × (m.wanted ≡ Wants.Any)) }
     {
         let Some(found) = self.world.find_method(id) else {
             return None;
@@ -77,7 +81,11 @@ impl<'w, 'a> Links<'w, 'a> {
         let Some(owner) = owner_of(self.world, false, found) else {
             return None;
         };
-        Some(FoundMethod { found, owner })
+        Some(FoundMethod {
+            found,
+            owner,
+            wanted: Wanted::Any,
+        })
     }
 
     // A method of the package, or the event of an imported one, which names this class.
@@ -108,11 +116,11 @@ impl<'w, 'a> Links<'w, 'a> {
     }
 
     // What is selected from a class upwards.
-    fn selected_from(&self, class: &[u8], id: &MemberId) -> Option<Callee<'_>>
+    fn selected_from(&self, wanted: Wanted<'_>, class: &[u8], id: &MemberId) -> Option<Callee<'_>>
         ensures { option_map (λ c. callee_of c id.now) result ≡ selected_from self.now.files
-            (all_classes self.now.files) (select_in (all_classes self.now.files)) class.now id.now }
+            (all_classes self.now.files) (selection_by (all_classes self.now.files) wanted.entry) class.now id.now }
     {
-        match self.world.selected(class, id) {
+        match self.select(wanted, class, id) {
             Some(found) if found.imported => {
                 Some(Callee::Abroad(self.first_imported(receiver(class))))
             }
@@ -125,15 +133,15 @@ impl<'w, 'a> Links<'w, 'a> {
     }
 
     // What invokespecial selects from the superclass of the class that holds the code.
-    fn selected_above(&self, holder: &[u8], id: &MemberId) -> Option<Callee<'_>>
+    fn selected_above(&self, wanted: Wanted<'_>, holder: &[u8], id: &MemberId) -> Option<Callee<'_>>
         ensures { option_map (λ c. callee_of c id.now) result ≡ option_and_then (λ super. selected_from self.now.files
-            (all_classes self.now.files) (select_in (all_classes self.now.files)) super id.now)
+            (all_classes self.now.files) (selection_by (all_classes self.now.files) wanted.entry) super id.now)
             (first_super (class_named (all_classes self.now.files) holder.now)) }
     {
         match self.world.class_named(holder) {
             Some(class) => match class.supers() {
                 [] => None,
-                [above, ..] => self.selected_from(above.items(), id),
+                [above, ..] => self.selected_from(wanted, above.items(), id),
             },
             None => None,
         }
@@ -142,17 +150,19 @@ impl<'w, 'a> Links<'w, 'a> {
     // What invokeinterface reaches on a receiver of a type.
     fn interface_callee<'s>(
         &'s self,
+        wanted: Wanted<'_>,
         interface: &'s [u8],
         type_name: &[u8],
         id: &MemberId,
     ) -> Option<Callee<'s>>
         ensures { option_map (λ c. callee_of c id.now) result ≡ interface_callee self.now.files
-            (all_classes self.now.files) (select_in (all_classes self.now.files)) interface.now type_name.now id.now
+            (all_classes self.now.files) (selection_by (all_classes self.now.files) wanted.entry) interface.now
+            type_name.now id.now
             (class_named (all_classes self.now.files) (receiver type_name.now)) }
     {
         match self.world.class_named(receiver(type_name)) {
             Some(class) if class.is_imported() => Some(Callee::Abroad(interface)),
-            Some(_) => self.selected_from(type_name, id),
+            Some(_) => self.selected_from(wanted, type_name, id),
             None => None,
         }
     }
@@ -161,7 +171,8 @@ impl<'w, 'a> Links<'w, 'a> {
     fn special_call(&self, name: &[u8], method: FoundMethod<'w, 'a>) -> Option<Call<'_>>
         ensures { (holder : List ℕ) (id : Id) → id.name ≡ name.now
             → IsCall id result (special_call self.now.files (all_classes self.now.files)
-            (select_in (all_classes self.now.files)) holder id method.entry.found (hit_of method.entry.owner)) }
+            (selection_by (all_classes self.now.files) method.entry.wanted) holder id method.entry.found (hit_of
+            method.entry.owner)) }
     {
         if is_static(method.owner.flags) {
             None
@@ -184,11 +195,17 @@ impl<'w, 'a> Links<'w, 'a> {
         }
     }
 
-    // By the opcode.
-    fn call_by(&self, op: u8, name: &[u8], method: FoundMethod<'w, 'a>) -> Option<Call<'_>>
+    /// By the opcode.
+    pub(crate) fn call_by(
+        &self,
+        op: u8,
+        name: &[u8],
+        method: FoundMethod<'w, 'a>,
+    ) -> Option<Call<'_>>
         ensures { (holder : List ℕ) (id : Id) → id.name ≡ name.now
             → IsCall id result (call_by self.now.files (all_classes self.now.files)
-            (select_in (all_classes self.now.files)) holder op id method.entry.found (hit_of method.entry.owner)) }
+            (selection_by (all_classes self.now.files) method.entry.wanted) holder op id method.entry.found (hit_of
+            method.entry.owner)) }
     {
         if op == jvm::INVOKESPECIAL {
             return self.special_call(name, method);
@@ -240,15 +257,21 @@ impl<'w, 'a> Links<'w, 'a> {
     }
 
     // What invokespecial selects, on a receiver that is of the class that holds the code.
-    fn super_callee(&self, holder: &[u8], id: &MemberId, type_name: &[u8]) -> Option<Callee<'_>>
+    fn super_callee(
+        &self,
+        wanted: Wanted<'_>,
+        holder: &[u8],
+        id: &MemberId,
+        type_name: &[u8],
+    ) -> Option<Callee<'_>>
         ensures { option_map (λ c. callee_of c id.now) result
             ≡ selection_of (Some (super_call self.now.files (all_classes self.now.files)
-            (select_in (all_classes self.now.files)) holder.now id.now)) type_name.now }
+            (selection_by (all_classes self.now.files) wanted.entry) holder.now id.now)) type_name.now }
     {
         if !self.world.subtype(type_name, holder) {
             return None;
         }
-        self.selected_above(holder, id)
+        self.selected_above(wanted, holder, id)
     }
 
     // invokespecial on a receiver of a type.
@@ -261,7 +284,8 @@ impl<'w, 'a> Links<'w, 'a> {
     ) -> Option<Callee<'s>>
         ensures { option_map (λ c. callee_of c id.now) result
             ≡ selection_of (special_call self.now.files (all_classes self.now.files)
-            (select_in (all_classes self.now.files)) holder.now id.now method.entry.found (hit_of method.entry.owner))
+            (selection_by (all_classes self.now.files) method.entry.wanted) holder.now id.now method.entry.found
+            (hit_of method.entry.owner))
             type_name.now }
     {
         if is_static(method.owner.flags) {
@@ -270,7 +294,7 @@ impl<'w, 'a> Links<'w, 'a> {
         if is_constructor(id.name.items()) || is_private(method.owner.flags) {
             return self.direct_callee(id, method, type_name);
         }
-        self.super_callee(holder, id, type_name)
+        self.super_callee(method.wanted, holder, id, type_name)
     }
 
     // invokevirtual on a receiver of a type.
@@ -282,12 +306,13 @@ impl<'w, 'a> Links<'w, 'a> {
     ) -> Option<Callee<'s>>
         ensures { option_map (λ c. callee_of c id.now) result
             ≡ selection_of (virtual_call self.now.files (all_classes self.now.files)
-            (select_in (all_classes self.now.files)) id.now (hit_of method.entry.owner)) type_name.now }
+            (selection_by (all_classes self.now.files) method.entry.wanted) id.now (hit_of method.entry.owner))
+            type_name.now }
     {
         if !is_selectable(method.owner.flags) || !self.world.subtype(type_name, id.class.items()) {
             return None;
         }
-        self.selected_from(type_name, id)
+        self.selected_from(method.wanted, type_name, id)
     }
 
     // invokeinterface on a receiver of a type.
@@ -299,7 +324,8 @@ impl<'w, 'a> Links<'w, 'a> {
     ) -> Option<Callee<'s>>
         ensures { option_map (λ c. callee_of c id.now) result
             ≡ selection_of (interface_call self.now.files (all_classes self.now.files)
-            (select_in (all_classes self.now.files)) id.now (hit_of method.entry.owner)) type_name.now }
+            (selection_by (all_classes self.now.files) method.entry.wanted) id.now (hit_of method.entry.owner))
+            type_name.now }
     {
         let class = method.owner.class;
         if !is_interface(class.flags()) || !is_selectable(method.owner.flags) {
@@ -308,11 +334,11 @@ impl<'w, 'a> Links<'w, 'a> {
         if !self.world.subtype(type_name, id.class.items()) {
             return None;
         }
-        self.interface_callee(class.name(), type_name, id)
+        self.interface_callee(method.wanted, class.name(), type_name, id)
     }
 
-    // By the opcode.
-    fn callee_by<'s>(
+    /// By the opcode.
+    pub(crate) fn callee_by<'s>(
         &'s self,
         holder: &[u8],
         op: u8,
@@ -321,7 +347,8 @@ impl<'w, 'a> Links<'w, 'a> {
         type_name: &[u8],
     ) -> Option<Callee<'s>>
         ensures { option_map (λ c. callee_of c id.now) result
-            ≡ selection_of (call_by self.now.files (all_classes self.now.files) (select_in (all_classes self.now.files))
+            ≡ selection_of (call_by self.now.files (all_classes self.now.files) (selection_by (all_classes
+            self.now.files) method.entry.wanted)
             holder.now op id.now method.entry.found (hit_of method.entry.owner)) type_name.now }
     {
         if op == jvm::INVOKESPECIAL {

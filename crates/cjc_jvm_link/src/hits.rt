@@ -5,7 +5,9 @@ ghost use Rattle.std.specs.Prelude.{◌≡◌, ◌-◌, length, option_map, slic
 ghost use Rattle.std.specs.List.{flat_map};
 ghost use Rattle.cjc_world.specs.Classes.{all_classes};
 ghost use Rattle.cjc_world.specs.Working.Known.{class_of};
-ghost use Rattle.cjc_jvm_semantics.specs.OnePackage.{constant_in, exported_constant, constant_at, field_named};
+ghost use Rattle.cjc_world.specs.Bytes.declared.fault.MemberId.{MemberId as Id};
+ghost use Rattle.cjc_jvm_semantics.specs.OnePackage.{constant_in, exported_constant, constant_at, field_by};
+ghost use Rattle.cjc_jvm_semantics.specs.OnePackage.{field_hit, field_named};
 ghost use Rattle.cjc_jvm_step.specs.Step.Names.{field_of};
 ghost use Rattle.cjc_jvm_link.specs.Found.{hit_of, hit_at};
 
@@ -106,13 +108,11 @@ pub(crate) fn constant_at(world: &World<'_>, found: Found) -> Option<i32>
     }
 }
 
-/// The field that is found from the class that a member names.
-pub(crate) fn field_named<'w>(world: &'w World<'_>, id: &MemberId) -> Option<ResolvedField<'w>>
-    ensures { option_map (λ f. field_of f id.now) result ≡ field_named world.now (all_classes world.now) id.now }
+/// The field that a look-up found.
+pub(crate) fn field_at<'w>(world: &'w World<'_>, found: Found) -> Option<ResolvedField<'w>>
+    ensures { (id : Id) → option_map (λ f. field_of f id) result ≡ option_map (field_by (constant_at world.now found)
+        id) (field_hit (all_classes world.now) found) }
 {
-    let Some(found) = world.find_field(id) else {
-        return None;
-    };
     let Some(owner) = owner_of(world, true, found) else {
         return None;
     };
@@ -123,5 +123,15 @@ pub(crate) fn field_named<'w>(world: &'w World<'_>, id: &MemberId) -> Option<Res
         Some(ResolvedField::Static(owner.class.name()))
     } else {
         Some(ResolvedField::Instance(owner.class.name()))
+    }
+}
+
+/// The field that is found from the class that a member names.
+pub(crate) fn field_named<'w>(world: &'w World<'_>, id: &MemberId) -> Option<ResolvedField<'w>>
+    ensures { option_map (λ f. field_of f id.now) result ≡ field_named world.now (all_classes world.now) id.now }
+{
+    match world.find_field(id) {
+        Some(found) => field_at(world, found),
+        None => None,
     }
 }

@@ -10,15 +10,17 @@ ghost use Rattle.cjc_world.specs.Subtype.{is_subtype};
 ghost use Rattle.cjc_world.specs.Working.Known.{class_of};
 ghost use Rattle.cjc_world.specs.Working.Spots.{IsCounted};
 ghost use Rattle.cjc_jvm_semantics.specs.OnePackage.{ResolvedMember, method_at, made_of, is_made, is_plain_import};
-ghost use Rattle.cjc_jvm_semantics.specs.OnePackage.{is_sendable, select_in, entry_in, entry_named, sent_named};
+ghost use Rattle.cjc_jvm_semantics.specs.OnePackage.{is_sendable, entry_in, entry_named, sent_named};
 ghost use Rattle.cjc_jvm_link.specs.Linkage.{linked_of};
 ghost use Rattle.cjc_jvm_link.specs.Methods.{AreIndices};
+ghost use Rattle.cjc_jvm_link.specs.Wanted.{selection_by};
 
 use crate::calls::{is_constructor, is_initialiser, is_selectable};
 use crate::cells::{cells, heap_of};
 use crate::fresh::Fresh;
 use crate::hits::field_named;
 use crate::methods::all_methods;
+use crate::wanted::Wanted;
 use cjc_jvm_semantics::bytecode::MethodCode;
 use cjc_jvm_semantics::script::FieldValue;
 use cjc_jvm_step::frame::Method;
@@ -33,10 +35,10 @@ use std::marker::Model;
 #[derive(Drop)]
 pub struct Links<'w, 'a> {
     pub(crate) world: &'w World<'a>,
-    image: &'w StaticImage,
+    pub(crate) image: &'w StaticImage,
     methods: Row<Row<Method<'w>>>,
     fresh: Fresh,
-    statics: Row<FieldValue>,
+    pub(crate) statics: Row<FieldValue>,
 }
 
 impl<'w, 'a> Model for Links<'w, 'a> {
@@ -113,8 +115,8 @@ impl<'w, 'a> Links<'w, 'a> {
         })
     }
 
-    // The static method that a script calls.
-    fn entry_named(&self, id: &MemberId) -> Option<&Method<'w>>
+    /// The static method that a script calls.
+    pub(crate) fn entry_named(&self, id: &MemberId) -> Option<&Method<'w>>
         ensures { option_map (λ m. m.now) result ≡ entry_named self.now.files (all_classes self.now.files) id.now }
     {
         if is_initialiser(id.name.items()) {
@@ -126,8 +128,8 @@ impl<'w, 'a> Links<'w, 'a> {
         }
     }
 
-    // Whether a method may be sent to an object of a type.
-    fn is_sent(&self, type_name: &[u8], id: &MemberId, flags: u16) -> bool
+    /// Whether a method may be sent to an object of a type.
+    pub(crate) fn is_sent(&self, type_name: &[u8], id: &MemberId, flags: u16) -> bool
         ensures { (hit : ResolvedMember) → hit.flags ≡ flags → result ≡ (is_sendable id.now hit
             && is_subtype (all_classes self.now.files) type_name.now id.now.class) }
     {
@@ -137,12 +139,17 @@ impl<'w, 'a> Links<'w, 'a> {
             && self.world.subtype(type_name, id.class.items())
     }
 
-    // The method that is selected on an object of a type.
-    fn selected_method(&self, type_name: &[u8], id: &MemberId) -> Option<&Method<'w>>
+    /// The method that is selected on an object of a type.
+    pub(crate) fn selected_method(
+        &self,
+        wanted: Wanted<'_>,
+        type_name: &[u8],
+        id: &MemberId,
+    ) -> Option<&Method<'w>>
         ensures { option_map (λ m. m.now) result ≡ option_and_then (method_at self.now.files)
-            (select_in (all_classes self.now.files) type_name.now id.now) }
+            (selection_by (all_classes self.now.files) wanted.entry type_name.now id.now) }
     {
-        match self.world.selected(type_name, id) {
+        match self.select(wanted, type_name, id) {
             Some(found) => self.method_at(found),
             None => None,
         }
@@ -159,11 +166,11 @@ impl<'w, 'a> Links<'w, 'a> {
         if !self.is_sent(type_name, id, method.owner.flags) {
             return None;
         }
-        self.selected_method(type_name, id)
+        self.selected_method(Wanted::Any, type_name, id)
     }
 
-    // The fields of a new object of a class, with what they hold at first.
-    fn made_of(&self, name: &[u8]) -> Option<&[FieldValue]>
+    /// The fields of a new object of a class, with what they hold at first.
+    pub(crate) fn made_of(&self, name: &[u8]) -> Option<&[FieldValue]>
         ensures { option_map (λ fields. fields.now) result ≡ option_map (λ ids. map fresh_field ids)
             (made_of (all_classes self.now.files) name.now) }
     {
@@ -174,8 +181,8 @@ impl<'w, 'a> Links<'w, 'a> {
         }
     }
 
-    // Whether this is an imported class that is no interface.
-    fn is_plain_import(&self, name: &[u8]) -> bool
+    /// Whether this is an imported class that is no interface.
+    pub(crate) fn is_plain_import(&self, name: &[u8]) -> bool
         ensures { result ≡ is_plain_import (class_named (all_classes self.now.files) name.now) }
     {
         match self.world.class_named(name) {

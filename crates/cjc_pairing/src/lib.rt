@@ -6,7 +6,7 @@
 // Lower crates, for those above.
 /// What crates above take of cjc_card_link.
 pub mod card_link {
-    pub use cjc_card_link::{ClassNames, Part};
+    pub use cjc_card_link::{ClassNames, GroupPart, Import, Part};
 }
 
 mod breaks;

@@ -11,7 +11,7 @@ use Rattle.cjc_shelf.specs.Sink.{Sunk}
 use Rattle.cjc_cmd_compat.specs.List.Listed.{ListTree, listed}
 use Rattle.cjc_cmd_compat.specs.ClassFile.ClassFile.{class_file}
 use Rattle.cjc_cmd_compat.specs.ClassFile.declared.tree.ClassTree.{ClassTree}
-use Rattle.cjc_cmd_verify.specs.Judge.Spelt.{FileTree, SpellTrees, classes_of, exports_of, of_class, of_export}
+use Rattle.cjc_cmd_link.specs.Judge.Spelt.{FileTree, SpellTrees, classes_of, exports_of, of_class, of_export}
 use Rattle.cjc_cmd_compat.specs.ExportFile.ExportFile.{export_file}
 use Rattle.cjc_cmd_compat.specs.ExportFile.declared.tree.ExportTree.{ExportTree}
 use Rattle.cjc_shelf.specs.Command.Plan.{◌>>=◌, has, Verdict, verdict, for_each, read_behind, read_each}

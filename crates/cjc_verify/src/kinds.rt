@@ -27,12 +27,10 @@ fn own(tables: &Tables<'_>, offset: u32) -> Option<Class>
 
 /// A class of an import by its token.
 fn imported(tables: &Tables<'_>, import: u32, token: u8) -> Option<Class>
+    requires { AreKept tables.now }
     ensures { option_map class_of result ≡ class_by_ref (loaded_of tables.now) 0 (refs.Outside import token) }
 {
-    match tables.external(import, token) {
-        Some(_) => Some(Class::External(import, token)),
-        None => None,
-    }
+    tables.class_outside(0, import, token)
 }
 
 /// The class of a class_ref by its number.

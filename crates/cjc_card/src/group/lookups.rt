@@ -1,9 +1,15 @@
 //! What instructions, scripts and reports ask of a package, each by what is kept for it.
 
+ghost use Rattle.std.specs.Prelude.{◌≡◌, map, option_map, slice_get};
+ghost use Rattle.std.specs.Option.{option_copied};
+ghost use Rattle.cjc_card_frame.specs.Kinds.{cell_name_of, cells_of};
+ghost use Rattle.cjc_card_calls.specs.LowerCardLink.Tables.{loaded_of};
+
 use crate::group::faults::fault_name;
 use crate::group::group::Group;
 use crate::group::shown::shown_fields;
 use cjc_card_calls::calls::{reached, words};
+use cjc_card_calls::card_link::Tables;
 use cjc_card_calls::lines::{handler, is_of};
 use cjc_card_calls::names::{called, imported, sent, throwable};
 use cjc_card_frame::heap::{Class, Field, Shape, Slot};
@@ -15,6 +21,26 @@ use cjc_card_semantics::capread::decoder::Insn;
 use cjc_script::FieldValue;
 use cjc_script::bytes::{MemberId, NoMemory, Row};
 use std::alloc::Global;
+
+// The StaticField of a package.
+fn statics_of<'a>(tables: &Tables<'a>, part: u32) -> Option<&'a StaticField>
+    ensures { option_copied result ≡ option_map (λ p. p.statics) (slice_get (loaded_of tables.now).parts part) }
+{
+    match tables.part(part) {
+        Some(part) => Some(part.statics),
+        None => None,
+    }
+}
+
+// The static cells of a package, in the order of a report.
+fn cells_of<'a>(tables: &Tables<'a>, part: u32) -> &'a [CellName]
+    ensures { map cell_name_of result.now ≡ cells_of (loaded_of tables.now) part }
+{
+    match tables.part(part) {
+        Some(part) => part.cells,
+        None => &[],
+    }
+}
 
 impl LookUps for Group<'_> {
     ghost loaded = { λ g. g };
@@ -97,16 +123,10 @@ impl LookUps for Group<'_> {
     }
 
     fn statics(&self, part: u32) -> Option<&StaticField> {
-        match self.tables.part(part) {
-            Some(part) => Some(part.statics),
-            None => None,
-        }
+        statics_of(&self.tables, part)
     }
 
     fn cells(&self, part: u32) -> &[CellName] {
-        match self.tables.part(part) {
-            Some(part) => part.cells,
-            None => &[],
-        }
+        cells_of(&self.tables, part)
     }
 }

@@ -1,10 +1,11 @@
-//! All classes that are there, by token: those of the package's Class and those that export files list. Called
+//! All classes that are there, by token: those of the Class of each package and those that export files list. Called
 //! by `lines`.
 
-ghost use Rattle.std.specs.Prelude.{◌≡◌, ◌<◌, ◌^◌, ◌++◌, length, map, option_map, option_to_list, IfOk, OnOk};
+ghost use Rattle.std.specs.Prelude.{◌≡◌, ◌<◌, ◌^◌, ◌++◌, length, map, option_map, option_to_list, slice_get};
+ghost use Rattle.std.specs.Prelude.{IfOk, OnOk};
 ghost use Rattle.cjc_card_semantics.specs.Machine.Classes.{Class as ByToken, External, is_in, is_there};
 ghost use Rattle.cjc_card_frame.specs.Objects.{class_of};
-ghost use Rattle.cjc_card_calls.specs.Lines.Every.{files_classes, own_classes};
+ghost use Rattle.cjc_card_calls.specs.Lines.Every.{classes_at, files_classes, own_classes};
 ghost use Rattle.cjc_card_link.specs.Tables.{AreKept, loaded_of};
 
 use cjc_card_frame::heap::Class;
@@ -27,13 +28,25 @@ fn put_some(classes: &mut Row<Class>, class: Option<Class>) -> Result<(), NoMemo
     }
 }
 
-// Puts the classes of the package at the end.
+// Puts the classes of a package at the end.
+fn put_part(classes: &mut Row<Class>, tables: &Tables<'_>, part: u32) -> Result<(), NoMemory>
+    requires { AreKept tables.now }
+    ensures { OnOk result (map class_of classes.new ≡ map class_of classes.old
+        ++ classes_at part (slice_get (loaded_of tables.now).parts part)) }
+{
+    for number in 0..tables.class_count(part) {
+        put_some(classes, tables.class_numbered(part, number as u64))?;
+    }
+    Ok(())
+}
+
+// Puts the classes of all packages at the end.
 fn put_own(classes: &mut Row<Class>, tables: &Tables<'_>) -> Result<(), NoMemory>
     requires { AreKept tables.now }
     ensures { OnOk result (map class_of classes.new ≡ map class_of classes.old ++ own_classes (loaded_of tables.now)) }
 {
-    for number in 0..tables.class_count() {
-        put_some(classes, tables.class_numbered(number as u64))?;
+    for part in 0..tables.part_count() {
+        put_part(classes, tables, part)?;
     }
     Ok(())
 }

@@ -23,11 +23,7 @@ fn exports_of(export: &Option<Export>) -> &[ExportedClass]
 }
 
 /// The components with names.
-pub(crate) fn part_of<'a>(
-    parts: &Parts<'a>,
-    classes: &'a [ClassNames],
-    cells: &'a [CellName],
-) -> Part<'a>
+pub fn part_of<'a>(parts: &Parts<'a>, classes: &'a [ClassNames], cells: &'a [CellName]) -> Part<'a>
     ensures alone { (trees : Items Tree) → alone result trees ≡ alone_with (complete_of parts.now) classes.now cells.now
         trees }
     ensures class { result.class.now ≡ (complete_of parts.now).class }

@@ -19,7 +19,7 @@ use cjc_shelf::bytes::NoMemory;
 use std::alloc::Global;
 
 /// Whether n instructions, the acts of a script and the arrays of an image are together fewer than 32 bits count.
-fn has_room(image: &StaticImage, script: &Script, n: u32) -> bool
+pub fn has_room(image: &StaticImage, script: &Script, n: u32) -> bool
     ensures { result ≡ true → n + (length image.now.arrays + sum_by (λ e. length e.acts) script.now.entries + sum_by
         (λ a. length a.acts) script.now.answers) < 2 ^ 32 }
 {

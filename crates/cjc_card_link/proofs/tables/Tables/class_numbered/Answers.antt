@@ -1,8 +1,18 @@
-use Rattle.cjc_card_link.proofs.ByPlace.{own_numbered}
+use Rattle.std.proofs.Common.{ap, ◌∙◌}
+use Rattle.std.specs.Prelude.{option_and_then, option_map}
+use Rattle.cjc_card_semantics.specs.Machine.Classes.{Own, offset_of}
 use Rattle.cjc_card_link.proofs.tables.Tables.class_numbered.Goals as goal
 
-pub returns-in-Some : goal.returns-in-Some
-returns-in-Some c = own_numbered c.args.self.now c.args.number c.requires _ c.in-Some.ensures.offset
+pub returns-in-Some-offset_of : goal.returns-in-Some-offset_of
+returns-in-Some-offset_of c =
+    ap (option_map (Own c.args.part)) (c.in-Some-offset_of.ensures.offset
+    ∙ ap (option_and_then (λ p. offset_of p c.args.number)) c.in-Some.ensures)
+
+pub returns-in-None-offset_of : goal.returns-in-None-offset_of
+returns-in-None-offset_of c =
+    ap (option_map (Own c.args.part)) (c.in-None-offset_of.ensures.offset
+    ∙ ap (option_and_then (λ p. offset_of p c.args.number)) c.in-Some.ensures)
 
 pub returns-in-None : goal.returns-in-None
-returns-in-None c = own_numbered c.args.self.now c.args.number c.requires _ c.in-None.ensures.offset
+returns-in-None c =
+    ap (λ o. option_map (Own c.args.part) (option_and_then (λ p. offset_of p c.args.number) o)) c.in-None.ensures

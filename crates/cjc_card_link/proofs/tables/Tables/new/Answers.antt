@@ -1,18 +1,13 @@
-use Rattle.std.proofs.Common.{ap, ◌∙◌}
-use Rattle.cjc_card_semantics.specs.CapRead.declared.tree.ClassInfo.{ClassInfo}
-use Rattle.cjc_card_link.specs.Described.{bytes_among}
-use Rattle.cjc_card_link.specs.Group.{alone}
+use Rattle.std.proofs.Common.{List, [], ◌∷◌, ◌++◌, ap, ◌∙◌}
+use Rattle.cjc_card_semantics.specs.Machine.Loaded.{Import, Loaded, Part}
+use Rattle.cjc_card_link.specs.Group.{part_with}
 use Rattle.cjc_card_link.proofs.tables.Tables.new.Goals as goal
 
-pub returns-clause-kept : goal.returns-clause-kept
-returns-clause-kept c = record {
-  begins = c.in_ok-begin.ensures;
-  are_infos = c.in_ok-infos.ensures;
-  are_lengths = λ x. c.in_ok-lengths.ensures.kept x ∙ ap (λ (k : ClassInfo). bytes_among k c.args.part.descriptor.now x)
-      c.in_ok-infos.ensures;
-  are_small = c.in_ok-lengths.ensures.small;
-  are_names = c.in_ok-own.ensures;
-}
-
 pub returns-clause-of : goal.returns-clause-of
-returns-clause-of c = ap (alone c.args.part) c.in_ok-exported.ensures
+returns-clause-of c =
+    let over : List Part → Loaded = λ qs. record { parts = qs; trees = c.args.trees.now } in
+    c.in_ok-tables.ensures.of
+    ∙ ap over (c.in_ok-push.ensures.ok ∙ ap (λ (qs : List Part). qs ++ c.in_ok-package.package ∷ [])
+    c.new-packages.ensures)
+    ∙ ap (λ (q : Part). over (q ∷ [])) (c.in_ok-package.ensures ∙ ap (λ (is : List Import). part_with is c.args.part)
+    c.in_ok-imports.ensures)

@@ -1,13 +1,22 @@
-use Rattle.cjc_card_link.proofs.ByPlace.{own_found, own_missing}
+use Rattle.std.proofs.Common.{arith}
+use Rattle.cjc_card_frame.specs.Objects.{class_of}
+use Rattle.cjc_card_link.specs.Tables.{loaded_of}
+use Rattle.cjc_card_link.proofs.ByPlace.{named_here, named_later, named_nowhere}
 use Rattle.cjc_card_link.proofs.tables.Tables.own_named.Goals as goal
 
-pub returns-in-Some-offset_of : goal.returns-in-Some-offset_of
-returns-in-Some-offset_of c = own_found c.args.self.now c.args.name.now c.requires _ _ c.in-Some.ensures
-    c.in-Some-offset_of.ensures.offset
+pub returns-in-Some : goal.returns-in-Some
+returns-in-Some c =
+    named_here c.args.name.now c.loop-part.part (loaded_of c.args.self.now).parts (class_of c.in-Some.class) _
+    c.in-Some.ensures c.loop-part.invariant
 
-pub returns-in-None-offset_of : goal.returns-in-None-offset_of
-returns-in-None-offset_of c = own_found c.args.self.now c.args.name.now c.requires _ _ c.in-Some.ensures
-    c.in-None-offset_of.ensures.offset
+pub loop-part-preserved : goal.loop-part-preserved
+loop-part-preserved c =
+    named_later c.args.name.now c.loop-part.part (loaded_of c.args.self.now).parts _ c.in_default.ensures
+    c.loop-part.invariant
 
-pub returns-in-None : goal.returns-in-None
-returns-in-None c = own_missing c.args.self.now c.args.name.now c.requires c.in-None.ensures
+pub returns : goal.returns
+returns c =
+    let count = c.part_count-part-end.ensures in
+    let done = c.loop-part-test.false in
+    named_nowhere c.args.name.now c.loop-part.part (loaded_of c.args.self.now).parts _ (omega (arith, count, done))
+    c.loop-part.invariant

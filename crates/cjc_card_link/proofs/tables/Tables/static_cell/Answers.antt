@@ -1,11 +1,23 @@
 use Rattle.std.proofs.Common.{ap, sym, ◌∙◌}
-use Rattle.cjc_card_semantics.specs.Machine.Operations.{static_cell}
+use Rattle.std.specs.Prelude.{option_and_then}
+use Rattle.cjc_card_semantics.specs.Machine.Classes.{import_of}
+use Rattle.cjc_card_semantics.specs.Machine.Operations.{cell_through, static_cell}
 use Rattle.cjc_card_link.specs.Tables.{loaded_of}
-use Rattle.cjc_card_link.proofs.Alone.{no_cell}
 use Rattle.cjc_card_link.proofs.tables.Tables.static_cell.Goals as goal
 
-pub returns-in-Outside : goal.returns-in-Outside
-returns-in-Outside c =
-    no_cell c.args.self.now.part c.args.self.now.exported c.args.part c.in-Outside.package c.in-Outside.class
-    c.in-Outside.token
-    ∙ ap (static_cell (loaded_of c.args.self.now) c.args.part) (sym c.in-Outside.is)
+pub returns-in-Some : goal.returns-in-Some
+returns-in-Some c =
+    let l = loaded_of c.args.self.now in
+    let o = c.in-Outside in
+    c.cell_through.ensures
+    ∙ ap (option_and_then (cell_through l o.class o.token)) (c.in-Some.ensures
+    ∙ ap (λ n. import_of l c.args.part n) c.from.ensures)
+    ∙ ap (static_cell l c.args.part) (sym o.is)
+
+pub returns-in-None : goal.returns-in-None
+returns-in-None c =
+    let l = loaded_of c.args.self.now in
+    let o = c.in-Outside in
+    ap (option_and_then (cell_through l o.class o.token)) (c.in-None.ensures
+    ∙ ap (λ n. import_of l c.args.part n) c.from.ensures)
+    ∙ ap (static_cell l c.args.part) (sym o.is)

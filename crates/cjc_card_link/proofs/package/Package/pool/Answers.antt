@@ -1,0 +1,6 @@
+use Rattle.std.proofs.Common.{ap}
+use Rattle.cjc_card_semantics.specs.Machine.Loaded.{Part}
+use Rattle.cjc_card_link.proofs.package.Package.pool.Goals as goal
+
+pub returns : goal.returns
+returns c = ap (λ (q : Part). q.pool) c.self.view_is
