@@ -4,11 +4,11 @@ use Rattle.std.proofs.Common.{◌≡◌, ℕ, ◌+◌, ◌==◌, refl, sym, ap, 
 use Rattle.std.proofs.Common.{Option, Some, None}
 use Rattle.std.specs.Prelude.{if◌then◌else◌}
 use Rattle.std.specs.List.{AllByRecursion}
-use Rattle.cjc_types.specs.Bytes.declared.fault.MemberId.{MemberId}
-use Rattle.cjc_types.specs.Bytes.declared.descriptor.Kind.{Kind}
-use Rattle.cjc_types.specs.Bytes.declared.descriptor.Kind.TheVariants as kinds
+use Rattle.cjc_fixpoint.specs.Bytes.declared.fault.MemberId.{MemberId}
+use Rattle.cjc_fixpoint.specs.Bytes.declared.descriptor.Kind.{Kind}
+use Rattle.cjc_fixpoint.specs.Bytes.declared.descriptor.Kind.TheVariants as kinds
 use Rattle.cjc_types.proofs.BytesLists.{bytes_true}
-use Rattle.cjc_types.proofs.BytesNumbers.{like_number}
+use Rattle.cjc_fixpoint.proofs.BytesNumbers.{like_number}
 use Rattle.cjc_types.proofs.BytesQuantified.{all_both}
 use Rattle.cjc_verify.specs.CheckRules.Spots.{beside, in_info}
 use Rattle.cjc_verify.specs.CheckRules.Complete.{array_size}

@@ -10,10 +10,10 @@ use Rattle.std.proofs.lemmas.Bool.Decides.{nat_tests}
 use Rattle.std.proofs.lemmas.List.{length-map}
 use Rattle.std.proofs.lemmas.List.Concat.{flat_map-cons}
 use Rattle.cjc_types.specs.Bytes.AccessFlags.{is_static}
-use Rattle.cjc_types.proofs.BytesBools.{both_back}
-use Rattle.cjc_types.proofs.BytesGets.{get_below, get_inside, get_mapped, position_there}
+use Rattle.cjc_fixpoint.proofs.BytesBools.{both_back}
+use Rattle.cjc_fixpoint.proofs.BytesGets.{get_below, get_inside, get_mapped, position_there}
 use Rattle.cjc_types.proofs.BytesLists.{bytes_true, length_mapped, name_is, none_left, none_right}
-use Rattle.cjc_types.proofs.BytesNumbers.{like_number, number_same_number}
+use Rattle.cjc_fixpoint.proofs.BytesNumbers.{like_number, number_same_number}
 use Rattle.cjc_verify.specs.CapRead.ClassRefs.{same_class}
 use Rattle.cjc_verify.specs.CapRead.declared.tree.ClassDescriptor.{ClassDescriptor}
 use Rattle.cjc_verify.specs.CapRead.declared.tree.FieldDescriptor.{FieldDescriptor}
@@ -38,9 +38,9 @@ use Rattle.cjc_types.specs.World.Order.{class_order, methods_of_class}
 use Rattle.cjc_types.specs.World.declared.found.Found.{Found}
 use Rattle.cjc_check_proof.specs.Tokens.Fields.{is_constant}
 use Rattle.cjc_verify.specs.Clinit.Image.{field_id}
-use Rattle.cjc_check_proof.specs.NCode.Lowering.Naming.{entry_of}
-use Rattle.cjc_check_proof.specs.NCode.declared.narrow.PoolKey.{PoolKey}
-use Rattle.cjc_check_proof.specs.NCode.declared.narrow.PoolKey.TheVariants as keys
+use Rattle.cjc_narrow_proof.specs.NCode.Lowering.Naming.{entry_of}
+use Rattle.cjc_narrow_proof.specs.NCode.declared.narrow.PoolKey.{PoolKey}
+use Rattle.cjc_narrow_proof.specs.NCode.declared.narrow.PoolKey.TheVariants as keys
 use Rattle.cjc_verify.specs.Components.Class.{fields_of}
 use Rattle.cjc_verify.specs.Components.Descriptor.{class_descriptor, class_flags, descriptor, field_descriptor}
 use Rattle.cjc_verify.specs.Components.Descriptor.{field_flags}

@@ -12,7 +12,7 @@ use Rattle.cjc_types.specs.declared.cell.Cell.TheVariants.{Number, Refs, Unusabl
 use Rattle.cjc_types.specs.declared.state.Stack.{Stack}
 use Rattle.cjc_types.specs.declared.state.Stack.TheVariants.{Cells, Clash}
 use Rattle.cjc_types.specs.declared.state.State.{State}
-use Rattle.cjc_narrow.specs.Pairs.Open.{Open, begun, closed, pushed}
+use Rattle.cjc_verify.specs.Narrow.Pairs.Open.{Open, begun, closed, pushed}
 use Rattle.cjc_accepted_proof.specs.Frames.{card_cell, card_cells, card_stack, card_state, left_out}
 use Rattle.cjc_accepted_proof.specs.Methods.{between, without_top}
 use Rattle.cjc_accepted_proof.proofs.TypesLaws.{cells_below, types_few, types_set}

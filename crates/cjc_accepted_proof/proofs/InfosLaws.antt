@@ -4,10 +4,10 @@ use Rattle.std.proofs.Common.{◌≡◌, ℕ, zero, suc, ◌+◌, ◌*◌, ◌==
 use Rattle.std.proofs.Common.{not, List, [], ◌∷◌, ◌++◌, length, map, slice_get, Option, Some, None}
 use Rattle.std.specs.Prelude.{if◌then◌else◌}
 use Rattle.std.specs.List.{AllByRecursion}
-use Rattle.cjc_types.proofs.BytesBools.{not_true}
-use Rattle.cjc_types.proofs.BytesGets.{all_at}
+use Rattle.cjc_fixpoint.proofs.BytesBools.{not_true}
+use Rattle.cjc_fixpoint.proofs.BytesGets.{all_at}
 use Rattle.cjc_types.proofs.BytesLists.{length_mapped, map_map, map_same}
-use Rattle.cjc_types.proofs.BytesNumbers.{like_number, number_same_number}
+use Rattle.cjc_fixpoint.proofs.BytesNumbers.{like_number, number_same_number}
 use Rattle.cjc_types.specs.Bytes.AccessFlags.{is_interface}
 use Rattle.cjc_verify.specs.CapRead.ClassRefs.{same_class}
 use Rattle.cjc_verify.specs.CapRead.declared.tree.ClassEntry.{ClassEntry}

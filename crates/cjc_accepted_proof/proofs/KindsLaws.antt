@@ -6,11 +6,11 @@ use Rattle.std.proofs.Common.{Some, None, append_assoc, append-nil}
 use Rattle.std.specs.Prelude.{◌&&◌, ◌||◌, ◌==◌, not, nat_lt, option_to_list, if◌then◌else◌}
 use Rattle.std.specs.List.{AllZip}
 use Rattle.std.proofs.lemmas.Bool.Decides.{nat_tests}
-use Rattle.cjc_types.specs.Bytes.Descriptor.{Part}
-use Rattle.cjc_types.specs.Bytes.declared.descriptor.Kind.{Kind}
-use Rattle.cjc_types.specs.Bytes.declared.descriptor.Kind.TheVariants as kinds
-use Rattle.cjc_types.specs.Bytes.declared.fault.MemberId.{MemberId}
-use Rattle.cjc_types.proofs.BytesGets.{get_below}
+use Rattle.cjc_fixpoint.specs.Bytes.Descriptor.{Part}
+use Rattle.cjc_fixpoint.specs.Bytes.declared.descriptor.Kind.{Kind}
+use Rattle.cjc_fixpoint.specs.Bytes.declared.descriptor.Kind.TheVariants as kinds
+use Rattle.cjc_fixpoint.specs.Bytes.declared.fault.MemberId.{MemberId}
+use Rattle.cjc_fixpoint.proofs.BytesGets.{get_below}
 use Rattle.cjc_verify.specs.CapRead.declared.tree.ClassRef.{ClassRef}
 use Rattle.cjc_types.specs.Bytecode.Jvm as jvm
 use Rattle.cjc_types.specs.Bytecode.declared.insn.JOp.{JOp}

@@ -3,7 +3,7 @@
 use Rattle.std.proofs.Common.{◌≡◌, ℕ, ◌==◌, ◌&&◌, ap, ◌∙◌, true, List, Option}
 use Rattle.std.specs.Prelude.{option_and_then, option_map, position, slice_get, unwrap_or}
 use Rattle.std.specs.Str.{bytes_eq}
-use Rattle.cjc_types.proofs.BytesNumbers.{like_number}
+use Rattle.cjc_fixpoint.proofs.BytesNumbers.{like_number}
 use Rattle.cjc_verify.specs.CapRead.ClassRefs.{same_class}
 use Rattle.cjc_verify.specs.CapRead.declared.tree.ClassRef.{ClassRef}
 use Rattle.cjc_verify.specs.CapRead.declared.tree.ClassRef.TheVariants.{Inside, Outside}

@@ -3,10 +3,10 @@ use Rattle.std.proofs.Common.{◌≡◌, ℕ, zero, suc, ◌+◌, ◌==◌, refl
 use Rattle.std.proofs.Common.{◌∷◌, ◌++◌, map, length, slice_get, Option, Some, None, append_assoc}
 use Rattle.std.specs.Prelude.{◌&&◌, ◌||◌, cond, if◌then◌else◌, not, option_map, unwrap_or}
 use Rattle.std.specs.List.{AllByRecursion, find, list_any}
-use Rattle.cjc_types.proofs.BytesBools.{true_not_false}
-use Rattle.cjc_types.proofs.BytesGets.{all_at, find_got}
+use Rattle.cjc_fixpoint.proofs.BytesBools.{true_not_false}
+use Rattle.cjc_fixpoint.proofs.BytesGets.{all_at, find_got}
 use Rattle.cjc_types.proofs.BytesLists.{map_append}
-use Rattle.cjc_types.proofs.BytesNumbers.{like_number, number_same}
+use Rattle.cjc_fixpoint.proofs.BytesNumbers.{like_number, number_same}
 use Rattle.cjc_types.proofs.BytesQuantified.{all_both}
 use Rattle.cjc_verify.specs.CapRead.declared.tree.ClassRef.{ClassRef}
 use Rattle.cjc_types.specs.World.declared.found.Found.{Found}

@@ -6,8 +6,8 @@ use Rattle.std.specs.Prelude.{◌||◌, not, nat_le, nat_lt, if◌then◌else◌
 use Rattle.std.specs.List.{AllZip}
 use Rattle.std.proofs.lemmas.Bool.Decides.{nat_tests}
 use Rattle.std.proofs.lemmas.List.{length-map}
-use Rattle.cjc_types.specs.Bytes.declared.fault.MemberId.{MemberId}
-use Rattle.cjc_types.proofs.BytesGets.{get_below, get_mapped}
+use Rattle.cjc_fixpoint.specs.Bytes.declared.fault.MemberId.{MemberId}
+use Rattle.cjc_fixpoint.proofs.BytesGets.{get_below, get_mapped}
 use Rattle.cjc_verify.specs.CapRead.declared.tree.ClassRef.{ClassRef}
 use Rattle.cjc_types.specs.Bytecode.declared.insn.JOp.{JOp}
 use Rattle.cjc_types.specs.Bytecode.declared.insn.JOp.TheVariants as jop

@@ -10,9 +10,9 @@ use Rattle.cjc_types.specs.World.Subtype.{is_subtype}
 use Rattle.cjc_verify.specs.CardSemantics.Bytecode.Renaming.{shape_as}
 use Rattle.cjc_verify.specs.CardSemantics.Machine.Loaded.{Loaded}
 use Rattle.cjc_verify.specs.CardActs.CardTypes.{both_of, is_type_of, shape_by}
-use Rattle.cjc_check_proof.specs.NCode.Lowering.Naming.{Naming}
+use Rattle.cjc_narrow_proof.specs.NCode.Lowering.Naming.{Naming}
 use Rattle.cjc_verify.specs.Components.Types.{shape_nibbles}
-use Rattle.cjc_check_proof.proofs.NarrowProofSpelt.{shape_spelt}
+use Rattle.cjc_narrow_proof.proofs.TablesLaws.Spelt.{shape_spelt}
 use Rattle.cjc_check_proof.specs.TokenProof.ByToken.Supers.{HasShape, KindsAgree}
 use Rattle.cjc_accepted_proof.specs.Frames.{SubtypesAgree, is_there, nibbles_there, type_named}
 use Rattle.cjc_accepted_proof.specs.Read.{RefsAreRead}

@@ -4,7 +4,7 @@ use Rattle.std.proofs.Common.{true}
 use Rattle.std.proofs.Common.{false, List, [], ◌∷◌, length, Option, Some, None}
 use Rattle.std.specs.Prelude.{◌&&◌, option_map}
 use Rattle.std.specs.List.{AllZip, list_all}
-use Rattle.cjc_types.proofs.BytesBools.{both_back, both_front}
+use Rattle.cjc_fixpoint.proofs.BytesBools.{both_back, both_front}
 use Rattle.cjc_verify.specs.CapRead.declared.tree.ClassRef.{ClassRef}
 use Rattle.cjc_types.specs.Cells.{IsCell, IsCellBelow, most_names}
 use Rattle.std.specs.declared.cmp.Ordering.{Ordering}

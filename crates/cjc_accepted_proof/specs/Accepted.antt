@@ -3,7 +3,7 @@
 use Rattle.std.specs.Prelude.{◌≡◌, ℕ, List, [], length, flat_map, slice_get, Option, Some}
 use Rattle.cjc_verify.specs.CardActs.CardTypes.{is_type_of}
 use Rattle.cjc_verify.specs.Frames.Flow.{frame_flow}
-use Rattle.cjc_types.specs.Fixpoint.Tables.{IsClosed}
+use Rattle.cjc_fixpoint.specs.Tables.{IsClosed}
 use Rattle.cjc_types.specs.declared.state.State.{State}
 use Rattle.cjc_verify.specs.Components.Package.{Package}
 use Rattle.cjc_check_proof.specs.TokenProof.Tables.Loading.{components}

@@ -6,8 +6,8 @@ use Rattle.cjc_types.specs.World.Classes.{Class}
 use Rattle.cjc_types.specs.World.Order.{class_order, methods_of_class}
 use Rattle.cjc_types.specs.World.declared.found.Found.{Found}
 use Rattle.cjc_verify.specs.Script.Sorts.{signature_of}
-use Rattle.cjc_check_proof.specs.NCode.Lowering.Naming.{entry_of}
-use Rattle.cjc_check_proof.specs.NCode.declared.narrow.PoolKey.{PoolKey}
+use Rattle.cjc_narrow_proof.specs.NCode.Lowering.Naming.{entry_of}
+use Rattle.cjc_narrow_proof.specs.NCode.declared.narrow.PoolKey.{PoolKey}
 use Rattle.cjc_verify.specs.Components.Class.{fields_of}
 use Rattle.cjc_verify.specs.Components.Descriptor.{method_in}
 use Rattle.cjc_verify.specs.Components.Names.{names}

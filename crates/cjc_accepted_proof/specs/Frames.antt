@@ -3,10 +3,10 @@
 use Rattle.std.specs.Prelude.{◌≡◌, ◌≤◌, ℕ, true, false, List, [], ◌∷◌, length, map, Option, Some, None, Bool, is_some}
 use Rattle.std.specs.Prelude.{if◌then◌else◌, option_and_then}
 use Rattle.std.specs.List.{AllZip}
-use Rattle.cjc_types.specs.Bytes.Descriptor.{Part}
-use Rattle.cjc_types.specs.Bytes.declared.descriptor.Kind.{Kind}
-use Rattle.cjc_types.specs.Bytes.declared.descriptor.Kind.TheVariants as kinds
-use Rattle.cjc_types.specs.Bytes.declared.fault.MemberId.{MemberId}
+use Rattle.cjc_fixpoint.specs.Bytes.Descriptor.{Part}
+use Rattle.cjc_fixpoint.specs.Bytes.declared.descriptor.Kind.{Kind}
+use Rattle.cjc_fixpoint.specs.Bytes.declared.descriptor.Kind.TheVariants as kinds
+use Rattle.cjc_fixpoint.specs.Bytes.declared.fault.MemberId.{MemberId}
 use Rattle.cjc_verify.specs.CapRead.declared.tree.ClassRef.{ClassRef}
 use Rattle.cjc_verify.specs.CardActs.CardTypes.{Boolean, Byte, MemberType, Reference, Short, ValueType, Void}
 use Rattle.cjc_verify.specs.CardActs.CardTypes.{is_moved_by}

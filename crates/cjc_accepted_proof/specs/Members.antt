@@ -1,7 +1,7 @@
 -- What entries of static fields say of the fields that instructions name, and which letter a return has.
 use Rattle.std.specs.Prelude.{◌≡◌, ℕ, ◌==◌, true, false, List, Option, Some, None, if◌then◌else◌}
 use Rattle.cjc_types.specs.Bytecode.Jvm as jvm
-use Rattle.cjc_types.specs.Bytes.declared.fault.MemberId.{MemberId}
+use Rattle.cjc_fixpoint.specs.Bytes.declared.fault.MemberId.{MemberId}
 use Rattle.cjc_types.specs.Types.{parts}
 use Rattle.cjc_verify.specs.CapRead.declared.tree.StaticRef.{StaticRef}
 use Rattle.cjc_verify.specs.CardActs.CardTypes.{ValueType, is_moved_by}

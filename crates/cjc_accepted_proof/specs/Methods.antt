@@ -5,7 +5,7 @@ use Rattle.std.specs.Prelude.{None}
 use Rattle.std.specs.List.{Contains}
 use Rattle.cjc_types.specs.Bytecode.declared.insn.JInsn.{JInsn}
 use Rattle.cjc_types.specs.ClassFile.declared.tree.Catch.{Catch as CatchByName}
-use Rattle.cjc_types.specs.Fixpoint.Tables.{HasRow}
+use Rattle.cjc_fixpoint.specs.Tables.{HasRow}
 use Rattle.cjc_types.specs.Flow.{Body as BodyByName, caught_type, covers as covers_by_name, entry as entry_by_name}
 use Rattle.cjc_types.specs.States.{states}
 use Rattle.cjc_types.specs.Steps.{after as after_by_name, goes_on as goes_on_by_name, targets}
@@ -13,9 +13,9 @@ use Rattle.cjc_types.specs.declared.cell.Cell.{Cell}
 use Rattle.cjc_types.specs.declared.state.Stack.{Stack}
 use Rattle.cjc_types.specs.declared.state.Stack.TheVariants.{Cells, Clash}
 use Rattle.cjc_types.specs.declared.state.State.{State}
-use Rattle.cjc_ncode.specs.Written.{Resolution, narrow_code, place_in, reached, written_for}
-use Rattle.cjc_ncode.specs.declared.narrow.NInsn.{NInsn}
-use Rattle.cjc_narrow.specs.Pairs.Open.{Open, closed}
+use Rattle.cjc_narrow_proof.specs.NCode.Written.{Resolution, narrow_code, place_in, reached, written_for}
+use Rattle.cjc_narrow_proof.specs.NCode.declared.narrow.NInsn.{NInsn}
+use Rattle.cjc_verify.specs.Narrow.Pairs.Open.{Open, closed}
 use Rattle.cjc_verify.specs.Frames.Acts.{Subtype}
 use Rattle.cjc_verify.specs.Frames.Flow.{Body, covers, entry}
 use Rattle.cjc_verify.specs.Frames.declared.acts.Act.{Act}

@@ -1,9 +1,9 @@
 -- Letters of loads and stores, what a jump takes, and what the act of an instruction is where it is laid.
 use Rattle.std.specs.Prelude.{ℕ, Bool, true, false, List, [], ◌∷◌}
 use Rattle.cjc_types.specs.Bytecode.Jvm as jvm
-use Rattle.cjc_ncode.specs.Lowering.Laid.{laid}
-use Rattle.cjc_ncode.specs.Lowering.Naming.{Naming}
-use Rattle.cjc_ncode.specs.declared.narrow.NInsn.{NInsn}
+use Rattle.cjc_narrow_proof.specs.NCode.Lowering.Laid.{laid}
+use Rattle.cjc_narrow_proof.specs.NCode.Lowering.Naming.{Naming}
+use Rattle.cjc_narrow_proof.specs.NCode.declared.narrow.NInsn.{NInsn}
 use Rattle.cjc_verify.specs.CardActs.CardTypes.{ValueType}
 use Rattle.cjc_verify.specs.CardSemantics.Bytecode.Effects.{Letter, Reference, Short}
 use Rattle.cjc_verify.specs.Frames.declared.acts.Act.{Act}

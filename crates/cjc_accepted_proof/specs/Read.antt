@@ -2,7 +2,7 @@
 use Rattle.std.specs.Prelude.{◌≡◌, ℕ, true, List, Some}
 use Rattle.cjc_types.specs.World.Classes.{Class}
 use Rattle.cjc_verify.specs.CardActs.CardTypes.{class_by}
-use Rattle.cjc_check_proof.specs.NCode.Lowering.Naming.{Naming}
+use Rattle.cjc_narrow_proof.specs.NCode.Lowering.Naming.{Naming}
 use Rattle.cjc_verify.specs.Components.Types.{ref_nibbles}
 use Rattle.cjc_check_proof.specs.TokenProof.ByToken.Supers.{has_class}
 

@@ -6,7 +6,7 @@ ghost use Rattle.cjc_types.specs.World.Classes.{Class};
 ghost use Rattle.cjc_types.specs.declared.cell.Cell.{Cell};
 ghost use Rattle.cjc_types.specs.declared.state.Stack.TheVariants.{Cells};
 ghost use Rattle.cjc_types.specs.declared.state.State.{State};
-ghost use Rattle.cjc_narrow.specs.Pairs.Open.{closed};
+ghost use Rattle.cjc_verify.specs.Narrow.Pairs.Open.{closed};
 ghost use Rattle.cjc_verify.specs.CardActs.Rows.{any_words, idle};
 ghost use Rattle.cjc_verify.specs.Frames.Acts.{Subtype};
 ghost use Rattle.cjc_verify.specs.Frames.declared.acts.Act.{Act};

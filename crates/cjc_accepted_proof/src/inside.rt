@@ -1,6 +1,6 @@
 //! Rows of instructions in pairs, and of those for which nothing is written.
 ghost use Rattle.std.specs.Prelude.{◌≡◌, ℕ, List, Option, Some, [], ◌∷◌, true, false, slice_get};
-ghost use Rattle.cjc_types.specs.Bytes.declared.fault.MemberId.{MemberId};
+ghost use Rattle.cjc_fixpoint.specs.Bytes.declared.fault.MemberId.{MemberId};
 ghost use Rattle.cjc_types.specs.Bytecode.declared.insn.JOp.{JOp};
 ghost use Rattle.cjc_types.specs.Bytecode.declared.insn.JOp.TheVariants.{Field, Load};
 ghost use Rattle.cjc_types.specs.Flow.{Body};
@@ -12,7 +12,7 @@ ghost use Rattle.cjc_types.specs.World.Classes.{Class};
 ghost use Rattle.cjc_types.specs.declared.cell.Cell.{Cell};
 ghost use Rattle.cjc_types.specs.declared.state.Stack.TheVariants.{Cells};
 ghost use Rattle.cjc_types.specs.declared.state.State.{State};
-ghost use Rattle.cjc_narrow.specs.Pairs.Open.{Open, begun, closed, pushed};
+ghost use Rattle.cjc_verify.specs.Narrow.Pairs.Open.{Open, begun, closed, pushed};
 ghost use Rattle.cjc_narrow_proof.specs.Tables.Pairs.{IsSilent};
 ghost use Rattle.cjc_verify.specs.CapRead.declared.tree.ClassRef.{ClassRef};
 ghost use Rattle.cjc_verify.specs.CardActs.CardTypes.{ValueType};

@@ -1,7 +1,7 @@
 //! Rows of fields, calls and handlers: what entries of the constant pool say of members is what the instructions of the
 //! class file name.
 ghost use Rattle.std.specs.Prelude.{◌≡◌, ℕ, List, Option, [], ◌==◌, false};
-ghost use Rattle.cjc_types.specs.Bytes.declared.fault.MemberId.{MemberId};
+ghost use Rattle.cjc_fixpoint.specs.Bytes.declared.fault.MemberId.{MemberId};
 ghost use Rattle.cjc_verify.specs.CapRead.declared.tree.ClassRef.{ClassRef};
 ghost use Rattle.cjc_verify.specs.CardActs.CardTypes.{MemberType, ValueType};
 ghost use Rattle.cjc_verify.specs.Frames.Acts.{Subtype};

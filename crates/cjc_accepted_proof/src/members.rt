@@ -1,7 +1,7 @@
 //! Rows of instructions that name members, and of returns: what entries of the constant pool and types say of members
 //! is what the class file says.
 ghost use Rattle.std.specs.Prelude.{◌≡◌, ◌==◌, ℕ, List, Option, [], ◌∷◌, Bool, true, false};
-ghost use Rattle.cjc_types.specs.Bytes.declared.fault.MemberId.{MemberId};
+ghost use Rattle.cjc_fixpoint.specs.Bytes.declared.fault.MemberId.{MemberId};
 ghost use Rattle.cjc_types.specs.Bytecode.Jvm.{invokestatic};
 ghost use Rattle.cjc_types.specs.Bytecode.declared.insn.JOp.TheVariants.{Call, Field, Return, Static};
 ghost use Rattle.cjc_types.specs.Flow.{Body};

@@ -1,6 +1,6 @@
 //! Rows of pairs of an aload_0 and a field instruction that are written as one.
 ghost use Rattle.std.specs.Prelude.{◌≡◌, ℕ, List, ◌∷◌, Option, Some, true, false, slice_get};
-ghost use Rattle.cjc_types.specs.Bytes.declared.fault.MemberId.{MemberId};
+ghost use Rattle.cjc_fixpoint.specs.Bytes.declared.fault.MemberId.{MemberId};
 ghost use Rattle.cjc_verify.specs.CapRead.declared.tree.ClassRef.{ClassRef};
 ghost use Rattle.cjc_verify.specs.CardActs.CardTypes.{ValueType};
 ghost use Rattle.cjc_verify.specs.Frames.Acts.{Subtype};

@@ -1,7 +1,7 @@
 //! Types on the card: a subtype by name is one by token.
 ghost use Rattle.std.specs.Prelude.{List};
 ghost use Rattle.cjc_verify.specs.CardActs.CardTypes.{is_type_of};
-ghost use Rattle.cjc_check_proof.specs.NCode.Lowering.Naming.{Naming};
+ghost use Rattle.cjc_narrow_proof.specs.NCode.Lowering.Naming.{Naming};
 ghost use Rattle.cjc_check_proof.specs.TokenProof.ByToken.Supers.{KindsAgree};
 ghost use Rattle.cjc_types.specs.World.Classes.{Class};
 ghost use Rattle.cjc_accepted_proof.specs.Frames.{SubtypesAgree, type_named};

@@ -4,12 +4,12 @@ use Rattle.std.proofs.Common.{false, List, [], ◌∷◌, ◌++◌, length, map,
 use Rattle.std.specs.Prelude.{◌&&◌, ◌||◌, if◌then◌else◌, cond, Option, Some, None, option_map, slice_get}
 use Rattle.std.specs.List.{AllByRecursion, find, list_any}
 use Rattle.std.specs.Str.{bytes_eq}
-use Rattle.cjc_bytes.specs.declared.fault.MemberId.{MemberId}
-use Rattle.cjc_bytes.proofs.Gets.{find_got}
-use Rattle.cjc_bytes.proofs.Lists.{bytes_true, name_is}
-use Rattle.cjc_bytes.proofs.Numbers.{like_number, number_same}
+use Rattle.cjc_world.specs.Bytes.declared.fault.MemberId.{MemberId}
+use Rattle.cjc_world.proofs.BytesGets.{find_got}
+use Rattle.cjc_world.proofs.BytesLists.{bytes_true, name_is}
+use Rattle.cjc_world.proofs.BytesNumbers.{like_number, number_same}
 use Rattle.cjc_components.specs.Statics.{cell_offset, cell_order, offset_from, size_of_field}
-use Rattle.cjc_ncode.specs.PoolOrder.{same_member}
+use Rattle.cjc_components.specs.LowerNCode.PoolOrder.{same_member}
 use Rattle.cjc_world.specs.declared.image.StaticImage.{StaticImage}
 
 -- a member that is the same one

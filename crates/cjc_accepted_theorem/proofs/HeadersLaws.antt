@@ -6,34 +6,34 @@ use Rattle.std.specs.List.{AllByRecursion, find, list_all, list_any}
 use Rattle.std.proofs.lemmas.List.{length-map}
 use Rattle.std.proofs.lemmas.List.Concat.{flat_map-cons}
 use Rattle.std.proofs.lemmas.Map.Keys.{any_passes_from_place}
-use Rattle.cjc_bytes.specs.AccessFlags.{is_abstract, is_interface, is_static}
-use Rattle.cjc_bytes.specs.Descriptor.{Parts}
-use Rattle.cjc_bytes.specs.declared.fault.MemberId.{MemberId}
-use Rattle.cjc_bytes.specs.Spots.{desc_of}
-use Rattle.cjc_bytes.proofs.Bools.{not_true}
-use Rattle.cjc_bytes.proofs.Gets.{all_at, find_got, mapped_at}
-use Rattle.cjc_bytes.proofs.Numbers.{like_number, number_same}
-use Rattle.cjc_bytes.proofs.Plain.{same_some}
-use Rattle.cjc_capread.specs.declared.tree.ClassDescriptor.{ClassDescriptor}
-use Rattle.cjc_capread.specs.declared.tree.ClassRef.{ClassRef}
-use Rattle.cjc_capread.specs.declared.tree.MethodDescriptor.{MethodDescriptor}
-use Rattle.cjc_capread.specs.declared.tree.TypeDescriptor.{TypeDescriptor}
+use Rattle.cjc_world.specs.Bytes.AccessFlags.{is_abstract, is_interface, is_static}
+use Rattle.cjc_world.specs.Bytes.Descriptor.{Parts}
+use Rattle.cjc_world.specs.Bytes.declared.fault.MemberId.{MemberId}
+use Rattle.cjc_types.specs.Bytes.Spots.{desc_of}
+use Rattle.cjc_world.proofs.BytesBools.{not_true}
+use Rattle.cjc_world.proofs.BytesGets.{all_at, find_got, mapped_at}
+use Rattle.cjc_world.proofs.BytesNumbers.{like_number, number_same}
+use Rattle.cjc_verified_proof.proofs.BytesPlain.{same_some}
+use Rattle.cjc_components.specs.LowerCapRead.declared.tree.ClassDescriptor.{ClassDescriptor}
+use Rattle.cjc_components.specs.LowerCapRead.declared.tree.ClassRef.{ClassRef}
+use Rattle.cjc_components.specs.LowerCapRead.declared.tree.MethodDescriptor.{MethodDescriptor}
+use Rattle.cjc_components.specs.LowerCapRead.declared.tree.TypeDescriptor.{TypeDescriptor}
 use Rattle.cjc_card_acts.specs.CardTypes.{MemberType, type_at, type_by, type_of, types_in, width, widths}
-use Rattle.cjc_card_semantics.specs.Bytecode.Arguments as sorts
-use Rattle.cjc_card_semantics.specs.Bytecode.Machine.{Start}
-use Rattle.cjc_card_semantics.specs.Machine.Methods.{Code, start_at, start_of}
+use Rattle.cjc_card_acts.specs.CardSemantics.Bytecode.Arguments as sorts
+use Rattle.cjc_card_acts.specs.CardSemantics.Bytecode.Machine.{Start}
+use Rattle.cjc_card_acts.specs.CardSemantics.Machine.Methods.{Code, start_at, start_of}
 use Rattle.cjc_check_proof.proofs.ClassesLaws.Supers.{in_place}
 use Rattle.cjc_check_proof.proofs.ClassesLaws.Lists.{has-back, has-flat, has-front, has-map}
 use Rattle.cjc_check_proof.proofs.ClassesLaws.Types.{type_begins}
 use Rattle.cjc_check_proof.proofs.CodeLaws.OwnClasses.{own_classes}
-use Rattle.cjc_check_rules.specs.Codes.{whole_spots}
-use Rattle.cjc_check_rules.specs.Instructions.{jump_spots}
-use Rattle.cjc_check_rules.specs.Spots.{in_info, item_at, unless}
-use Rattle.cjc_check_rules.specs.declared.spot.ComponentPlace.{ComponentPlace}
-use Rattle.cjc_check_rules.specs.Described.{types_at}
-use Rattle.cjc_code.specs.ClassFile.Code.{CodeTree}
-use Rattle.cjc_code.specs.ClassFile.declared.tree.ClassTree.{ClassTree}
-use Rattle.cjc_code.specs.ClassFile.declared.tree.MethodTree.{MethodTree}
+use Rattle.cjc_verified_proof.specs.CheckRules.Codes.{whole_spots}
+use Rattle.cjc_card_acts.specs.CheckRules.Instructions.{jump_spots}
+use Rattle.cjc_card_acts.specs.CheckRules.Spots.{in_info, item_at, unless}
+use Rattle.cjc_components.specs.LowerCheckRules.declared.spot.ComponentPlace.{ComponentPlace}
+use Rattle.cjc_components.specs.LowerCheckRules.Described.{types_at}
+use Rattle.cjc_world.specs.ClassFile.Code.{CodeTree}
+use Rattle.cjc_world.specs.ClassFile.declared.tree.ClassTree.{ClassTree}
+use Rattle.cjc_world.specs.ClassFile.declared.tree.MethodTree.{MethodTree}
 use Rattle.cjc_components.specs.Descriptor.{as_added, class_descriptor, descriptor, method_descriptor}
 use Rattle.cjc_components.specs.Descriptor.{method_in}
 use Rattle.cjc_components.specs.Methods.{method_offset}
@@ -43,14 +43,14 @@ use Rattle.cjc_components.specs.Class.{fields_of}
 use Rattle.cjc_components.specs.Types.{all_descs, desc_of_field, desc_of_key, descs_of_class, nibbles_by, nibbles_of}
 use Rattle.cjc_components.specs.Types.{type_offset}
 use Rattle.cjc_components.specs.Written.{added_words}
-use Rattle.cjc_jvm_semantics.specs.Linked.{Method}
-use Rattle.cjc_jvm_semantics.specs.OnePackage.{method_at, method_by}
-use Rattle.cjc_jvm_semantics.specs.OnePackage as by_file
-use Rattle.cjc_ncode.specs.Lowering.Placed.{start_on_card}
-use Rattle.cjc_narrow.specs.Rows.Package.{flags_of}
-use Rattle.cjc_narrow.specs.Rows.Resolved.{argument_words, method_found, parameter_words}
-use Rattle.cjc_script.specs.Sorts.{Boolean, Byte, Int, NoValue, Reference, Short, Signature, Sort, result_by}
-use Rattle.cjc_script.specs.Sorts.{signature_by, signature_of, sort_of}
+use Rattle.cjc_components.specs.LowerJvmSemantics.Linked.{Method}
+use Rattle.cjc_components.specs.LowerJvmSemantics.OnePackage.{method_at, method_by}
+use Rattle.cjc_components.specs.LowerJvmSemantics.OnePackage as by_file
+use Rattle.cjc_components.specs.LowerNCode.Lowering.Placed.{start_on_card}
+use Rattle.cjc_components.specs.LowerNarrow.Rows.Package.{flags_of}
+use Rattle.cjc_components.specs.LowerNarrow.Rows.Resolved.{argument_words, method_found, parameter_words}
+use Rattle.cjc_card_acts.specs.Script.Sorts.{Boolean, Byte, Int, NoValue, Reference, Short, Signature, Sort, result_by}
+use Rattle.cjc_card_acts.specs.Script.Sorts.{signature_by, signature_of, sort_of}
 use Rattle.cjc_shape_proof.proofs.ShapeSound.{are_ready}
 use Rattle.cjc_shape_proof.proofs.FindsLaws.Descs.{member_desc}
 use Rattle.cjc_shape_proof.proofs.WrittenLaws.Files.{files_sound, read_files, same_files}
@@ -65,7 +65,7 @@ use Rattle.cjc_token_proof.proofs.TablesLaws.Order.{kind-in, order_has, order_in
 use Rattle.cjc_token_proof.proofs.WrittenCalls.Begins.{same_itself}
 use Rattle.cjc_token_proof.proofs.WrittenCalls.Words.{Counts}
 use Rattle.cjc_token_proof.specs.Calls.Reaching.{BeginsAtOffsets, is_in_method, is_same}
-use Rattle.cjc_token_proof.specs.List.Listed.{ListTree}
+use Rattle.cjc_components.specs.LowerList.Listed.{ListTree}
 use Rattle.cjc_token_proof.specs.Tables.Sound.{IsSound}
 use Rattle.cjc_token_proof.specs.Tables.Loading.{components, loaded, naming}
 use Rattle.cjc_token_proof.specs.WrittenCalls.Standing.{place}
@@ -81,8 +81,8 @@ use Rattle.cjc_verify.specs.Named.{holds}
 use Rattle.cjc_verify.specs.Pairs.{Described, Pair, described, is_card_result}
 use Rattle.cjc_verify.specs.Pairs.{is_card_sort, is_card_type, is_method_at}
 use Rattle.cjc_verify.specs.Pairs as pairs
-use Rattle.cjc_tokens.specs.Members.{is_initialiser}
-use Rattle.cjc_vtable.proofs.Filed.{Has, at_front, behind, get-has, has-get}
+use Rattle.cjc_components.specs.LowerTokens.Members.{is_initialiser}
+use Rattle.cjc_components.proofs.VTableFiled.{Has, at_front, behind, get-has, has-get}
 use Rattle.cjc_world.specs.Added.{added, without_initialiser}
 use Rattle.cjc_world.specs.ExportFile.Members.{as_desc, same_bool}
 use Rattle.cjc_world.specs.Classes.{Class, Member, all_classes, class_at, class_named, declared, field_of_class}

@@ -1,15 +1,15 @@
 -- All entries of a converted package's pool name members of their keys' descriptors, where those that are left do.
 use Rattle.std.proofs.Common.{◌≡◌, ℕ, refl, sym, ap, subst, ◌∙◌, Bool, true, false, List}
 use Rattle.std.specs.Prelude.{◌||◌, Some, slice_get}
-use Rattle.cjc_bytes.specs.AccessFlags.{is_interface, is_private, is_static}
-use Rattle.cjc_bytes.specs.declared.fault.MemberId.{MemberId}
+use Rattle.cjc_world.specs.Bytes.AccessFlags.{is_interface, is_private, is_static}
+use Rattle.cjc_world.specs.Bytes.declared.fault.MemberId.{MemberId}
 use Rattle.cjc_check_proof.specs.Code.Members.{CellsFit}
-use Rattle.cjc_code.specs.ClassFile.declared.tree.ClassTree.{ClassTree}
+use Rattle.cjc_world.specs.ClassFile.declared.tree.ClassTree.{ClassTree}
 use Rattle.cjc_components.specs.Package.{Package, pool}
-use Rattle.cjc_jvm_semantics.specs.OnePackage.{is_constructor, of_class}
+use Rattle.cjc_components.specs.LowerJvmSemantics.OnePackage.{is_constructor, of_class}
 use Rattle.cjc_narrow_proof.specs.Laws.Unbroken.{IsUnbroken}
-use Rattle.cjc_ncode.specs.declared.narrow.PoolKey.{PoolKey}
-use Rattle.cjc_ncode.specs.declared.narrow.PoolKey.TheVariants as keys
+use Rattle.cjc_components.specs.LowerNCode.declared.narrow.PoolKey.{PoolKey}
+use Rattle.cjc_components.specs.LowerNCode.declared.narrow.PoolKey.TheVariants as keys
 use Rattle.cjc_shape_proof.proofs.WrittenLaws.Files.{files_sound, own_unbroken}
 use Rattle.cjc_shape_proof.proofs.WrittenLaws.Worlds.{own_solid}
 use Rattle.cjc_shape_proof.specs.LowerJudge.Rules.{settings_of}
@@ -25,7 +25,7 @@ use Rattle.cjc_theorem.specs.Alike.Opcodes.{CallsHaveOpcodes}
 use Rattle.cjc_token_proof.proofs.TablesLaws.Order.{own_names}
 use Rattle.cjc_token_proof.specs.ByToken.Cells.{HasCells}
 use Rattle.cjc_token_proof.specs.Components.Methods.{HasMethods}
-use Rattle.cjc_token_proof.specs.List.Listed.{ListTree}
+use Rattle.cjc_components.specs.LowerList.Listed.{ListTree}
 use Rattle.cjc_token_proof.specs.Tables.Known.{order_of, statics_of}
 use Rattle.cjc_accepted_proof.specs.Carded.{EntriesAreNamed}
 use Rattle.cjc_accepted_theorem.specs.Left.{NamesItsDesc, OthersAreNamed}

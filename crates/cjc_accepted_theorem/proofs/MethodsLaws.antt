@@ -3,10 +3,10 @@ use Rattle.std.proofs.Common.{◌≡◌, ⊎_elim, ℕ, zero, suc, ◌+◌, ◌-
 use Rattle.std.proofs.Common.{◌∷◌, length, map}
 use Rattle.std.specs.Prelude.{Some, slice_get, unwrap_or}
 use Rattle.std.specs.List.{AllByRecursion}
-use Rattle.cjc_bytes.proofs.Gets.{get_behind, in_front, item_there}
-use Rattle.cjc_bytes.proofs.Plain.{same_some}
-use Rattle.cjc_bytes.proofs.Quantified.{all_both}
-use Rattle.cjc_capread.specs.declared.tree.ClassRef.{ClassRef}
+use Rattle.cjc_world.proofs.BytesGets.{get_behind, in_front, item_there}
+use Rattle.cjc_verified_proof.proofs.BytesPlain.{same_some}
+use Rattle.cjc_world.proofs.BytesQuantified.{all_both}
+use Rattle.cjc_components.specs.LowerCapRead.declared.tree.ClassRef.{ClassRef}
 use Rattle.cjc_components.specs.Descriptor.{as_added, class_descriptor, method_descriptor, method_in}
 use Rattle.cjc_components.specs.Descriptor.{methods_with_added, no_member}
 use Rattle.cjc_components.specs.Methods.{method_offset}
@@ -15,7 +15,7 @@ use Rattle.cjc_components.specs.Package.{Package, world}
 use Rattle.cjc_verified_proof.proofs.DescribedLaws.{either_part}
 use Rattle.cjc_verified_proof.proofs.FoundLaws.{written_got}
 use Rattle.cjc_verify.specs.Pairs.{Described, described_among, described_in}
-use Rattle.cjc_tokens.specs.Members.{is_initialiser}
+use Rattle.cjc_components.specs.LowerTokens.Members.{is_initialiser}
 use Rattle.cjc_world.specs.Added.{added}
 use Rattle.cjc_world.specs.Classes.{Class, Member}
 use Rattle.cjc_world.specs.Lookup.{member_at}

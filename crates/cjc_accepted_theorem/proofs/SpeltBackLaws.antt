@@ -1,10 +1,10 @@
 -- What is read back of a converted package's files is the package with the components that are written for it.
 use Rattle.std.proofs.Common.{◌≡◌, ℕ, sym, ap, subst, ◌∙◌, List}
 use Rattle.std.specs.Prelude.{Some}
-use Rattle.cjc_bytes.proofs.Plain.{same_some}
-use Rattle.cjc_check_rules.specs.Complete.{Complete, complete}
+use Rattle.cjc_verified_proof.proofs.BytesPlain.{same_some}
+use Rattle.cjc_components.specs.LowerCheckRules.Complete.{Complete, complete}
 use Rattle.cjc_clinit.proofs.OneImage.{one-image}
-use Rattle.cjc_code.specs.PackageCodes.{all_codes}
+use Rattle.cjc_clinit.specs.Bytecode.PackageCodes.{all_codes}
 use Rattle.cjc_components.specs.Components.{components_of}
 use Rattle.cjc_components.specs.Package.{Package}
 use Rattle.cjc_components.specs.Package as packages
@@ -14,8 +14,8 @@ use Rattle.cjc_shape_proof.specs.LowerJudge.Rules.{files_spelt, has_applets}
 use Rattle.cjc_shape_proof.specs.LowerJudge.Spelt.{FileTree, SpellTrees, classes_of}
 use Rattle.cjc_shape_proof.specs.LowerJudge.declared.judged.Judged.{Judged}
 use Rattle.cjc_shape_proof.specs.Written.Converted.{IsConverted}
-use Rattle.cjc_token_proof.specs.Clinit.Image.{IsImage}
-use Rattle.cjc_token_proof.specs.List.Listed.{ListTree}
+use Rattle.cjc_clinit.specs.Image.{IsImage}
+use Rattle.cjc_components.specs.LowerList.Listed.{ListTree}
 use Rattle.cjc_token_proof.specs.Tables.Loading.{components}
 use Rattle.cjc_verify.specs.Pairs.{Pair, pair_of}
 use Rattle.cjc_verify.specs.Verified.{Breaks, IsVerified}

@@ -4,9 +4,9 @@ use Rattle.std.specs.List.{AllByRecursion}
 use Rattle.cjc_components.specs.Names.{names}
 use Rattle.cjc_components.specs.Package.{Package, pool, world}
 use Rattle.cjc_components.specs.Types.{desc_of_key}
-use Rattle.cjc_ncode.specs.Lowering.Naming.{entry_of}
-use Rattle.cjc_ncode.specs.declared.narrow.PoolKey.{PoolKey}
-use Rattle.cjc_ncode.specs.declared.narrow.PoolKey.TheVariants as keys
+use Rattle.cjc_components.specs.LowerNCode.Lowering.Naming.{entry_of}
+use Rattle.cjc_components.specs.LowerNCode.declared.narrow.PoolKey.{PoolKey}
+use Rattle.cjc_components.specs.LowerNCode.declared.narrow.PoolKey.TheVariants as keys
 use Rattle.cjc_verify.specs.Named.{named_desc}
 use Rattle.cjc_world.specs.Classes.{Class, class_named}
 use Rattle.cjc_accepted_proof.specs.Written.{written_pair}

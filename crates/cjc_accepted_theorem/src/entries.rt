@@ -1,21 +1,21 @@
 //! Entries of the constant pool: each names a member of its key's descriptor. Those of static fields, and of the static
 //! methods, constructors and private methods of the package, are shown to; the others are a premise.
 ghost use Rattle.std.specs.Prelude.{◌≡◌, ℕ, false, List, Some};
-ghost use Rattle.cjc_bytes.specs.AccessFlags.{is_interface};
-ghost use Rattle.cjc_bytes.specs.declared.fault.MemberId.{MemberId};
+ghost use Rattle.cjc_world.specs.Bytes.AccessFlags.{is_interface};
+ghost use Rattle.cjc_world.specs.Bytes.declared.fault.MemberId.{MemberId};
 ghost use Rattle.cjc_check_proof.specs.Code.Members.{IsOwnCell};
-ghost use Rattle.cjc_code.specs.ClassFile.declared.tree.ClassTree.{ClassTree};
-ghost use Rattle.cjc_code.specs.declared.insn.JOp.TheVariants as jop;
+ghost use Rattle.cjc_world.specs.ClassFile.declared.tree.ClassTree.{ClassTree};
+ghost use Rattle.cjc_clinit.specs.Bytecode.declared.insn.JOp.TheVariants as jop;
 ghost use Rattle.cjc_components.specs.Names.{names};
 ghost use Rattle.cjc_components.specs.Package.{Package, world};
-ghost use Rattle.cjc_narrow.specs.Rows.Resolved.{resolved_method};
+ghost use Rattle.cjc_components.specs.LowerNarrow.Rows.Resolved.{resolved_method};
 ghost use Rattle.cjc_narrow_proof.specs.Laws.Unbroken.{IsInsnOf};
-ghost use Rattle.cjc_ncode.specs.Lowering.Naming.{entry_of};
-ghost use Rattle.cjc_ncode.specs.declared.narrow.PoolKey.TheVariants as keys;
+ghost use Rattle.cjc_components.specs.LowerNCode.Lowering.Naming.{entry_of};
+ghost use Rattle.cjc_components.specs.LowerNCode.declared.narrow.PoolKey.TheVariants as keys;
 ghost use Rattle.cjc_shape_proof.specs.LowerJudge.declared.judged.Judged.{Judged};
 ghost use Rattle.cjc_shape_proof.specs.Written.Converted.{IsConverted};
 ghost use Rattle.cjc_token_proof.specs.Components.OwnNames.{HaveOwnNames};
-ghost use Rattle.cjc_token_proof.specs.List.Listed.{ListTree};
+ghost use Rattle.cjc_components.specs.LowerList.Listed.{ListTree};
 ghost use Rattle.cjc_verify.specs.Named.{named_desc};
 ghost use Rattle.cjc_world.specs.Classes.{Class, class_named};
 ghost use Rattle.cjc_world.specs.Order.{class_order};

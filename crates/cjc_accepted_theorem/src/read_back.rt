@@ -1,16 +1,16 @@
 //! What is read back: the type checker finds nothing in the components that are written for a converted package, beside
 //! the files that it was converted from.
 ghost use Rattle.std.specs.Prelude.{◌≡◌, ℕ, List, Some};
-ghost use Rattle.cjc_check_rules.specs.Complete.{Complete, complete};
-ghost use Rattle.cjc_code.specs.PackageCodes.{all_codes};
+ghost use Rattle.cjc_components.specs.LowerCheckRules.Complete.{Complete, complete};
+ghost use Rattle.cjc_clinit.specs.Bytecode.PackageCodes.{all_codes};
 ghost use Rattle.cjc_components.specs.Components.{components_of};
 ghost use Rattle.cjc_components.specs.Package.{Package};
 ghost use Rattle.cjc_shape_proof.specs.LowerJudge.Rules.{files_spelt, has_applets};
 ghost use Rattle.cjc_shape_proof.specs.LowerJudge.Spelt.{FileTree, SpellTrees, classes_of};
 ghost use Rattle.cjc_shape_proof.specs.LowerJudge.declared.judged.Judged.{Judged};
 ghost use Rattle.cjc_shape_proof.specs.Written.Converted.{IsConverted};
-ghost use Rattle.cjc_token_proof.specs.Clinit.Image.{IsImage};
-ghost use Rattle.cjc_token_proof.specs.List.Listed.{ListTree};
+ghost use Rattle.cjc_clinit.specs.Image.{IsImage};
+ghost use Rattle.cjc_components.specs.LowerList.Listed.{ListTree};
 ghost use Rattle.cjc_verify.specs.Pairs.{pair_of};
 ghost use Rattle.cjc_verify.specs.Verified.{IsVerified};
 ghost use Rattle.cjc_world.specs.declared.image.StaticImage.{StaticImage};

@@ -2,25 +2,25 @@
 use Rattle.std.proofs.Common.{◌≡◌, ℕ, refl, sym, ap, subst, ◌∙◌, Bool, true, false, List, ◌||◌}
 use Rattle.std.specs.Prelude.{Option, Some, None, is_some, slice_get}
 use Rattle.std.specs.List.{Contains}
-use Rattle.cjc_bytes.proofs.Gets.{any_off}
-use Rattle.cjc_bytes.specs.declared.fault.MemberId.{MemberId}
+use Rattle.cjc_code.proofs.BytesGets.{any_off}
+use Rattle.cjc_code.specs.Bytes.declared.fault.MemberId.{MemberId}
 use Rattle.cjc_code.specs.PackageCodes.{all_codes}
 use Rattle.cjc_code.specs.declared.method_code.MethodCode.{MethodCode}
-use Rattle.cjc_tokens.specs.Members.{is_initialiser}
+use Rattle.cjc_components.specs.LowerTokens.Members.{is_initialiser}
 use Rattle.cjc_types.specs.Flow.{Body, body_of}
 use Rattle.cjc_types.specs.Tables.{IsMethodOf}
 use Rattle.cjc_types.specs.declared.state.State.{State}
-use Rattle.cjc_intervals.specs.Frames.{RangeState}
-use Rattle.cjc_jvm_semantics.specs.Linked.{Method}
-use Rattle.cjc_jvm_semantics.specs.OnePackage.{method_at, method_by}
-use Rattle.cjc_list.specs.Listed.{ListTree}
-use Rattle.cjc_narrow.specs.Rows.Package.{code_of}
-use Rattle.cjc_narrow.specs.Rows.Selected.{near_fields}
-use Rattle.cjc_world.specs.ClassFile.Code.{CodeTree}
-use Rattle.cjc_world.specs.ClassFile.declared.tree.ClassTree.{ClassTree}
-use Rattle.cjc_world.specs.ClassFile.declared.tree.MethodTree.{MethodTree}
-use Rattle.cjc_world.specs.Files.{Files}
-use Rattle.cjc_world.specs.declared.found.Found.{Found}
+use Rattle.cjc_int_mode.specs.Intervals.Frames.{RangeState}
+use Rattle.cjc_components.specs.LowerJvmSemantics.Linked.{Method}
+use Rattle.cjc_components.specs.LowerJvmSemantics.OnePackage.{method_at, method_by}
+use Rattle.cjc_components.specs.LowerList.Listed.{ListTree}
+use Rattle.cjc_components.specs.LowerNarrow.Rows.Package.{code_of}
+use Rattle.cjc_components.specs.LowerNarrow.Rows.Selected.{near_fields}
+use Rattle.cjc_code.specs.ClassFile.Code.{CodeTree}
+use Rattle.cjc_code.specs.ClassFile.declared.tree.ClassTree.{ClassTree}
+use Rattle.cjc_code.specs.ClassFile.declared.tree.MethodTree.{MethodTree}
+use Rattle.cjc_types.specs.World.Files.{Files}
+use Rattle.cjc_types.specs.World.declared.found.Found.{Found}
 use Rattle.cjc_components.specs.Components.{components_of, header, header_flags, uses_int}
 use Rattle.cjc_components.specs.Exports.{export}
 use Rattle.cjc_components.specs.Package.{LaidMethod, Package, has_applets, pool, world}

@@ -1,7 +1,7 @@
 -- What is written for a method in int mode is that of its class file, by its tables.
 use Rattle.std.proofs.Common.{◌≡◌, ◌<◌, ◌≤◌, ℕ, sym, ap, subst, ◌∙◌, true, List, length}
 use Rattle.std.specs.Prelude.{Option, Some, Ok, slice_get}
-use Rattle.cjc_bytes.specs.declared.fault.MemberId.{MemberId}
+use Rattle.cjc_code.specs.Bytes.declared.fault.MemberId.{MemberId}
 use Rattle.std.specs.List.{Contains}
 use Rattle.cjc_code.specs.PackageCodes.{all_codes}
 use Rattle.cjc_code.specs.Decoded.{decoded, decoding, insns_of, of_code, of_method}
@@ -10,13 +10,13 @@ use Rattle.cjc_code.specs.declared.method_code.MethodCode.{MethodCode}
 use Rattle.cjc_components.specs.Package.{LaidMethod}
 use Rattle.cjc_emit.specs.Emitted.{CanBeWritten, placed_at}
 use Rattle.cjc_emit.specs.Said.{CanBeSaid}
-use Rattle.cjc_intervals.specs.Frames.{RangeState}
-use Rattle.cjc_jvm_semantics.specs.Linked.{Method}
-use Rattle.cjc_jvm_semantics.specs.OnePackage.{method_at, method_by}
-use Rattle.cjc_layout.specs.Legal.{IsLeast}
-use Rattle.cjc_layout.specs.Layouts.{IsWhole}
-use Rattle.cjc_narrow.specs.Rows.Package.{flags_of, read_of, tree_of}
-use Rattle.cjc_narrow.specs.Rows.Resolved.{method_found, resolution}
+use Rattle.cjc_int_mode.specs.Intervals.Frames.{RangeState}
+use Rattle.cjc_components.specs.LowerJvmSemantics.Linked.{Method}
+use Rattle.cjc_components.specs.LowerJvmSemantics.OnePackage.{method_at, method_by}
+use Rattle.cjc_emit.specs.LowerLayout.Legal.{IsLeast}
+use Rattle.cjc_int_proof.specs.Layout.Layouts.{IsWhole}
+use Rattle.cjc_components.specs.LowerNarrow.Rows.Package.{flags_of, read_of, tree_of}
+use Rattle.cjc_components.specs.LowerNarrow.Rows.Resolved.{method_found, resolution}
 use Rattle.cjc_ncode.specs.Lowering.Naming.{Naming}
 use Rattle.cjc_ncode.specs.Written.{Resolution}
 use Rattle.cjc_ncode.specs.declared.narrow.NInsn.{NInsn}
@@ -24,11 +24,11 @@ use Rattle.cjc_ncode.specs.declared.narrow.NMethod.{NMethod}
 use Rattle.cjc_types.specs.Flow.{body_of}
 use Rattle.cjc_types.specs.Tables.{IsLeastTable, IsMethodOf}
 use Rattle.cjc_types.specs.declared.state.State.{State}
-use Rattle.cjc_world.specs.Classes.{all_classes}
-use Rattle.cjc_world.specs.ClassFile.Code.{CodeTree}
-use Rattle.cjc_world.specs.ClassFile.declared.tree.ClassTree.{ClassTree}
-use Rattle.cjc_world.specs.ClassFile.declared.tree.MethodTree.{MethodTree}
-use Rattle.cjc_world.specs.Files.{Files}
+use Rattle.cjc_types.specs.World.Classes.{all_classes}
+use Rattle.cjc_code.specs.ClassFile.Code.{CodeTree}
+use Rattle.cjc_code.specs.ClassFile.declared.tree.ClassTree.{ClassTree}
+use Rattle.cjc_code.specs.ClassFile.declared.tree.MethodTree.{MethodTree}
+use Rattle.cjc_types.specs.World.Files.{Files}
 use Rattle.cjc_narrow_proof.specs.Selected.Keeps.{FindsItself}
 use Rattle.cjc_int_mode.specs.Written.{int_frame, places_from, reached_from, written_in_int_mode}
 use Rattle.cjc_int_mode.specs.declared.modes.Mode.{Mode}

@@ -7,7 +7,7 @@ use Rattle.std.specs.List.{Contains}
 use Rattle.std.proofs.lemmas.Bool.{lt-ltb}
 use Rattle.std.proofs.lemmas.List.{length-map}
 use Rattle.std.proofs.lemmas.List.Elements.{Contains-append_left}
-use Rattle.cjc_bytes.proofs.Gets.{get_inside}
+use Rattle.cjc_code.proofs.BytesGets.{get_inside}
 use Rattle.cjc_code.proofs.OneCut.{is_cut}
 use Rattle.cjc_code.specs.Cut.{cut, IsCutFrom}
 use Rattle.cjc_code.specs.Jvm as jvm
@@ -16,13 +16,13 @@ use Rattle.cjc_code.specs.declared.insn.JInsn.{JInsn}
 use Rattle.cjc_code.specs.declared.insn.JOp.{JOp}
 use Rattle.cjc_code.specs.declared.insn.JOp.TheVariants as jop
 use Rattle.cjc_code.specs.declared.method_code.MethodCode.{MethodCode}
-use Rattle.cjc_fixpoint.specs.Working.Edges.{contains_head}
-use Rattle.cjc_script.specs.Sorts.{Sort, Boolean, Byte, Short, Int, Reference, NoValue}
-use Rattle.cjc_world.specs.ClassFile.Code.{CodeTree}
-use Rattle.cjc_world.specs.ClassFile.declared.tree.ClassTree.{ClassTree}
-use Rattle.cjc_world.specs.ClassFile.declared.tree.MethodTree.{MethodTree}
-use Rattle.cjc_world.specs.Files.{Files}
-use Rattle.cjc_capread.specs.Card as card
+use Rattle.cjc_types.specs.Fixpoint.Working.Edges.{contains_head}
+use Rattle.cjc_ncode.specs.LowerScript.Sorts.{Sort, Boolean, Byte, Short, Int, Reference, NoValue}
+use Rattle.cjc_code.specs.ClassFile.Code.{CodeTree}
+use Rattle.cjc_code.specs.ClassFile.declared.tree.ClassTree.{ClassTree}
+use Rattle.cjc_code.specs.ClassFile.declared.tree.MethodTree.{MethodTree}
+use Rattle.cjc_types.specs.World.Files.{Files}
+use Rattle.cjc_ncode.specs.LowerCapRead.Card as card
 use Rattle.cjc_types.proofs.TypeLaws.Lowered.{least_closed}
 use Rattle.cjc_types.proofs.TypeLaws.Standing.{next_there}
 use Rattle.cjc_types.specs.Flow.{Body, body_of, next_place, successors}
@@ -30,7 +30,7 @@ use Rattle.cjc_types.specs.Steps.{goes_on}
 use Rattle.cjc_types.specs.Tables.{IsLeastTable, IsMethodOf}
 use Rattle.cjc_types.specs.TypeLaws.Closed.{IsClosedTable}
 use Rattle.cjc_types.specs.declared.state.State.{State}
-use Rattle.cjc_intervals.specs.Frames.{RangeState}
+use Rattle.cjc_int_mode.specs.Intervals.Frames.{RangeState}
 use Rattle.cjc_ncode.specs.declared.narrow.NInsn.{NInsn}
 use Rattle.cjc_ncode.specs.declared.narrow.NInsn.TheVariants.{Op}
 use Rattle.cjc_ncode.specs.Written.{Resolution, leaving}

@@ -4,13 +4,13 @@ use Rattle.std.specs.Prelude.{Some, map, slice_get, slice_index}
 use Rattle.cjc_ncode.specs.Lowering.Naming.{Naming}
 use Rattle.cjc_ncode.specs.declared.narrow.NInsn.{NInsn}
 use Rattle.cjc_ncode.specs.declared.narrow.NMethod.{NMethod}
-use Rattle.cjc_layout.proofs.Places.{all_wide}
-use Rattle.cjc_layout.specs.Forms.{HasForm}
-use Rattle.cjc_layout.specs.Handlers.{handlers_of, table_order}
-use Rattle.cjc_layout.specs.Layouts.{HasPlaces, IsLayout, IsWhole}
-use Rattle.cjc_layout.specs.Legal.{IsLeast}
-use Rattle.cjc_layout.specs.Sizes.{bytes_before, code_size}
-use Rattle.cjc_layout.specs.declared.layout.Layout.{Layout}
+use Rattle.cjc_emit.proofs.LayoutPlaces.{all_wide}
+use Rattle.cjc_emit.specs.LowerLayout.Forms.{HasForm}
+use Rattle.cjc_int_proof.specs.Layout.Handlers.{handlers_of, table_order}
+use Rattle.cjc_int_proof.specs.Layout.Layouts.{HasPlaces, IsLayout, IsWhole}
+use Rattle.cjc_emit.specs.LowerLayout.Legal.{IsLeast}
+use Rattle.cjc_emit.specs.LowerLayout.Sizes.{bytes_before, code_size}
+use Rattle.cjc_emit.specs.LowerLayout.declared.layout.Layout.{Layout}
 use Rattle.cjc_emit.proofs.EmitLaws.Said.{layout_written}
 use Rattle.cjc_emit.specs.Emitted.{CanBeWritten, placed_at}
 use Rattle.cjc_emit.specs.Said.{CanBeSaid}

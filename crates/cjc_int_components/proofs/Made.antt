@@ -1,22 +1,22 @@
 -- Methods that come to their code by their modes keep all that consistent code asks.
 use Rattle.std.proofs.Common.{◌≡◌, ◌<◌, ℕ, zero, suc, refl, sym, ap, subst, ◌∙◌, true, false, List, [], ◌∷◌, length}
 use Rattle.std.specs.Prelude.{Option, Some, slice_get}
-use Rattle.cjc_bytes.specs.declared.fault.MemberId.{MemberId}
-use Rattle.cjc_world.specs.ClassFile.Code.{CodeTree}
-use Rattle.cjc_world.specs.ClassFile.declared.tree.ClassTree.{ClassTree}
-use Rattle.cjc_world.specs.ClassFile.declared.tree.MethodTree.{MethodTree}
-use Rattle.cjc_world.specs.Files.{Files}
+use Rattle.cjc_code.specs.Bytes.declared.fault.MemberId.{MemberId}
+use Rattle.cjc_code.specs.ClassFile.Code.{CodeTree}
+use Rattle.cjc_code.specs.ClassFile.declared.tree.ClassTree.{ClassTree}
+use Rattle.cjc_code.specs.ClassFile.declared.tree.MethodTree.{MethodTree}
+use Rattle.cjc_types.specs.World.Files.{Files}
 use Rattle.cjc_code.specs.declared.method_code.MethodCode.{MethodCode}
 use Rattle.cjc_types.specs.Flow.{body_of}
 use Rattle.cjc_types.specs.declared.state.State.{State}
-use Rattle.cjc_intervals.specs.Frames.{RangeState}
+use Rattle.cjc_int_mode.specs.Intervals.Frames.{RangeState}
 use Rattle.cjc_ncode.specs.IntCode.IntCode.{Reached}
 use Rattle.cjc_ncode.specs.Lowering.Naming.{Naming}
 use Rattle.cjc_ncode.specs.declared.narrow.NInsn.{NInsn}
 use Rattle.cjc_ncode.specs.declared.narrow.NMethod.{NMethod}
-use Rattle.cjc_narrow.specs.Rows.Resolved.{resolution}
-use Rattle.cjc_layout.specs.Handlers.{AllLie}
-use Rattle.cjc_layout.specs.Sizes.{AllLead}
+use Rattle.cjc_components.specs.LowerNarrow.Rows.Resolved.{resolution}
+use Rattle.cjc_int_proof.specs.Layout.Handlers.{AllLie}
+use Rattle.cjc_emit.specs.LowerLayout.Sizes.{AllLead}
 use Rattle.cjc_emit.specs.Emitted.{CanBeWritten, placed_at}
 use Rattle.cjc_components.specs.Package.{LaidMethod}
 use Rattle.cjc_check_proof.specs.Code.Caught.{HandlersLie}

@@ -3,11 +3,11 @@ use Rattle.std.proofs.Common.{◌≡◌, ℕ, zero, suc, ◌+◌, ◌-◌, refl,
 use Rattle.std.proofs.Common.{slice_get, map, take}
 use Rattle.std.specs.Prelude.{if◌then◌else◌, nat_le, ◌==◌, Option, Some, None, ℤ, pos, negsuc}
 use Rattle.std.specs.List.{list_any}
-use Rattle.cjc_bytes.specs.declared.fault.MemberId.{MemberId}
-use Rattle.cjc_script.specs.Sorts.{Sort, Int, Signature, field_sort, shape_named, signature_of}
-use Rattle.cjc_card_semantics.specs.Bytecode.Arguments.{widths}
-use Rattle.cjc_world.specs.ClassFile.Code.{CodeTree}
-use Rattle.cjc_capread.specs.Card as card
+use Rattle.cjc_code.specs.Bytes.declared.fault.MemberId.{MemberId}
+use Rattle.cjc_ncode.specs.LowerScript.Sorts.{Sort, Int, Signature, field_sort, shape_named, signature_of}
+use Rattle.cjc_ncode.specs.LowerCardSemantics.Bytecode.Arguments.{widths}
+use Rattle.cjc_code.specs.ClassFile.Code.{CodeTree}
+use Rattle.cjc_ncode.specs.LowerCapRead.Card as card
 use Rattle.cjc_code.specs.Jvm as jvm
 use Rattle.cjc_code.specs.declared.insn.JOp.{JOp}
 use Rattle.cjc_code.specs.declared.insn.JOp.TheVariants as jop

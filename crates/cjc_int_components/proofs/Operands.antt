@@ -4,8 +4,8 @@ use Rattle.std.proofs.Common.{true, false, List, [], ◌∷◌, length, map}
 use Rattle.std.specs.Prelude.{Option, Some, None, get_or, max, slice_get, ℤ, pos, negsuc, ◌≤ℤ◌}
 use Rattle.std.proofs.lemmas.Int.{ints}
 use Rattle.std.proofs.lemmas.List.Sums.{sum_by-cons}
-use Rattle.cjc_bytes.specs.declared.fault.MemberId.{MemberId}
-use Rattle.cjc_capread.specs.Decode.{IsWithin, negative, positive}
+use Rattle.cjc_code.specs.Bytes.declared.fault.MemberId.{MemberId}
+use Rattle.cjc_check_rules.specs.CapRead.Decode.{IsWithin, negative, positive}
 use Rattle.cjc_code.proofs.ReadLaws.Decoded.{decoded_instruction}
 use Rattle.cjc_code.proofs.ReadLaws.Members.{read_class}
 use Rattle.cjc_code.specs.ReadLaws.Instructions.{IsInstruction, NumbersFit}
@@ -14,14 +14,14 @@ use Rattle.cjc_code.specs.declared.insn.JInsn.{JInsn}
 use Rattle.cjc_code.specs.declared.insn.JOp.{JOp}
 use Rattle.cjc_code.specs.declared.insn.JOp.TheVariants as jop
 use Rattle.cjc_code.specs.declared.method_code.MethodCode.{MethodCode}
-use Rattle.cjc_fixpoint.specs.Tables.{HasRow}
-use Rattle.cjc_range.specs.Span.{Holds, full, short_range}
-use Rattle.cjc_script.specs.Sorts.{signature_of}
-use Rattle.cjc_world.specs.ClassFile.Code.{CodeTree}
-use Rattle.cjc_world.specs.ClassFile.declared.tree.ClassTree.{ClassTree}
-use Rattle.cjc_world.specs.ClassFile.declared.tree.MethodTree.{MethodTree}
-use Rattle.cjc_world.specs.Files.{Files}
-use Rattle.cjc_intervals.specs.Frames.{RangeState}
+use Rattle.cjc_types.specs.Fixpoint.Tables.{HasRow}
+use Rattle.cjc_code.specs.Range.Span.{Holds, full, short_range}
+use Rattle.cjc_ncode.specs.LowerScript.Sorts.{signature_of}
+use Rattle.cjc_code.specs.ClassFile.Code.{CodeTree}
+use Rattle.cjc_code.specs.ClassFile.declared.tree.ClassTree.{ClassTree}
+use Rattle.cjc_code.specs.ClassFile.declared.tree.MethodTree.{MethodTree}
+use Rattle.cjc_types.specs.World.Files.{Files}
+use Rattle.cjc_int_mode.specs.Intervals.Frames.{RangeState}
 use Rattle.cjc_types.specs.Flow.{Body, body_of}
 use Rattle.cjc_types.specs.Tables.{IsMethodOf}
 use Rattle.cjc_types.specs.TypeLaws.Places.{local_of}

@@ -2,12 +2,12 @@
 use Rattle.std.proofs.Common.{◌≡◌, ℕ, ◌+◌, ◌*◌, ◌≤◌, ◌<◌, refl, sym, ap, subst, ◌∙◌, Bool, true, false, List, [], ◌∷◌}
 use Rattle.std.proofs.Common.{length}
 use Rattle.std.specs.Prelude.{Some, slice_get}
-use Rattle.cjc_bytes.specs.declared.fault.MemberId.{MemberId}
-use Rattle.cjc_card_semantics.specs.CapRead.Decode.{below, more, none}
-use Rattle.cjc_capread.specs.Opcodes.{Fields, Index2, form}
+use Rattle.cjc_code.specs.Bytes.declared.fault.MemberId.{MemberId}
+use Rattle.cjc_check_rules.specs.CapRead.Decode.{below, more, none}
+use Rattle.cjc_check_rules.specs.CapRead.Opcodes.{Fields, Index2, form}
 use Rattle.cjc_code.specs.declared.insn.JOp.{JOp}
-use Rattle.cjc_script.specs.Sorts.{Sort, field_sort}
-use Rattle.cjc_world.specs.ClassFile.Code.{CodeTree}
+use Rattle.cjc_ncode.specs.LowerScript.Sorts.{Sort, field_sort}
+use Rattle.cjc_code.specs.ClassFile.Code.{CodeTree}
 use Rattle.cjc_ncode.specs.IntCode.IntCode.{Frame, Reached, int_method, nargs}
 use Rattle.cjc_ncode.specs.Lowering.Laid.{laid}
 use Rattle.cjc_ncode.specs.Lowering.Naming.{Naming}

@@ -4,12 +4,12 @@ use Rattle.std.proofs.Common.{◌∷◌, ◌++◌, length, map}
 use Rattle.std.specs.Prelude.{Option, Some, None, option_and_then, slice_get, nat_lt, if◌then◌else◌, ◌||◌}
 use Rattle.std.proofs.lemmas.Bool.{ltb-false, ltb-true, false_from_ne_true}
 use Rattle.std.proofs.lemmas.List.{length-append, length-map}
-use Rattle.cjc_bytes.specs.AccessFlags.{is_static}
-use Rattle.cjc_bytes.specs.Descriptor.{Parts}
-use Rattle.cjc_bytes.specs.Spots.{desc_of}
-use Rattle.cjc_bytes.specs.declared.fault.MemberId.{MemberId}
-use Rattle.cjc_bytes.proofs.Bools.{or_left, or_right}
-use Rattle.cjc_card_semantics.specs.Bytecode.Arguments.{width, widths}
+use Rattle.cjc_code.specs.Bytes.AccessFlags.{is_static}
+use Rattle.cjc_types.specs.Bytes.Descriptor.{Parts}
+use Rattle.cjc_code.specs.Bytes.Spots.{desc_of}
+use Rattle.cjc_code.specs.Bytes.declared.fault.MemberId.{MemberId}
+use Rattle.cjc_code.proofs.BytesBools.{or_left, or_right}
+use Rattle.cjc_ncode.specs.LowerCardSemantics.Bytecode.Arguments.{width, widths}
 use Rattle.cjc_code.specs.Jvm as jvm
 use Rattle.cjc_code.specs.Rules.{too_many}
 use Rattle.cjc_code.specs.Unfit.{arguments, params_of}
@@ -17,14 +17,14 @@ use Rattle.cjc_code.specs.declared.insn.JInsn.{JInsn}
 use Rattle.cjc_code.specs.declared.insn.JOp.{JOp}
 use Rattle.cjc_code.specs.declared.insn.JOp.TheVariants as jop
 use Rattle.cjc_code.specs.declared.method_code.MethodCode.{MethodCode}
-use Rattle.cjc_fixpoint.specs.Tables.{HasRow}
-use Rattle.cjc_script.specs.Sorts.{OfClass, Sort, Boolean, Byte, Short, Int, Reference, NoValue, Signature, result_by}
-use Rattle.cjc_script.specs.Sorts.{signature_by, signature_of, sort_of}
-use Rattle.cjc_world.specs.Classes.{Class, all_classes}
-use Rattle.cjc_world.specs.ClassFile.Code.{CodeTree}
-use Rattle.cjc_world.specs.ClassFile.declared.tree.ClassTree.{ClassTree}
-use Rattle.cjc_world.specs.ClassFile.declared.tree.MethodTree.{MethodTree}
-use Rattle.cjc_world.specs.Files.{Files}
+use Rattle.cjc_types.specs.Fixpoint.Tables.{HasRow}
+use Rattle.cjc_ncode.specs.LowerScript.Sorts.{OfClass, Sort, Boolean, Byte, Short, Int, Reference, NoValue, Signature, result_by}
+use Rattle.cjc_ncode.specs.LowerScript.Sorts.{signature_by, signature_of, sort_of}
+use Rattle.cjc_types.specs.World.Classes.{Class, all_classes}
+use Rattle.cjc_code.specs.ClassFile.Code.{CodeTree}
+use Rattle.cjc_code.specs.ClassFile.declared.tree.ClassTree.{ClassTree}
+use Rattle.cjc_code.specs.ClassFile.declared.tree.MethodTree.{MethodTree}
+use Rattle.cjc_types.specs.World.Files.{Files}
 use Rattle.cjc_types.specs.Flow.{Body, body_of}
 use Rattle.cjc_types.specs.Rules.{Breaks, clash, is_off, off}
 use Rattle.cjc_types.specs.Tables.{Breach, IsLeastTable, IsMethodOf}
@@ -38,7 +38,7 @@ use Rattle.cjc_types.specs.declared.state.State.{State}
 use Rattle.cjc_types.proofs.Ascending.{insns_ascend}
 use Rattle.cjc_types.proofs.TypeLaws.Standing.{local_there}
 use Rattle.cjc_ncode.specs.Written.{nargs_of, words_by}
-use Rattle.cjc_narrow.specs.Written.Operands.{IsByte}
+use Rattle.cjc_components.specs.LowerNarrow.Written.Operands.{IsByte}
 use Rattle.cjc_narrow_proof.proofs.SelectedLaws.Cuts.{decoded}
 use Rattle.cjc_narrow_proof.proofs.SelectedLaws.Words.{call_short, params_counted}
 use Rattle.cjc_narrow_proof.specs.Selected.Keeps.{IsSpelt}

@@ -2,10 +2,10 @@
 -- of each by its mode.
 use Rattle.std.specs.Prelude.{Bool, true, false, ◌||◌, Option, Some, None, is_some}
 use Rattle.std.specs.List.{list_any}
-use Rattle.cjc_capread.specs.declared.tree.CapTree.{CapTree}
-use Rattle.cjc_capread.specs.declared.tree.Header.{Header}
-use Rattle.cjc_jvm_semantics.specs.Linked.{Method}
-use Rattle.cjc_jvm_semantics.specs.OnePackage.{method_at}
+use Rattle.cjc_check_rules.specs.CapRead.declared.tree.CapTree.{CapTree}
+use Rattle.cjc_check_rules.specs.CapRead.declared.tree.Header.{Header}
+use Rattle.cjc_components.specs.LowerJvmSemantics.Linked.{Method}
+use Rattle.cjc_components.specs.LowerJvmSemantics.OnePackage.{method_at}
 use Rattle.cjc_components.specs.Components.{components_of, header, header_flags, uses_int}
 use Rattle.cjc_components.specs.Exports.{export}
 use Rattle.cjc_components.specs.Package.{LaidMethod, Package, has_applets, world}

@@ -1,22 +1,22 @@
 -- The modes of the methods of a package, by their least tables.
 use Rattle.std.specs.Prelude.{◌≡◌, Bool, true, false, List, Option, Some, None}
 use Rattle.std.specs.List.{Contains}
-use Rattle.cjc_world.specs.ClassFile.Code.{CodeTree}
-use Rattle.cjc_world.specs.ClassFile.declared.tree.ClassTree.{ClassTree}
-use Rattle.cjc_world.specs.ClassFile.declared.tree.MethodTree.{MethodTree}
-use Rattle.cjc_world.specs.Classes.{all_classes}
-use Rattle.cjc_world.specs.Files.{Files}
+use Rattle.cjc_code.specs.ClassFile.Code.{CodeTree}
+use Rattle.cjc_code.specs.ClassFile.declared.tree.ClassTree.{ClassTree}
+use Rattle.cjc_code.specs.ClassFile.declared.tree.MethodTree.{MethodTree}
+use Rattle.cjc_types.specs.World.Classes.{all_classes}
+use Rattle.cjc_types.specs.World.Files.{Files}
 use Rattle.cjc_code.specs.PackageCodes.{all_codes}
 use Rattle.cjc_code.specs.declared.method_code.MethodCode.{MethodCode}
 use Rattle.cjc_types.specs.Flow.{body_of}
 use Rattle.cjc_types.specs.Tables.{IsLeastTable, IsMethodOf}
 use Rattle.cjc_types.specs.declared.state.State.{State}
-use Rattle.cjc_intervals.specs.Frames.{RangeState}
-use Rattle.cjc_intervals.specs.Tables.{IsLeastRanges}
-use Rattle.cjc_jvm_semantics.specs.Linked.{Method}
-use Rattle.cjc_jvm_semantics.specs.OnePackage.{method_by}
-use Rattle.cjc_narrow.specs.Rows.Resolved.{constant_named}
-use Rattle.cjc_tokens.specs.Members.{is_initialiser}
+use Rattle.cjc_int_mode.specs.Intervals.Frames.{RangeState}
+use Rattle.cjc_narrow_proof.specs.LowerIntervals.Tables.{IsLeastRanges}
+use Rattle.cjc_components.specs.LowerJvmSemantics.Linked.{Method}
+use Rattle.cjc_components.specs.LowerJvmSemantics.OnePackage.{method_by}
+use Rattle.cjc_components.specs.LowerNarrow.Rows.Resolved.{constant_named}
+use Rattle.cjc_components.specs.LowerTokens.Members.{is_initialiser}
 use Rattle.cjc_int_mode.specs.Modes.{IsModeOf}
 use Rattle.cjc_int_mode.specs.declared.modes.Mode.{Mode}
 use Rattle.cjc_int_mode.specs.declared.modes.Mode.TheVariants as modes

@@ -1,10 +1,10 @@
 -- What the instructions that are written in int mode name: what is named outside int mode.
 use Rattle.std.specs.Prelude.{◌≡◌, ◌<◌, ℕ, List, Some, Bool, true, false, slice_get}
-use Rattle.cjc_bytes.specs.declared.fault.MemberId.{MemberId}
+use Rattle.cjc_code.specs.Bytes.declared.fault.MemberId.{MemberId}
 use Rattle.cjc_code.specs.Jvm as jvm
 use Rattle.cjc_code.specs.declared.insn.JOp.{JOp}
 use Rattle.cjc_code.specs.declared.insn.JOp.TheVariants as jop
-use Rattle.cjc_script.specs.Sorts.{field_sort}
+use Rattle.cjc_ncode.specs.LowerScript.Sorts.{field_sort}
 use Rattle.cjc_ncode.specs.IntCode.IntCode.{Reached}
 use Rattle.cjc_ncode.specs.Written.{Resolution, nargs_of, static_access, written}
 use Rattle.cjc_ncode.specs.declared.narrow.NInsn.{NInsn}

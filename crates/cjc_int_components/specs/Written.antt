@@ -1,21 +1,21 @@
 -- What is written for a package some of whose methods are in int mode: the narrow code of each by its mode, at the
 -- least choice of wide jumps.
 use Rattle.std.specs.Prelude.{◌≡◌, ℕ, List, map, slice_get, Option, Some, None}
-use Rattle.cjc_bytes.specs.declared.fault.MemberId.{MemberId}
-use Rattle.cjc_world.specs.Classes.{Class, all_classes, class_at}
-use Rattle.cjc_world.specs.Files.{Files}
-use Rattle.cjc_world.specs.Order.{method_order}
-use Rattle.cjc_world.specs.declared.found.Found.{Found}
-use Rattle.cjc_clinit.specs.Image.{IsImage}
+use Rattle.cjc_code.specs.Bytes.declared.fault.MemberId.{MemberId}
+use Rattle.cjc_types.specs.World.Classes.{Class, all_classes, class_at}
+use Rattle.cjc_types.specs.World.Files.{Files}
+use Rattle.cjc_types.specs.World.Order.{method_order}
+use Rattle.cjc_types.specs.World.declared.found.Found.{Found}
+use Rattle.cjc_components.specs.LowerClinit.Image.{IsImage}
 use Rattle.cjc_code.specs.declared.method_code.MethodCode.{MethodCode}
-use Rattle.cjc_jvm_semantics.specs.Linked.{Method}
-use Rattle.cjc_jvm_semantics.specs.OnePackage.{method_at}
+use Rattle.cjc_components.specs.LowerJvmSemantics.Linked.{Method}
+use Rattle.cjc_components.specs.LowerJvmSemantics.OnePackage.{method_at}
 use Rattle.cjc_ncode.specs.declared.narrow.NMethod.{NMethod}
-use Rattle.cjc_narrow.specs.Rows.Package.{code_of, flags_of, read_of, tree_of}
-use Rattle.cjc_narrow.specs.Rows.Resolved.{method_found, resolution}
-use Rattle.cjc_narrow.specs.Rows.Selected.{near_fields}
-use Rattle.cjc_layout.specs.Legal.{IsLeast}
-use Rattle.cjc_list.specs.Listed.{ListTree}
+use Rattle.cjc_components.specs.LowerNarrow.Rows.Package.{code_of, flags_of, read_of, tree_of}
+use Rattle.cjc_components.specs.LowerNarrow.Rows.Resolved.{method_found, resolution}
+use Rattle.cjc_components.specs.LowerNarrow.Rows.Selected.{near_fields}
+use Rattle.cjc_emit.specs.LowerLayout.Legal.{IsLeast}
+use Rattle.cjc_components.specs.LowerList.Listed.{ListTree}
 use Rattle.cjc_components.specs.Package.{LaidMethod, Package, pool}
 use Rattle.cjc_components.specs.Written.{added_words, is_abstract_at, no_code}
 use Rattle.cjc_int_mode.specs.Written.{written_in_int_mode}

@@ -1,14 +1,14 @@
 //! What is written for methods in int mode is what laying out, emitting and consistent components ask. Laws alone:
 //! nothing here runs.
 ghost use Rattle.std.specs.Prelude.{◌≡◌, ◌+◌, ◌*◌, ◌<◌, ◌≤◌, ℕ, ℤ, List, Option, Some, length, slice_get, true};
-ghost use Rattle.cjc_bytes.specs.declared.fault.MemberId.{MemberId as Member};
+ghost use Rattle.cjc_code.specs.Bytes.declared.fault.MemberId.{MemberId as Member};
 ghost use Rattle.cjc_code.specs.declared.insn.JInsn.{JInsn};
 ghost use Rattle.cjc_code.specs.declared.method_code.MethodCode.{MethodCode};
 ghost use Rattle.cjc_emit.specs.Said.{CanBeSaid};
-ghost use Rattle.cjc_fixpoint.specs.Tables.{HasRow};
-ghost use Rattle.cjc_intervals.specs.Frames.{RangeState};
-ghost use Rattle.cjc_narrow.specs.Rows.Resolved.{resolution};
-ghost use Rattle.cjc_narrow.specs.Rows.Selected.{near_fields};
+ghost use Rattle.cjc_types.specs.Fixpoint.Tables.{HasRow};
+ghost use Rattle.cjc_int_mode.specs.Intervals.Frames.{RangeState};
+ghost use Rattle.cjc_components.specs.LowerNarrow.Rows.Resolved.{resolution};
+ghost use Rattle.cjc_components.specs.LowerNarrow.Rows.Selected.{near_fields};
 ghost use Rattle.cjc_ncode.specs.IntCode.IntCode.{Frame, Reached, int_method, nargs, widest};
 ghost use Rattle.cjc_ncode.specs.Lowering.Naming.{Naming};
 ghost use Rattle.cjc_ncode.specs.Written.{Resolution};
@@ -17,10 +17,10 @@ ghost use Rattle.cjc_ncode.specs.declared.narrow.PoolKey.{PoolKey as Key};
 ghost use Rattle.cjc_types.specs.Flow.{body_of};
 ghost use Rattle.cjc_types.specs.Tables.{IsLeastTable, IsMethodOf};
 ghost use Rattle.cjc_types.specs.declared.state.State.{State};
-ghost use Rattle.cjc_world.specs.ClassFile.Code.{CodeTree};
-ghost use Rattle.cjc_world.specs.ClassFile.declared.tree.ClassTree.{ClassTree};
-ghost use Rattle.cjc_world.specs.ClassFile.declared.tree.MethodTree.{MethodTree};
-ghost use Rattle.cjc_world.specs.Files.{Files};
+ghost use Rattle.cjc_code.specs.ClassFile.Code.{CodeTree};
+ghost use Rattle.cjc_code.specs.ClassFile.declared.tree.ClassTree.{ClassTree};
+ghost use Rattle.cjc_code.specs.ClassFile.declared.tree.MethodTree.{MethodTree};
+ghost use Rattle.cjc_types.specs.World.Files.{Files};
 ghost use Rattle.cjc_narrow_proof.specs.Selected.Keeps.{IsSpelt};
 ghost use Rattle.cjc_narrow_proof.specs.Selected.Operands.{IsSmall, NumbersFit};
 ghost use Rattle.cjc_check_proof.specs.Code.Ends.{last_ends};

@@ -7,9 +7,9 @@ use Rattle.std.proofs.lemmas.List.{length-append}
 use Rattle.cjc_range.specs.Span.{Span, Within, full}
 use Rattle.cjc_range.proofs.Order.{held_wider}
 use Rattle.cjc_code.specs.declared.insn.JOp.TheVariants as jop
-use Rattle.cjc_script.specs.declared.value.Value.{Value}
-use Rattle.cjc_script.specs.declared.value.Value.TheVariants.{Num}
-use Rattle.cjc_script.specs.Sorts.{Shape}
+use Rattle.cjc_card_semantics.specs.Script.declared.value.Value.{Value}
+use Rattle.cjc_card_semantics.specs.Script.declared.value.Value.TheVariants.{Num}
+use Rattle.cjc_card_semantics.specs.Script.Sorts.{Shape}
 use Rattle.cjc_card_semantics.specs.Bytecode.Calculations.{int_words}
 use Rattle.cjc_card_semantics.specs.Bytecode.Meanings.{meaning}
 use Rattle.cjc_card_semantics.specs.Bytecode.Effects as narrow
@@ -29,10 +29,11 @@ use Rattle.cjc_narrow_proof.specs.Selection.Elements.{index_range, IsBytes, IsSh
 use Rattle.cjc_int_runs.specs.Guards.{Guarded}
 use Rattle.cjc_int_runs.specs.Elements.{IsInts}
 use Rattle.cjc_int_runs.specs.Relation.{IntLocals, IntStacks, number, reference}
-use Rattle.cjc_int_runs.specs.Steps.{IntRow, InStep, HasIntRoom, behind, goes, raises, spot, known}
+use Rattle.cjc_int_runs.specs.Steps.{IntRow, InStep, HasIntRoom, behind, goes, spot, known}
 use Rattle.cjc_int_runs.proofs.Spelling.{spelt_number}
-use Rattle.cjc_int_runs.proofs.Stepping.{onward, asked, raised, heights, push_words}
-use Rattle.cjc_int_runs.proofs.Guard.{behind_is, behind_both, stand_front, stand_back, and_onward, guard_leads}
+use Rattle.cjc_int_runs.proofs.Stepping.{onward, asked, heights, push_words}
+use Rattle.cjc_int_runs.proofs.Guard.{behind_both, stand_front, stand_back, and_onward, guard_leads}
+use Rattle.cjc_int_runs.proofs.Raising.{raised_behind}
 use Rattle.cjc_int_runs.proofs.ItemsRead.{OneWord, one_word, TwoWords, two_words, Reads, reads, fails, load_at}
 use Rattle.cjc_int_runs.proofs.ItemsRead.{bytes_read, shorts_read, ints_read}
 
@@ -71,22 +72,9 @@ module _ (by : Linked) (l : Named) (f : Frame) (pairs : ℕ) (m : Method) (ls : 
         stores_agree = stores;
       })
   one_more op last _ _ there is does (fails {fault = fault}) =
-      let long = length-append first last in let size = ap length is in let few = g.few in
-      let a = behind_is here first in let c = behind_is here (first ++ last) in
-      raises (record {
-        fault = fault;
-        at = behind here first;
-        behind = behind here first + 1;
-        nstack = Num g.j ∷ under;
-        steps = g.steps + 1;
-        few = omega (arith, long, size, few);
-        by_name = refl;
-        by_label = and_onward l code g.steps 1 (spot here onto words memory) (spot (behind here first) (Num g.j ∷ under)
-            words memory) _ g.leads (raised l code 0 (behind here first) (insns.Op op) (Num g.j ∷ under) words memory _
-            there does);
-        from = omega (arith, a);
-        before = omega (arith, a, c, long, size);
-      })
+      let size = ap length is in
+      raised_behind l f pairs (Range t ∷ ks) ls code here at first last i onto under words memory g op fault
+      (omega (arith, size)) there does
 
   -- one instruction and s2i
   widened : (op : ℕ) (last : List NInsn) (e : by_name.Effect) (n : NEffect) → HasIntRoom (length (Range t ∷ ks))
@@ -125,22 +113,9 @@ module _ (by : Linked) (l : Named) (f : Frame) (pairs : ℕ) (m : Method) (ls : 
         stores_agree = stores;
       })
   widened op last _ _ room there then_there is does (fails {fault = fault}) =
-      let long = length-append first last in let size = ap length is in let few = g.few in
-      let a = behind_is here first in let c = behind_is here (first ++ last) in
-      raises (record {
-        fault = fault;
-        at = behind here first;
-        behind = behind here first + 1;
-        nstack = Num g.j ∷ under;
-        steps = g.steps + 1;
-        few = omega (arith, long, size, few);
-        by_name = refl;
-        by_label = and_onward l code g.steps 1 (spot here onto words memory) (spot (behind here first) (Num g.j ∷ under)
-            words memory) _ g.leads (raised l code 0 (behind here first) (insns.Op op) (Num g.j ∷ under) words memory _
-            there does);
-        from = omega (arith, a);
-        before = omega (arith, a, c, long, size);
-      })
+      let size = ap length is in
+      raised_behind l f pairs (Range t ∷ ks) ls code here at first last i onto under words memory g op fault
+      (omega (arith, size)) there does
 
 module _ (by : Linked) (l : Named) (f : Frame) (pairs : ℕ) (r : Resolution) (m : Method) (ls : List Kind)
     (below : List Bool) (inside : Bool) (s t : Span) (within : Shape (List ℕ) → Bool) (near : inside ≡ true

@@ -8,6 +8,7 @@ pub mod Jumps
 pub mod Returns
 pub mod Stacks
 pub mod Guard
+pub mod Raising
 pub mod Kept
 pub mod ItemsRead
 pub mod ArrayLoads

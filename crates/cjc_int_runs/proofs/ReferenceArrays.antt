@@ -7,9 +7,9 @@ use Rattle.std.proofs.lemmas.List.{length-append}
 use Rattle.cjc_range.specs.Span.{Span, Within}
 use Rattle.cjc_range.proofs.Order.{held_wider}
 use Rattle.cjc_code.specs.declared.insn.JOp.TheVariants as jop
-use Rattle.cjc_script.specs.declared.value.Value.{Value}
-use Rattle.cjc_script.specs.declared.value.Value.TheVariants.{Num, Null, Obj}
-use Rattle.cjc_script.specs.Sorts.{Shape}
+use Rattle.cjc_card_semantics.specs.Script.declared.value.Value.{Value}
+use Rattle.cjc_card_semantics.specs.Script.declared.value.Value.TheVariants.{Num, Null, Obj}
+use Rattle.cjc_card_semantics.specs.Script.Sorts.{Shape}
 use Rattle.cjc_card_semantics.specs.Bytecode.Meanings.{meaning}
 use Rattle.cjc_ncode.specs.declared.narrow.NInsn.{NInsn}
 use Rattle.cjc_ncode.specs.declared.narrow.NInsn.TheVariants as insns
@@ -26,9 +26,10 @@ use Rattle.cjc_narrow_proof.specs.Selection.Rows.{NEffect}
 use Rattle.cjc_narrow_proof.specs.Selection.Elements.{index_range, IsReferences, AreAll, ItemsPass, KeepsAlike}
 use Rattle.cjc_int_runs.specs.Guards.{Guarded}
 use Rattle.cjc_int_runs.specs.Relation.{to_null, to_object, IntLocals, IntStacks, number, reference}
-use Rattle.cjc_int_runs.specs.Steps.{IntRow, InStep, behind, goes, raises, spot, known}
-use Rattle.cjc_int_runs.proofs.Stepping.{onward, asked, raised, heights}
-use Rattle.cjc_int_runs.proofs.Guard.{behind_is, behind_both, stand_front, stand_back, and_onward, guard_leads}
+use Rattle.cjc_int_runs.specs.Steps.{IntRow, InStep, behind, goes, spot, known}
+use Rattle.cjc_int_runs.proofs.Stepping.{onward, asked, heights}
+use Rattle.cjc_int_runs.proofs.Guard.{behind_both, stand_front, stand_back, and_onward, guard_leads}
+use Rattle.cjc_int_runs.proofs.Raising.{raised_behind}
 use Rattle.cjc_int_runs.proofs.Finishing.{OneReference, one_reference}
 use Rattle.cjc_int_runs.proofs.ItemsRead.{Reads, reads, fails}
 use Rattle.cjc_int_runs.proofs.ArrayStores.{placed, stored}
@@ -70,22 +71,9 @@ module _ (by : Linked) (l : Named) (f : Frame) (pairs : ℕ) (m : Method) (ls : 
         stores_agree = stores;
       })
   referred op last _ _ there is does (fails {fault = fault}) =
-      let long = length-append first last in let size = ap length is in let few = g.few in
-      let a = behind_is here first in let c = behind_is here (first ++ last) in
-      raises (record {
-        fault = fault;
-        at = behind here first;
-        behind = behind here first + 1;
-        nstack = Num g.j ∷ under;
-        steps = g.steps + 1;
-        few = omega (arith, long, size, few);
-        by_name = refl;
-        by_label = and_onward l code g.steps 1 (spot here onto words memory) (spot (behind here first) (Num g.j ∷ under)
-            words memory) _ g.leads (raised l code 0 (behind here first) (insns.Op op) (Num g.j ∷ under) words memory _
-            there does);
-        from = omega (arith, a);
-        before = omega (arith, a, c, long, size);
-      })
+      let size = ap length is in
+      raised_behind l f pairs (Refers items ∷ ks) ls code here at first last i onto under words memory g op fault
+      (omega (arith, size)) there does
 
 module _ (by : Linked) (l : Named) (f : Frame) (pairs : ℕ) (r : Resolution) (m : Method) (ls : List Kind)
     (below : List Bool) (inside : Bool) (s : Span) (within items : Shape (List ℕ) → Bool) (near : inside ≡ true

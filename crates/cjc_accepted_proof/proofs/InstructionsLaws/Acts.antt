@@ -4,13 +4,13 @@ use Rattle.std.proofs.Common.{◌∷◌, map}
 use Rattle.std.specs.Prelude.{◌==◌, nat_le, if◌then◌else◌, ℤ, pos, negsuc, Some, None}
 use Rattle.std.proofs.lemmas.Bool.Decides.{nat_tests}
 use Rattle.cjc_types.specs.Bytecode.Jvm as jvm
-use Rattle.cjc_ncode.specs.Lowering.Naming.{Naming}
+use Rattle.cjc_narrow_proof.specs.NCode.Lowering.Naming.{Naming}
 use Rattle.cjc_types.specs.Bytecode.declared.insn.JOp.TheVariants as jop
 use Rattle.cjc_types.specs.Range.Words.{low_word}
 use Rattle.cjc_types.specs.Steps.{shuffled, stack_takes}
-use Rattle.cjc_ncode.specs.Written.{Resolution, arithmetic, is_byte, on_stack, pushed_word, written}
-use Rattle.cjc_ncode.specs.declared.narrow.NInsn.{NInsn}
-use Rattle.cjc_ncode.specs.declared.narrow.NInsn.TheVariants.{Inc, Local, Op, Push}
+use Rattle.cjc_narrow_proof.specs.NCode.Written.{Resolution, arithmetic, is_byte, on_stack, pushed_word, written}
+use Rattle.cjc_narrow_proof.specs.NCode.declared.narrow.NInsn.{NInsn}
+use Rattle.cjc_narrow_proof.specs.NCode.declared.narrow.NInsn.TheVariants.{Inc, Local, Op, Push}
 use Rattle.cjc_verify.specs.CardActs.CardTypes.{ValueType}
 use Rattle.cjc_verify.specs.CardActs.Rows.{Calculates, Increases, Loads, Pushes, Row, Stores, any_words, calculating}
 use Rattle.cjc_verify.specs.CardActs.Rows.{idle, increasing, loading, pushing, row, storing}

@@ -4,7 +4,7 @@ use Rattle.std.proofs.Common.{◌≡◌, ℕ, suc, refl, sym, ap, subst, ◌∙�
 use Rattle.std.proofs.Common.{inr}
 use Rattle.std.proofs.Common.{Option, arith, ◌<◌}
 use Rattle.cjc_types.specs.Bytecode.declared.insn.JInsn.{JInsn}
-use Rattle.cjc_types.specs.Fixpoint.Working.Edges.{contains_cons}
+use Rattle.cjc_fixpoint.specs.Working.Edges.{contains_cons}
 use Rattle.cjc_types.specs.Flow.{Body as BodyByName}
 use Rattle.cjc_types.specs.Rules.{is_off as is_off_by_name}
 use Rattle.cjc_types.specs.States.{states}
@@ -13,9 +13,9 @@ use Rattle.cjc_types.specs.World.Classes.{Class}
 use Rattle.cjc_types.specs.declared.cell.Cell.{Cell}
 use Rattle.cjc_types.specs.declared.state.Stack.TheVariants.{Cells}
 use Rattle.cjc_types.specs.declared.state.State.{State}
-use Rattle.cjc_ncode.specs.Written.{Resolution, place_in, reached, written_for}
-use Rattle.cjc_ncode.specs.declared.narrow.NInsn.{NInsn}
-use Rattle.cjc_narrow.specs.Pairs.Open.{Open, closed}
+use Rattle.cjc_narrow_proof.specs.NCode.Written.{Resolution, place_in, reached, written_for}
+use Rattle.cjc_narrow_proof.specs.NCode.declared.narrow.NInsn.{NInsn}
+use Rattle.cjc_verify.specs.Narrow.Pairs.Open.{Open, closed}
 use Rattle.cjc_verify.specs.Frames.Acts.{Subtype}
 use Rattle.cjc_verify.specs.Frames.declared.acts.Act.{Act}
 use Rattle.cjc_verify.specs.Frames.declared.acts.Step.{Step}

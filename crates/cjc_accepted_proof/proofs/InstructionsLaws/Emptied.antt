@@ -13,7 +13,7 @@ use Rattle.cjc_types.specs.declared.cell.Cell.{Cell}
 use Rattle.cjc_types.specs.declared.state.Stack.{Stack}
 use Rattle.cjc_types.specs.declared.state.Stack.TheVariants.{Cells, Clash}
 use Rattle.cjc_types.specs.declared.state.State.{State}
-use Rattle.cjc_narrow.specs.Pairs.Open.{closed}
+use Rattle.cjc_verify.specs.Narrow.Pairs.Open.{closed}
 use Rattle.cjc_verify.specs.CardActs.Rows.{any_words, idle}
 use Rattle.cjc_verify.specs.Frames.Acts.{Subtype}
 use Rattle.cjc_verify.specs.Frames.declared.acts.Act.{Act}

@@ -5,9 +5,9 @@ use Rattle.std.proofs.Common.{append-nil}
 use Rattle.std.specs.Prelude.{◌||◌, ◌==◌, ◌&&◌, not, if◌then◌else◌}
 use Rattle.std.specs.List.{AllZip}
 use Rattle.std.proofs.lemmas.Bool.{eqb-true}
-use Rattle.cjc_types.specs.Bytes.declared.descriptor.Kind.{Kind}
-use Rattle.cjc_types.specs.Bytes.declared.descriptor.Kind.TheVariants as kinds
-use Rattle.cjc_types.specs.Bytes.declared.fault.MemberId.{MemberId}
+use Rattle.cjc_fixpoint.specs.Bytes.declared.descriptor.Kind.{Kind}
+use Rattle.cjc_fixpoint.specs.Bytes.declared.descriptor.Kind.TheVariants as kinds
+use Rattle.cjc_fixpoint.specs.Bytes.declared.fault.MemberId.{MemberId}
 use Rattle.cjc_types.specs.Bytecode.Jvm as jvm
 use Rattle.cjc_types.specs.Bytecode.declared.insn.JOp.{JOp}
 use Rattle.cjc_types.specs.Bytecode.declared.insn.JOp.TheVariants as jop

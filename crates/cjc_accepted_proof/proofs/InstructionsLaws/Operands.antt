@@ -6,7 +6,7 @@ use Rattle.std.specs.Prelude.{◌||◌, not, nat_le}
 use Rattle.std.specs.List.{AllZip}
 use Rattle.std.proofs.lemmas.Bool.Decides.{nat_tests}
 use Rattle.std.proofs.lemmas.List.{length-map}
-use Rattle.cjc_types.proofs.BytesGets.{get_below}
+use Rattle.cjc_fixpoint.proofs.BytesGets.{get_below}
 use Rattle.cjc_types.specs.Cells.{IsCellBelow}
 use Rattle.cjc_types.specs.Rules.{is_number, is_reference}
 use Rattle.cjc_types.specs.Steps.{operand}

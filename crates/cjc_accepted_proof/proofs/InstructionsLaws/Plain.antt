@@ -5,7 +5,7 @@ use Rattle.std.specs.Prelude.{◌||◌, ◌&&◌, ◌==◌, not, nat_le, if◌th
 use Rattle.std.specs.List.{AllZip, range_with_len}
 use Rattle.std.proofs.lemmas.List.{length-replicate}
 use Rattle.std.proofs.lemmas.Bool.{eqb-true}
-use Rattle.cjc_types.proofs.BytesGets.{map_set}
+use Rattle.cjc_fixpoint.proofs.BytesGets.{map_set}
 use Rattle.cjc_types.specs.Bytecode.Jvm as jvm
 use Rattle.cjc_types.specs.Bytecode.declared.insn.JCase.{JCase}
 use Rattle.cjc_types.specs.Bytecode.declared.insn.JOp.{JOp}

@@ -1,6 +1,6 @@
 use Rattle.cjc_accepted_theorem.proofs.HeadersLaws.{headers_fit}
 use Rattle.cjc_accepted_theorem.proofs.headers.converted_packages_have_fit_headers.Goals as goal
-use Rattle.cjc_code.specs.PackageCodes.{all_codes}
+use Rattle.cjc_clinit.specs.Bytecode.PackageCodes.{all_codes}
 use Rattle.cjc_shape_proof.proofs.WrittenLaws.Files.{files_sound}
 use Rattle.cjc_token_proof.proofs.TablesLaws.Order.{own_names}
 use Rattle.cjc_token_proof.proofs.WrittenCalls.Ids.{own_ids}
