@@ -11,7 +11,7 @@ use Rattle.std.proofs.lemmas.List.{length-drop, length-map}
 use Rattle.cjc_types.proofs.Greater.{member_passes}
 use Rattle.cjc_types.specs.Names.{In, IsWithin}
 use Rattle.cjc_types.specs.Cells.{IsCellBelow}
-use Rattle.cjc_fixpoint.specs.Tables.{HasRow, IsClosed}
+use Rattle.cjc_frames.specs.Fixpoint.Tables.{HasRow, IsClosed}
 use Rattle.cjc_types.specs.Rules.{all_types}
 use Rattle.cjc_types.specs.States.{IsStackBelow, states}
 use Rattle.cjc_types.specs.declared.cell.Cell.{Cell}
@@ -19,18 +19,18 @@ use Rattle.cjc_types.specs.declared.cell.Cell.TheVariants.{Number, Refs, Unusabl
 use Rattle.cjc_types.specs.declared.state.Stack.{Stack}
 use Rattle.cjc_types.specs.declared.state.Stack.TheVariants.{Cells, Clash}
 use Rattle.cjc_types.specs.declared.state.State.{State}
-use Rattle.cjc_verify.specs.Frames.declared.acts.Need.{Need}
-use Rattle.cjc_verify.specs.Frames.declared.acts.Need.TheVariants.{AnyWord, NumberWord, ReferenceWord, OfType, OfArrays}
-use Rattle.cjc_verify.specs.Frames.declared.acts.Read.{Read}
-use Rattle.cjc_verify.specs.Frames.declared.acts.Write.{Write}
-use Rattle.cjc_verify.specs.Frames.declared.acts.Act.{Act}
-use Rattle.cjc_verify.specs.Frames.Acts.{Breaks, Subtype, given, has_wrong, has_wrong_local, is_off, is_wrong}
-use Rattle.cjc_verify.specs.Frames.Acts.{is_wrong_local}
-use Rattle.cjc_verify.specs.Frames.Acts.{lacks_local, meets, stack_behind}
-use Rattle.cjc_verify.specs.Frames.Acts.Breaks.{clash, wrong, off, unknown, misnamed}
-use Rattle.cjc_verify.specs.Frames.Flow.{Body, frame_flow}
-use Rattle.cjc_verify.specs.Frames.Tables.{Breach, IsLeastTable}
-use Rattle.cjc_verify.specs.Frames.Types.{begins_with}
+use Rattle.cjc_frames.specs.declared.acts.Need.{Need}
+use Rattle.cjc_frames.specs.declared.acts.Need.TheVariants.{AnyWord, NumberWord, ReferenceWord, OfType, OfArrays}
+use Rattle.cjc_frames.specs.declared.acts.Read.{Read}
+use Rattle.cjc_frames.specs.declared.acts.Write.{Write}
+use Rattle.cjc_frames.specs.declared.acts.Act.{Act}
+use Rattle.cjc_frames.specs.Acts.{Breaks, Subtype, given, has_wrong, has_wrong_local, is_off, is_wrong}
+use Rattle.cjc_frames.specs.Acts.{is_wrong_local}
+use Rattle.cjc_frames.specs.Acts.{lacks_local, meets, stack_behind}
+use Rattle.cjc_frames.specs.Acts.Breaks.{clash, wrong, off, unknown, misnamed}
+use Rattle.cjc_frames.specs.Flow.{Body, frame_flow}
+use Rattle.cjc_frames.specs.Tables.{Breach, IsLeastTable}
+use Rattle.cjc_frames.specs.Types.{begins_with}
 use Rattle.cjc_accepted_proof.specs.Tables.{BreaksNone}
 
 -- ---- cells

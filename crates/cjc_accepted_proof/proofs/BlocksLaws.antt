@@ -7,25 +7,25 @@ use Rattle.std.specs.List.{AllZip, cons_option}
 use Rattle.std.proofs.lemmas.Bool.Decides.{nat_tests}
 use Rattle.std.proofs.lemmas.List.{length-map}
 use Rattle.std.proofs.lemmas.List.Elements.{Contains-append_cases}
-use Rattle.cjc_fixpoint.proofs.BytesGets.{contained, get_back, get_below, get_front, get_inside, get_mapped}
-use Rattle.cjc_fixpoint.proofs.BytesGets.{position_there}
+use Rattle.cjc_types.proofs.BytesGets.{contained, get_back, get_below, get_front, get_inside, get_mapped}
+use Rattle.cjc_types.proofs.BytesGets.{position_there}
 use Rattle.cjc_types.specs.Cells.{IsCellBelow}
-use Rattle.cjc_fixpoint.specs.Tables.{Covers, HasRow, IsClosed}
-use Rattle.cjc_fixpoint.specs.Working.Edges.{contains_cons, contains_head, contains_tail}
-use Rattle.cjc_fixpoint.specs.declared.flow.Edge.{Edge}
+use Rattle.cjc_frames.specs.Fixpoint.Tables.{Covers, HasRow, IsClosed}
+use Rattle.cjc_frames.specs.Fixpoint.Working.Edges.{contains_cons, contains_head, contains_tail}
+use Rattle.cjc_frames.specs.Fixpoint.declared.flow.Edge.{Edge}
 use Rattle.cjc_types.specs.States.{IsStackBelow, states}
 use Rattle.cjc_types.specs.declared.cell.Cell.{Cell}
 use Rattle.cjc_types.specs.declared.cell.Cell.TheVariants.{Number, Refs, Unusable}
 use Rattle.cjc_types.specs.declared.state.Stack.{Stack}
 use Rattle.cjc_types.specs.declared.state.Stack.TheVariants.{Cells, Clash}
 use Rattle.cjc_types.specs.declared.state.State.{State}
-use Rattle.cjc_verify.specs.Frames.Acts.{Breaks, Subtype, after}
-use Rattle.cjc_verify.specs.Frames.Flow.{Body, caught, covers, edge, entry, frame_flow, handler_edge, next_place}
-use Rattle.cjc_verify.specs.Frames.Flow.{place_at, place_edges, step_edges, successors}
-use Rattle.cjc_verify.specs.Frames.Tables.{Breach}
-use Rattle.cjc_verify.specs.Frames.declared.acts.Act.{Act}
-use Rattle.cjc_verify.specs.Frames.declared.acts.Catch.{Catch}
-use Rattle.cjc_verify.specs.Frames.declared.acts.Step.{Step}
+use Rattle.cjc_frames.specs.Acts.{Breaks, Subtype, after}
+use Rattle.cjc_frames.specs.Flow.{Body, caught, covers, edge, entry, frame_flow, handler_edge, next_place}
+use Rattle.cjc_frames.specs.Flow.{place_at, place_edges, step_edges, successors}
+use Rattle.cjc_frames.specs.Tables.{Breach}
+use Rattle.cjc_frames.specs.declared.acts.Act.{Act}
+use Rattle.cjc_frames.specs.declared.acts.Catch.{Catch}
+use Rattle.cjc_frames.specs.declared.acts.Step.{Step}
 use Rattle.cjc_accepted_proof.specs.Blocks.{AllStand, AreBlocks, Block, LeadsTo, frames_in, frames_of, goes_on}
 use Rattle.cjc_accepted_proof.specs.Blocks.{label_of}
 use Rattle.cjc_accepted_proof.specs.Blocks.{nothing, one, steps_of, two}

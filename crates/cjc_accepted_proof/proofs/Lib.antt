@@ -15,3 +15,10 @@ pub mod InstructionsLaws
 pub mod BlocksLaws
 pub mod FramesLaws
 pub mod MethodsLaws
+-- Lemmas of lower crates, for those above.
+pub use Rattle.cjc_check_proof.proofs.ClassesLaws.Lists as CheckProofLists
+pub use Rattle.cjc_check_proof.proofs.ClassesLaws.Offsets as CheckProofOffsets
+pub use Rattle.cjc_check_proof.proofs.ClassesLaws.Supers as CheckProofSupers
+pub use Rattle.cjc_check_proof.proofs.ClassesLaws.Types as CheckProofTypes
+pub use Rattle.cjc_check_proof.proofs.CodeLaws.OwnClasses as CheckProofOwnClasses
+pub use Rattle.cjc_check_proof.proofs.LimitsLaws.Refs as CheckProofRefs

@@ -3,21 +3,22 @@ use Rattle.std.proofs.Common.{◌≡◌, ℕ, zero, suc, ◌+◌, ◌==◌, refl
 use Rattle.std.proofs.Common.{◌∷◌, ◌++◌, map, length, slice_get, Option, Some, None, append_assoc}
 use Rattle.std.specs.Prelude.{◌&&◌, ◌||◌, cond, if◌then◌else◌, not, option_map, unwrap_or}
 use Rattle.std.specs.List.{AllByRecursion, find, list_any}
-use Rattle.cjc_fixpoint.proofs.BytesBools.{true_not_false}
-use Rattle.cjc_fixpoint.proofs.BytesGets.{all_at, find_got}
+use Rattle.cjc_types.proofs.BytesBools.{true_not_false}
+use Rattle.cjc_types.proofs.BytesGets.{all_at, find_got}
 use Rattle.cjc_types.proofs.BytesLists.{map_append}
-use Rattle.cjc_fixpoint.proofs.BytesNumbers.{like_number, number_same}
+use Rattle.cjc_types.proofs.BytesNumbers.{like_number, number_same}
 use Rattle.cjc_types.proofs.BytesQuantified.{all_both}
-use Rattle.cjc_verify.specs.CapRead.declared.tree.ClassRef.{ClassRef}
-use Rattle.cjc_types.specs.World.declared.found.Found.{Found}
-use Rattle.cjc_types.specs.World.Classes.{Class}
-use Rattle.cjc_types.specs.World.Order.{class_order, in_order, method_order, methods_in_turn, methods_of_class}
-use Rattle.cjc_verify.specs.Components.Package.{LaidMethod, Package, world}
-use Rattle.cjc_verify.specs.Components.Methods.{Extent, extent_at, extent_from, extent_of, first_method, handler_count}
-use Rattle.cjc_verify.specs.Components.Methods.{is_member, method_offset, method_size, nowhere}
-use Rattle.cjc_verify.specs.Components.Descriptor.{class_descriptor, method_descriptor}
-use Rattle.cjc_verify.specs.Components.Names.{class_ref}
-use Rattle.cjc_check_proof.specs.TokenProof.Components.Methods.{HasMethods}
+use Rattle.cjc_card_acts.specs.CapRead.declared.tree.ClassRef.{ClassRef}
+use Rattle.cjc_verify.specs.World.declared.found.Found.{Found}
+use Rattle.cjc_verify.specs.World.Classes.{Class}
+use Rattle.cjc_verify.specs.World.Order.{class_order, in_order, method_order, methods_in_turn, methods_of_class}
+use Rattle.cjc_check_proof.specs.Components.Package.{LaidMethod, Package, world}
+use Rattle.cjc_check_proof.specs.Components.Methods.{Extent, extent_at, extent_from, extent_of, first_method}
+use Rattle.cjc_check_proof.specs.Components.Methods.{handler_count}
+use Rattle.cjc_check_proof.specs.Components.Methods.{is_member, method_offset, method_size, nowhere}
+use Rattle.cjc_check_proof.specs.Components.Descriptor.{class_descriptor, method_descriptor}
+use Rattle.cjc_check_proof.specs.Components.Names.{class_ref}
+use Rattle.cjc_check_proof.specs.LowerTokenProof.Components.Methods.{HasMethods}
 use Rattle.cjc_check_proof.proofs.TokenProofApart.{AreOwn, order_own}
 use Rattle.cjc_verify.specs.Pairs.{Described, Pair, described, described_among, described_in, same_found}
 use Rattle.cjc_verify.specs.Pairs as pairs

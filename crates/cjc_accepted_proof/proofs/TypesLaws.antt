@@ -4,8 +4,8 @@ use Rattle.std.proofs.Common.{true}
 use Rattle.std.proofs.Common.{false, List, [], ◌∷◌, length, Option, Some, None}
 use Rattle.std.specs.Prelude.{◌&&◌, option_map}
 use Rattle.std.specs.List.{AllZip, list_all}
-use Rattle.cjc_fixpoint.proofs.BytesBools.{both_back, both_front}
-use Rattle.cjc_verify.specs.CapRead.declared.tree.ClassRef.{ClassRef}
+use Rattle.cjc_types.proofs.BytesBools.{both_back, both_front}
+use Rattle.cjc_card_acts.specs.CapRead.declared.tree.ClassRef.{ClassRef}
 use Rattle.cjc_types.specs.Cells.{IsCell, IsCellBelow, most_names}
 use Rattle.std.specs.declared.cmp.Ordering.{Ordering}
 use Rattle.std.specs.declared.cmp.Ordering.TheVariants.{Less, Equal, Greater}
@@ -15,9 +15,9 @@ use Rattle.cjc_types.specs.Working.NameLaws.{insert_cases, insert_new, insert_ol
 use Rattle.cjc_types.specs.declared.cell.Cell.{Cell}
 use Rattle.cjc_types.specs.declared.cell.Cell.TheVariants.{Number, Refs, Unusable}
 use Rattle.cjc_types.proofs.Greater.{member_passes}
-use Rattle.cjc_types.specs.World.Classes.{Class}
-use Rattle.cjc_types.specs.World.Subtype.{is_subtype}
-use Rattle.cjc_verify.specs.Frames.Acts.{Subtype}
+use Rattle.cjc_verify.specs.World.Classes.{Class}
+use Rattle.cjc_verify.specs.World.Subtype.{is_subtype}
+use Rattle.cjc_frames.specs.Acts.{Subtype}
 use Rattle.cjc_accepted_proof.specs.Frames.{card_cell, card_cells, types_named, with_type}
 use Rattle.cjc_accepted_proof.specs.Frames.{SubtypesAgree}
 

@@ -5,10 +5,10 @@ use Rattle.std.specs.Prelude.{Some, map}
 use Rattle.std.specs.List.{Contains}
 use Rattle.cjc_types.specs.States.{states}
 use Rattle.cjc_types.specs.declared.state.State.{State}
-use Rattle.cjc_verify.specs.Frames.Acts.{Subtype}
-use Rattle.cjc_verify.specs.Frames.Flow.{Body, caught, covers, entry, place_at}
-use Rattle.cjc_verify.specs.Frames.declared.acts.Catch.{Catch}
-use Rattle.cjc_verify.specs.Frames.declared.acts.Step.{Step}
+use Rattle.cjc_frames.specs.Acts.{Subtype}
+use Rattle.cjc_frames.specs.Flow.{Body, caught, covers, entry, place_at}
+use Rattle.cjc_frames.specs.declared.acts.Catch.{Catch}
+use Rattle.cjc_frames.specs.declared.acts.Step.{Step}
 use Rattle.cjc_accepted_proof.specs.Frames.{Stands}
 
 -- What is written for one instruction of a class file: none, one or two of the card, with the frames before the first,

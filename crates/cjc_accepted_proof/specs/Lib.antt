@@ -9,3 +9,14 @@ pub mod Members
 pub mod Plain
 pub mod Blocks
 pub mod Methods
+-- Definitions of lower crates, for those above.
+pub mod List
+pub mod ClassFile
+pub mod ExportFile
+pub mod Script
+pub mod CapRead
+pub mod Clinit
+pub mod CheckRules
+pub mod CardSemantics
+pub mod Verify
+pub mod CheckProof

@@ -1,8 +1,8 @@
 //! The table of a method whose instructions are those of blocks, each written for one instruction of a class file.
 ghost use Rattle.std.specs.Prelude.{Some, length, map, List};
-ghost use Rattle.cjc_fixpoint.specs.Tables.{IsClosed};
-ghost use Rattle.cjc_verify.specs.Frames.Acts.{Subtype};
-ghost use Rattle.cjc_verify.specs.Frames.Flow.{Body, frame_flow};
+ghost use Rattle.cjc_frames.specs.Fixpoint.Tables.{IsClosed};
+ghost use Rattle.cjc_frames.specs.Acts.{Subtype};
+ghost use Rattle.cjc_frames.specs.Flow.{Body, frame_flow};
 ghost use Rattle.cjc_accepted_proof.specs.Blocks.{AreBlocks, Block, frames_of};
 ghost use Rattle.cjc_accepted_proof.specs.Tables.{BreaksNone};
 

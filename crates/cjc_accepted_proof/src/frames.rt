@@ -1,10 +1,10 @@
 //! Least tables of types of frames: they break no rule where some closed table breaks none.
 ghost use Rattle.std.specs.Prelude.{ℕ, List, Option, length};
 ghost use Rattle.cjc_types.specs.declared.state.State.{State};
-ghost use Rattle.cjc_fixpoint.specs.Tables.{IsClosed};
-ghost use Rattle.cjc_verify.specs.Frames.Acts.{Subtype};
-ghost use Rattle.cjc_verify.specs.Frames.Flow.{Body, frame_flow};
-ghost use Rattle.cjc_verify.specs.Frames.Tables.{IsLeastTable};
+ghost use Rattle.cjc_frames.specs.Fixpoint.Tables.{IsClosed};
+ghost use Rattle.cjc_frames.specs.Acts.{Subtype};
+ghost use Rattle.cjc_frames.specs.Flow.{Body, frame_flow};
+ghost use Rattle.cjc_frames.specs.Tables.{IsLeastTable};
 ghost use Rattle.cjc_accepted_proof.specs.Tables.{BreaksNone};
 
 /// A closed table of types of frames that breaks no rule leaves the least table none to break: that one lies below it,

@@ -2,6 +2,12 @@
 //! the rules of the type checker. It has definitions and laws alone.
 #![tactic(auto)]
 
+// Lower crates, for those above.
+/// What crates above take of cjc_check_proof.
+pub mod check_proof {
+    pub use cjc_check_proof::code;
+}
+
 pub mod accepted;
 pub mod alone;
 pub mod arrays;

@@ -6,91 +6,93 @@ use Rattle.std.specs.List.{AllByRecursion, find, list_all, list_any}
 use Rattle.std.proofs.lemmas.List.{length-map}
 use Rattle.std.proofs.lemmas.List.Concat.{flat_map-cons}
 use Rattle.std.proofs.lemmas.Map.Keys.{any_passes_from_place}
-use Rattle.cjc_world.specs.Bytes.AccessFlags.{is_abstract, is_interface, is_static}
-use Rattle.cjc_world.specs.Bytes.Descriptor.{Parts}
-use Rattle.cjc_world.specs.Bytes.declared.fault.MemberId.{MemberId}
-use Rattle.cjc_types.specs.Bytes.Spots.{desc_of}
-use Rattle.cjc_world.proofs.BytesBools.{not_true}
-use Rattle.cjc_world.proofs.BytesGets.{all_at, find_got, mapped_at}
-use Rattle.cjc_world.proofs.BytesNumbers.{like_number, number_same}
+use Rattle.cjc_theorem.specs.Bytes.AccessFlags.{is_abstract, is_interface, is_static}
+use Rattle.cjc_theorem.specs.Bytes.Descriptor.{Parts}
+use Rattle.cjc_theorem.specs.Bytes.declared.fault.MemberId.{MemberId}
+use Rattle.cjc_theorem.specs.Bytes.Spots.{desc_of}
+use Rattle.cjc_verified_proof.proofs.BytesBools.{not_true}
+use Rattle.cjc_verified_proof.proofs.BytesGets.{all_at, find_got, mapped_at}
+use Rattle.cjc_verified_proof.proofs.BytesNumbers.{like_number, number_same}
 use Rattle.cjc_verified_proof.proofs.BytesPlain.{same_some}
-use Rattle.cjc_components.specs.LowerCapRead.declared.tree.ClassDescriptor.{ClassDescriptor}
-use Rattle.cjc_components.specs.LowerCapRead.declared.tree.ClassRef.{ClassRef}
-use Rattle.cjc_components.specs.LowerCapRead.declared.tree.MethodDescriptor.{MethodDescriptor}
-use Rattle.cjc_components.specs.LowerCapRead.declared.tree.TypeDescriptor.{TypeDescriptor}
-use Rattle.cjc_card_acts.specs.CardTypes.{MemberType, type_at, type_by, type_of, types_in, width, widths}
-use Rattle.cjc_card_acts.specs.CardSemantics.Bytecode.Arguments as sorts
-use Rattle.cjc_card_acts.specs.CardSemantics.Bytecode.Machine.{Start}
-use Rattle.cjc_card_acts.specs.CardSemantics.Machine.Methods.{Code, start_at, start_of}
-use Rattle.cjc_check_proof.proofs.ClassesLaws.Supers.{in_place}
-use Rattle.cjc_check_proof.proofs.ClassesLaws.Lists.{has-back, has-flat, has-front, has-map}
-use Rattle.cjc_check_proof.proofs.ClassesLaws.Types.{type_begins}
-use Rattle.cjc_check_proof.proofs.CodeLaws.OwnClasses.{own_classes}
-use Rattle.cjc_verified_proof.specs.CheckRules.Codes.{whole_spots}
-use Rattle.cjc_card_acts.specs.CheckRules.Instructions.{jump_spots}
-use Rattle.cjc_card_acts.specs.CheckRules.Spots.{in_info, item_at, unless}
-use Rattle.cjc_components.specs.LowerCheckRules.declared.spot.ComponentPlace.{ComponentPlace}
-use Rattle.cjc_components.specs.LowerCheckRules.Described.{types_at}
-use Rattle.cjc_world.specs.ClassFile.Code.{CodeTree}
-use Rattle.cjc_world.specs.ClassFile.declared.tree.ClassTree.{ClassTree}
-use Rattle.cjc_world.specs.ClassFile.declared.tree.MethodTree.{MethodTree}
-use Rattle.cjc_components.specs.Descriptor.{as_added, class_descriptor, descriptor, method_descriptor}
-use Rattle.cjc_components.specs.Descriptor.{method_in}
-use Rattle.cjc_components.specs.Methods.{method_offset}
-use Rattle.cjc_components.specs.Names.{class_ref}
-use Rattle.cjc_components.specs.Package.{Package, has_applets, pool, world}
-use Rattle.cjc_components.specs.Class.{fields_of}
-use Rattle.cjc_components.specs.Types.{all_descs, desc_of_field, desc_of_key, descs_of_class, nibbles_by, nibbles_of}
-use Rattle.cjc_components.specs.Types.{type_offset}
-use Rattle.cjc_components.specs.Written.{added_words}
-use Rattle.cjc_components.specs.LowerJvmSemantics.Linked.{Method}
-use Rattle.cjc_components.specs.LowerJvmSemantics.OnePackage.{method_at, method_by}
-use Rattle.cjc_components.specs.LowerJvmSemantics.OnePackage as by_file
-use Rattle.cjc_components.specs.LowerNCode.Lowering.Placed.{start_on_card}
-use Rattle.cjc_components.specs.LowerNarrow.Rows.Package.{flags_of}
-use Rattle.cjc_components.specs.LowerNarrow.Rows.Resolved.{argument_words, method_found, parameter_words}
-use Rattle.cjc_card_acts.specs.Script.Sorts.{Boolean, Byte, Int, NoValue, Reference, Short, Signature, Sort, result_by}
-use Rattle.cjc_card_acts.specs.Script.Sorts.{signature_by, signature_of, sort_of}
-use Rattle.cjc_shape_proof.proofs.ShapeSound.{are_ready}
-use Rattle.cjc_shape_proof.proofs.FindsLaws.Descs.{member_desc}
-use Rattle.cjc_shape_proof.proofs.WrittenLaws.Files.{files_sound, read_files, same_files}
-use Rattle.cjc_shape_proof.proofs.WrittenLaws.FittingLaws.Meant.{added_method}
-use Rattle.cjc_shape_proof.proofs.WrittenLaws.FittingLaws.Order.{order_filed}
-use Rattle.cjc_shape_proof.proofs.WrittenLaws.Worlds.{own_solid}
-use Rattle.cjc_shape_proof.specs.LowerJudge.declared.judged.Judged.{Judged}
-use Rattle.cjc_shape_proof.specs.Written.Converted.{IsConverted}
+use Rattle.cjc_accepted_proof.specs.CapRead.declared.tree.ClassDescriptor.{ClassDescriptor}
+use Rattle.cjc_accepted_proof.specs.CapRead.declared.tree.ClassRef.{ClassRef}
+use Rattle.cjc_accepted_proof.specs.CapRead.declared.tree.MethodDescriptor.{MethodDescriptor}
+use Rattle.cjc_accepted_proof.specs.CapRead.declared.tree.TypeDescriptor.{TypeDescriptor}
+use Rattle.cjc_verified_proof.specs.CardActs.CardTypes.{MemberType, type_at, type_by, type_of, types_in, width, widths}
+use Rattle.cjc_accepted_proof.specs.CardSemantics.Bytecode.Arguments as sorts
+use Rattle.cjc_accepted_proof.specs.CardSemantics.Bytecode.Machine.{Start}
+use Rattle.cjc_accepted_proof.specs.CardSemantics.Machine.Methods.{Code, start_at, start_of}
+use Rattle.cjc_accepted_proof.proofs.CheckProofSupers.{in_place}
+use Rattle.cjc_accepted_proof.proofs.CheckProofLists.{has-back, has-flat, has-front, has-map}
+use Rattle.cjc_accepted_proof.proofs.CheckProofTypes.{type_begins}
+use Rattle.cjc_accepted_proof.proofs.CheckProofOwnClasses.{own_classes}
+use Rattle.cjc_accepted_proof.specs.CheckRules.Codes.{whole_spots}
+use Rattle.cjc_accepted_proof.specs.CheckRules.Instructions.{jump_spots}
+use Rattle.cjc_accepted_proof.specs.CheckRules.Spots.{in_info, item_at, unless}
+use Rattle.cjc_accepted_proof.specs.CheckRules.declared.spot.ComponentPlace.{ComponentPlace}
+use Rattle.cjc_accepted_proof.specs.CheckRules.Described.{types_at}
+use Rattle.cjc_accepted_proof.specs.ClassFile.Code.{CodeTree}
+use Rattle.cjc_accepted_proof.specs.ClassFile.declared.tree.ClassTree.{ClassTree}
+use Rattle.cjc_accepted_proof.specs.ClassFile.declared.tree.MethodTree.{MethodTree}
+use Rattle.cjc_theorem.specs.Components.Descriptor.{as_added, class_descriptor, descriptor, method_descriptor}
+use Rattle.cjc_theorem.specs.Components.Descriptor.{method_in}
+use Rattle.cjc_theorem.specs.Components.Methods.{method_offset}
+use Rattle.cjc_theorem.specs.Components.Names.{class_ref}
+use Rattle.cjc_theorem.specs.Components.Package.{Package, has_applets, pool, world}
+use Rattle.cjc_theorem.specs.Components.Class.{fields_of}
+use Rattle.cjc_theorem.specs.Components.Types.{all_descs, desc_of_field, desc_of_key, descs_of_class, nibbles_by}
+use Rattle.cjc_theorem.specs.Components.Types.{nibbles_of}
+use Rattle.cjc_theorem.specs.Components.Types.{type_offset}
+use Rattle.cjc_theorem.specs.Components.Written.{added_words}
+use Rattle.cjc_theorem.specs.JvmSemantics.Linked.{Method}
+use Rattle.cjc_theorem.specs.JvmSemantics.OnePackage.{method_at, method_by}
+use Rattle.cjc_theorem.specs.JvmSemantics.OnePackage as by_file
+use Rattle.cjc_theorem.specs.NCode.Lowering.Placed.{start_on_card}
+use Rattle.cjc_theorem.specs.Narrow.Rows.Package.{flags_of}
+use Rattle.cjc_theorem.specs.Narrow.Rows.Resolved.{argument_words, method_found, parameter_words}
+use Rattle.cjc_accepted_proof.specs.Script.Sorts.{Boolean, Byte, Int, NoValue, Reference, Short, Signature, Sort}
+use Rattle.cjc_accepted_proof.specs.Script.Sorts.{result_by}
+use Rattle.cjc_accepted_proof.specs.Script.Sorts.{signature_by, signature_of, sort_of}
+use Rattle.cjc_theorem.proofs.ShapeSound.{are_ready}
+use Rattle.cjc_theorem.proofs.ShapeProofDescs.{member_desc}
+use Rattle.cjc_theorem.proofs.ShapeProofFiles.{files_sound, read_files, same_files}
+use Rattle.cjc_theorem.proofs.ShapeProofMeant.{added_method}
+use Rattle.cjc_theorem.proofs.ShapeProofOrder.{order_filed}
+use Rattle.cjc_theorem.proofs.ShapeProofWorlds.{own_solid}
+use Rattle.cjc_theorem.specs.Judge.declared.judged.Judged.{Judged}
+use Rattle.cjc_theorem.specs.LowerShapeProof.Written.Converted.{IsConverted}
 use Rattle.cjc_theorem.proofs.AlikeLaws.MetLaws.LaidOut.{laid_out}
-use Rattle.cjc_token_proof.proofs.TablesLaws.Clean.{own_name}
-use Rattle.cjc_token_proof.proofs.TablesLaws.Order.{kind-in, order_has, order_in, own_names}
-use Rattle.cjc_token_proof.proofs.WrittenCalls.Begins.{same_itself}
-use Rattle.cjc_token_proof.proofs.WrittenCalls.Words.{Counts}
-use Rattle.cjc_token_proof.specs.Calls.Reaching.{BeginsAtOffsets, is_in_method, is_same}
-use Rattle.cjc_components.specs.LowerList.Listed.{ListTree}
-use Rattle.cjc_token_proof.specs.Tables.Sound.{IsSound}
-use Rattle.cjc_token_proof.specs.Tables.Loading.{components, loaded, naming}
-use Rattle.cjc_token_proof.specs.WrittenCalls.Standing.{place}
+use Rattle.cjc_verified_proof.proofs.TokenProofClean.{own_name}
+use Rattle.cjc_verified_proof.proofs.TokenProofOrder.{kind-in, order_has, order_in, own_names}
+use Rattle.cjc_verified_proof.proofs.TokenProofWrittenCallsBegins.{same_itself}
+use Rattle.cjc_verified_proof.proofs.TokenProofWrittenCallsWords.{Counts}
+use Rattle.cjc_theorem.specs.TokenProof.Calls.Reaching.{BeginsAtOffsets, is_in_method, is_same}
+use Rattle.cjc_accepted_proof.specs.List.Listed.{ListTree}
+use Rattle.cjc_theorem.specs.TokenProof.Tables.Sound.{IsSound}
+use Rattle.cjc_theorem.specs.TokenProof.Tables.Loading.{components, loaded, naming}
+use Rattle.cjc_theorem.specs.TokenProof.WrittenCalls.Standing.{place}
 use Rattle.cjc_verified_proof.proofs.BodyLaws.{body_stands}
 use Rattle.cjc_verified_proof.proofs.DescribedLaws.{either_part}
 use Rattle.cjc_verified_proof.proofs.MethodLaws.{body_starts}
-use Rattle.cjc_token_proof.proofs.WrittenCalls.Flags.{static_same}
+use Rattle.cjc_verified_proof.proofs.TokenProofWrittenCallsFlags.{static_same}
 use Rattle.cjc_verified_proof.proofs.TypeLaws.{method_read, type_for}
-use Rattle.cjc_verify.specs.Bodies.{Body, bodies}
-use Rattle.cjc_verify.specs.Headers.{header_spots}
-use Rattle.cjc_verify.specs.Headers as headers
-use Rattle.cjc_verify.specs.Named.{holds}
-use Rattle.cjc_verify.specs.Pairs.{Described, Pair, described, is_card_result}
-use Rattle.cjc_verify.specs.Pairs.{is_card_sort, is_card_type, is_method_at}
-use Rattle.cjc_verify.specs.Pairs as pairs
-use Rattle.cjc_components.specs.LowerTokens.Members.{is_initialiser}
-use Rattle.cjc_components.proofs.VTableFiled.{Has, at_front, behind, get-has, has-get}
-use Rattle.cjc_world.specs.Added.{added, without_initialiser}
-use Rattle.cjc_world.specs.ExportFile.Members.{as_desc, same_bool}
-use Rattle.cjc_world.specs.Classes.{Class, Member, all_classes, class_at, class_named, declared, field_of_class}
-use Rattle.cjc_world.specs.Classes.{method_of_class}
-use Rattle.cjc_world.specs.Files.{Files}
-use Rattle.cjc_world.specs.Lookup.{member_at}
-use Rattle.cjc_world.specs.Order.{class_order, in_order, method_order, methods_in_turn, methods_of_class}
-use Rattle.cjc_world.specs.declared.found.Found.{Found}
+use Rattle.cjc_accepted_proof.specs.Verify.Bodies.{Body, bodies}
+use Rattle.cjc_accepted_proof.specs.Verify.Headers.{header_spots}
+use Rattle.cjc_accepted_proof.specs.Verify.Headers as headers
+use Rattle.cjc_accepted_proof.specs.Verify.Named.{holds}
+use Rattle.cjc_accepted_proof.specs.Verify.Pairs.{Described, Pair, described, is_card_result}
+use Rattle.cjc_accepted_proof.specs.Verify.Pairs.{is_card_sort, is_card_type, is_method_at}
+use Rattle.cjc_accepted_proof.specs.Verify.Pairs as pairs
+use Rattle.cjc_theorem.specs.Tokens.Members.{is_initialiser}
+use Rattle.cjc_theorem.proofs.VTableFiled.{Has, at_front, behind, get-has, has-get}
+use Rattle.cjc_theorem.specs.World.Added.{added, without_initialiser}
+use Rattle.cjc_accepted_proof.specs.ExportFile.Members.{as_desc, same_bool}
+use Rattle.cjc_theorem.specs.World.Classes.{Class, Member, all_classes, class_at, class_named, declared, field_of_class}
+use Rattle.cjc_theorem.specs.World.Classes.{method_of_class}
+use Rattle.cjc_theorem.specs.World.Files.{Files}
+use Rattle.cjc_theorem.specs.World.Lookup.{member_at}
+use Rattle.cjc_theorem.specs.World.Order.{class_order, in_order, method_order, methods_in_turn, methods_of_class}
+use Rattle.cjc_theorem.specs.World.declared.found.Found.{Found}
 use Rattle.cjc_accepted_proof.specs.Accepted.{HeadersFit}
 use Rattle.cjc_accepted_proof.specs.Carded.{HasCardTypes, IsOnCard}
 use Rattle.cjc_accepted_proof.specs.Written.{written_pair}
@@ -393,7 +395,8 @@ module _ (list : ListTree) (files : List (List ℕ)) (judged : Judged) (p : Pack
             (without_initialiser d.methods) ++ map (λ (m : Member). m.desc) (added w d))
         by (of_file i m is_m is_f same plain) = subst (λ (y : Member). Has y.desc (map (λ (m : Member). m.desc)
             (without_initialiser d.methods) ++ map (λ (m : Member). m.desc) (added w d))) (sym same) (has-front
-            m.desc _ _ (has-map (λ (m : Member). m.desc) m (without_initialiser d.methods) (kept_there d.methods i m is_m
+            m.desc _ _ (has-map (λ (m : Member). m.desc) m (without_initialiser d.methods)
+            (kept_there d.methods i m is_m
             plain)))
         by (of_interfaces i m is_m is_f same) = subst (λ (y : Member). Has y.desc (map (λ (m : Member). m.desc)
             (without_initialiser d.methods) ++ map (λ (m : Member). m.desc) (added w d))) (sym same) (has-back m.desc

@@ -3,24 +3,24 @@ use Rattle.std.proofs.Common.{◌≡◌, ⊎_elim, ℕ, zero, suc, ◌+◌, ◌-
 use Rattle.std.proofs.Common.{◌∷◌, length, map}
 use Rattle.std.specs.Prelude.{Some, slice_get, unwrap_or}
 use Rattle.std.specs.List.{AllByRecursion}
-use Rattle.cjc_world.proofs.BytesGets.{get_behind, in_front, item_there}
+use Rattle.cjc_verified_proof.proofs.BytesGets.{get_behind, in_front, item_there}
 use Rattle.cjc_verified_proof.proofs.BytesPlain.{same_some}
-use Rattle.cjc_world.proofs.BytesQuantified.{all_both}
-use Rattle.cjc_components.specs.LowerCapRead.declared.tree.ClassRef.{ClassRef}
-use Rattle.cjc_components.specs.Descriptor.{as_added, class_descriptor, method_descriptor, method_in}
-use Rattle.cjc_components.specs.Descriptor.{methods_with_added, no_member}
-use Rattle.cjc_components.specs.Methods.{method_offset}
-use Rattle.cjc_components.specs.Names.{class_ref}
-use Rattle.cjc_components.specs.Package.{Package, world}
+use Rattle.cjc_verified_proof.proofs.BytesQuantified.{all_both}
+use Rattle.cjc_accepted_proof.specs.CapRead.declared.tree.ClassRef.{ClassRef}
+use Rattle.cjc_theorem.specs.Components.Descriptor.{as_added, class_descriptor, method_descriptor, method_in}
+use Rattle.cjc_theorem.specs.Components.Descriptor.{methods_with_added, no_member}
+use Rattle.cjc_theorem.specs.Components.Methods.{method_offset}
+use Rattle.cjc_theorem.specs.Components.Names.{class_ref}
+use Rattle.cjc_theorem.specs.Components.Package.{Package, world}
 use Rattle.cjc_verified_proof.proofs.DescribedLaws.{either_part}
 use Rattle.cjc_verified_proof.proofs.FoundLaws.{written_got}
-use Rattle.cjc_verify.specs.Pairs.{Described, described_among, described_in}
-use Rattle.cjc_components.specs.LowerTokens.Members.{is_initialiser}
-use Rattle.cjc_world.specs.Added.{added}
-use Rattle.cjc_world.specs.Classes.{Class, Member}
-use Rattle.cjc_world.specs.Lookup.{member_at}
-use Rattle.cjc_world.specs.Order.{methods_of_class, places, written}
-use Rattle.cjc_world.specs.declared.found.Found.{Found}
+use Rattle.cjc_accepted_proof.specs.Verify.Pairs.{Described, described_among, described_in}
+use Rattle.cjc_theorem.specs.Tokens.Members.{is_initialiser}
+use Rattle.cjc_theorem.specs.World.Added.{added}
+use Rattle.cjc_theorem.specs.World.Classes.{Class, Member}
+use Rattle.cjc_theorem.specs.World.Lookup.{member_at}
+use Rattle.cjc_theorem.specs.World.Order.{methods_of_class, places, written}
+use Rattle.cjc_theorem.specs.World.declared.found.Found.{Found}
 
 places_got : (c : Class) (from n j : ℕ) (f : Found) → slice_get (places c from n) j ≡ Some f
     → (f ≡ member_at c (from + j)) × (j < n)

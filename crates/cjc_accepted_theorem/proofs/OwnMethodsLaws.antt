@@ -4,49 +4,50 @@ use Rattle.std.proofs.Common.{◌≡◌, ⊎_elim, ℕ, zero, suc, ◌+◌, ◌<
 use Rattle.std.proofs.Common.{true, false, List, [], ◌∷◌, ◌++◌, length, map}
 use Rattle.std.specs.Prelude.{◌&&◌, ◌||◌, not, cond, Option, Some, None, option_map, slice_get}
 use Rattle.std.specs.List.{AllByRecursion, find}
-use Rattle.cjc_world.specs.Bytes.AccessFlags.{is_interface}
-use Rattle.cjc_world.specs.Bytes.declared.fault.MemberId.{MemberId}
-use Rattle.cjc_world.proofs.BytesBools.{not_true}
-use Rattle.cjc_world.proofs.BytesGets.{all_at, find_got, get_behind, in_front}
-use Rattle.cjc_world.proofs.BytesNumbers.{like_number, number_same}
+use Rattle.cjc_theorem.specs.Bytes.AccessFlags.{is_interface}
+use Rattle.cjc_theorem.specs.Bytes.declared.fault.MemberId.{MemberId}
+use Rattle.cjc_verified_proof.proofs.BytesBools.{not_true}
+use Rattle.cjc_verified_proof.proofs.BytesGets.{all_at, find_got, get_behind, in_front}
+use Rattle.cjc_verified_proof.proofs.BytesNumbers.{like_number, number_same}
 use Rattle.cjc_verified_proof.proofs.BytesPlain.{same_some}
-use Rattle.cjc_components.specs.LowerCapRead.declared.tree.ClassRef.{ClassRef}
-use Rattle.cjc_components.specs.LowerCapRead.declared.tree.MethodDescriptor.{MethodDescriptor}
-use Rattle.cjc_components.specs.LowerCapRead.declared.tree.PoolEntry.TheVariants.{StaticMethodref}
-use Rattle.cjc_check_proof.proofs.ClassesLaws.Lists.{has-back, has-front}
-use Rattle.cjc_check_proof.proofs.ClassesLaws.Offsets.{Left, all_left, offset_there, some_bytes, step}
-use Rattle.cjc_check_proof.proofs.ClassesLaws.Supers.{in_place}
-use Rattle.cjc_world.specs.ClassFile.declared.tree.ClassTree.{ClassTree}
-use Rattle.cjc_components.specs.Descriptor.{as_added, class_descriptor, method_descriptor, method_in}
-use Rattle.cjc_components.specs.Methods.{first_method, method_offset, method_size}
-use Rattle.cjc_components.specs.Names.{class_at, class_ref, member_token, names, offset_where}
-use Rattle.cjc_components.specs.Package.{LaidMethod, Package, world}
-use Rattle.cjc_components.specs.LowerJvmSemantics.OnePackage.{of_class}
-use Rattle.cjc_components.specs.LowerNCode.Lowering.Naming.{entry_of}
-use Rattle.cjc_components.specs.LowerNCode.declared.narrow.PoolKey.TheVariants as keys
-use Rattle.cjc_shape_proof.proofs.WrittenLaws.Files.{files_sound}
-use Rattle.cjc_shape_proof.proofs.WrittenLaws.FittingLaws.Order.{order_filed}
-use Rattle.cjc_shape_proof.specs.LowerJudge.declared.judged.Judged.{Judged}
-use Rattle.cjc_shape_proof.specs.Written.Converted.{IsConverted}
-use Rattle.cjc_components.specs.LowerNarrow.Rows.Resolved.{resolved_method}
-use Rattle.cjc_narrow_proof.specs.Laws.Unbroken.{IsInsnOf}
-use Rattle.cjc_clinit.specs.Bytecode.declared.insn.JOp.TheVariants as jop
+use Rattle.cjc_accepted_proof.specs.CapRead.declared.tree.ClassRef.{ClassRef}
+use Rattle.cjc_accepted_proof.specs.CapRead.declared.tree.MethodDescriptor.{MethodDescriptor}
+use Rattle.cjc_accepted_proof.specs.CapRead.declared.tree.PoolEntry.TheVariants.{StaticMethodref}
+use Rattle.cjc_accepted_proof.proofs.CheckProofLists.{has-back, has-front}
+use Rattle.cjc_accepted_proof.proofs.CheckProofOffsets.{Left, all_left, offset_there, some_bytes, step}
+use Rattle.cjc_accepted_proof.proofs.CheckProofSupers.{in_place}
+use Rattle.cjc_accepted_proof.specs.ClassFile.declared.tree.ClassTree.{ClassTree}
+use Rattle.cjc_theorem.specs.Components.Descriptor.{as_added, class_descriptor, method_descriptor, method_in}
+use Rattle.cjc_theorem.specs.Components.Methods.{first_method, method_offset, method_size}
+use Rattle.cjc_theorem.specs.Components.Names.{class_at, class_ref, member_token, names, offset_where}
+use Rattle.cjc_theorem.specs.Components.Package.{LaidMethod, Package, world}
+use Rattle.cjc_theorem.specs.JvmSemantics.OnePackage.{of_class}
+use Rattle.cjc_theorem.specs.NCode.Lowering.Naming.{entry_of}
+use Rattle.cjc_theorem.specs.NCode.declared.narrow.PoolKey.TheVariants as keys
+use Rattle.cjc_theorem.proofs.ShapeProofFiles.{files_sound}
+use Rattle.cjc_theorem.proofs.ShapeProofOrder.{order_filed}
+use Rattle.cjc_theorem.specs.Judge.declared.judged.Judged.{Judged}
+use Rattle.cjc_theorem.specs.LowerShapeProof.Written.Converted.{IsConverted}
+use Rattle.cjc_theorem.specs.Narrow.Rows.Resolved.{resolved_method}
+use Rattle.cjc_theorem.specs.NarrowProof.Laws.Unbroken.{IsInsnOf}
+use Rattle.cjc_theorem.specs.Bytecode.declared.insn.JOp.TheVariants as jop
 use Rattle.cjc_theorem.proofs.AlikeLaws.MetLaws.KeySources.{called}
 use Rattle.cjc_theorem.proofs.AlikeLaws.MetLaws.Own.{Names_method, own_method_named}
-use Rattle.cjc_token_proof.proofs.ComponentsLaws.Starts.{ref_is_start}
-use Rattle.cjc_token_proof.proofs.TablesLaws.Clean.{has_named}
-use Rattle.cjc_token_proof.proofs.TablesLaws.Order.{kind-in, order_has, order_in, own_names}
-use Rattle.cjc_token_proof.specs.Components.Methods.{HasMethods}
-use Rattle.cjc_components.specs.LowerList.Listed.{ListTree}
-use Rattle.cjc_token_proof.specs.Tables.Sound.{IsSound}
-use Rattle.cjc_verify.specs.Named.{method_desc_at, named_desc}
-use Rattle.cjc_verify.specs.Pairs.{Described, Pair, described, described_among, described_in, is_method_at, member_of}
-use Rattle.cjc_components.proofs.VTableFiled.{Has, at_front, behind, get-has, has-either, has-get}
-use Rattle.cjc_world.specs.Classes.{Class, Member, class_named, declared}
-use Rattle.cjc_world.specs.Added.{added}
-use Rattle.cjc_world.specs.Lookup.{find_method}
-use Rattle.cjc_world.specs.Order.{class_order, in_order, method_order, methods_in_turn, methods_of_class}
-use Rattle.cjc_world.specs.declared.found.Found.{Found}
+use Rattle.cjc_verified_proof.proofs.TokenProofStarts.{ref_is_start}
+use Rattle.cjc_verified_proof.proofs.TokenProofClean.{has_named}
+use Rattle.cjc_verified_proof.proofs.TokenProofOrder.{kind-in, order_has, order_in, own_names}
+use Rattle.cjc_theorem.specs.TokenProof.Components.Methods.{HasMethods}
+use Rattle.cjc_accepted_proof.specs.List.Listed.{ListTree}
+use Rattle.cjc_theorem.specs.TokenProof.Tables.Sound.{IsSound}
+use Rattle.cjc_accepted_proof.specs.Verify.Named.{method_desc_at, named_desc}
+use Rattle.cjc_accepted_proof.specs.Verify.Pairs.{Described, Pair, described, described_among, described_in}
+use Rattle.cjc_accepted_proof.specs.Verify.Pairs.{is_method_at, member_of}
+use Rattle.cjc_theorem.proofs.VTableFiled.{Has, at_front, behind, get-has, has-either, has-get}
+use Rattle.cjc_theorem.specs.World.Classes.{Class, Member, class_named, declared}
+use Rattle.cjc_theorem.specs.World.Added.{added}
+use Rattle.cjc_theorem.specs.World.Lookup.{find_method}
+use Rattle.cjc_theorem.specs.World.Order.{class_order, in_order, method_order, methods_in_turn, methods_of_class}
+use Rattle.cjc_theorem.specs.World.declared.found.Found.{Found}
 use Rattle.cjc_accepted_proof.specs.Written.{written_pair}
 use Rattle.cjc_accepted_theorem.proofs.CellsLaws.{found_one}
 use Rattle.cjc_accepted_theorem.proofs.EntriesLaws.{own_ref}

@@ -2,25 +2,25 @@
 use Rattle.std.proofs.Common.{◌≡◌, ℕ, sym, ap, subst, ◌∙◌, List}
 use Rattle.std.specs.Prelude.{Some}
 use Rattle.cjc_verified_proof.proofs.BytesPlain.{same_some}
-use Rattle.cjc_components.specs.LowerCheckRules.Complete.{Complete, complete}
-use Rattle.cjc_clinit.proofs.OneImage.{one-image}
-use Rattle.cjc_clinit.specs.Bytecode.PackageCodes.{all_codes}
-use Rattle.cjc_components.specs.Components.{components_of}
-use Rattle.cjc_components.specs.Package.{Package}
-use Rattle.cjc_components.specs.Package as packages
-use Rattle.cjc_shape_proof.proofs.JudgeFirsts.{one_spelling}
-use Rattle.cjc_shape_proof.proofs.WrittenLaws.Files.{same_list}
-use Rattle.cjc_shape_proof.specs.LowerJudge.Rules.{files_spelt, has_applets}
-use Rattle.cjc_shape_proof.specs.LowerJudge.Spelt.{FileTree, SpellTrees, classes_of}
-use Rattle.cjc_shape_proof.specs.LowerJudge.declared.judged.Judged.{Judged}
-use Rattle.cjc_shape_proof.specs.Written.Converted.{IsConverted}
-use Rattle.cjc_clinit.specs.Image.{IsImage}
-use Rattle.cjc_components.specs.LowerList.Listed.{ListTree}
-use Rattle.cjc_token_proof.specs.Tables.Loading.{components}
-use Rattle.cjc_verify.specs.Pairs.{Pair, pair_of}
-use Rattle.cjc_verify.specs.Verified.{Breaks, IsVerified}
-use Rattle.cjc_world.specs.Files.{Files}
-use Rattle.cjc_world.specs.declared.image.StaticImage.{StaticImage}
+use Rattle.cjc_accepted_proof.specs.CheckRules.Complete.{Complete, complete}
+use Rattle.cjc_verified_proof.proofs.ClinitOneImage.{one-image}
+use Rattle.cjc_theorem.specs.Bytecode.PackageCodes.{all_codes}
+use Rattle.cjc_theorem.specs.Components.Components.{components_of}
+use Rattle.cjc_theorem.specs.Components.Package.{Package}
+use Rattle.cjc_theorem.specs.Components.Package as packages
+use Rattle.cjc_theorem.proofs.JudgeFirsts.{one_spelling}
+use Rattle.cjc_theorem.proofs.ShapeProofFiles.{same_list}
+use Rattle.cjc_theorem.specs.Judge.Rules.{files_spelt, has_applets}
+use Rattle.cjc_theorem.specs.Judge.Spelt.{FileTree, SpellTrees, classes_of}
+use Rattle.cjc_theorem.specs.Judge.declared.judged.Judged.{Judged}
+use Rattle.cjc_theorem.specs.LowerShapeProof.Written.Converted.{IsConverted}
+use Rattle.cjc_accepted_proof.specs.Clinit.Image.{IsImage}
+use Rattle.cjc_accepted_proof.specs.List.Listed.{ListTree}
+use Rattle.cjc_theorem.specs.TokenProof.Tables.Loading.{components}
+use Rattle.cjc_accepted_proof.specs.Verify.Pairs.{Pair, pair_of}
+use Rattle.cjc_accepted_proof.specs.Verify.Verified.{Breaks, IsVerified}
+use Rattle.cjc_theorem.specs.World.Files.{Files}
+use Rattle.cjc_theorem.specs.World.declared.image.StaticImage.{StaticImage}
 use Rattle.cjc_accepted_proof.specs.Written.{written_pair}
 
 module _ (list : ListTree) (files : List (List ℕ)) (judged : Judged) (p : Package) (is : IsConverted list files judged

@@ -1,10 +1,10 @@
 //! All rules: what is written for a converted package breaks none of the type checker's, where its parts break none.
 ghost use Rattle.std.specs.Prelude.{ℕ, List};
-ghost use Rattle.cjc_components.specs.Package.{Package};
-ghost use Rattle.cjc_shape_proof.specs.LowerJudge.declared.judged.Judged.{Judged};
-ghost use Rattle.cjc_components.specs.LowerList.Listed.{ListTree};
-ghost use Rattle.cjc_shape_proof.specs.Written.Converted.{IsConverted};
-ghost use Rattle.cjc_verify.specs.Verified.{IsVerified};
+ghost use Rattle.cjc_theorem.specs.Components.Package.{Package};
+ghost use Rattle.cjc_theorem.specs.Judge.declared.judged.Judged.{Judged};
+ghost use Rattle.cjc_accepted_proof.specs.List.Listed.{ListTree};
+ghost use Rattle.cjc_theorem.specs.LowerShapeProof.Written.Converted.{IsConverted};
+ghost use Rattle.cjc_accepted_proof.specs.Verify.Verified.{IsVerified};
 ghost use Rattle.cjc_accepted_proof.specs.Accepted.{CodeStands, HasNoAbstract};
 ghost use Rattle.cjc_accepted_proof.specs.Written.{written_pair};
 ghost use Rattle.cjc_accepted_theorem.specs.Left.{OthersAreNamed};
@@ -13,7 +13,7 @@ use crate::carded::converted_packages_have_card_types;
 use crate::entries::converted_packages_have_named_entries;
 use crate::headers::converted_packages_have_fit_headers;
 use cjc_accepted_proof::accepted::written_packages_are_accepted;
-use cjc_shape_proof::written::{
+use cjc_theorem::shape_proof::written::{
     converted_files_are_sound, converted_methods_are_consistent, sizes_fit,
 };
 

@@ -1,33 +1,33 @@
 //! Entries of the constant pool: each names a member of its key's descriptor. Those of static fields, and of the static
 //! methods, constructors and private methods of the package, are shown to; the others are a premise.
 ghost use Rattle.std.specs.Prelude.{◌≡◌, ℕ, false, List, Some};
-ghost use Rattle.cjc_world.specs.Bytes.AccessFlags.{is_interface};
-ghost use Rattle.cjc_world.specs.Bytes.declared.fault.MemberId.{MemberId};
-ghost use Rattle.cjc_check_proof.specs.Code.Members.{IsOwnCell};
-ghost use Rattle.cjc_world.specs.ClassFile.declared.tree.ClassTree.{ClassTree};
-ghost use Rattle.cjc_clinit.specs.Bytecode.declared.insn.JOp.TheVariants as jop;
-ghost use Rattle.cjc_components.specs.Names.{names};
-ghost use Rattle.cjc_components.specs.Package.{Package, world};
-ghost use Rattle.cjc_components.specs.LowerNarrow.Rows.Resolved.{resolved_method};
-ghost use Rattle.cjc_narrow_proof.specs.Laws.Unbroken.{IsInsnOf};
-ghost use Rattle.cjc_components.specs.LowerNCode.Lowering.Naming.{entry_of};
-ghost use Rattle.cjc_components.specs.LowerNCode.declared.narrow.PoolKey.TheVariants as keys;
-ghost use Rattle.cjc_shape_proof.specs.LowerJudge.declared.judged.Judged.{Judged};
-ghost use Rattle.cjc_shape_proof.specs.Written.Converted.{IsConverted};
-ghost use Rattle.cjc_token_proof.specs.Components.OwnNames.{HaveOwnNames};
-ghost use Rattle.cjc_components.specs.LowerList.Listed.{ListTree};
-ghost use Rattle.cjc_verify.specs.Named.{named_desc};
-ghost use Rattle.cjc_world.specs.Classes.{Class, class_named};
-ghost use Rattle.cjc_world.specs.Order.{class_order};
+ghost use Rattle.cjc_theorem.specs.Bytes.AccessFlags.{is_interface};
+ghost use Rattle.cjc_theorem.specs.Bytes.declared.fault.MemberId.{MemberId};
+ghost use Rattle.cjc_accepted_proof.specs.CheckProof.Code.Members.{IsOwnCell};
+ghost use Rattle.cjc_accepted_proof.specs.ClassFile.declared.tree.ClassTree.{ClassTree};
+ghost use Rattle.cjc_theorem.specs.Bytecode.declared.insn.JOp.TheVariants as jop;
+ghost use Rattle.cjc_theorem.specs.Components.Names.{names};
+ghost use Rattle.cjc_theorem.specs.Components.Package.{Package, world};
+ghost use Rattle.cjc_theorem.specs.Narrow.Rows.Resolved.{resolved_method};
+ghost use Rattle.cjc_theorem.specs.NarrowProof.Laws.Unbroken.{IsInsnOf};
+ghost use Rattle.cjc_theorem.specs.NCode.Lowering.Naming.{entry_of};
+ghost use Rattle.cjc_theorem.specs.NCode.declared.narrow.PoolKey.TheVariants as keys;
+ghost use Rattle.cjc_theorem.specs.Judge.declared.judged.Judged.{Judged};
+ghost use Rattle.cjc_theorem.specs.LowerShapeProof.Written.Converted.{IsConverted};
+ghost use Rattle.cjc_theorem.specs.TokenProof.Components.OwnNames.{HaveOwnNames};
+ghost use Rattle.cjc_accepted_proof.specs.List.Listed.{ListTree};
+ghost use Rattle.cjc_accepted_proof.specs.Verify.Named.{named_desc};
+ghost use Rattle.cjc_theorem.specs.World.Classes.{Class, class_named};
+ghost use Rattle.cjc_theorem.specs.World.Order.{class_order};
 ghost use Rattle.cjc_accepted_proof.specs.Carded.{EntriesAreNamed};
 ghost use Rattle.cjc_accepted_proof.specs.Written.{written_pair};
 ghost use Rattle.cjc_accepted_theorem.specs.Left.{OthersAreNamed};
 
-use cjc_shape_proof::written::{
+use cjc_theorem::alike::calls_have_opcodes;
+use cjc_theorem::shape_proof::written::{
     converted_files_are_sound, converted_methods_are_consistent, static_images_fit,
 };
-use cjc_theorem::alike::calls_have_opcodes;
-use cjc_token_proof::tables::static_fields_are_told;
+use cjc_verified_proof::token_proof::tables::static_fields_are_told;
 
 /// The entry of a static field of the package names the field of its descriptor: no other has a cell where its own
 /// stands.

@@ -1,17 +1,17 @@
 //! Class_refs in types: those that are written are read back as the classes that they name.
 ghost use Rattle.std.specs.Prelude.{ℕ, List};
-ghost use Rattle.cjc_components.specs.Package.{Package, world};
-ghost use Rattle.cjc_shape_proof.specs.LowerJudge.declared.judged.Judged.{Judged};
-ghost use Rattle.cjc_components.specs.LowerList.Listed.{ListTree};
-ghost use Rattle.cjc_token_proof.specs.Tables.Loading.{naming};
-ghost use Rattle.cjc_shape_proof.specs.Written.Converted.{IsConverted};
-ghost use Rattle.cjc_card_acts.specs.CardTypes.{is_type_of};
+ghost use Rattle.cjc_theorem.specs.Components.Package.{Package, world};
+ghost use Rattle.cjc_theorem.specs.Judge.declared.judged.Judged.{Judged};
+ghost use Rattle.cjc_accepted_proof.specs.List.Listed.{ListTree};
+ghost use Rattle.cjc_theorem.specs.TokenProof.Tables.Loading.{naming};
+ghost use Rattle.cjc_theorem.specs.LowerShapeProof.Written.Converted.{IsConverted};
+ghost use Rattle.cjc_verified_proof.specs.CardActs.CardTypes.{is_type_of};
 ghost use Rattle.cjc_accepted_proof.specs.Frames.{SubtypesAgree, type_named};
 ghost use Rattle.cjc_accepted_proof.specs.Read.{RefsAreRead};
 
 use cjc_accepted_proof::subtypes::subtypes_are_read;
-use cjc_shape_proof::written::laid_out_packages_fit;
-use cjc_token_proof::by_token::kinds_are_subtypes;
+use cjc_theorem::shape_proof::written::laid_out_packages_fit;
+use cjc_verified_proof::token_proof::by_token::kinds_are_subtypes;
 
 /// The class_refs that are written for a converted package are read back from the nibbles of types as the classes that
 /// they name, so a type that is a subtype of another by name is of it by token.

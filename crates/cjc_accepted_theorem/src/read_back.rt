@@ -1,23 +1,23 @@
 //! What is read back: the type checker finds nothing in the components that are written for a converted package, beside
 //! the files that it was converted from.
 ghost use Rattle.std.specs.Prelude.{◌≡◌, ℕ, List, Some};
-ghost use Rattle.cjc_components.specs.LowerCheckRules.Complete.{Complete, complete};
-ghost use Rattle.cjc_clinit.specs.Bytecode.PackageCodes.{all_codes};
-ghost use Rattle.cjc_components.specs.Components.{components_of};
-ghost use Rattle.cjc_components.specs.Package.{Package};
-ghost use Rattle.cjc_shape_proof.specs.LowerJudge.Rules.{files_spelt, has_applets};
-ghost use Rattle.cjc_shape_proof.specs.LowerJudge.Spelt.{FileTree, SpellTrees, classes_of};
-ghost use Rattle.cjc_shape_proof.specs.LowerJudge.declared.judged.Judged.{Judged};
-ghost use Rattle.cjc_shape_proof.specs.Written.Converted.{IsConverted};
-ghost use Rattle.cjc_clinit.specs.Image.{IsImage};
-ghost use Rattle.cjc_components.specs.LowerList.Listed.{ListTree};
-ghost use Rattle.cjc_verify.specs.Pairs.{pair_of};
-ghost use Rattle.cjc_verify.specs.Verified.{IsVerified};
-ghost use Rattle.cjc_world.specs.declared.image.StaticImage.{StaticImage};
+ghost use Rattle.cjc_accepted_proof.specs.CheckRules.Complete.{Complete, complete};
+ghost use Rattle.cjc_theorem.specs.Bytecode.PackageCodes.{all_codes};
+ghost use Rattle.cjc_theorem.specs.Components.Components.{components_of};
+ghost use Rattle.cjc_theorem.specs.Components.Package.{Package};
+ghost use Rattle.cjc_theorem.specs.Judge.Rules.{files_spelt, has_applets};
+ghost use Rattle.cjc_theorem.specs.Judge.Spelt.{FileTree, SpellTrees, classes_of};
+ghost use Rattle.cjc_theorem.specs.Judge.declared.judged.Judged.{Judged};
+ghost use Rattle.cjc_theorem.specs.LowerShapeProof.Written.Converted.{IsConverted};
+ghost use Rattle.cjc_accepted_proof.specs.Clinit.Image.{IsImage};
+ghost use Rattle.cjc_accepted_proof.specs.List.Listed.{ListTree};
+ghost use Rattle.cjc_accepted_proof.specs.Verify.Pairs.{pair_of};
+ghost use Rattle.cjc_accepted_proof.specs.Verify.Verified.{IsVerified};
+ghost use Rattle.cjc_theorem.specs.World.declared.image.StaticImage.{StaticImage};
 ghost use Rattle.cjc_accepted_proof.specs.Written.{written_pair};
 
-use cjc_check_proof::code::components_are_whole;
-use cjc_shape_proof::written::converted_files_are_sound;
+use cjc_accepted_proof::check_proof::code::components_are_whole;
+use cjc_theorem::shape_proof::written::converted_files_are_sound;
 
 /// Where what is written for a converted package breaks no rule of the type checker, what is read back breaks none:
 /// whatever trees its files spell, and whatever image their initialisers make, beside the components that are written.

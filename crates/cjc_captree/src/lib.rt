@@ -4,17 +4,17 @@
 // Lower crates, for those above.
 /// What crates above take of list.
 pub mod list {
-    pub use cjc_components::list::List;
+    pub use cjc_classes::list::List;
 }
 
 /// What crates above take of export_file.
 pub mod export_file {
-    pub use cjc_world::export_file::write;
+    pub use cjc_classes::export_file::write;
 }
 
 /// What crates above take of script.
 pub mod script {
-    pub use cjc_components::script::{Note, Report, Value};
+    pub use cjc_classes::script::{Note, Report, Value};
 }
 
 /// What crates above take of capread.
@@ -24,22 +24,22 @@ pub mod capread {
 
 /// What crates above take of capwrite.
 pub mod capwrite {
-    pub use cjc_components::capwrite::{CapFiles, write};
+    pub use cjc_classes::capwrite::{CapFiles, write};
 }
 
 /// What crates above take of class_order.
 pub mod class_order {
-    pub use cjc_components::class_order::classes;
+    pub use cjc_classes::class_order::classes;
 }
 
 /// What crates above take of check_rules.
 pub mod check_rules {
-    pub use cjc_components::check_rules::consistent_where_unbroken;
+    pub use cjc_classes::check_rules::consistent_where_unbroken;
 }
 
 /// What crates above take of ncode.
 pub mod ncode {
-    pub use cjc_components::ncode::{NMethod, PoolKey};
+    pub use cjc_classes::ncode::{NMethod, PoolKey};
 }
 
 /// What crates above take of cjc_classes.

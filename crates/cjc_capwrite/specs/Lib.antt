@@ -10,5 +10,3 @@ pub mod Fits
 pub mod Files
 pub mod Writable
 pub mod Size
--- Definitions of lower crates, for those above.
-pub mod CapRead

@@ -5,7 +5,13 @@
 // Lower crates, for those above.
 /// What crates above take of cjc_capread.
 pub mod capread {
-    pub use cjc_capread::{ClassRef, Export, ExportedClass, Handler, Method, ReferenceLocation};
+    pub use cjc_capread::{
+        Applet, AppletEntry, ArrayInit, CapTree, ClassDescriptor, ClassEntry, ClassInfo, ClassRef,
+        ConstantPool, Descriptor, Directory, Export, ExportedClass, FieldDescriptor, FieldPlace,
+        FieldType, Header, ImplementedInterface, Import, ImportedPackage, InterfaceEntry, Method,
+        MethodDescriptor, PoolEntry, ReferenceLocation, StaticField, StaticRef, TypeDescriptor,
+        readings,
+    };
 }
 
 mod class;

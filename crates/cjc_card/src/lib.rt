@@ -12,6 +12,11 @@ pub mod script {
     pub use cjc_script::{Report, Script};
 }
 
+/// What crates above take of world.
+pub mod world {
+    pub use cjc_card_frame::world::StaticImage;
+}
+
 /// What crates above take of check_rules.
 pub mod check_rules {
     pub use cjc_card_calls::check_rules::consistent_where_unbroken;

@@ -2,8 +2,8 @@ pub mod CardTypes
 pub mod Told
 pub mod Rows
 -- Definitions of lower crates, for those above.
-pub mod Script
-pub mod CheckRules
-pub mod CardSemantics
-pub mod CardFrame
-pub mod LowerFrames
+pub mod Bytecode
+pub mod CapRead
+pub mod LowerCheckRules
+pub mod Types
+pub mod Frames

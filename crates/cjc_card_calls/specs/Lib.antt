@@ -3,5 +3,11 @@ pub mod Files
 pub mod Found
 pub mod Names
 -- Definitions of lower crates, for those above.
-pub mod LowerCheckRules
-pub mod LowerCardLink
+pub mod ClassFile
+pub mod ExportFile
+pub mod Script
+pub mod CheckRules
+pub mod CheckIndex
+pub mod CardSemantics
+pub mod CardFrame
+pub mod CardLink

@@ -5,9 +5,13 @@ pub mod Objects
 pub mod Cells
 pub mod Kinds
 -- Definitions of lower crates, for those above.
-pub mod LowerClassFile
-pub mod Bytecode
-pub mod LowerScript
-pub mod LowerWorld
-pub mod LowerCardSemantics
-pub mod JvmSemantics
+pub mod Bytes
+pub mod Range
+pub mod ClassFile
+pub mod LowerBytecode
+pub mod ExportFile
+pub mod Script
+pub mod CapRead
+pub mod World
+pub mod CardSemantics
+pub mod JvmStep

@@ -7,6 +7,11 @@ pub mod classfile {
     pub use cjc_jvm_step::classfile::{ClassTree, FieldTree, MethodTree};
 }
 
+/// What crates above take of world.
+pub mod world {
+    pub use cjc_jvm_step::world::StaticImage;
+}
+
 /// What crates above take of cjc_jvm_step.
 pub mod jvm_step {
     pub use cjc_jvm_step::{frame, heap, step};

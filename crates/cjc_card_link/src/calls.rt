@@ -3,7 +3,7 @@
 
 ghost use Rattle.std.specs.Prelude.{◌≡◌, option_map, option_and_then, slice_get};
 ghost use Rattle.std.specs.Option.{option_copied};
-ghost use Rattle.cjc_check_index.specs.ExportFile.Members.{is_unbound};
+ghost use Rattle.cjc_card_frame.specs.ExportFile.Members.{is_unbound};
 ghost use Rattle.cjc_card_frame.specs.Meanings.{mode_of};
 ghost use Rattle.cjc_card_semantics.specs.Machine.Classes.{class_of as class_by_ref};
 ghost use Rattle.cjc_card_semantics.specs.Machine.Operations.{Fixed, OnObject, OnSuper, calling, entry, outer};
@@ -22,8 +22,8 @@ use cjc_card_frame::heap::Class;
 use cjc_card_frame::opcodes::Mode;
 use cjc_card_frame::parts::{Callee, ImportedMethod, Token};
 use cjc_card_semantics::capread::{ClassRef, PoolEntry, StaticRef};
+use cjc_card_semantics::export_file::{ExportClass, ExportMethod};
 use cjc_check_index::bytes::is_static;
-use cjc_check_index::export_file::{ExportClass, ExportMethod};
 
 // Tokens of package-visible methods begin here.
 const FIRST_HIDDEN: u8 = 0x80;

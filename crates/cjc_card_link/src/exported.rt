@@ -12,8 +12,8 @@ ghost use Rattle.cjc_card_link.specs.Indices.{class_under};
 
 use crate::indices::Classes;
 use cjc_card_frame::heap::Class;
+use cjc_card_semantics::export_file::{ExportClass, ExportTree};
 use cjc_check_index::bytes::{NoMemory, Row};
-use cjc_check_index::export_file::{ExportClass, ExportTree};
 use cjc_check_index::lookup::tokens_of;
 use std::alloc::Global;
 use std::marker::Model;
@@ -29,7 +29,7 @@ pub(crate) struct Exported<'a> {
 
 impl<'a> Model for Exported<'a> {
     ghost use Rattle.std.specs.Prelude.{List};
-    ghost use Rattle.cjc_check_index.specs.ExportFile.declared.tree.ExportTree.{ExportTree as Tree};
+    ghost use Rattle.cjc_card_frame.specs.ExportFile.declared.tree.ExportTree.{ExportTree as Tree};
     ghost use Rattle.cjc_card_link.specs.Exported.{AreExported};
 
     ghost Value = { List Tree };

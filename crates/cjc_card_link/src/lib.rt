@@ -11,7 +11,12 @@ pub mod classfile {
 
 /// What crates above take of export_file.
 pub mod export_file {
-    pub use cjc_check_index::export_file::may_be_constant;
+    pub use cjc_card_semantics::export_file::may_be_constant;
+}
+
+/// What crates above take of capread.
+pub mod capread {
+    pub use cjc_card_semantics::capread::{ClassInfo, Descriptor, StaticField};
 }
 
 /// What crates above take of check_rules.

@@ -13,7 +13,7 @@ use crate::part::Part;
 use crate::tables::Tables;
 use cjc_card_frame::heap::Class;
 use cjc_card_semantics::capread::PoolEntry;
-use cjc_check_index::export_file::ExportTree;
+use cjc_card_semantics::export_file::ExportTree;
 
 // The entry of a number.
 fn entry_at(pool: &[PoolEntry], index: u64) -> Option<PoolEntry>

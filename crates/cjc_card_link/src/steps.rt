@@ -9,8 +9,8 @@ ghost use Rattle.cjc_card_link.specs.Tables.{AreKept, loaded_of};
 use crate::package::Package;
 use crate::tables::Tables;
 use cjc_card_semantics::capread::{ClassEntry, ClassInfo, InterfaceEntry};
+use cjc_card_semantics::export_file::{ExportClass, ExportTree};
 use cjc_check_index::bytes::NoMemory;
-use cjc_check_index::export_file::{ExportClass, ExportTree};
 
 // No memory is there for 2^64 steps.
 fn sum(a: u64, b: u64) -> Result<u64, NoMemory>

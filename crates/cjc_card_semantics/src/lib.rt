@@ -11,7 +11,7 @@ pub mod bytes {
 
 /// What crates above take of cjc_export.
 pub mod export_file {
-    pub use cjc_export::{ExportClass, ExportMethod, ExportTree};
+    pub use cjc_export::{ExportClass, ExportMethod, ExportTree, may_be_constant};
 }
 
 /// What crates above take of cjc_script.
@@ -22,8 +22,8 @@ pub mod script {
 /// What crates above take of cjc_capread.
 pub mod capread {
     pub use cjc_capread::{
-        ArrayInit, ClassDescriptor, ClassEntry, ClassInfo, ClassRef, ExportedClass, Handler,
-        ImplementedInterface, InterfaceEntry, Method, MethodDescriptor, OpInfo, PoolEntry,
+        ArrayInit, ClassDescriptor, ClassEntry, ClassInfo, ClassRef, Descriptor, ExportedClass,
+        Handler, ImplementedInterface, InterfaceEntry, Method, MethodDescriptor, OpInfo, PoolEntry,
         StaticField, StaticRef, card, decoder, op,
     };
 }

@@ -5,6 +5,6 @@ pub mod Order
 pub mod Codes
 pub mod Jumps
 -- Definitions of lower crates, for those above.
-pub mod LowerExportFile
-pub mod LowerCheckRules
-pub mod CheckIndex
+pub mod ExportFile
+pub mod CapRead
+pub mod CheckRules

@@ -8,9 +8,9 @@ pub mod export_file {
     pub use cjc_check_rules::export_file::{ExportTree, read};
 }
 
-/// What crates above take of check_index.
-pub mod check_index {
-    pub use cjc_check_tables::check_index::lookup;
+/// What crates above take of cjc_capread.
+pub mod capread {
+    pub use cjc_capread::{Handler, Method, ReferenceLocation};
 }
 
 mod checked;

@@ -1,6 +1,5 @@
 pub mod Lookup
 pub mod Imported
 -- Definitions of lower crates, for those above.
-pub mod Bytes
-pub mod ExportFile
-pub mod CheckRules
+pub mod CapRead
+pub mod LowerCheckRules

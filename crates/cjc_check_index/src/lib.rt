@@ -4,12 +4,7 @@
 // Lower crates, for those above.
 /// What crates above take of bytes.
 pub mod bytes {
-    pub use cjc_export::bytes::{Bytes, NoMemory, Row, is_interface, is_static};
-}
-
-/// What crates above take of cjc_export.
-pub mod export_file {
-    pub use cjc_export::{ExportClass, ExportMethod, ExportTree, may_be_constant};
+    pub use cjc_check_rules::bytes::{Bytes, NoMemory, Row, is_interface, is_static};
 }
 
 /// What crates above take of cjc_check_rules.

@@ -6,6 +6,8 @@ pub mod ConsistentLaws
 pub mod PromisesLaws
 pub mod LimitsLaws
 -- Lemmas of lower crates, for those above.
+pub use Rattle.cjc_bytes.proofs.Bools as BytesBools
+pub use Rattle.cjc_bytes.proofs.Gets as BytesGets
 pub use Rattle.cjc_token_proof.proofs.WorldProofFields as WorldProofFields
 pub use Rattle.cjc_token_proof.proofs.WorldProofOwn as WorldProofOwn
 pub use Rattle.cjc_token_proof.proofs.WorldProofScripts as WorldProofScripts
@@ -18,6 +20,7 @@ pub use Rattle.cjc_token_proof.proofs.WorldProofValues as WorldProofValues
 pub use Rattle.cjc_token_proof.proofs.WorldProofExceptions as WorldProofExceptions
 pub use Rattle.cjc_token_proof.proofs.WorldProofRules as WorldProofRules
 pub use Rattle.cjc_token_proof.proofs.WorldProofSolid as WorldProofSolid
+pub use Rattle.cjc_components.proofs.EmitSaid as EmitSaid
 pub use Rattle.cjc_pool.proofs.PoolLaws.Entries as PoolEntries
 pub use Rattle.cjc_pool.proofs.PoolLaws.Keys as PoolKeys
 pub use Rattle.cjc_token_proof.proofs.ComponentsLaws.Apart as TokenProofApart
@@ -31,4 +34,9 @@ pub use Rattle.cjc_token_proof.proofs.TablesLaws.Lists as TokenProofLists
 pub use Rattle.cjc_token_proof.proofs.TablesLaws.Order as TokenProofOrder
 pub use Rattle.cjc_token_proof.proofs.TablesLaws.Rooted as TokenProofRooted
 pub use Rattle.cjc_narrow_proof.proofs.LawsLaws.WordTypes as NarrowProofWordTypes
+pub use Rattle.cjc_narrow_proof.proofs.SelectedLaws.Cuts as NarrowProofCuts
+pub use Rattle.cjc_narrow_proof.proofs.SelectedLaws.Numbers as NarrowProofNumbers
+pub use Rattle.cjc_narrow_proof.proofs.SelectedLaws.Said as NarrowProofSaid
+pub use Rattle.cjc_narrow_proof.proofs.SelectedLaws.Words as NarrowProofWords
+pub use Rattle.cjc_narrow_proof.proofs.TablesLaws.Placed as NarrowProofPlaced
 pub use Rattle.cjc_narrow_proof.proofs.TablesLaws.Spelt as NarrowProofSpelt

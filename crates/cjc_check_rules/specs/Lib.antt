@@ -17,5 +17,6 @@ pub mod Described
 pub mod Consistent
 pub mod Example
 -- Definitions of lower crates, for those above.
-pub mod ExportFile
-pub mod CapRead
+pub mod Bytes
+pub mod LowerExportFile
+pub mod LowerCapRead

@@ -6,12 +6,12 @@
 // Lower crates, for those above.
 /// What crates above take of bytes.
 pub mod bytes {
-    pub use cjc_export::bytes::{Bytes, NoMemory, Row};
+    pub use cjc_export::bytes::{Bytes, NoMemory, Row, is_interface, is_private, is_static};
 }
 
 /// What crates above take of cjc_export.
 pub mod export_file {
-    pub use cjc_export::{ExportTree, read};
+    pub use cjc_export::{ExportClass, ExportField, ExportMethod, ExportTree, read};
 }
 
 /// What crates above take of cjc_capread.

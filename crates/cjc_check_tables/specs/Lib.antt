@@ -2,4 +2,5 @@ pub mod Links
 pub mod Exported
 pub mod Members
 -- Definitions of lower crates, for those above.
-pub mod CheckIndex
+pub mod ExportFile
+pub mod LowerCheckIndex

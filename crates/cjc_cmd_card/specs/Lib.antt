@@ -1,21 +1,8 @@
 pub mod Running
 pub mod Report
 -- Definitions of lower crates, for those above.
-pub mod Bytes
-pub mod Shelf
-pub mod List
-pub mod ClassFile
-pub mod Bytecode
-pub mod ExportFile
-pub mod Script
-pub mod LowerScriptText
-pub mod CapRead
-pub mod CapWrite
-pub mod World
-pub mod Clinit
-pub mod CheckRules
-pub mod CheckIndex
-pub mod JvmSemantics
-pub mod Components
-pub mod LowerCmdJvm
-pub mod CmdCheck
+pub mod LowerShelf
+pub mod ScriptText
+pub mod Judge
+pub mod CmdJvm
+pub mod LowerCmdCheck

@@ -4,7 +4,7 @@
 // Lower crates, for those above.
 /// What crates above take of bytes.
 pub mod bytes {
-    pub use cjc_judge::bytes::{Bytes, Fault, NoMemory, Row};
+    pub use cjc_cmd_check::bytes::{Bytes, Fault, NoMemory, Row};
 }
 
 /// What crates above take of shelf.
@@ -14,7 +14,7 @@ pub mod shelf {
 
 /// What crates above take of list.
 pub mod list {
-    pub use cjc_judge::list::{List, read_list};
+    pub use cjc_cmd_check::list::{List, read_list};
 }
 
 /// What crates above take of script.
@@ -29,7 +29,7 @@ pub mod script_text {
 
 /// What crates above take of world.
 pub mod world {
-    pub use cjc_judge::world::StaticImage;
+    pub use cjc_card::world::StaticImage;
 }
 
 /// What crates above take of check_rules.
@@ -69,7 +69,7 @@ pub mod card {
 
 /// What crates above take of jvm_link.
 pub mod jvm_link {
-    pub use cjc_cmd_jvm::jvm_link::{GroupLinks, Package, indices_of, joint_image, joint_world};
+    pub use cjc_cmd_jvm::jvm_link::{GroupLinks, Package, indices_of};
 }
 
 /// What crates above take of cjc_pairing.
@@ -82,9 +82,9 @@ pub mod exported {
     pub use cjc_shape::exported::export_file;
 }
 
-/// What crates above take of cjc_judge.
+/// What crates above take of judge.
 pub mod judge {
-    pub use cjc_judge::{Codes, JointTrees, Judged, image_of, tokens_of, trees_of};
+    pub use cjc_shape::judge::{Codes, JointTrees, Judged, image_of, tokens_of, trees_of};
 }
 
 /// What crates above take of cjc_cmd_jvm.

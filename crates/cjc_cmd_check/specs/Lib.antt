@@ -1,8 +1,5 @@
 pub mod Folder
 pub mod Check
 -- Definitions of lower crates, for those above.
-pub mod Bytes
-pub mod LowerShelf
-pub mod List
-pub mod LowerCapRead
-pub mod CheckRules
+pub mod Shelf
+pub mod CapRead

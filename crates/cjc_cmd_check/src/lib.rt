@@ -2,6 +2,11 @@
 #![tactic(auto)]
 
 // Lower crates, for those above.
+/// What crates above take of cjc_bytes.
+pub mod bytes {
+    pub use cjc_bytes::{Bytes, Fault, NoMemory, Row};
+}
+
 /// What crates above take of cjc_shelf.
 pub mod shelf {
     pub use cjc_shelf::{Shelf, command};

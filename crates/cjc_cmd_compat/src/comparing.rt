@@ -2,16 +2,16 @@
 //! here writes.
 
 ghost use Rattle.std.specs.Prelude.{◌≡◌, ◌<◌, ◌^◌, ◌∷◌, [], length, IfErr, IfOk, OnOk};
-ghost use Rattle.cjc_compat.specs.Bytes.Breaks.{IsFirstRefusal};
+ghost use Rattle.cjc_tokens.specs.Bytes.Breaks.{IsFirstRefusal};
 ghost use Rattle.cjc_cmd_compat.specs.Compat.{AreCompatible, Compares, compat_breaks, plan_of_compat, plan_of_new};
-ghost use Rattle.cjc_cmd_check.specs.LowerShelf.Command.Gather.{Gathers, Judged};
+ghost use Rattle.cjc_cmd_check.specs.Shelf.Command.Gather.{Gathers, Judged};
 
 use cjc_cmd_check::checking::print_ok;
 use cjc_cmd_check::shelf::Shelf;
 use cjc_cmd_check::shelf::command::{Status, Todo, fetch};
-use cjc_compat::bytes::{Fault, NoMemory};
 use cjc_compat::compat;
 use cjc_compat::export_file::read;
+use cjc_world::bytes::{Fault, NoMemory};
 use std::alloc::Global;
 
 /// Tests what the bytes of two versions say.

@@ -2,6 +2,18 @@
 #![tactic(auto)]
 
 // Lower crates, for those above.
+/// What crates above take of bytes.
+pub mod bytes {
+    pub use cjc_shelf::bytes::{
+        ACC_PUBLIC, ACC_STATIC, ACC_SUPER, Bytes, Fault, NoMemory, Out, Row,
+    };
+}
+
+/// What crates above take of cjc_shelf.
+pub mod shelf {
+    pub use cjc_shelf::{CleanShelf, LONGEST, Shelf, command};
+}
+
 /// What crates above take of bytecode.
 pub mod bytecode {
     pub use cjc_theorem::bytecode::jvm;

@@ -1,26 +1,26 @@
 -- What `linkjvm GROUP SCRIPT N` prints: the report of the joint run by name of the packages that a text names.
 use Rattle.std.specs.Prelude.{◌≡◌, ◌+◌, ℕ, true, List, [], ◌∷◌, map, Result, Ok, Err}
-use Rattle.cjc_cmd_verify.specs.CmdCard.Running.Ready as alone
-use Rattle.cjc_cmd_verify.specs.CmdCard.declared.running.input.Input.{Input}
-use Rattle.cjc_cmd_verify.specs.CmdCard.declared.running.ready.Ready.{Ready}
-use Rattle.cjc_cmd_verify.specs.ScriptText.Printed.{report_text}
-use Rattle.cjc_cmd_verify.specs.Script.declared.report.Report.{Report}
-use Rattle.cjc_cmd_verify.specs.ScriptText.Scripted.{ScriptTree, scripted}
-use Rattle.cjc_cmd_verify.specs.Shelf.Command.Plan.{Plan, has, ◌>>=◌}
-use Rattle.cjc_cmd_verify.specs.Shelf.declared.command.status.Todo.{Todo}
+use Rattle.cjc_cmd_verify.specs.LowerCmdCard.Running.Ready as alone
+use Rattle.cjc_cmd_verify.specs.LowerCmdCard.declared.running.input.Input.{Input}
+use Rattle.cjc_cmd_verify.specs.LowerCmdCard.declared.running.ready.Ready.{Ready}
+use Rattle.cjc_cmd_verify.specs.LowerScriptText.Printed.{report_text}
+use Rattle.cjc_cmd_verify.specs.LowerScript.declared.report.Report.{Report}
+use Rattle.cjc_cmd_verify.specs.LowerScriptText.Scripted.{ScriptTree, scripted}
+use Rattle.cjc_cmd_verify.specs.LowerShelf.Command.Plan.{Plan, has, ◌>>=◌}
+use Rattle.cjc_cmd_verify.specs.LowerShelf.declared.command.status.Todo.{Todo}
 use Rattle.cjc_cmd_link.specs.Reads.{plan_of_group}
 use Rattle.cjc_cmd_link.specs.Ready.{AreReady, Breaks}
 use Rattle.cjc_cmd_link.specs.declared.reads.GroupInput.{GroupInput}
-use Rattle.cjc_group.specs.Bytes.Breaks.{Break}
-use Rattle.cjc_group.specs.Bytes.Refused.{refusal}
-use Rattle.cjc_group.specs.Bytes.declared.fault.Refusal.{Refusal}
-use Rattle.cjc_cmd_verify.specs.Clinit.Image.{IsImage}
-use Rattle.cjc_cmd_verify.specs.Judge.Rules.{IsFirstRefused, OnLevels}
-use Rattle.cjc_group.specs.World.Classes.{all_classes}
-use Rattle.cjc_group.specs.World.Files.{Files}
-use Rattle.cjc_group.specs.World.Rules.{has_cycle}
-use Rattle.cjc_group.specs.World.declared.image.StaticImage.{StaticImage}
-use Rattle.cjc_cmd_verify.specs.JvmSemantics.Group.{joint, run_group}
+use Rattle.cjc_cmd_verify.specs.Bytes.Breaks.{Break}
+use Rattle.cjc_cmd_verify.specs.Bytes.Refused.{refusal}
+use Rattle.cjc_cmd_verify.specs.Bytes.declared.fault.Refusal.{Refusal}
+use Rattle.cjc_cmd_verify.specs.LowerClinit.Image.{IsImage}
+use Rattle.cjc_cmd_verify.specs.LowerJudge.Rules.{IsFirstRefused, OnLevels}
+use Rattle.cjc_cmd_verify.specs.World.Classes.{all_classes}
+use Rattle.cjc_cmd_verify.specs.World.Files.{Files}
+use Rattle.cjc_cmd_verify.specs.World.Rules.{has_cycle}
+use Rattle.cjc_cmd_verify.specs.World.declared.image.StaticImage.{StaticImage}
+use Rattle.cjc_cmd_verify.specs.LowerJvmSemantics.Group.{joint, run_group}
 
 -- the text that names packages, these, and the script
 abbrev pub plan_of_linkjvm : (name script : List ℕ) → Plan GroupInput

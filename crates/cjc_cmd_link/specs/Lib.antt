@@ -2,9 +2,11 @@ pub mod Reads
 pub mod Ready
 pub mod ByName
 -- Definitions of lower crates, for those above.
-pub mod Script
-pub mod ScriptText
-pub mod CapWrite
-pub mod Judge
-pub mod CmdJvm
-pub mod CmdVerify
+pub mod List
+pub mod ClassFile
+pub mod ExportFile
+pub mod CapRead
+pub mod CheckRules
+pub mod CmdCheck
+pub mod CmdCard
+pub mod LowerCmdVerify

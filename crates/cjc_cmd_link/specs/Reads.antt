@@ -2,9 +2,9 @@
 -- the list and the components of its folder, and a script.
 use Rattle.std.specs.Prelude.{ℕ, ◌<◌, ◌^◌, List, [], ◌∷◌, ◌++◌, length, false}
 use Rattle.std.specs.List.{AllByRecursion}
-use Rattle.cjc_cmd_verify.specs.CmdCard.Running.Reads.{IsInput}
-use Rattle.cjc_cmd_verify.specs.CmdCard.declared.running.input.Input.{Input}
-use Rattle.cjc_cmd_verify.specs.Shelf.Command.Plan.{Plan, has, ◌>>=◌, for_each, read, unless_refused}
+use Rattle.cjc_cmd_verify.specs.LowerCmdCard.Running.Reads.{IsInput}
+use Rattle.cjc_cmd_verify.specs.LowerCmdCard.declared.running.input.Input.{Input}
+use Rattle.cjc_cmd_verify.specs.LowerShelf.Command.Plan.{Plan, has, ◌>>=◌, for_each, read, unless_refused}
 use Rattle.cjc_cmd_link.specs.declared.reads.GroupInput.{GroupInput}
 use Rattle.cjc_cmd_verify.specs.Reads.{plan_of_input}
 use Rattle.cjc_group.specs.Grouped.{grouped}

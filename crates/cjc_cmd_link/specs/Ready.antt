@@ -1,27 +1,27 @@
 -- Which rules the packages of a group break, in the order of refusals: package by package, then the script; and what
 -- they agree on, where none of these is broken.
 use Rattle.std.specs.Prelude.{◌≡◌, ◌+◌, ◌*◌, ◌^◌, ◌<◌, ℕ, List, [], ◌∷◌, length, map, All, Ok, Err, Some, slice_get}
-use Rattle.cjc_cmd_verify.specs.CmdCard.Report.Runs as alone
-use Rattle.cjc_cmd_verify.specs.CmdCard.Running.Reads.{IsInput}
-use Rattle.cjc_cmd_verify.specs.CmdCard.Running.Ready as alone_ready
-use Rattle.cjc_cmd_verify.specs.CmdCard.declared.running.input.Input.{Input}
-use Rattle.cjc_cmd_verify.specs.CmdCard.declared.running.ready.Ready.{Ready}
-use Rattle.cjc_cmd_verify.specs.ScriptText.Scripted.{scripted}
-use Rattle.cjc_cmd_verify.specs.CmdJvm.Running.Ready.{script_break}
+use Rattle.cjc_cmd_verify.specs.LowerCmdCard.Report.Runs as alone
+use Rattle.cjc_cmd_verify.specs.LowerCmdCard.Running.Reads.{IsInput}
+use Rattle.cjc_cmd_verify.specs.LowerCmdCard.Running.Ready as alone_ready
+use Rattle.cjc_cmd_verify.specs.LowerCmdCard.declared.running.input.Input.{Input}
+use Rattle.cjc_cmd_verify.specs.LowerCmdCard.declared.running.ready.Ready.{Ready}
+use Rattle.cjc_cmd_verify.specs.LowerScriptText.Scripted.{scripted}
+use Rattle.cjc_cmd_verify.specs.LowerCmdJvm.Running.Ready.{script_break}
 use Rattle.cjc_cmd_link.specs.declared.members.ReadyGroup.{ReadyGroup}
 use Rattle.cjc_cmd_link.specs.declared.members.Tested.{Tested}
 use Rattle.cjc_cmd_link.specs.declared.reads.GroupInput.{GroupInput}
-use Rattle.cjc_cmd_verify.specs.Components.ExportFile.{export_of}
-use Rattle.cjc_cmd_verify.specs.Components.Package.{Package}
+use Rattle.cjc_cmd_verify.specs.LowerComponents.ExportFile.{export_of}
+use Rattle.cjc_cmd_verify.specs.LowerComponents.Package.{Package}
 use Rattle.cjc_group.specs.Members.{Member}
 use Rattle.cjc_group.specs.Rules as group
-use Rattle.cjc_group.specs.Bytes.Breaks.{Break, Among}
-use Rattle.cjc_group.specs.Bytes.Order.{group_number}
-use Rattle.cjc_group.specs.Bytes.declared.fault.Refusal.{Refusal}
-use Rattle.cjc_group.specs.Bytes.declared.order.GroupKey.TheVariants as keys
-use Rattle.cjc_cmd_verify.specs.Clinit.Image.{IsImage}
-use Rattle.cjc_cmd_verify.specs.Judge.Rules.{OnLevels, files_spelt}
-use Rattle.cjc_cmd_verify.specs.Judge.Spelt.{FileTree, SpellTrees}
+use Rattle.cjc_cmd_verify.specs.Bytes.Breaks.{Break, Among}
+use Rattle.cjc_cmd_verify.specs.Bytes.Order.{group_number}
+use Rattle.cjc_cmd_verify.specs.Bytes.declared.fault.Refusal.{Refusal}
+use Rattle.cjc_cmd_verify.specs.Bytes.declared.order.GroupKey.TheVariants as keys
+use Rattle.cjc_cmd_verify.specs.LowerClinit.Image.{IsImage}
+use Rattle.cjc_cmd_verify.specs.LowerJudge.Rules.{OnLevels, files_spelt}
+use Rattle.cjc_cmd_verify.specs.LowerJudge.Spelt.{FileTree, SpellTrees}
 
 -- ---- where a break stands in a group
 

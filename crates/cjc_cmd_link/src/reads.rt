@@ -2,8 +2,8 @@
 
 ghost use Rattle.std.specs.Prelude.{◌<◌, ◌^◌, IfOk, length};
 ghost use Rattle.std.specs.List.{AllByRecursion};
-ghost use Rattle.cjc_cmd_verify.specs.CmdCard.Running.Reads.{IsInput};
-ghost use Rattle.cjc_cmd_verify.specs.Shelf.Command.Gather.{Gathers, IsSame};
+ghost use Rattle.cjc_cmd_verify.specs.LowerCmdCard.Running.Reads.{IsInput};
+ghost use Rattle.cjc_cmd_verify.specs.LowerShelf.Command.Gather.{Gathers, IsSame};
 ghost use Rattle.cjc_cmd_link.specs.Reads.{IsGroup, plan_behind_text, plan_of_group, plan_of_members};
 
 use cjc_cmd_verify::cmd_card::running::Input;

@@ -2,5 +2,9 @@ pub mod Package
 pub mod Laws
 pub mod Report
 -- Definitions of lower crates, for those above.
-pub mod CmdConvert
-pub mod CmdCard
+pub mod Script
+pub mod ScriptText
+pub mod CapWrite
+pub mod Judge
+pub mod LowerCmdConvert
+pub mod CmdJvm

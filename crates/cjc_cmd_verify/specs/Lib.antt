@@ -2,13 +2,17 @@ pub mod Reads
 pub mod Verify
 pub mod Working
 -- Definitions of lower crates, for those above.
-pub mod Shelf
-pub mod Script
-pub mod ScriptText
-pub mod CapWrite
-pub mod Clinit
-pub mod JvmSemantics
-pub mod Components
-pub mod Judge
-pub mod CmdJvm
-pub mod CmdCard
+pub mod Bytes
+pub mod LowerShelf
+pub mod LowerScript
+pub mod LowerScriptText
+pub mod CapRead
+pub mod World
+pub mod LowerClinit
+pub mod CheckRules
+pub mod LowerJvmSemantics
+pub mod LowerComponents
+pub mod LowerJudge
+pub mod LowerCmdJvm
+pub mod CmdCheck
+pub mod LowerCmdCard

@@ -2,10 +2,10 @@
 -- what `card` reads, with a script of no lines in place of the one that `card` is given.
 use Rattle.std.specs.Prelude.{ℕ, List, []}
 use Rattle.cjc_cmd_card.specs.declared.running.input.Input.{Input}
-use Rattle.cjc_cmd_card.specs.CmdCheck.Folder.Reads.{plan_of_parts}
-use Rattle.cjc_cmd_card.specs.LowerCmdJvm.Running.Reads.{names_of}
-use Rattle.cjc_cmd_card.specs.Shelf.Command.Plan.{Plan, has, ◌>>=◌, read, read_each, unless_refused}
-use Rattle.cjc_cmd_card.specs.List.Listed.{ListTree, listed}
+use Rattle.cjc_cmd_card.specs.LowerCmdCheck.Folder.Reads.{plan_of_parts}
+use Rattle.cjc_cmd_card.specs.CmdJvm.Running.Reads.{names_of}
+use Rattle.cjc_cmd_card.specs.LowerShelf.Command.Plan.{Plan, has, ◌>>=◌, read, read_each, unless_refused}
+use Rattle.cjc_verify_theorem.specs.List.Listed.{ListTree, listed}
 
 -- behind the files of a list, the components of the folder
 abbrev pub plan_behind_files : (dir : List ℕ) → ListTree → List (List ℕ) → Plan Input

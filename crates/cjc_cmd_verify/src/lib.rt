@@ -44,7 +44,7 @@ pub mod card {
 
 /// What crates above take of jvm_link.
 pub mod jvm_link {
-    pub use cjc_cmd_card::jvm_link::{GroupLinks, Package, indices_of, joint_image, joint_world};
+    pub use cjc_cmd_card::jvm_link::{GroupLinks, Package, indices_of};
 }
 
 /// What crates above take of pairing.

@@ -2,9 +2,9 @@
 
 ghost use Rattle.std.specs.Prelude.{◌<◌, ◌^◌, IfOk, length};
 ghost use Rattle.cjc_cmd_card.specs.Running.Reads.{IsInput};
-ghost use Rattle.cjc_cmd_card.specs.Shelf.Command.Gather.{Gathers, IsSame};
+ghost use Rattle.cjc_cmd_card.specs.LowerShelf.Command.Gather.{Gathers, IsSame};
 ghost use Rattle.cjc_cmd_verify.specs.Reads.{plan_behind_list, plan_behind_text, plan_of_input};
-ghost use Rattle.cjc_verify_theorem.specs.Judge.Spelt.{IsRead};
+ghost use Rattle.cjc_cmd_card.specs.Judge.Spelt.{IsRead};
 
 use cjc_cmd_card::bytes::{Fault, NoMemory, Row};
 use cjc_cmd_card::cmd_check::folder::gather_parts;

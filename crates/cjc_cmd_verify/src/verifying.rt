@@ -2,15 +2,15 @@
 //! of a list is. The program's top call calls it; it knows no instruction. Nothing here writes.
 
 ghost use Rattle.std.specs.Prelude.{◌≡◌, Some, IfErr, IfOk, OnOk};
-ghost use Rattle.cjc_cmd_card.specs.CheckIndex.Lookup.Parts.{complete_of};
-ghost use Rattle.cjc_cmd_card.specs.CheckRules.Complete.{AreSmall, Complete, complete};
+ghost use Rattle.cjc_verify_theorem.specs.CheckIndex.Lookup.Parts.{complete_of};
+ghost use Rattle.cjc_verify_theorem.specs.CheckRules.Complete.{AreSmall, Complete, complete};
 ghost use Rattle.cjc_cmd_card.specs.Running.Reads.{IsInput};
-ghost use Rattle.cjc_cmd_card.specs.Shelf.Command.Gather.{Gathers, Judged as JudgedBy};
+ghost use Rattle.cjc_cmd_card.specs.LowerShelf.Command.Gather.{Gathers, Judged as JudgedBy};
 ghost use Rattle.cjc_cmd_verify.specs.Verify.{AnyBreaks, AreTyped, Verifies, plan_of_verify};
 ghost use Rattle.cjc_cmd_verify.specs.Working.{AreChecked};
-ghost use Rattle.cjc_cmd_card.specs.Clinit.Image.{IsImage};
-ghost use Rattle.cjc_verify_theorem.specs.Judge.Rules.{IsFirstFault};
-ghost use Rattle.cjc_cmd_card.specs.Components.Paired.Pairs.{ArePaired};
+ghost use Rattle.cjc_verify_theorem.specs.Clinit.Image.{IsImage};
+ghost use Rattle.cjc_cmd_card.specs.Judge.Rules.{IsFirstFault};
+ghost use Rattle.cjc_verify_theorem.specs.Components.Paired.Pairs.{ArePaired};
 ghost use Rattle.cjc_verify_theorem.specs.Passed.{AreBytes};
 
 use crate::bytes::are_bytes;

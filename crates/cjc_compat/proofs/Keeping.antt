@@ -5,13 +5,13 @@ use Rattle.std.specs.Prelude.{◌&&◌, ◌||◌, ◌==◌, not, if◌then◌els
 use Rattle.std.specs.List.{list_any}
 use Rattle.std.specs.Str.{bytes_eq}
 use Rattle.std.proofs.lemmas.Bool.Decides.{nat_tests}
-use Rattle.cjc_bytes.specs.AccessFlags.{is_interface, is_static}
-use Rattle.cjc_bytes.specs.Breaks.{Break, at, each_from}
-use Rattle.cjc_bytes.specs.Order.{FilePlace}
-use Rattle.cjc_bytes.proofs.Lists.{bytes_true, empty_both}
-use Rattle.cjc_bytes.proofs.Bools.{not_false}
-use Rattle.cjc_bytes.proofs.BrokenRules.{not_broken}
-use Rattle.cjc_bytes.proofs.Gets.{find_got, any_at}
+use Rattle.cjc_export.specs.LowerBytes.AccessFlags.{is_interface, is_static}
+use Rattle.cjc_export.specs.LowerBytes.Breaks.{Break, at, each_from}
+use Rattle.cjc_export.specs.LowerBytes.Order.{FilePlace}
+use Rattle.cjc_export.proofs.BytesLists.{bytes_true, empty_both}
+use Rattle.cjc_export.proofs.BytesBools.{not_false}
+use Rattle.cjc_export.proofs.BytesBrokenRules.{not_broken}
+use Rattle.cjc_export.proofs.BytesGets.{find_got, any_at}
 use Rattle.cjc_compat.specs.References.{InstanceField, KeepsReferences, Kind, ListsSuper, Meant, Reference, Resolves}
 use Rattle.cjc_compat.specs.References.{StaticField, StaticMethod, VirtualMethod, class, field, interface, is_class}
 use Rattle.cjc_compat.specs.References.{is_member}

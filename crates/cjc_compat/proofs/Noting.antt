@@ -7,7 +7,7 @@ use Rattle.std.specs.HashMap.{HashMap}
 use Rattle.std.specs.Map.{KeepsOthers}
 use Rattle.std.specs.Str.{bytes_eq}
 use Rattle.cjc_export.specs.Supers.{is_one_of}
-use Rattle.cjc_bytes.proofs.Lists.{bytes_true, bytes_flip}
+use Rattle.cjc_export.proofs.BytesLists.{bytes_true, bytes_flip}
 
 module _ {K X S : Type 0} (bytes : K → List ℕ) where
   pub put_noted : (name : List ℕ) (m n : HashMap K X S) (w : X)

@@ -3,11 +3,11 @@ use Rattle.std.proofs.Common.{◌≡◌, ℕ, zero, suc, ◌+◌, ◌<◌, refl,
 use Rattle.std.proofs.Common.{[], ◌∷◌, ◌++◌, length, map, inl, inr, Option, Some, None, add-one}
 use Rattle.std.specs.Prelude.{slice_get}
 use Rattle.std.proofs.lemmas.List.{length-map}
-use Rattle.cjc_bytes.specs.Breaks.{Among, Break, RulePlace, at, broken_at, class_spot, each_from}
-use Rattle.cjc_bytes.specs.Order.{FilePlace, Rank}
-use Rattle.cjc_bytes.specs.Refused.{field_text, in_class, method_text}
-use Rattle.cjc_bytes.proofs.Firsts.{among_either}
-use Rattle.cjc_bytes.proofs.BrokenRules.{none_among, in_at}
+use Rattle.cjc_export.specs.LowerBytes.Breaks.{Among, Break, RulePlace, at, broken_at, class_spot, each_from}
+use Rattle.cjc_export.specs.LowerBytes.Order.{FilePlace, Rank}
+use Rattle.cjc_export.specs.LowerBytes.Refused.{field_text, in_class, method_text}
+use Rattle.cjc_export.proofs.BytesFirsts.{among_either}
+use Rattle.cjc_export.proofs.BytesBrokenRules.{none_among, in_at}
 use Rattle.cjc_compat.specs.Rules.{at_class, at_field, at_method, breaks, class_breaks, is_less, is_lost_field}
 use Rattle.cjc_compat.specs.Rules.{is_lost_method, is_other_class, is_other_package, is_other_table, kept_breaks}
 use Rattle.cjc_compat.specs.Rules.{new_file, with_token}

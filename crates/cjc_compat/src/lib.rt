@@ -3,11 +3,6 @@
 #![tactic(auto)]
 
 // Lower crates, for those above.
-/// What crates above take of cjc_bytes.
-pub mod bytes {
-    pub use cjc_bytes::{Fault, NoMemory};
-}
-
 /// What crates above take of cjc_export.
 pub mod export_file {
     pub use cjc_export::read;

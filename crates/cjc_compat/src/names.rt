@@ -6,7 +6,7 @@ ghost use Rattle.cjc_compat.specs.Rules.{lacks_one};
 ghost use Rattle.cjc_compat.specs.Working.Names.{is_noted};
 ghost use Rattle.cjc_export.specs.Supers.{is_one_of};
 
-use cjc_bytes::{Bytes, NoMemory};
+use cjc_export::bytes::{Bytes, NoMemory};
 use std::alloc::Global;
 use std::collections::HashMap;
 

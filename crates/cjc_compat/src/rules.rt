@@ -8,7 +8,7 @@ ghost use Rattle.cjc_compat.specs.Rules.{same, virtual_end, with_token};
 ghost use Rattle.cjc_export.specs.Supers.{is_virtual};
 
 use crate::names::lacks_one;
-use cjc_bytes::{
+use cjc_export::bytes::{
     ACC_SHAREABLE, NoMemory, is_abstract, is_final, is_interface, is_private, is_static,
 };
 use cjc_export::{ExportClass, ExportField, ExportMethod, ExportTree};

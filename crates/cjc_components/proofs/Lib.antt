@@ -7,6 +7,9 @@ pub use Rattle.cjc_vtable.proofs.ClassOrderDeclared as ClassOrderDeclared
 pub use Rattle.cjc_vtable.proofs.ClassOrderStanding as ClassOrderStanding
 pub use Rattle.cjc_vtable.proofs.ClassOrderSets as ClassOrderSets
 pub use Rattle.cjc_vtable.proofs.TokensFacts as TokensFacts
+pub use Rattle.cjc_vtable.proofs.TokensMeans as TokensMeans
+pub use Rattle.cjc_vtable.proofs.TokensSums as TokensSums
+pub use Rattle.cjc_vtable.proofs.TokensMeant as TokensMeant
 pub use Rattle.cjc_vtable.proofs.Asked as VTableAsked
 pub use Rattle.cjc_vtable.proofs.Calls as VTableCalls
 pub use Rattle.cjc_vtable.proofs.Filed as VTableFiled
@@ -19,6 +22,7 @@ pub use Rattle.cjc_vtable.proofs.Shown as VTableShown
 pub use Rattle.cjc_vtable.proofs.SlotNames as VTableSlotNames
 pub use Rattle.cjc_vtable.proofs.Worlds as VTableWorlds
 pub use Rattle.cjc_clinit.proofs.Cells as ClinitCells
+pub use Rattle.cjc_clinit.proofs.OneImage as ClinitOneImage
 pub use Rattle.cjc_narrow.proofs.TypesLeast as TypesLeast
 pub use Rattle.cjc_narrow.proofs.KeysLaws.Indices as NarrowIndices
 pub use Rattle.cjc_narrow.proofs.PairsLaws.Roles as NarrowRoles
@@ -26,4 +30,5 @@ pub use Rattle.cjc_narrow.proofs.RowsLaws.Handlers as NarrowHandlers
 pub use Rattle.cjc_emit.proofs.LayoutLowered as LayoutLowered
 pub use Rattle.cjc_emit.proofs.LayoutPlaces as LayoutPlaces
 pub use Rattle.cjc_emit.proofs.EmitLaws.Forms as EmitForms
+pub use Rattle.cjc_emit.proofs.EmitLaws.Said as EmitSaid
 pub use Rattle.cjc_emit.proofs.Shifted as EmitShifted

@@ -23,7 +23,11 @@ pub mod script {
 /// What crates above take of capread.
 pub mod capread {
     pub use cjc_capwrite::capread::{
-        ClassRef, Export, ExportedClass, Handler, Method, ReferenceLocation,
+        Applet, AppletEntry, ArrayInit, CapTree, ClassDescriptor, ClassEntry, ClassInfo, ClassRef,
+        ConstantPool, Descriptor, Directory, Export, ExportedClass, FieldDescriptor, FieldPlace,
+        FieldType, Header, ImplementedInterface, Import, ImportedPackage, InterfaceEntry, Method,
+        MethodDescriptor, PoolEntry, ReferenceLocation, StaticField, StaticRef, TypeDescriptor,
+        readings,
     };
 }
 
@@ -44,7 +48,7 @@ pub mod subset {
 
 /// What crates above take of tokens.
 pub mod tokens {
-    pub use cjc_vtable::tokens::Tokens;
+    pub use cjc_vtable::tokens::{Slot, Tokens, interface_methods};
 }
 
 /// What crates above take of cjc_vtable.
@@ -65,6 +69,11 @@ pub mod types {
 /// What crates above take of ncode.
 pub mod ncode {
     pub use cjc_narrow::ncode::{NMethod, PoolKey};
+}
+
+/// What crates above take of cjc_narrow.
+pub mod narrow {
+    pub use cjc_narrow::{keys, select};
 }
 
 /// What crates above take of layout.

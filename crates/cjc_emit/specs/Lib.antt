@@ -3,7 +3,4 @@ pub mod Worked
 pub mod Working
 pub mod Said
 -- Definitions of lower crates, for those above.
-pub mod Script
-pub mod CardSemantics
-pub mod NCode
-pub mod LowerLayout
+pub mod Layout

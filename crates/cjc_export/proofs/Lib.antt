@@ -13,6 +13,7 @@ pub mod Upwards
 -- Lemmas of lower crates, for those above.
 pub use Rattle.cjc_bytes.proofs.Bools as BytesBools
 pub use Rattle.cjc_bytes.proofs.BrokenRules as BytesBrokenRules
+pub use Rattle.cjc_bytes.proofs.Firsts as BytesFirsts
 pub use Rattle.cjc_bytes.proofs.Gets as BytesGets
 pub use Rattle.cjc_bytes.proofs.Integers as BytesIntegers
 pub use Rattle.cjc_bytes.proofs.Lists as BytesLists

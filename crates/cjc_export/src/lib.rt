@@ -6,7 +6,9 @@
 /// What crates above take of cjc_bytes.
 pub mod bytes {
     pub use cjc_bytes::{
-        Bytes, Desc, Kind, MemberId, NoMemory, Row, has, is_interface, is_private, is_static,
+        ACC_SHAREABLE, Break, Bytes, Desc, Fault, FileKey, FileRef, Kind, MemberId, NoMemory, Part,
+        PlaceRef, Row, RulePlace, answer, broken, first, has, is_abstract, is_final, is_interface,
+        is_private, is_static,
     };
 }
 

@@ -8,5 +8,6 @@ pub mod Rules
 pub mod Agree
 pub mod Worked
 -- Definitions of lower crates, for those above.
-pub mod Bytes
-pub mod World
+pub mod List
+pub mod ClassFile
+pub mod ExportFile

@@ -1,40 +1,40 @@
 -- What is written for a method in int mode is that of its class file, by its tables.
 use Rattle.std.proofs.Common.{◌≡◌, ◌<◌, ◌≤◌, ℕ, sym, ap, subst, ◌∙◌, true, List, length}
 use Rattle.std.specs.Prelude.{Option, Some, Ok, slice_get}
-use Rattle.cjc_code.specs.Bytes.declared.fault.MemberId.{MemberId}
+use Rattle.cjc_check_proof.specs.Bytes.declared.fault.MemberId.{MemberId}
 use Rattle.std.specs.List.{Contains}
-use Rattle.cjc_code.specs.PackageCodes.{all_codes}
-use Rattle.cjc_code.specs.Decoded.{decoded, decoding, insns_of, of_code, of_method}
-use Rattle.cjc_code.specs.declared.insn.JInsn.{JInsn}
-use Rattle.cjc_code.specs.declared.method_code.MethodCode.{MethodCode}
-use Rattle.cjc_components.specs.Package.{LaidMethod}
-use Rattle.cjc_emit.specs.Emitted.{CanBeWritten, placed_at}
-use Rattle.cjc_emit.specs.Said.{CanBeSaid}
-use Rattle.cjc_int_mode.specs.Intervals.Frames.{RangeState}
-use Rattle.cjc_components.specs.LowerJvmSemantics.Linked.{Method}
-use Rattle.cjc_components.specs.LowerJvmSemantics.OnePackage.{method_at, method_by}
-use Rattle.cjc_emit.specs.LowerLayout.Legal.{IsLeast}
-use Rattle.cjc_int_proof.specs.Layout.Layouts.{IsWhole}
-use Rattle.cjc_components.specs.LowerNarrow.Rows.Package.{flags_of, read_of, tree_of}
-use Rattle.cjc_components.specs.LowerNarrow.Rows.Resolved.{method_found, resolution}
+use Rattle.cjc_ncode.specs.Bytecode.PackageCodes.{all_codes}
+use Rattle.cjc_ncode.specs.Bytecode.Decoded.{decoded, decoding, insns_of, of_code, of_method}
+use Rattle.cjc_ncode.specs.Bytecode.declared.insn.JInsn.{JInsn}
+use Rattle.cjc_ncode.specs.Bytecode.declared.method_code.MethodCode.{MethodCode}
+use Rattle.cjc_check_proof.specs.Components.Package.{LaidMethod}
+use Rattle.cjc_check_proof.specs.Emit.Emitted.{CanBeWritten, placed_at}
+use Rattle.cjc_check_proof.specs.Emit.Said.{CanBeSaid}
+use Rattle.cjc_int_narrow.specs.Intervals.Frames.{RangeState}
+use Rattle.cjc_int_narrow.specs.JvmSemantics.Linked.{Method}
+use Rattle.cjc_int_narrow.specs.JvmSemantics.OnePackage.{method_at, method_by}
+use Rattle.cjc_int_narrow.specs.Layout.Legal.{IsLeast}
+use Rattle.cjc_int_narrow.specs.Layout.Layouts.{IsWhole}
+use Rattle.cjc_int_narrow.specs.Narrow.Rows.Package.{flags_of, read_of, tree_of}
+use Rattle.cjc_int_narrow.specs.Narrow.Rows.Resolved.{method_found, resolution}
 use Rattle.cjc_ncode.specs.Lowering.Naming.{Naming}
 use Rattle.cjc_ncode.specs.Written.{Resolution}
 use Rattle.cjc_ncode.specs.declared.narrow.NInsn.{NInsn}
 use Rattle.cjc_ncode.specs.declared.narrow.NMethod.{NMethod}
-use Rattle.cjc_types.specs.Flow.{body_of}
-use Rattle.cjc_types.specs.Tables.{IsLeastTable, IsMethodOf}
-use Rattle.cjc_types.specs.declared.state.State.{State}
-use Rattle.cjc_types.specs.World.Classes.{all_classes}
-use Rattle.cjc_code.specs.ClassFile.Code.{CodeTree}
-use Rattle.cjc_code.specs.ClassFile.declared.tree.ClassTree.{ClassTree}
-use Rattle.cjc_code.specs.ClassFile.declared.tree.MethodTree.{MethodTree}
-use Rattle.cjc_types.specs.World.Files.{Files}
-use Rattle.cjc_narrow_proof.specs.Selected.Keeps.{FindsItself}
-use Rattle.cjc_int_mode.specs.Written.{int_frame, places_from, reached_from, written_in_int_mode}
-use Rattle.cjc_int_mode.specs.declared.modes.Mode.{Mode}
-use Rattle.cjc_int_mode.specs.declared.modes.Mode.TheVariants as modes
+use Rattle.cjc_int_narrow.specs.Types.Flow.{body_of}
+use Rattle.cjc_int_narrow.specs.Types.Tables.{IsLeastTable, IsMethodOf}
+use Rattle.cjc_int_narrow.specs.Types.declared.state.State.{State}
+use Rattle.cjc_check_proof.specs.World.Classes.{all_classes}
+use Rattle.cjc_ncode.specs.ClassFile.Code.{CodeTree}
+use Rattle.cjc_ncode.specs.ClassFile.declared.tree.ClassTree.{ClassTree}
+use Rattle.cjc_ncode.specs.ClassFile.declared.tree.MethodTree.{MethodTree}
+use Rattle.cjc_check_proof.specs.World.Files.{Files}
+use Rattle.cjc_check_proof.specs.LowerNarrowProof.Selected.Keeps.{FindsItself}
+use Rattle.cjc_int_narrow.specs.IntMode.Written.{int_frame, places_from, reached_from, written_in_int_mode}
+use Rattle.cjc_int_narrow.specs.IntMode.declared.modes.Mode.{Mode}
+use Rattle.cjc_int_narrow.specs.IntMode.declared.modes.Mode.TheVariants as modes
 use Rattle.cjc_int_narrow.proofs.Stands.{int_code_whole}
-use Rattle.cjc_int_proof.proofs.Forms.{all_have_forms}
+use Rattle.cjc_int_narrow.proofs.IntProofForms.{all_have_forms}
 use Rattle.cjc_int_components.specs.Made.{IsMadeByMode, in_int_mode}
 use Rattle.cjc_int_components.specs.Modes.{AreLeast, Tables}
 use Rattle.cjc_int_components.specs.Written.{IsWrittenByMode, code_by_mode, code_in, int_code_of}

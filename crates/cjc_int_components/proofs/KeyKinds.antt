@@ -1,12 +1,12 @@
 -- What is named in int mode is of the kind that its opcode uses.
 use Rattle.std.proofs.Common.{◌≡◌, ℕ, refl, sym, ap, subst, ◌∙◌, Bool, true, false, List, [], ◌∷◌, ◌++◌, append-nil}
 use Rattle.std.specs.Prelude.{Some, flat_map, slice_get}
-use Rattle.cjc_code.specs.Bytes.declared.fault.MemberId.{MemberId}
-use Rattle.cjc_ncode.specs.LowerScript.Sorts.{Sort, Boolean, Byte, Short, Int, Reference, NoValue, field_sort}
-use Rattle.cjc_types.specs.World.Files.{Files}
-use Rattle.cjc_ncode.specs.LowerCardSemantics.Bytecode.Meanings.{Meaning, Uses, meaning}
-use Rattle.cjc_code.specs.declared.insn.JInsn.{JInsn}
-use Rattle.cjc_code.specs.declared.insn.JOp.{JOp}
+use Rattle.cjc_check_proof.specs.Bytes.declared.fault.MemberId.{MemberId}
+use Rattle.cjc_ncode.specs.Script.Sorts.{Sort, Boolean, Byte, Short, Int, Reference, NoValue, field_sort}
+use Rattle.cjc_check_proof.specs.World.Files.{Files}
+use Rattle.cjc_ncode.specs.CardSemantics.Bytecode.Meanings.{Meaning, Uses, meaning}
+use Rattle.cjc_ncode.specs.Bytecode.declared.insn.JInsn.{JInsn}
+use Rattle.cjc_ncode.specs.Bytecode.declared.insn.JOp.{JOp}
 use Rattle.cjc_ncode.specs.Written.{Resolution, static_access, written, written_for}
 use Rattle.cjc_ncode.specs.declared.narrow.NInsn.{NInsn}
 use Rattle.cjc_ncode.specs.declared.narrow.NInsn.TheVariants as insns
@@ -14,11 +14,11 @@ use Rattle.cjc_ncode.specs.declared.narrow.PairRole.{PairRole}
 use Rattle.cjc_ncode.specs.declared.narrow.PairRole.TheVariants.{Alone}
 use Rattle.cjc_ncode.specs.declared.narrow.PoolKey.{PoolKey}
 use Rattle.cjc_ncode.specs.declared.narrow.PoolKey.TheVariants as keys
-use Rattle.cjc_components.proofs.NarrowRoles.{written_as_same}
-use Rattle.cjc_components.specs.LowerNarrow.Rows.Resolved.{resolution}
+use Rattle.cjc_int_narrow.proofs.NarrowRoles.{written_as_same}
+use Rattle.cjc_int_narrow.specs.Narrow.Rows.Resolved.{resolution}
 use Rattle.cjc_check_proof.proofs.PromisesLaws.KeyKinds.{code_has_kinds}
 use Rattle.cjc_check_proof.specs.Code.Kinds.{HasKind, is_for}
-use Rattle.cjc_int_proof.specs.Operands.{names_nothing}
+use Rattle.cjc_int_narrow.specs.IntProof.Operands.{names_nothing}
 use Rattle.cjc_int_components.specs.Names.{NamesAs, nothing, outside, static_field}
 
 -- no instruction opens or closes a pair

@@ -3,14 +3,14 @@ use Rattle.std.proofs.Common.{◌≡◌, ℕ, zero, suc, ◌<◌, ◌≤◌, ari
 use Rattle.std.proofs.Common.{[], ◌∷◌, length}
 use Rattle.std.specs.Prelude.{Option, Some, None, position, slice_get, unwrap_or}
 use Rattle.std.proofs.lemmas.List.Quantifiers.{position-Some}
-use Rattle.cjc_code.specs.Bytes.declared.fault.MemberId.{MemberId}
-use Rattle.cjc_check_rules.specs.CapRead.Opcodes.{Fields, Index2, form, forms}
-use Rattle.cjc_code.specs.declared.insn.JInsn.{JInsn}
-use Rattle.cjc_code.specs.declared.insn.JOp.{JOp}
-use Rattle.cjc_code.specs.declared.insn.JOp.TheVariants as jop
-use Rattle.cjc_ncode.specs.LowerScript.Sorts.{Sort, Boolean, Byte, Short, Int, Reference, NoValue, field_sort}
-use Rattle.cjc_code.specs.ClassFile.Code.{CodeTree}
-use Rattle.cjc_types.specs.World.Files.{Files}
+use Rattle.cjc_check_proof.specs.Bytes.declared.fault.MemberId.{MemberId}
+use Rattle.cjc_ncode.specs.CapRead.Opcodes.{Fields, Index2, form, forms}
+use Rattle.cjc_ncode.specs.Bytecode.declared.insn.JInsn.{JInsn}
+use Rattle.cjc_ncode.specs.Bytecode.declared.insn.JOp.{JOp}
+use Rattle.cjc_ncode.specs.Bytecode.declared.insn.JOp.TheVariants as jop
+use Rattle.cjc_ncode.specs.Script.Sorts.{Sort, Boolean, Byte, Short, Int, Reference, NoValue, field_sort}
+use Rattle.cjc_ncode.specs.ClassFile.Code.{CodeTree}
+use Rattle.cjc_check_proof.specs.World.Files.{Files}
 use Rattle.cjc_ncode.specs.Lowering.Laid.{laid}
 use Rattle.cjc_ncode.specs.Lowering.Naming.{Naming}
 use Rattle.cjc_ncode.specs.Lowering.Placed.{IsSpellable}
@@ -22,14 +22,14 @@ use Rattle.cjc_ncode.specs.declared.narrow.NInsn.TheVariants as insns
 use Rattle.cjc_ncode.specs.declared.narrow.PairRole.TheVariants.{Alone, Closes}
 use Rattle.cjc_ncode.specs.declared.narrow.PoolKey.{PoolKey}
 use Rattle.cjc_ncode.specs.declared.narrow.PoolKey.TheVariants as keys
-use Rattle.cjc_components.specs.LowerNarrow.Keys.Index.{index_of}
-use Rattle.cjc_components.specs.LowerNarrow.Rows.Resolved.{resolution}
-use Rattle.cjc_components.specs.LowerNarrow.Rows.Selected.{near_fields}
-use Rattle.cjc_components.specs.LowerNarrow.Written.Operands.{CanBeSaid}
-use Rattle.cjc_narrow_proof.proofs.SelectedLaws.Numbers.{all_fit}
-use Rattle.cjc_narrow_proof.proofs.SelectedLaws.Said.{all_said}
-use Rattle.cjc_narrow_proof.specs.Selected.Operands.{IndexFits, IsSmall, NumbersFit, OperandsFit}
-use Rattle.cjc_int_proof.specs.Operands.{names_nothing}
+use Rattle.cjc_int_narrow.specs.Narrow.Keys.Index.{index_of}
+use Rattle.cjc_int_narrow.specs.Narrow.Rows.Resolved.{resolution}
+use Rattle.cjc_int_narrow.specs.Narrow.Rows.Selected.{near_fields}
+use Rattle.cjc_int_narrow.specs.Narrow.Written.Operands.{CanBeSaid}
+use Rattle.cjc_check_proof.proofs.NarrowProofNumbers.{all_fit}
+use Rattle.cjc_check_proof.proofs.NarrowProofSaid.{all_said}
+use Rattle.cjc_check_proof.specs.LowerNarrowProof.Selected.Operands.{IndexFits, IsSmall, NumbersFit, OperandsFit}
+use Rattle.cjc_int_narrow.specs.IntProof.Operands.{names_nothing}
 use Rattle.cjc_int_components.specs.Names.{NamesAs, NamesAsOneOf, WordsFit, as_one, has_name, no_name, nothing}
 use Rattle.cjc_int_components.specs.Names.{outside, static_field}
 use Rattle.cjc_int_components.proofs.KeyKinds.{alone, lone, lone_written}

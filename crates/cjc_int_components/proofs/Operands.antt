@@ -4,39 +4,40 @@ use Rattle.std.proofs.Common.{true, false, List, [], ◌∷◌, length, map}
 use Rattle.std.specs.Prelude.{Option, Some, None, get_or, max, slice_get, ℤ, pos, negsuc, ◌≤ℤ◌}
 use Rattle.std.proofs.lemmas.Int.{ints}
 use Rattle.std.proofs.lemmas.List.Sums.{sum_by-cons}
-use Rattle.cjc_code.specs.Bytes.declared.fault.MemberId.{MemberId}
-use Rattle.cjc_check_rules.specs.CapRead.Decode.{IsWithin, negative, positive}
-use Rattle.cjc_code.proofs.ReadLaws.Decoded.{decoded_instruction}
-use Rattle.cjc_code.proofs.ReadLaws.Members.{read_class}
-use Rattle.cjc_code.specs.ReadLaws.Instructions.{IsInstruction, NumbersFit}
-use Rattle.cjc_code.specs.ReadLaws.Members.{IsReadClass}
-use Rattle.cjc_code.specs.declared.insn.JInsn.{JInsn}
-use Rattle.cjc_code.specs.declared.insn.JOp.{JOp}
-use Rattle.cjc_code.specs.declared.insn.JOp.TheVariants as jop
-use Rattle.cjc_code.specs.declared.method_code.MethodCode.{MethodCode}
-use Rattle.cjc_types.specs.Fixpoint.Tables.{HasRow}
-use Rattle.cjc_code.specs.Range.Span.{Holds, full, short_range}
-use Rattle.cjc_ncode.specs.LowerScript.Sorts.{signature_of}
-use Rattle.cjc_code.specs.ClassFile.Code.{CodeTree}
-use Rattle.cjc_code.specs.ClassFile.declared.tree.ClassTree.{ClassTree}
-use Rattle.cjc_code.specs.ClassFile.declared.tree.MethodTree.{MethodTree}
-use Rattle.cjc_types.specs.World.Files.{Files}
-use Rattle.cjc_int_mode.specs.Intervals.Frames.{RangeState}
-use Rattle.cjc_types.specs.Flow.{Body, body_of}
-use Rattle.cjc_types.specs.Tables.{IsMethodOf}
-use Rattle.cjc_types.specs.TypeLaws.Places.{local_of}
-use Rattle.cjc_types.specs.declared.state.State.{State}
-use Rattle.cjc_types.proofs.TypeLaws.Standing.{local_there}
+use Rattle.cjc_check_proof.specs.Bytes.declared.fault.MemberId.{MemberId}
+use Rattle.cjc_ncode.specs.CapRead.Decode.{IsWithin, negative, positive}
+use Rattle.cjc_ncode.proofs.BytecodeDecoded.{decoded_instruction}
+use Rattle.cjc_ncode.proofs.BytecodeMembers.{read_class}
+use Rattle.cjc_ncode.specs.Bytecode.ReadLaws.Instructions.{IsInstruction, NumbersFit}
+use Rattle.cjc_ncode.specs.Bytecode.ReadLaws.Members.{IsReadClass}
+use Rattle.cjc_ncode.specs.Bytecode.declared.insn.JInsn.{JInsn}
+use Rattle.cjc_ncode.specs.Bytecode.declared.insn.JOp.{JOp}
+use Rattle.cjc_ncode.specs.Bytecode.declared.insn.JOp.TheVariants as jop
+use Rattle.cjc_ncode.specs.Bytecode.declared.method_code.MethodCode.{MethodCode}
+use Rattle.cjc_int_narrow.specs.Fixpoint.Tables.{HasRow}
+use Rattle.cjc_ncode.specs.Range.Span.{Holds, full, short_range}
+use Rattle.cjc_ncode.specs.Script.Sorts.{signature_of}
+use Rattle.cjc_ncode.specs.ClassFile.Code.{CodeTree}
+use Rattle.cjc_ncode.specs.ClassFile.declared.tree.ClassTree.{ClassTree}
+use Rattle.cjc_ncode.specs.ClassFile.declared.tree.MethodTree.{MethodTree}
+use Rattle.cjc_check_proof.specs.World.Files.{Files}
+use Rattle.cjc_int_narrow.specs.Intervals.Frames.{RangeState}
+use Rattle.cjc_int_narrow.specs.Types.Flow.{Body, body_of}
+use Rattle.cjc_int_narrow.specs.Types.Tables.{IsMethodOf}
+use Rattle.cjc_int_narrow.specs.Types.TypeLaws.Places.{local_of}
+use Rattle.cjc_int_narrow.specs.Types.declared.state.State.{State}
+use Rattle.cjc_int_narrow.proofs.TypesStanding.{local_there}
 use Rattle.cjc_ncode.specs.IntCode.IntCode.{Frame, Reached, first_word, nargs, scratch, scratch_pairs_by}
 use Rattle.cjc_ncode.specs.IntCode.IntCode.{scratch_pairs_of, widest}
 use Rattle.cjc_ncode.specs.Written.{Resolution, reached}
-use Rattle.cjc_narrow_proof.proofs.SelectedLaws.Cuts.{decoded}
-use Rattle.cjc_narrow_proof.specs.Selected.Keeps.{IsSpelt}
-use Rattle.cjc_int_mode.specs.Room.{IsRoom, many_words}
-use Rattle.cjc_int_mode.specs.Written.{argument_words, before, int_frame, local_words, most_pairs, reached_from}
-use Rattle.cjc_int_mode.specs.declared.modes.Mode.TheVariants as modes
+use Rattle.cjc_check_proof.proofs.NarrowProofCuts.{decoded}
+use Rattle.cjc_check_proof.specs.LowerNarrowProof.Selected.Keeps.{IsSpelt}
+use Rattle.cjc_int_narrow.specs.IntMode.Room.{IsRoom, many_words}
+use Rattle.cjc_int_narrow.specs.IntMode.Written.{argument_words, before, int_frame, local_words, most_pairs}
+use Rattle.cjc_int_narrow.specs.IntMode.Written.{reached_from}
+use Rattle.cjc_int_narrow.specs.IntMode.declared.modes.Mode.TheVariants as modes
 use Rattle.cjc_int_narrow.proofs.Whole.{few_enough}
-use Rattle.cjc_int_proof.specs.Operands.{IsInt, OperandsFit}
+use Rattle.cjc_int_narrow.specs.IntProof.Operands.{IsInt, OperandsFit}
 use Rattle.cjc_int_components.specs.Switches.{SwitchFits}
 
 -- ---- numbers

@@ -7,3 +7,11 @@ pub mod Pairs
 pub mod Whole
 pub mod Tables
 pub mod Stands
+-- Lemmas of lower crates, for those above.
+pub use Rattle.cjc_narrow.proofs.TypesAscending as TypesAscending
+pub use Rattle.cjc_narrow.proofs.TypesLowered as TypesLowered
+pub use Rattle.cjc_narrow.proofs.TypesStanding as TypesStanding
+pub use Rattle.cjc_narrow.proofs.PairsLaws.Roles as NarrowRoles
+pub use Rattle.cjc_int_proof.proofs.LayoutPlaces as LayoutPlaces
+pub use Rattle.cjc_int_proof.proofs.Forms as IntProofForms
+pub use Rattle.cjc_int_proof.proofs.Said as IntProofSaid

@@ -5,3 +5,5 @@ pub mod Sizes
 pub mod Leads
 pub mod Forms
 pub mod Said
+-- Lemmas of lower crates, for those above.
+pub use Rattle.cjc_layout.proofs.Places as LayoutPlaces

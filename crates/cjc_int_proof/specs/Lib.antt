@@ -3,4 +3,5 @@ pub mod LongRuns
 pub mod Labels
 pub mod Operands
 -- Definitions of lower crates, for those above.
-pub mod Layout
+pub mod Types
+pub mod LowerLayout

@@ -6,10 +6,10 @@ use Rattle.std.specs.Prelude.{Option, Some, slice_get}
 use Rattle.std.proofs.lemmas.List.{length-append}
 use Rattle.cjc_range.specs.Span.{Span, Within, full}
 use Rattle.cjc_range.proofs.Order.{held_wider}
-use Rattle.cjc_code.specs.declared.insn.JOp.TheVariants as jop
-use Rattle.cjc_card_semantics.specs.Script.declared.value.Value.{Value}
-use Rattle.cjc_card_semantics.specs.Script.declared.value.Value.TheVariants.{Num}
-use Rattle.cjc_card_semantics.specs.Script.Sorts.{Shape}
+use Rattle.cjc_ncode.specs.Bytecode.declared.insn.JOp.TheVariants as jop
+use Rattle.cjc_script.specs.declared.value.Value.{Value}
+use Rattle.cjc_script.specs.declared.value.Value.TheVariants.{Num}
+use Rattle.cjc_script.specs.Sorts.{Shape}
 use Rattle.cjc_card_semantics.specs.Bytecode.Calculations.{int_words}
 use Rattle.cjc_card_semantics.specs.Bytecode.Meanings.{meaning}
 use Rattle.cjc_card_semantics.specs.Bytecode.Effects as narrow

@@ -9,10 +9,10 @@ use Rattle.cjc_range.specs.Words.{low_word, low_byte}
 use Rattle.cjc_range.specs.Span.{Span, Holds, Within, full}
 use Rattle.cjc_range.proofs.Order.{held_wider}
 use Rattle.cjc_range.proofs.WordsLaws.Words.{low_byte-low_word, low_word_fits, low_word_fixed, wide_ends}
-use Rattle.cjc_code.specs.declared.insn.JOp.TheVariants as jop
-use Rattle.cjc_card_semantics.specs.Script.declared.value.Value.{Value}
-use Rattle.cjc_card_semantics.specs.Script.declared.value.Value.TheVariants.{Num}
-use Rattle.cjc_card_semantics.specs.Script.Sorts.{Shape, OfNumbers, Booleans}
+use Rattle.cjc_ncode.specs.Bytecode.declared.insn.JOp.TheVariants as jop
+use Rattle.cjc_script.specs.declared.value.Value.{Value}
+use Rattle.cjc_script.specs.declared.value.Value.TheVariants.{Num}
+use Rattle.cjc_script.specs.Sorts.{Shape, OfNumbers, Booleans}
 use Rattle.cjc_card_semantics.specs.Bytecode.Calculations
 use Rattle.cjc_card_semantics.specs.Bytecode.Numbers.{spelt_by}
 use Rattle.cjc_card_semantics.specs.Bytecode.Meanings.{meaning}

@@ -4,9 +4,9 @@ use Rattle.std.proofs.Common.{◌≡◌, ℕ, zero, suc, ◌+◌, ◌-◌, ◌*�
 use Rattle.std.proofs.Common.{◌∙◌, arith, append_assoc}
 use Rattle.std.specs.Prelude.{Some, None, map, replicate, take, slice_set}
 use Rattle.std.proofs.lemmas.List.{length-append}
-use Rattle.cjc_code.proofs.BytesLists.{length_mapped}
-use Rattle.cjc_card_semantics.specs.Script.declared.value.Value.{Value}
-use Rattle.cjc_card_semantics.specs.Script.Sorts.{Sort}
+use Rattle.cjc_script.proofs.BytesLists.{length_mapped}
+use Rattle.cjc_script.specs.declared.value.Value.{Value}
+use Rattle.cjc_script.specs.Sorts.{Sort}
 use Rattle.cjc_card_semantics.specs.Bytecode.Arguments.{widths}
 use Rattle.cjc_card_semantics.specs.Bytecode.Machine.{locals_of}
 use Rattle.cjc_ncode.specs.declared.narrow.NMethod.{NMethod}

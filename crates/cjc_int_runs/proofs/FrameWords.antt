@@ -4,11 +4,11 @@ use Rattle.std.proofs.Common.{length}
 use Rattle.std.proofs.Common.{ℤ}
 use Rattle.std.specs.Prelude.{Option, Some, slice_get, slice_set, Bool}
 use Rattle.std.proofs.lemmas.List.{length-append}
-use Rattle.cjc_code.proofs.BytesGets.{get_behind, in_front, set_length}
+use Rattle.cjc_script.proofs.BytesGets.{get_behind, in_front, set_length}
 use Rattle.cjc_range.specs.Span.{Span, Holds}
-use Rattle.cjc_card_semantics.specs.Script.declared.value.Value.{Value}
-use Rattle.cjc_card_semantics.specs.Script.declared.value.Value.TheVariants.{Num}
-use Rattle.cjc_card_semantics.specs.Script.Sorts.{Shape}
+use Rattle.cjc_script.specs.declared.value.Value.{Value}
+use Rattle.cjc_script.specs.declared.value.Value.TheVariants.{Num}
+use Rattle.cjc_script.specs.Sorts.{Shape}
 use Rattle.cjc_card_semantics.specs.Bytecode.Numbers.{spelt_by}
 use Rattle.cjc_ncode.specs.IntCode.IntCode.{Frame, nargs, first_word}
 use Rattle.cjc_narrow_proof.specs.Selection.Relation.{Kind, Range, Refers, Free, Heap}

@@ -7,18 +7,18 @@ use Rattle.std.specs.Int.{w32}
 use Rattle.std.proofs.lemmas.Bool.Decides.{nat_tests}
 use Rattle.std.proofs.lemmas.List.{length-append}
 use Rattle.std.proofs.lemmas.Int.{ints}
-use Rattle.cjc_code.specs.Bytes.declared.fault.MemberId.{MemberId}
-use Rattle.cjc_code.specs.Bytes.Spots.{desc_of, bad_at, after}
-use Rattle.cjc_code.proofs.BytesGets.{item_has}
-use Rattle.cjc_code.proofs.BytesLists.{length_mapped}
+use Rattle.cjc_narrow_proof.specs.Bytes.declared.fault.MemberId.{MemberId}
+use Rattle.cjc_narrow_proof.specs.Bytes.Spots.{desc_of, bad_at, after}
+use Rattle.cjc_script.proofs.BytesGets.{item_has}
+use Rattle.cjc_script.proofs.BytesLists.{length_mapped}
 use Rattle.cjc_range.specs.Span.{Span, Holds, Within, full, byte_range, short_range}
 use Rattle.cjc_range.proofs.Order.{held_wider}
 use Rattle.cjc_range.proofs.Spans.{fits_word}
-use Rattle.cjc_card_semantics.specs.Script.declared.value.Value.{Value}
-use Rattle.cjc_card_semantics.specs.Script.declared.value.Value.TheVariants.{Num}
-use Rattle.cjc_card_semantics.specs.Script.declared.report.Thing.{Thing}
-use Rattle.cjc_card_semantics.specs.Script.Sorts.{Element, Booleans, Bytes, Shorts, Ints, Shape, OfNumbers, array_name}
-use Rattle.cjc_card_semantics.specs.Script.Sorts.{shape_named}
+use Rattle.cjc_script.specs.declared.value.Value.{Value}
+use Rattle.cjc_script.specs.declared.value.Value.TheVariants.{Num}
+use Rattle.cjc_script.specs.declared.report.Thing.{Thing}
+use Rattle.cjc_script.specs.Sorts.{Element, Booleans, Bytes, Shorts, Ints, Shape, OfNumbers, array_name}
+use Rattle.cjc_script.specs.Sorts.{shape_named}
 use Rattle.cjc_card_semantics.specs.Bytecode.Numbers.{is_word}
 use Rattle.cjc_card_semantics.specs.Bytecode.Calculations.{int_words}
 use Rattle.cjc_card_semantics.specs.Bytecode.Calculations

@@ -4,18 +4,18 @@ use Rattle.std.proofs.Common.{subst, ◌∙◌, arith}
 use Rattle.std.proofs.Common.{Bool, true, ℤ}
 use Rattle.std.specs.Prelude.{Option, Some, map, slice_get, slice_set, if◌then◌else◌}
 use Rattle.std.proofs.lemmas.Int.{ints}
-use Rattle.cjc_code.specs.Bytes.declared.fault.MemberId.{MemberId}
-use Rattle.cjc_code.specs.Bytes.Spots.{desc_of, bad_at, after}
-use Rattle.cjc_code.proofs.BytesGets.{set_length, map_set}
-use Rattle.cjc_code.proofs.BytesLists.{length_mapped}
+use Rattle.cjc_narrow_proof.specs.Bytes.declared.fault.MemberId.{MemberId}
+use Rattle.cjc_narrow_proof.specs.Bytes.Spots.{desc_of, bad_at, after}
+use Rattle.cjc_script.proofs.BytesGets.{set_length, map_set}
+use Rattle.cjc_script.proofs.BytesLists.{length_mapped}
 use Rattle.cjc_range.proofs.WordsLaws.Words.{low_byte_ends, low_word_ends}
 use Rattle.cjc_range.specs.Span.{Span, Holds, Within, full}
 use Rattle.cjc_range.proofs.Order.{held_wider}
-use Rattle.cjc_card_semantics.specs.Script.declared.value.Value.{Value}
-use Rattle.cjc_card_semantics.specs.Script.declared.value.Value.TheVariants.{Num}
-use Rattle.cjc_card_semantics.specs.Script.declared.report.Thing.{Thing}
-use Rattle.cjc_card_semantics.specs.Script.declared.report.Thing.TheVariants as things
-use Rattle.cjc_card_semantics.specs.Script.Sorts.{Element, Booleans, Bytes, Shorts, Ints, Shape, OfNumbers, array_name, shape_named}
+use Rattle.cjc_script.specs.declared.value.Value.{Value}
+use Rattle.cjc_script.specs.declared.value.Value.TheVariants.{Num}
+use Rattle.cjc_script.specs.declared.report.Thing.{Thing}
+use Rattle.cjc_script.specs.declared.report.Thing.TheVariants as things
+use Rattle.cjc_script.specs.Sorts.{Element, Booleans, Bytes, Shorts, Ints, Shape, OfNumbers, array_name, shape_named}
 use Rattle.cjc_card_semantics.specs.Bytecode.Calculations
 use Rattle.cjc_card_semantics.specs.Bytecode.Effects.{Letter, HeapObject, Numbers, References, Object, shape}
 use Rattle.cjc_card_semantics.specs.Bytecode.Effects.{is_element}

@@ -1,8 +1,8 @@
 -- Where each array and object keeps its type, frames that agreed agree still.
 use Rattle.std.proofs.Common.{◌≡◌, ℕ, ap, ◌∙◌, List, []}
 use Rattle.std.specs.Prelude.{Option, Bool}
-use Rattle.cjc_card_semantics.specs.Script.declared.value.Value.{Value}
-use Rattle.cjc_card_semantics.specs.Script.Sorts.{Shape}
+use Rattle.cjc_script.specs.declared.value.Value.{Value}
+use Rattle.cjc_script.specs.Sorts.{Shape}
 use Rattle.cjc_ncode.specs.IntCode.IntCode.{Frame}
 use Rattle.cjc_narrow_proof.specs.Selection.Relation.{Kind, Heap}
 use Rattle.cjc_narrow_proof.specs.Selection.Acts.{Keeps}

@@ -6,16 +6,16 @@ use Rattle.std.specs.Int.{w16, cast_unsigned}
 use Rattle.std.specs.Prelude.{Option, Some, slice_get, slice_set, nat_le, nat_lt, ◌&&◌, if◌then◌else◌}
 use Rattle.std.proofs.lemmas.Bool.Decides.{nat_tests}
 use Rattle.std.proofs.lemmas.Int.{ints}
-use Rattle.cjc_code.proofs.BytesGets.{get_inside}
+use Rattle.cjc_script.proofs.BytesGets.{get_inside}
 use Rattle.cjc_range.specs.Words.{wide, low_word}
 use Rattle.cjc_range.specs.Span.{Span, span, Holds, short_range}
 use Rattle.cjc_range.specs.Rows.{add_row}
 use Rattle.cjc_range.proofs.Spans.{add_holds}
 use Rattle.cjc_range.proofs.WordsLaws.Words.{wide_ends}
-use Rattle.cjc_code.specs.declared.insn.JOp.TheVariants as jop
-use Rattle.cjc_card_semantics.specs.Script.declared.value.Value.{Value}
-use Rattle.cjc_card_semantics.specs.Script.declared.value.Value.TheVariants.{Num, Null, Obj}
-use Rattle.cjc_card_semantics.specs.Script.Sorts.{Shape}
+use Rattle.cjc_ncode.specs.Bytecode.declared.insn.JOp.TheVariants as jop
+use Rattle.cjc_script.specs.declared.value.Value.{Value}
+use Rattle.cjc_script.specs.declared.value.Value.TheVariants.{Num, Null, Obj}
+use Rattle.cjc_script.specs.Sorts.{Shape}
 use Rattle.cjc_card_semantics.specs.Bytecode.Calculations.{Fine, load_int, load_reference, store_int, store_if}
 use Rattle.cjc_card_semantics.specs.Bytecode.Calculations.{is_reference, is_number, int_increased, int_set}
 use Rattle.cjc_card_semantics.specs.Bytecode.Calculations

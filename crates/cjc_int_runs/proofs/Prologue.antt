@@ -5,13 +5,13 @@ use Rattle.std.specs.Prelude.{Option, Some, map, option_map, slice_get, slice_se
 use Rattle.std.specs.Prelude.{if◌then◌else◌}
 use Rattle.std.proofs.lemmas.List.{length-append}
 use Rattle.std.proofs.lemmas.Int.{ints}
-use Rattle.cjc_code.proofs.BytesGets.{get_behind, get_inside, get_mapped, in_front, set_length}
+use Rattle.cjc_script.proofs.BytesGets.{get_behind, get_inside, get_mapped, in_front, set_length}
 use Rattle.cjc_range.specs.Words.{low_word}
 use Rattle.cjc_range.specs.Span.{Span, Holds}
 use Rattle.cjc_range.proofs.WordsLaws.Words.{low_word_same}
-use Rattle.cjc_card_semantics.specs.Script.declared.value.Value.{Value}
-use Rattle.cjc_card_semantics.specs.Script.declared.value.Value.TheVariants.{Num, Null, Obj}
-use Rattle.cjc_card_semantics.specs.Script.Sorts.{Sort, Boolean, Byte, Short, Int, Reference, NoValue, Shape}
+use Rattle.cjc_script.specs.declared.value.Value.{Value}
+use Rattle.cjc_script.specs.declared.value.Value.TheVariants.{Num, Null, Obj}
+use Rattle.cjc_script.specs.Sorts.{Sort, Boolean, Byte, Short, Int, Reference, NoValue, Shape}
 use Rattle.cjc_card_semantics.specs.Bytecode.Arguments.{widths}
 use Rattle.cjc_card_semantics.specs.Bytecode.Calculations.{Fine, is_number, is_reference, int_words}
 use Rattle.cjc_card_semantics.specs.Bytecode.Calculations

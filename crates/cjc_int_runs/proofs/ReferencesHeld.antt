@@ -3,13 +3,13 @@ use Rattle.std.proofs.Common.{◌≡◌, ℕ, ◌+◌, ◌≤◌, List, ◌∷�
 use Rattle.std.proofs.Common.{Bool, true, false, ℤ}
 use Rattle.std.specs.Prelude.{Option, Some, None, slice_get, slice_set, nat_le, if◌then◌else◌}
 use Rattle.std.proofs.lemmas.Bool.Decides.{nat_tests}
-use Rattle.cjc_code.specs.Bytes.declared.fault.MemberId.{MemberId}
-use Rattle.cjc_code.proofs.BytesGets.{set_length, item_has}
-use Rattle.cjc_card_semantics.specs.Script.declared.value.Value.{Value}
-use Rattle.cjc_card_semantics.specs.Script.declared.value.Value.TheVariants.{Null, Obj}
-use Rattle.cjc_card_semantics.specs.Script.declared.report.Thing.{Thing}
-use Rattle.cjc_card_semantics.specs.Script.declared.report.Thing.TheVariants as things
-use Rattle.cjc_card_semantics.specs.Script.Sorts.{Reference, Shape, OfClass, OfReferences, shape_name, shape_named}
+use Rattle.cjc_narrow_proof.specs.Bytes.declared.fault.MemberId.{MemberId}
+use Rattle.cjc_script.proofs.BytesGets.{set_length, item_has}
+use Rattle.cjc_script.specs.declared.value.Value.{Value}
+use Rattle.cjc_script.specs.declared.value.Value.TheVariants.{Null, Obj}
+use Rattle.cjc_script.specs.declared.report.Thing.{Thing}
+use Rattle.cjc_script.specs.declared.report.Thing.TheVariants as things
+use Rattle.cjc_script.specs.Sorts.{Reference, Shape, OfClass, OfReferences, shape_name, shape_named}
 use Rattle.cjc_card_semantics.specs.Bytecode.Calculations
 use Rattle.cjc_card_semantics.specs.Bytecode.Effects.{HeapObject, Numbers, References, Object, shape}
 use Rattle.cjc_card_semantics.specs.Bytecode.Effects as narrow

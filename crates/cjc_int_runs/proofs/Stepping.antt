@@ -4,7 +4,7 @@ use Rattle.std.proofs.Common.{◌∷◌}
 use Rattle.std.proofs.Common.{◌++◌, length}
 use Rattle.std.specs.Prelude.{Option, Some, option_map, nat_le, nat_lt, slice_get, if◌then◌else◌}
 use Rattle.std.proofs.lemmas.Bool.Decides.{nat_tests}
-use Rattle.cjc_card_semantics.specs.Script.declared.value.Value.{Value}
+use Rattle.cjc_script.specs.declared.value.Value.{Value}
 use Rattle.cjc_card_semantics.specs.Bytecode.Calculations.{pushed, Fine, Wrong}
 use Rattle.cjc_card_semantics.specs.Bytecode.Calculations
 use Rattle.cjc_card_semantics.specs.Bytecode.Effects as narrow

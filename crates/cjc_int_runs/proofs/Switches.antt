@@ -5,13 +5,13 @@ use Rattle.std.proofs.Common.{Bool, true, false, ℤ, pos, negsuc, ◌+ℤ◌}
 use Rattle.std.specs.Prelude.{Option, Some, None, map, slice_get, ◌&&◌, ◌-ℤ◌, ◌≤ℤ◌, ◌<ℤ◌, int_le, if◌then◌else◌}
 use Rattle.std.specs.List.{Contains}
 use Rattle.std.proofs.lemmas.Int.{ints}
-use Rattle.cjc_code.proofs.BytesGets.{contained}
-use Rattle.cjc_card_semantics.proofs.BytesIntegers.{le_true, le_false}
+use Rattle.cjc_script.proofs.BytesGets.{contained}
+use Rattle.cjc_script.proofs.BytesIntegers.{le_true, le_false}
 use Rattle.cjc_range.specs.Span.{Span}
-use Rattle.cjc_code.specs.declared.insn.JCase.{JCase}
-use Rattle.cjc_code.specs.declared.insn.JOp.TheVariants as jop
-use Rattle.cjc_card_semantics.specs.Script.declared.value.Value.{Value}
-use Rattle.cjc_card_semantics.specs.Script.declared.value.Value.TheVariants.{Num}
+use Rattle.cjc_ncode.specs.Bytecode.declared.insn.JCase.{JCase}
+use Rattle.cjc_ncode.specs.Bytecode.declared.insn.JOp.TheVariants as jop
+use Rattle.cjc_script.specs.declared.value.Value.{Value}
+use Rattle.cjc_script.specs.declared.value.Value.TheVariants.{Num}
 use Rattle.cjc_card_semantics.specs.Bytecode.Meanings.{meaning}
 use Rattle.cjc_card_semantics.specs.Bytecode.Effects.{Arm}
 use Rattle.cjc_card_semantics.specs.Bytecode.Effects as narrow

@@ -1,7 +1,7 @@
 -- What a row that reads a field asks, in int mode: a field of one word or two.
 use Rattle.std.specs.Prelude.{◌≡◌, ℕ, List, Some, Bool, true, false}
-use Rattle.cjc_code.specs.Bytes.declared.fault.MemberId.{MemberId}
-use Rattle.cjc_card_semantics.specs.Script.Sorts.{Shape, Sort, NoValue, field_sort}
+use Rattle.cjc_narrow_proof.specs.Bytes.declared.fault.MemberId.{MemberId}
+use Rattle.cjc_script.specs.Sorts.{Shape, Sort, NoValue, field_sort}
 use Rattle.cjc_ncode.specs.ByLabel.{Named}
 use Rattle.cjc_ncode.specs.Written.{Resolution}
 use Rattle.cjc_jvm_semantics.specs.Linked.{Method, Instance, Linked}

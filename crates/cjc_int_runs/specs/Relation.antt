@@ -1,12 +1,12 @@
 -- When a frame of the machine by name, on numbers of 32 bits, and one of code in int mode, on words of 16 bits, agree
 -- before an instruction of the class file. It knows no instruction, and not how a table was made.
 use Rattle.std.specs.Prelude.{◌≡◌, ℕ, ◌*◌, List, [], ◌∷◌, ◌++◌, length, Option, Some, Bool, true, slice_get, ℤ}
-use Rattle.cjc_code.specs.Bytes.declared.fault.MemberId.{MemberId}
+use Rattle.cjc_narrow_proof.specs.Bytes.declared.fault.MemberId.{MemberId}
 use Rattle.cjc_range.specs.Words.{low_word}
 use Rattle.cjc_range.specs.Span.{Span, Holds, byte_range, short_range, full}
-use Rattle.cjc_card_semantics.specs.Script.declared.value.Value.{Value}
-use Rattle.cjc_card_semantics.specs.Script.declared.value.Value.TheVariants.{Num, Null, Obj}
-use Rattle.cjc_card_semantics.specs.Script.Sorts.{Shape, Sort, Boolean, Byte, Short, Int, Reference}
+use Rattle.cjc_script.specs.declared.value.Value.{Value}
+use Rattle.cjc_script.specs.declared.value.Value.TheVariants.{Num, Null, Obj}
+use Rattle.cjc_script.specs.Sorts.{Shape, Sort, Boolean, Byte, Short, Int, Reference}
 use Rattle.cjc_card_semantics.specs.Bytecode.Effects.{HeapObject, shape}
 use Rattle.cjc_card_semantics.specs.Bytecode.Numbers.{spelt_by}
 use Rattle.cjc_ncode.specs.IntCode.IntCode.{nargs, is_short}

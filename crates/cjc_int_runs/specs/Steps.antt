@@ -3,10 +3,10 @@
 use Rattle.std.specs.Prelude.{◌≡◌, ℕ, ◌+◌, ◌*◌, ◌≤◌, ◌<◌, List, [], ◌∷◌, ◌++◌, length, map, Option, Some, None, Bool}
 use Rattle.std.specs.Prelude.{true, false, slice_get}
 use Rattle.std.specs.List.{Contains}
-use Rattle.cjc_code.specs.Bytes.declared.fault.MemberId.{MemberId}
-use Rattle.cjc_code.specs.declared.insn.JOp.{JOp}
-use Rattle.cjc_card_semantics.specs.Script.declared.value.Value.{Value}
-use Rattle.cjc_card_semantics.specs.Script.Sorts.{Sort}
+use Rattle.cjc_narrow_proof.specs.Bytes.declared.fault.MemberId.{MemberId}
+use Rattle.cjc_ncode.specs.Bytecode.declared.insn.JOp.{JOp}
+use Rattle.cjc_script.specs.declared.value.Value.{Value}
+use Rattle.cjc_script.specs.Sorts.{Sort}
 use Rattle.cjc_card_semantics.specs.Bytecode.Effects.{Slot}
 use Rattle.cjc_card_semantics.specs.Bytecode.Effects as narrow
 use Rattle.cjc_ncode.specs.declared.narrow.NInsn.{NInsn}

@@ -1,9 +1,9 @@
 -- Frames made by hand that agree: a byte array and an int in, two locals.
 use Rattle.std.specs.Prelude.{ℕ, List, [], ◌∷◌, Option, Some, None, Bool, true, false, pos, negsuc}
 use Rattle.cjc_range.specs.Span.{full}
-use Rattle.cjc_card_semantics.specs.Script.declared.value.Value.{Value}
-use Rattle.cjc_card_semantics.specs.Script.declared.value.Value.TheVariants.{Num, Null}
-use Rattle.cjc_card_semantics.specs.Script.Sorts.{Shape}
+use Rattle.cjc_script.specs.declared.value.Value.{Value}
+use Rattle.cjc_script.specs.declared.value.Value.TheVariants.{Num, Null}
+use Rattle.cjc_script.specs.Sorts.{Shape}
 use Rattle.cjc_ncode.specs.declared.narrow.NMethod.{NMethod}
 use Rattle.cjc_ncode.specs.IntCode.IntCode.{guard}
 use Rattle.cjc_narrow_proof.specs.Selection.Relation.{Kind, Range, Refers}

@@ -2,8 +2,8 @@
 
 ghost use Rattle.std.specs.Prelude.{◌≡◌, [], ◌∷◌, pos, negsuc};
 ghost use Rattle.cjc_range.specs.Span.{short_range, full};
-ghost use Rattle.cjc_card_semantics.specs.Script.declared.value.Value.TheVariants.{Num};
-ghost use Rattle.cjc_card_semantics.specs.Script.Sorts.{Short, Int};
+ghost use Rattle.cjc_script.specs.declared.value.Value.TheVariants.{Num};
+ghost use Rattle.cjc_script.specs.Sorts.{Short, Int};
 ghost use Rattle.cjc_card_semantics.specs.Bytecode.Calculations.{int_words};
 ghost use Rattle.cjc_card_semantics.specs.Bytecode.Numbers.{spelt_by};
 ghost use Rattle.cjc_ncode.specs.ByLabel.{by_label};

@@ -19,10 +19,5 @@ pub mod RangesLaws
 pub mod Unbroken
 pub mod JointLaws
 -- Lemmas of lower crates, for those above.
-pub use Rattle.cjc_bytes.proofs.Bools as BytesBools
-pub use Rattle.cjc_bytes.proofs.BrokenRules as BytesBrokenRules
-pub use Rattle.cjc_bytes.proofs.Firsts as BytesFirsts
-pub use Rattle.cjc_bytes.proofs.Laws as BytesLaws
-pub use Rattle.cjc_bytes.proofs.Plain as BytesPlain
 pub use Rattle.cjc_clinit.proofs.OneImage as ClinitOneImage
 pub use Rattle.cjc_flow.proofs.TestsLaws.First as FlowFirst

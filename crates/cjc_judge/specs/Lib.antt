@@ -8,7 +8,7 @@ pub mod Joint
 pub mod Working
 pub mod OutOfRange
 -- Definitions of lower crates, for those above.
-pub mod Tokens
-pub mod LowerClinit
-pub mod LowerFlow
-pub mod Narrow
+pub mod Bytes
+pub mod List
+pub mod Clinit
+pub mod Flow

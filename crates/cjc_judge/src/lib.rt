@@ -2,22 +2,6 @@
 //! every command that starts from class files; it knows nothing of what is written or run.
 #![tactic(auto)]
 
-// Lower crates, for those above.
-/// What crates above take of cjc_bytes.
-pub mod bytes {
-    pub use cjc_bytes::{Bytes, Fault, NoMemory, Row};
-}
-
-/// What crates above take of cjc_list.
-pub mod list {
-    pub use cjc_list::{List, read_list};
-}
-
-/// What crates above take of cjc_world.
-pub mod world {
-    pub use cjc_world::StaticImage;
-}
-
 mod groups;
 mod joint;
 mod judged;

@@ -2,6 +2,5 @@ pub mod Acts
 pub mod States
 pub mod Runs
 -- Definitions of lower crates, for those above.
-pub mod Bytecode
-pub mod World
-pub mod JvmStep
+pub mod Script
+pub mod JvmSemantics

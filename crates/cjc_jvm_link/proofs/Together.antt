@@ -5,9 +5,9 @@ use Rattle.std.proofs.Common.{Bool, true, false, append_assoc, append-nil}
 use Rattle.std.specs.Prelude.{◌||◌, if◌then◌else◌}
 use Rattle.std.specs.List.{flat_map}
 use Rattle.std.proofs.lemmas.List.{flat_map_more, map_more, take_more}
-use Rattle.cjc_world.specs.Bytes.declared.settings.FileLine.{FileLine}
-use Rattle.cjc_world.specs.ClassFile.declared.tree.ClassTree.{ClassTree}
-use Rattle.cjc_world.specs.ExportFile.declared.tree.ExportTree.{ExportTree}
+use Rattle.cjc_jvm_semantics.specs.Bytes.declared.settings.FileLine.{FileLine}
+use Rattle.cjc_jvm_semantics.specs.ClassFile.declared.tree.ClassTree.{ClassTree}
+use Rattle.cjc_jvm_semantics.specs.ExportFile.declared.tree.ExportTree.{ExportTree}
 use Rattle.cjc_world.specs.declared.image.StaticImage.{StaticImage}
 use Rattle.cjc_world.specs.Files.{Files, files_of}
 use Rattle.cjc_jvm_semantics.specs.Group.{is_among, is_of_group, joint, joint_classes, joint_exports, joint_image}
@@ -51,22 +51,22 @@ line_more k xs i old now new lt so_far put =
 -- ---- the world
 
 module _ (group : List Files) (lines : List FileLine) (classes : List ClassTree) (exports outside : List ExportTree)
-    where
-  pub together : classes ≡ joint_classes group → exports ≡ flat_map (λ (p : Files). p.exports) group
-      → outside ≡ kept_by group [] exports
-      → lines ≡ map (λ c. line_of true) classes ++ map (λ t. line_of false) outside
-      → files_of [] lines classes outside ≡ joint group
-  together classes_are exports_are outside_is lines_are =
-      let all : List FileLine = map (λ c. line_of true) (joint_classes group)
-      ++ map (λ t. line_of false) (joint_exports group) in
-      let others : outside ≡ joint_exports group = outside_is ∙ kept_is group [] exports
-      ∙ ap (outside_once group []) exports_are in
-      let lines_of_all : lines ≡ all = lines_are
-      ∙ ap (λ cs. map (λ c. line_of true) cs ++ map (λ t. line_of false) outside) classes_are
-      ∙ ap (λ os. map (λ c. line_of true) (joint_classes group) ++ map (λ t. line_of false) os) others in
-      ap (λ l. files_of [] l classes outside) lines_of_all
-      ∙ ap (λ cs. files_of [] all cs outside) classes_are
-      ∙ ap (files_of [] all (joint_classes group)) others
+  where
+    pub together : classes ≡ joint_classes group → exports ≡ flat_map (λ (p : Files). p.exports) group
+        → outside ≡ kept_by group [] exports
+        → lines ≡ map (λ c. line_of true) classes ++ map (λ t. line_of false) outside
+        → files_of [] lines classes outside ≡ joint group
+    together classes_are exports_are outside_is lines_are =
+        let all : List FileLine = map (λ c. line_of true) (joint_classes group)
+        ++ map (λ t. line_of false) (joint_exports group) in
+        let others : outside ≡ joint_exports group = outside_is ∙ kept_is group [] exports
+        ∙ ap (outside_once group []) exports_are in
+        let lines_of_all : lines ≡ all = lines_are
+        ∙ ap (λ cs. map (λ c. line_of true) cs ++ map (λ t. line_of false) outside) classes_are
+        ∙ ap (λ os. map (λ c. line_of true) (joint_classes group) ++ map (λ t. line_of false) os) others in
+        ap (λ l. files_of [] l classes outside) lines_of_all
+        ∙ ap (λ cs. files_of [] all cs outside) classes_are
+        ∙ ap (files_of [] all (joint_classes group)) others
 
 -- ---- static cells
 

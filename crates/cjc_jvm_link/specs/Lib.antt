@@ -9,4 +9,5 @@ pub mod Keys
 pub mod Starts
 pub mod Working
 -- Definitions of lower crates, for those above.
-pub mod JvmSemantics
+pub mod Bytecode
+pub mod World

@@ -10,7 +10,7 @@ ghost use Rattle.cjc_jvm_semantics.specs.Group.{is_among, is_of_group, joint, jo
 ghost use Rattle.cjc_jvm_link.specs.Joint.{kept_by, with_image, with_outside};
 
 use crate::group::Package;
-use cjc_bytes::{Bytes, FileLine, MemberId, NoMemory, Row};
+use cjc_world::bytes::{Bytes, FileLine, MemberId, NoMemory, Row};
 use cjc_world::classfile::ClassTree;
 use cjc_world::export_file::ExportTree;
 use cjc_world::{ArrayCell, StaticImage, ValueCell, World};

@@ -4,6 +4,11 @@
 #![tactic(auto)]
 
 // Lower crates, for those above.
+/// What crates above take of bytes.
+pub mod bytes {
+    pub use cjc_code::bytes::{Bytes, Desc, Kind, MemberId, NoMemory, Row};
+}
+
 /// What crates above take of classfile.
 pub mod classfile {
     pub use cjc_code::classfile::{Catch, ClassTree, FieldTree, MethodTree};
@@ -16,12 +21,19 @@ pub mod bytecode {
 
 /// What crates above take of cjc_script.
 pub mod script {
-    pub use cjc_script::{FieldValue, Note, Report, Value};
+    pub use cjc_script::{
+        Act, Answer, Entry, FieldValue, Note, Outcome, Reply, Report, Script, Thing, Value,
+    };
+}
+
+/// What crates above take of cjc_world.
+pub mod world {
+    pub use cjc_world::StaticImage;
 }
 
 ghost use Rattle.std.specs.Prelude.{◌≡◌, ◌≢◌, ◌≤◌, ℕ, ℤ, codes, pos, negsuc, replicate, slice_get, length, take};
 ghost use Rattle.std.specs.Prelude.{reverse, nat_le, nat_lt, ◌++◌, false, true, List, Option, Some, None, [], ◌∷◌};
-ghost use Rattle.cjc_code.specs.Bytes.declared.fault.MemberId.{MemberId};
+ghost use Rattle.cjc_code.specs.LowerBytes.declared.fault.MemberId.{MemberId};
 ghost use Rattle.cjc_code.specs.Jvm as jvm;
 ghost use Rattle.cjc_code.specs.declared.insn.JOp.TheVariants as jop;
 ghost use Rattle.cjc_script.specs.declared.value.Value.{Value};

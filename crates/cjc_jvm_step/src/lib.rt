@@ -7,6 +7,11 @@ pub mod classfile {
     pub use cjc_jvm_semantics::classfile::{ClassTree, FieldTree, MethodTree};
 }
 
+/// What crates above take of world.
+pub mod world {
+    pub use cjc_jvm_semantics::world::StaticImage;
+}
+
 pub mod frame;
 pub mod heap;
 pub mod step;

@@ -2,13 +2,13 @@
 -- by its number, or an export file from outside, each of which stands once.
 use Rattle.std.specs.Prelude.{ℕ, suc, List, [], ◌∷◌, map, Bool, if◌then◌else◌, Option, Some, None, option_map}
 use Rattle.std.specs.Str.{bytes_eq}
-use Rattle.cjc_components.specs.LowerCardSemantics.Machine.Loaded.{Import, OfGroup, OfFile, Part, Loaded}
-use Rattle.cjc_components.specs.LowerCheckRules.Complete.{Complete}
-use Rattle.cjc_components.specs.LowerJvmSemantics.Group.{joint_exports}
+use Rattle.cjc_components.specs.CardSemantics.Machine.Loaded.{Import, OfGroup, OfFile, Part, Loaded}
+use Rattle.cjc_components.specs.CheckRules.Complete.{Complete}
+use Rattle.cjc_components.specs.JvmSemantics.Group.{joint_exports}
 use Rattle.cjc_components.specs.Paired.Naming.{part_of}
-use Rattle.cjc_components.specs.LowerExportFile.declared.tree.ExportTree.{ExportTree}
-use Rattle.cjc_components.specs.World.Files.{Files}
-use Rattle.cjc_components.specs.World.declared.image.StaticImage.{StaticImage}
+use Rattle.cjc_components.specs.LowerLowerExportFile.declared.tree.ExportTree.{ExportTree}
+use Rattle.cjc_components.specs.LowerWorld.Files.{Files}
+use Rattle.cjc_components.specs.LowerWorld.declared.image.StaticImage.{StaticImage}
 
 -- A package of the group: whether it has applets, its files, what its static cells hold at first, and its components.
 pub record Member : Type 0 where

@@ -1,12 +1,12 @@
 -- When packages behave alike together: their class files by name and their components by token, for every script.
 use Rattle.std.specs.Prelude.{◌≡◌, ℕ, List, map, All, Some}
-use Rattle.cjc_components.specs.LowerCardSemantics.Bytecode.Runs.{Agree}
-use Rattle.cjc_components.specs.LowerCardSemantics.Machine.ByToken.{run as run_by_token}
-use Rattle.cjc_components.specs.LowerClinit.Image.{IsImage}
-use Rattle.cjc_components.specs.LowerJvmSemantics.Group.{run_group}
-use Rattle.cjc_components.specs.Bytecode.PackageCodes.{all_codes}
-use Rattle.cjc_components.specs.LowerScript.declared.script.Script.{Script}
-use Rattle.cjc_components.specs.World.declared.image.StaticImage.{StaticImage}
+use Rattle.cjc_components.specs.CardSemantics.Bytecode.Runs.{Agree}
+use Rattle.cjc_components.specs.CardSemantics.Machine.ByToken.{run as run_by_token}
+use Rattle.cjc_components.specs.Clinit.Image.{IsImage}
+use Rattle.cjc_components.specs.JvmSemantics.Group.{run_group}
+use Rattle.cjc_components.specs.LowerBytecode.PackageCodes.{all_codes}
+use Rattle.cjc_components.specs.Script.declared.script.Script.{Script}
+use Rattle.cjc_components.specs.LowerWorld.declared.image.StaticImage.{StaticImage}
 use Rattle.cjc_link_semantics.specs.Loaded.{Member, files_of, group_loaded}
 
 -- what their static cells hold at first

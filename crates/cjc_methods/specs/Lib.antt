@@ -4,14 +4,14 @@ pub mod Working
 pub mod Layouts
 pub mod Component
 -- Definitions of lower crates, for those above.
-pub mod List
-pub mod Bytecode
-pub mod CapRead
-pub mod ClassOrder
-pub mod Subset
-pub mod Tokens
-pub mod Clinit
-pub mod JvmSemantics
-pub mod Layout
-pub mod Emit
-pub mod LowerPool
+pub mod Bytes
+pub mod Fixpoint
+pub mod ClassFile
+pub mod ExportFile
+pub mod CapWrite
+pub mod World
+pub mod VTable
+pub mod Check
+pub mod NCode
+pub mod Components
+pub mod Pool

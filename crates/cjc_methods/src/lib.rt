@@ -4,9 +4,34 @@
 #![tactic(auto)]
 
 // Lower crates, for those above.
+/// What crates above take of cjc_bytes.
+pub mod bytes {
+    pub use cjc_bytes::{Fault, NoMemory, Row, RulePlace, answer, broken};
+}
+
+/// What crates above take of export_file.
+pub mod export_file {
+    pub use cjc_world::export_file::{ExportTree, pool_size};
+}
+
+/// What crates above take of cjc_world.
+pub mod world {
+    pub use cjc_world::{Found, StaticImage, World};
+}
+
 /// What crates above take of class_order.
 pub mod class_order {
     pub use cjc_components::class_order::classes;
+}
+
+/// What crates above take of tokens.
+pub mod tokens {
+    pub use cjc_components::tokens::Tokens;
+}
+
+/// What crates above take of cjc_check.
+pub mod check {
+    pub use cjc_check::{Checked, codes};
 }
 
 /// What crates above take of cjc_pool.

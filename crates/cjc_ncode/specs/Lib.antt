@@ -5,7 +5,11 @@ pub mod WorkedCode
 pub mod Lowering
 pub mod IntCode
 -- Definitions of lower crates, for those above.
-pub mod LowerBytes
-pub mod LowerScript
-pub mod LowerCapRead
-pub mod LowerCardSemantics
+pub mod Bytes
+pub mod Range
+pub mod ClassFile
+pub mod Bytecode
+pub mod ExportFile
+pub mod Script
+pub mod CapRead
+pub mod CardSemantics

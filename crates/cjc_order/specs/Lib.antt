@@ -1,2 +1,5 @@
 pub mod Classes
 pub mod Supers
+-- Definitions of lower crates, for those above.
+pub mod ClassFile
+pub mod ExportFile

@@ -1,3 +1,5 @@
 pub mod Heads
 pub mod ByNumber
 pub mod CardNames
+-- Lemmas of lower crates, for those above.
+pub use Rattle.cjc_classes.proofs.ClinitOneImage as ClinitOneImage

@@ -1,12 +1,11 @@
 pub mod Working
 pub mod CardNames
 -- Definitions of lower crates, for those above.
-pub mod ExportFile
-pub mod Script
-pub mod CapWrite
-pub mod Subset
-pub mod Clinit
-pub mod CheckRules
-pub mod CheckIndex
-pub mod CardSemantics
-pub mod CardFrame
+pub mod List
+pub mod Bytecode
+pub mod ClassOrder
+pub mod Tokens
+pub mod VTable
+pub mod NCode
+pub mod CardLink
+pub mod Components

@@ -1,13 +1,13 @@
 //! The bytes of static cells (Java Card Virtual Machine Specification 2.2.2, section 6.10). It knows no class.
 
 ghost use Rattle.std.specs.Prelude.{◌≡◌, ◌+◌, ◌==◌, length, sum_by, IfOk};
-ghost use Rattle.cjc_classes.specs.LowerComponents.Statics.{cell_size, size_of_field};
-ghost use Rattle.cjc_classes.specs.LowerComponents.Paired.Pairs.{has_cells, number_bytes};
+ghost use Rattle.cjc_classes.specs.Components.Statics.{cell_size, size_of_field};
+ghost use Rattle.cjc_classes.specs.Components.Paired.Pairs.{has_cells, number_bytes};
 ghost use Rattle.cjc_classes.specs.TypeInfo.Meant.{sort_meant};
 
 use crate::counts::sum;
+use cjc_card_link::capread::StaticField;
 use cjc_classes::bytes::{MemberId, NoMemory};
-use cjc_classes::capread::StaticField;
 use cjc_classes::type_info::{Sort, field_sort};
 use cjc_classes::world::{StaticImage, ValueCell};
 

@@ -3,17 +3,17 @@ use Rattle.std.proofs.Common.{◌≡◌, ℕ, Bool, true, false, List, [], ◌�
 use Rattle.std.proofs.Common.{None, IfSome, IsSomeAnd, Result, Ok, Err, refl, sym, ap, subst, ◌∙◌}
 use Rattle.std.proofs.lemmas.List.{append-nil, append_assoc}
 use Rattle.std.specs.FinMap.{get}
-use Rattle.cjc_shelf.specs.Bytes.Format.{FileSpells}
-use Rattle.cjc_shelf.specs.Bytes.declared.fault.Refusal.{Refusal}
-use Rattle.cjc_shelf.specs.Bytes.declared.settings.FileLine.{FileLine}
+use Rattle.cjc_cmd_compat.specs.Bytes.Format.{FileSpells}
+use Rattle.cjc_cmd_compat.specs.Bytes.declared.fault.Refusal.{Refusal}
+use Rattle.cjc_cmd_compat.specs.Bytes.declared.settings.FileLine.{FileLine}
 use Rattle.cjc_shelf.specs.Shelf.{Files, Shelved}
 use Rattle.cjc_shelf.specs.Sink.{Sunk}
-use Rattle.cjc_cmd_compat.specs.List.Listed.{ListTree, listed}
-use Rattle.cjc_cmd_compat.specs.ClassFile.ClassFile.{class_file}
-use Rattle.cjc_cmd_compat.specs.ClassFile.declared.tree.ClassTree.{ClassTree}
-use Rattle.cjc_cmd_link.specs.Judge.Spelt.{FileTree, SpellTrees, classes_of, exports_of, of_class, of_export}
-use Rattle.cjc_cmd_compat.specs.ExportFile.ExportFile.{export_file}
-use Rattle.cjc_cmd_compat.specs.ExportFile.declared.tree.ExportTree.{ExportTree}
+use Rattle.cjc_cmd_link.specs.List.Listed.{ListTree, listed}
+use Rattle.cjc_cmd_link.specs.ClassFile.ClassFile.{class_file}
+use Rattle.cjc_cmd_link.specs.ClassFile.declared.tree.ClassTree.{ClassTree}
+use Rattle.cjc_cmd_make.specs.Judge.Spelt.{FileTree, SpellTrees, classes_of, exports_of, of_class, of_export}
+use Rattle.cjc_cmd_link.specs.ExportFile.ExportFile.{export_file}
+use Rattle.cjc_cmd_link.specs.ExportFile.declared.tree.ExportTree.{ExportTree}
 use Rattle.cjc_shelf.specs.Command.Plan.{◌>>=◌, has, Verdict, verdict, for_each, read_behind, read_each}
 use Rattle.cjc_shelf.specs.Command.Plan.{unless_refused, absent, too_long, refused, complete}
 use Rattle.cjc_shelf.proofs.CommandLaws.Gathering.{verdict-then, on_complete}
@@ -26,7 +26,7 @@ use Rattle.cjc_shelf.specs.declared.command.status.Todo.{Todo}
 use Rattle.cjc_cmd_compat.proofs.ListDecided.{listed_spelt}
 use Rattle.cjc_run.specs.Request.{Request, card, check, compat, convert, jvm, make, verify}
 use Rattle.cjc_run.specs.Command.{command_of}
-use Rattle.cjc_cmd_make.specs.CmdConvert.Publication.{files_made, below}
+use Rattle.cjc_cmd_make.specs.LowerCmdConvert.Publication.{files_made, below}
 use Rattle.cjc_run.specs.Convert.{names_of, plan_of_files, plan_of_list, plan_of_convert}
 use Rattle.cjc_run.specs.Promise.{SpellStep, SpellClasses, ExportStep, SpellExports, Converts, Promised}
 use Rattle.cjc_run.proofs.Standing.{stand_made}

@@ -1,7 +1,7 @@
 -- What the words of a command line ask for, or that they are of no form.
 use Rattle.std.specs.Prelude.{ℕ, ◌==◌, List, [], ◌∷◌, codes, bytes_eq, if◌then◌else◌, Option, Some, None}
 use Rattle.std.specs.Prelude.{option_and_then, option_map}
-use Rattle.cjc_shelf.specs.Bytes.Text.{short_decimal}
+use Rattle.cjc_cmd_compat.specs.Bytes.Text.{short_decimal}
 
 -- What is asked for.
 pub data Request : Type 0 where

@@ -1,7 +1,7 @@
 -- The lines that say how a run ended.
 use Rattle.std.specs.Prelude.{ℕ, List, [], ◌∷◌, ◌++◌, codes, decimal}
 use Rattle.std.specs.List.{concat}
-use Rattle.cjc_shelf.specs.Bytes.declared.fault.Refusal.{Refusal}
+use Rattle.cjc_cmd_compat.specs.Bytes.declared.fault.Refusal.{Refusal}
 use Rattle.cjc_shelf.specs.declared.command.status.Status.{Status}
 use Rattle.cjc_shelf.specs.declared.command.status.Status.TheVariants as status
 

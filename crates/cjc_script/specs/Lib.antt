@@ -1,4 +1,2 @@
 pub mod Agree
 pub mod Sorts
--- Definitions of lower crates, for those above.
-pub mod Bytes

@@ -4,6 +4,3 @@ pub mod Scripted
 pub mod Spelling
 pub mod Words
 pub mod Working
--- Definitions of lower crates, for those above.
-pub mod List
-pub mod Script

@@ -7,6 +7,8 @@ pub use Rattle.cjc_methods.proofs.Alike as MethodsAlike
 pub use Rattle.cjc_exported.proofs.ExportLaws.Own as ExportedOwn
 pub use Rattle.cjc_exported.proofs.ExportLaws.Tokens as ExportedTokens
 pub use Rattle.cjc_judge.proofs.Each as JudgeEach
+pub use Rattle.cjc_judge.proofs.Early as JudgeEarly
+pub use Rattle.cjc_judge.proofs.Families as JudgeFamilies
 pub use Rattle.cjc_judge.proofs.Firsts as JudgeFirsts
 pub use Rattle.cjc_judge.proofs.OneRefusal as JudgeOneRefusal
 pub use Rattle.cjc_judge.proofs.Places as JudgePlaces

@@ -2,10 +2,9 @@ pub mod Judged
 pub mod Prepared
 pub mod Whole
 -- Definitions of lower crates, for those above.
-pub mod World
-pub mod Flow
-pub mod Components
-pub mod Pool
-pub mod LowerMethods
-pub mod LowerExported
-pub mod LowerJudge
+pub mod Subset
+pub mod Clinit
+pub mod LowerFlow
+pub mod Methods
+pub mod Exported
+pub mod Judge

@@ -14,7 +14,10 @@ pub mod exported {
 
 /// What crates above take of cjc_judge.
 pub mod judge {
-    pub use cjc_judge::{Group, Judged, judge};
+    pub use cjc_judge::{
+        Codes, Group, JointTrees, Judged, files_first, image_of, judge, test_files, tokens_of,
+        trees_of,
+    };
 }
 
 pub mod judged;

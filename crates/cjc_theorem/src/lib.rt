@@ -13,6 +13,11 @@ pub mod vtable {
     pub use cjc_vtable::{package_laws, slot_laws};
 }
 
+/// What crates above take of cjc_shape_proof.
+pub mod shape_proof {
+    pub use cjc_shape_proof::written;
+}
+
 pub mod alike;
 pub mod fair_exports;
 pub mod fair_writing;

@@ -10,4 +10,7 @@ pub mod SlotRows
 pub mod Working
 pub mod TokenLaws
 -- Definitions of lower crates, for those above.
-pub mod LowerFixpoint
+pub mod Bytes
+pub mod Fixpoint
+pub mod ClassFile
+pub mod ExportFile

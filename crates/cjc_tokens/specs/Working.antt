@@ -5,7 +5,7 @@ use Rattle.std.specs.Prelude.{false, not, ◌&&◌, ◌||◌, Option, Some, None
 use Rattle.std.specs.HashMap.{get_by}
 use Rattle.std.specs.List.{list_any}
 use Rattle.cjc_bytes.specs.declared.fault.MemberId.{MemberId}
-use Rattle.cjc_world.specs.ClassFile.declared.tree.ClassTree.{ClassTree}
+use Rattle.cjc_world.specs.LowerClassFile.declared.tree.ClassTree.{ClassTree}
 use Rattle.cjc_world.specs.declared.found.Found.{Found}
 use Rattle.cjc_world.specs.Files.{Files}
 use Rattle.cjc_bytes.specs.Breaks.{IsFirst}
@@ -101,7 +101,8 @@ IsToldOf line t = (s : Signature) → token_under t s ≡ listed_token line s
 
 -- Of each signature the place of the first method of the kind is noted.
 abbrev pub AreOwn : (hidden : Bool) → Places → List Member → Type 0
-AreOwn hidden p ms = (s : Signature) → place_under p s ≡ position (λ m. is_of_kind hidden m && is_called s.name s.desc m) ms
+AreOwn hidden p ms = (s : Signature) → place_under p s ≡ position
+    (λ m. is_of_kind hidden m && is_called s.name s.desc m) ms
 
 -- the token where the first slot of the signature has this place, and the line has this method of it
 abbrev pub token_with : (listed : Option ℕ) → Slots → (method : Option Found) → Signature → (place : Option ℕ) →

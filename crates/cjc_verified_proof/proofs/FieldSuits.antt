@@ -22,10 +22,10 @@ use Rattle.cjc_card_semantics.specs.Machine.Classes.{is_there}
 use Rattle.cjc_card_semantics.specs.Machine.Operations.{Resolved, or_undone}
 use Rattle.cjc_card_semantics.specs.Machine.Operations as machine
 use Rattle.cjc_card_semantics.specs.Machine.Statics.{StaticCell}
-use Rattle.cjc_verify.specs.Frames.declared.acts.Act.{Act}
-use Rattle.cjc_verify.specs.Frames.declared.acts.Need.{Need}
-use Rattle.cjc_verify.specs.Frames.declared.acts.Need.TheVariants.{OfType}
-use Rattle.cjc_verify.specs.Frames.declared.acts.Given.TheVariants as given
+use Rattle.cjc_card_acts.specs.Frames.declared.acts.Act.{Act}
+use Rattle.cjc_card_acts.specs.Frames.declared.acts.Need.{Need}
+use Rattle.cjc_card_acts.specs.Frames.declared.acts.Need.TheVariants.{OfType}
+use Rattle.cjc_card_acts.specs.Frames.declared.acts.Given.TheVariants as given
 use Rattle.cjc_card_acts.specs.CardTypes.{MemberType, ValueType, is_moved_by, needs_of, shape_by, words}
 use Rattle.cjc_card_acts.specs.Rows.{idle, reading}
 use Rattle.cjc_components.specs.Paired.Naming.{files_from}

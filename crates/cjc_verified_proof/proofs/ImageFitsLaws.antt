@@ -20,7 +20,7 @@ use Rattle.cjc_world.specs.declared.image.ValueCell.{ValueCell}
 use Rattle.cjc_world.specs.declared.image.StaticImage.{StaticImage}
 use Rattle.cjc_world.specs.Classes.{all_classes}
 use Rattle.cjc_world.specs.Files.{Files}
-use Rattle.cjc_token_proof.specs.NCode.PoolOrder.{same_member}
+use Rattle.cjc_components.specs.NCode.PoolOrder.{same_member}
 use Rattle.cjc_script.specs.Sorts.{Element, Booleans, Bytes, Shorts, Ints, Shape, OfClass, OfNumbers, OfReferences}
 use Rattle.cjc_script.specs.Sorts.{Sort}
 use Rattle.cjc_script.specs.Sorts.{Boolean, Byte, Short, Int, Reference, NoValue, field_sort}

@@ -30,7 +30,7 @@ use Rattle.cjc_card_semantics.specs.Machine.Loaded.{Loaded}
 use Rattle.cjc_card_semantics.specs.Machine.Classes.{Class, class_of}
 use Rattle.cjc_card_semantics.specs.Machine.Operations.{class_at, element_type, moved, operation, or_undone, type_by}
 use Rattle.cjc_script.specs.Sorts.{Element}
-use Rattle.cjc_verify.specs.Frames.declared.acts.Need.{Need}
+use Rattle.cjc_card_acts.specs.Frames.declared.acts.Need.{Need}
 use Rattle.cjc_card_acts.specs.Rows.{Row, Jumps, Switches, idle, number_words, row, with_number}
 use Rattle.cjc_card_acts.specs.Rows as rows
 use Rattle.cjc_card_acts.specs.CardTypes.{ValueType, numbers_type, shape_by}

@@ -6,11 +6,11 @@ use Rattle.std.proofs.Common.{◌∷◌, Option, Some, None, slice_get}
 use Rattle.std.specs.Prelude.{◌&&◌, ◌||◌, codes, if◌then◌else◌, is_some, nat_lt, not, option_map, length}
 use Rattle.std.specs.Str.{bytes_eq}
 use Rattle.cjc_bytes.specs.AccessFlags as flags
-use Rattle.cjc_verify.specs.List.Listed.{ListTree}
+use Rattle.cjc_components.specs.List.Listed.{ListTree}
 use Rattle.cjc_check_rules.specs.Complete.{Complete}
 use Rattle.cjc_check_rules.specs.Described.{all_starts, classes_in_order}
-use Rattle.cjc_world.specs.ExportFile.declared.tree.ExportClass.{ExportClass}
-use Rattle.cjc_world.specs.ExportFile.declared.tree.ExportTree.{ExportTree}
+use Rattle.cjc_tokens.specs.ExportFile.declared.tree.ExportClass.{ExportClass}
+use Rattle.cjc_tokens.specs.ExportFile.declared.tree.ExportTree.{ExportTree}
 use Rattle.cjc_world.specs.declared.image.StaticImage.{StaticImage}
 use Rattle.cjc_world.specs.Classes as world_of
 use Rattle.cjc_world.specs.Files.{Files}

@@ -13,7 +13,7 @@ use Rattle.cjc_card_semantics.specs.Machine.Methods.{Code}
 use Rattle.cjc_card_semantics.specs.Machine.Operations.{operation, or_undone}
 use Rattle.cjc_card_semantics.specs.Machine.Operations as machine
 use Rattle.cjc_card_acts.specs.CardTypes.{ValueType}
-use Rattle.cjc_verify.specs.Frames.Tables.{IsLeastTable}
+use Rattle.cjc_card_acts.specs.Frames.Tables.{IsLeastTable}
 use Rattle.cjc_verify.specs.Bodies.{Body, bodies, frames_of, type_of_body}
 use Rattle.cjc_verify.specs.Instructions.{by_interface, throwable, using}
 use Rattle.cjc_verify.specs.Named.{entry_of, entry_type, is_unmade_class}

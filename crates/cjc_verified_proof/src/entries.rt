@@ -6,7 +6,7 @@ ghost use Rattle.cjc_capread.specs.declared.tree.StaticRef.TheVariants as static
 ghost use Rattle.cjc_capread.specs.declared.tree.PoolEntry.{PoolEntry};
 ghost use Rattle.cjc_capread.specs.declared.tree.PoolEntry.TheVariants.{InstanceFieldref, StaticFieldref};
 ghost use Rattle.cjc_script.specs.declared.value.Value.{Value};
-ghost use Rattle.cjc_intervals.specs.Types.declared.cell.Cell.{Cell};
+ghost use Rattle.cjc_verify_proof.specs.Types.declared.cell.Cell.{Cell};
 ghost use Rattle.cjc_card_semantics.specs.Bytecode.Effects.{Memory, effect};
 ghost use Rattle.cjc_card_semantics.specs.Bytecode.Meanings.{Use};
 ghost use Rattle.cjc_card_semantics.specs.Machine.Classes.{Class, Own, Field};
@@ -15,7 +15,7 @@ ghost use Rattle.cjc_card_semantics.specs.Machine.Operations as machine;
 ghost use Rattle.cjc_card_semantics.specs.Machine.Statics.{Image};
 ghost use Rattle.cjc_card_semantics.specs.Machine.ByToken.{classes};
 ghost use Rattle.cjc_card_acts.specs.CardTypes.{is_type_of};
-ghost use Rattle.cjc_verify.specs.Frames.Acts.{stack_behind};
+ghost use Rattle.cjc_card_acts.specs.Frames.Acts.{stack_behind};
 ghost use Rattle.cjc_verify.specs.Instructions.{using};
 ghost use Rattle.cjc_verify.specs.Named.{entry_of, entry_type};
 ghost use Rattle.cjc_verify.specs.Pairs.{Pair};

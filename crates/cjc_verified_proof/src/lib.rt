@@ -7,9 +7,19 @@ pub mod world {
     pub use cjc_world::lookup_laws;
 }
 
+/// What crates above take of layout.
+pub mod layout {
+    pub use cjc_components::layout::layouts_are_laid_out;
+}
+
 /// What crates above take of cjc_verify.
 pub mod verify {
     pub use cjc_verify::verify;
+}
+
+/// What crates above take of cjc_token_proof.
+pub mod token_proof {
+    pub use cjc_token_proof::{by_token, tables};
 }
 
 pub mod checked;

@@ -1,8 +1,8 @@
 -- The first place where a rule is broken is its first break.
 use Rattle.std.proofs.Common.{◌≡◌, ℕ, List, map, refl, sym, ap, subst, ◌∙◌, Option, Some, None, option_map}
 use Rattle.cjc_bytes.specs.Breaks.{Break, IsFirstOf}
-use Rattle.cjc_check.proofs.FirstPlaces.{first_place}
-use Rattle.cjc_check.specs.Order.{as_break}
+use Rattle.cjc_methods.proofs.CheckFirstPlaces.{first_place}
+use Rattle.cjc_methods.specs.Check.Order.{as_break}
 use Rattle.cjc_check_rules.specs.Consistent.{break_at}
 use Rattle.cjc_check_rules.specs.Spots.{first}
 use Rattle.cjc_check_rules.specs.declared.spot.ComponentPlace.{ComponentPlace}

@@ -14,5 +14,5 @@ pub mod Verified
 pub mod InBodies
 pub mod ListedMethods
 -- Lemmas of lower crates, for those above.
-pub use Rattle.cjc_check.proofs.JumpsLaws.Apart as CheckApart
+pub use Rattle.cjc_methods.proofs.CheckApart as CheckApart
 pub use Rattle.cjc_card_calls.proofs.CardLinkInfoPlaces as CardLinkInfoPlaces

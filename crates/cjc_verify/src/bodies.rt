@@ -7,9 +7,9 @@ ghost use Rattle.std.specs.List.{flat_map};
 ghost use Rattle.cjc_bytes.specs.Told.{break_of};
 ghost use Rattle.cjc_card_acts.specs.CardTypes.{is_type_of, widths, words as words_of};
 ghost use Rattle.cjc_card_acts.specs.Told.{type_told};
-ghost use Rattle.cjc_check.specs.Codes.Bodies.{AllAt, IsAt, placed_of};
+ghost use Rattle.cjc_methods.specs.Check.Codes.Bodies.{AllAt, IsAt, placed_of};
 ghost use Rattle.cjc_check_rules.specs.Spots.{first};
-ghost use Rattle.cjc_card_acts.specs.LowerFrames.Tables.{IsBrokenAt, IsUnbroken};
+ghost use Rattle.cjc_card_acts.specs.Frames.Tables.{IsBrokenAt, IsUnbroken};
 ghost use Rattle.cjc_verify.specs.Bodies.{catch, catches as all_catches, caught_type, frames_of, step, type_of_body};
 ghost use Rattle.cjc_verify.specs.Headers.{header_spots, is_fit_header};
 ghost use Rattle.cjc_verify.specs.Working.Arguments.{receiver_by};
@@ -29,9 +29,9 @@ use cjc_capread::{ClassRef, Handler, MethodDescriptor, PoolEntry};
 use cjc_card_acts::described::type_at;
 use cjc_card_acts::frames::{Catch, Given, Method, Step, first_broken};
 use cjc_card_acts::types::{MemberType, ValueType, put_all_words, widths};
-use cjc_check::check_index::lookup::unless;
-use cjc_check::codes::At;
+use cjc_card_calls::check_index::lookup::unless;
 use cjc_check_rules::ComponentPlace;
+use cjc_methods::check::codes::At;
 use std::alloc::Global;
 
 /// The tag of Method.

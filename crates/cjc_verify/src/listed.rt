@@ -5,9 +5,9 @@ ghost use Rattle.std.specs.Prelude.{◌≡◌, ◌++◌, ◌-◌, drop, map, opt
 ghost use Rattle.std.specs.List.{filter, flat_map};
 ghost use Rattle.cjc_capread.specs.Decoder.Decoded.{header_of};
 ghost use Rattle.cjc_capread.specs.MethodHeader.{method_header as header_in};
-ghost use Rattle.cjc_check.specs.Codes.Bodies.{AreBodies, IsBody, IsCut, code_of, cut_of, placed_of};
-ghost use Rattle.cjc_check.specs.CheckIndex.Lookup.Indexed.{IsIndexed};
-ghost use Rattle.cjc_check.specs.CheckIndex.Lookup.Parts.{complete_of};
+ghost use Rattle.cjc_methods.specs.Check.Codes.Bodies.{AreBodies, IsBody, IsCut, code_of, cut_of, placed_of};
+ghost use Rattle.cjc_card_calls.specs.CheckIndex.Lookup.Indexed.{IsIndexed};
+ghost use Rattle.cjc_card_calls.specs.CheckIndex.Lookup.Parts.{complete_of};
 ghost use Rattle.cjc_check_rules.specs.Classes.{is_own_class};
 ghost use Rattle.cjc_check_rules.specs.Codes.{all_codes, methods_begin};
 ghost use Rattle.cjc_check_rules.specs.Complete.{AreSmall};
@@ -19,8 +19,8 @@ use crate::method_body::MethodBody;
 use cjc_bytes::{NoMemory, Row};
 use cjc_capread::decoder::{Header, method_header};
 use cjc_capread::{ClassDescriptor, ClassRef, MethodDescriptor};
-use cjc_check::check_index::lookup::{Names, Parts, is_own_class};
-use cjc_check::codes::{Body, Cutting};
+use cjc_card_calls::check_index::lookup::{Names, Parts, is_own_class};
+use cjc_methods::check::codes::{Body, Cutting};
 use std::alloc::Global;
 
 /// A method under the class that Descriptor lists it under.

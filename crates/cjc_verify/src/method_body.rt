@@ -2,12 +2,12 @@
 //! section 6.9). Made by `listed`.
 
 ghost use Rattle.std.specs.Prelude.{map};
-ghost use Rattle.cjc_check.specs.Codes.Bodies.{IsBody, placed_of};
+ghost use Rattle.cjc_methods.specs.Check.Codes.Bodies.{IsBody, placed_of};
 ghost use Rattle.cjc_verify.specs.Working.Codes.{Ascend, ats};
 
 use cjc_capread::decoder::Header;
 use cjc_capread::{ClassRef, MethodDescriptor};
-use cjc_check::codes::Body;
+use cjc_methods::check::codes::Body;
 
 /// A method with its header and its code.
 #[derive(Drop)]

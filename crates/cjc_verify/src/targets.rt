@@ -3,16 +3,16 @@
 
 ghost use Rattle.std.specs.Prelude.{◌≡◌, ◌++◌, ◌∷◌, [], map, OnOk};
 ghost use Rattle.cjc_capread.specs.Decoder.Decoded.{instruction_of, numbers_of, values};
-ghost use Rattle.cjc_card_acts.specs.CardSemantics.Machine.Operations.{moved};
-ghost use Rattle.cjc_check.specs.Codes.Bodies.{IsAt};
-ghost use Rattle.cjc_check.specs.Jumps.Offsets.{is_switch, offsets_in};
+ghost use Rattle.cjc_card_calls.specs.CardSemantics.Machine.Operations.{moved};
+ghost use Rattle.cjc_methods.specs.Check.Codes.Bodies.{IsAt};
+ghost use Rattle.cjc_methods.specs.Check.Jumps.Offsets.{is_switch, offsets_in};
 ghost use Rattle.cjc_check_rules.specs.Instructions.{default_of, is_jump, jumps};
 
 use cjc_bytes::{NoMemory, Row};
 use cjc_capread::card;
 use cjc_capread::decoder::{Kind, Operands, Shape, Table, entry_size, operand};
 use cjc_card_calls::card_frame::fetch::moved;
-use cjc_check::codes::At;
+use cjc_methods::check::codes::At;
 
 /// Whether an instruction jumps: ifeq to goto, jsr, and ifeq_w to goto_w.
 fn is_jump(opcode: u8) -> bool

@@ -3,5 +3,15 @@ pub mod Passed
 -- When export files agree, for who promises what rests on it.
 pub use Rattle.cjc_theorem.specs.FairExports as FairExports
 -- Definitions of lower crates, for those above.
-pub mod Verify
-pub mod Judge
+pub mod Bytes
+pub mod List
+pub mod Bytecode
+pub mod Script
+pub mod CapRead
+pub mod World
+pub mod Clinit
+pub mod CheckRules
+pub mod CheckIndex
+pub mod JvmSemantics
+pub mod Components
+pub mod LowerVerify

@@ -17,7 +17,7 @@ use Rattle.cjc_tokens.proofs.Held.{shown-virtual, has_slot-append, offered-has_s
 use Rattle.cjc_tokens.proofs.Held.{token-slot, listed_slot}
 use Rattle.cjc_vtable.proofs.Told.{told-slots}
 use Rattle.cjc_vtable.proofs.Towers.{tower, dispatched-slot, dispatched-hidden_slot}
-use Rattle.cjc_bytes.proofs.Gets.{in_front}
+use Rattle.cjc_world.proofs.BytesGets.{in_front}
 
 -- ---- virtual methods are selectable
 

@@ -30,4 +30,7 @@ pub use Rattle.cjc_order.proofs.SupersLaws.Sets as ClassOrderSets
 pub use Rattle.cjc_subset.proofs.Codes as SubsetCodes
 pub use Rattle.cjc_subset.proofs.Fits as SubsetFits
 pub use Rattle.cjc_tokens.proofs.Facts as TokensFacts
+pub use Rattle.cjc_tokens.proofs.Means as TokensMeans
+pub use Rattle.cjc_tokens.proofs.Sums as TokensSums
 pub use Rattle.cjc_tokens.proofs.Supers as TokensSupers
+pub use Rattle.cjc_tokens.proofs.TokenLaws.Meant as TokensMeant

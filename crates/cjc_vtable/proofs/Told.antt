@@ -15,7 +15,7 @@ use Rattle.cjc_tokens.specs.Slots.{with_all_taken, with_new, with_taken}
 use Rattle.cjc_vtable.specs.Calls.{IsOneToOne, IsTold}
 use Rattle.cjc_tokens.proofs.Facts.{same-refl, same-true}
 use Rattle.cjc_tokens.proofs.Held.{In-slot, shown-virtual}
-use Rattle.cjc_bytes.proofs.Gets.{in_front}
+use Rattle.cjc_world.proofs.BytesGets.{in_front}
 
 -- ---- slots that are taken
 

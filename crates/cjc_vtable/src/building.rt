@@ -2,7 +2,7 @@
 //! called for.
 
 ghost use Rattle.std.specs.Prelude.{◌≡◌, Bool, IfOk, Some, slice_get};
-ghost use Rattle.cjc_world.specs.ClassFile.declared.tree.ClassTree.{ClassTree as Tree};
+ghost use Rattle.cjc_order.specs.ClassFile.declared.tree.ClassTree.{ClassTree as Tree};
 ghost use Rattle.cjc_world.specs.Classes.{all_classes, declared};
 ghost use Rattle.cjc_tokens.specs.Tokens.{assigned};
 ghost use Rattle.cjc_vtable.specs.Working.Standing.{IsClass};
@@ -11,9 +11,9 @@ ghost use Rattle.cjc_vtable.specs.Tables.{class_tables, table_of};
 use crate::entries::{methods, table};
 use crate::maps::interface_maps;
 use crate::table::{ClassTable, ClassTables};
-use cjc_bytes::{NoMemory, Row};
 use cjc_order::classes::class_order;
 use cjc_tokens::Tokens;
+use cjc_world::bytes::{NoMemory, Row};
 use cjc_world::{Known, World};
 use std::alloc::Global;
 

@@ -4,8 +4,8 @@
 ghost use Rattle.std.specs.Prelude.{◌≡◌, ◌≤◌, length, IfOk};
 ghost use Rattle.cjc_vtable.specs.Tables.{base, entries, is_own, methods, of_package};
 
-use cjc_bytes::{NoMemory, Row};
 use cjc_world::Found;
+use cjc_world::bytes::{NoMemory, Row};
 use std::alloc::Global;
 
 /// Whether a token means a method that this class of the package declares or got.

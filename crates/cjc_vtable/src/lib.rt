@@ -22,7 +22,7 @@ pub mod subset {
 
 /// What crates above take of cjc_tokens.
 pub mod tokens {
-    pub use cjc_tokens::{Tokens, assign, first_high};
+    pub use cjc_tokens::{Slot, Tokens, assign, first_high, interface_methods};
 }
 
 mod building;

@@ -4,7 +4,7 @@
 ghost use Rattle.std.specs.Prelude.{◌≡◌, ◌++◌, Bool, false, map, option_map, option_to_list, slice_get, IfOk, OnOk};
 ghost use Rattle.std.specs.Prelude.{Some};
 ghost use Rattle.cjc_world.specs.Classes.{all_classes};
-ghost use Rattle.cjc_bytes.specs.AccessFlags.{is_interface};
+ghost use Rattle.cjc_tokens.specs.Bytes.AccessFlags.{is_interface};
 ghost use Rattle.cjc_world.specs.Interfaces.{known};
 ghost use Rattle.cjc_world.specs.Working.Known.{class_of};
 ghost use Rattle.cjc_world.specs.Working.Places.{at_places};
@@ -19,9 +19,9 @@ ghost use Rattle.cjc_vtable.specs.Tables.{interface_map};
 
 use crate::naming::named_row;
 use crate::table::InterfaceMap;
-use cjc_bytes::{Bytes, NoMemory, Row};
 use cjc_order::classes::class_count;
 use cjc_tokens::{IndexedRow, Shown, Slot, Tokens, Told, interface_methods, told_at};
+use cjc_world::bytes::{Bytes, NoMemory, Row};
 use cjc_world::{Found, Known, World, lookup_laws};
 use std::alloc::Global;
 

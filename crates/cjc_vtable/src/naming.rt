@@ -10,8 +10,8 @@ ghost use Rattle.cjc_vtable.specs.Naming.{method_named, named, named_where};
 ghost use Rattle.cjc_vtable.specs.Working.Naming.{ids_at, signature_by};
 ghost use Rattle.cjc_order.specs.Classes.Numbers.{class_count};
 
-use cjc_bytes::{MemberId, NoMemory};
 use cjc_tokens::Slot;
+use cjc_world::bytes::{MemberId, NoMemory};
 use cjc_world::{Found, Known, World};
 use std::alloc::Global;
 

@@ -1,7 +1,7 @@
 //! The tables of the classes of a package (Java Card Virtual Machine Specification 2.2.2, section 6.8).
 
-use cjc_bytes::{Bytes, Row};
 use cjc_world::Found;
+use cjc_world::bytes::{Bytes, Row};
 
 /// What the tokens of an interface's methods are in a class that has the interface.
 #[derive(Drop)]

@@ -32,7 +32,9 @@ pub mod UpwardLaws
 -- Lemmas of lower crates, for those above.
 pub use Rattle.cjc_bytes.proofs.Bools as BytesBools
 pub use Rattle.cjc_bytes.proofs.BrokenRules as BytesBrokenRules
+pub use Rattle.cjc_bytes.proofs.Firsts as BytesFirsts
 pub use Rattle.cjc_bytes.proofs.Gets as BytesGets
+pub use Rattle.cjc_bytes.proofs.Laws as BytesLaws
 pub use Rattle.cjc_bytes.proofs.Lists as BytesLists
 pub use Rattle.cjc_bytes.proofs.Numbers as BytesNumbers
 pub use Rattle.cjc_bytes.proofs.Quantified as BytesQuantified

@@ -7,9 +7,8 @@
 /// What crates above take of cjc_bytes.
 pub mod bytes {
     pub use cjc_bytes::{
-        ACC_SHAREABLE, ACC_SUPER, Break, Bytes, Desc, Fault, Kind, MemberId, NoMemory, Row,
-        RulePlace, answer, broken, is_abstract, is_interface, is_private, is_protected, is_public,
-        is_static,
+        ACC_SHAREABLE, ACC_SUPER, Bytes, Desc, Fault, FileLine, Kind, MemberId, NoMemory, Row,
+        is_abstract, is_interface, is_private, is_protected, is_public, is_static,
     };
 }
 

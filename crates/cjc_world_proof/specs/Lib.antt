@@ -2,4 +2,4 @@ pub mod Calls
 pub mod Files
 pub mod Initialisers
 -- Definitions of lower crates, for those above.
-pub mod ClassOrder
+pub mod Clinit

@@ -5,33 +5,33 @@ use Rattle.std.proofs.Common.{List, [], ◌∷◌, ◌++◌, length, length-appe
 use Rattle.std.specs.Prelude.{◌||◌, ◌&&◌, ◌==◌, not, nat_le, nat_lt, if◌then◌else◌, option_map}
 use Rattle.std.specs.List.{AllZip}
 use Rattle.std.proofs.lemmas.Bool.Decides.{nat_tests}
-use Rattle.cjc_fixpoint.proofs.BytesGets.{get_below, get_mapped}
-use Rattle.cjc_fixpoint.specs.Bytes.declared.fault.MemberId.{MemberId}
-use Rattle.cjc_types.specs.Bytecode.declared.insn.JOp.{JOp}
-use Rattle.cjc_types.specs.Bytecode.declared.insn.JOp.TheVariants as jop
+use Rattle.cjc_types.proofs.BytesGets.{get_below, get_mapped}
+use Rattle.cjc_verify.specs.Bytes.declared.fault.MemberId.{MemberId}
+use Rattle.cjc_frames.specs.Bytecode.declared.insn.JOp.{JOp}
+use Rattle.cjc_frames.specs.Bytecode.declared.insn.JOp.TheVariants as jop
 use Rattle.cjc_types.specs.Cells.{IsCellBelow}
 use Rattle.cjc_types.specs.Flow.{Body}
 use Rattle.cjc_types.specs.Rules.{all_types, has_wrong as has_wrong_by_name, is_off}
 use Rattle.cjc_types.specs.States.{IsStackBelow, most_cells, stack_of, states}
 use Rattle.cjc_types.specs.Steps.{after, gives, locals_after, stack_behind as behind_by_name, takes}
 use Rattle.cjc_types.specs.Types.{is_void, parts}
-use Rattle.cjc_types.specs.World.Classes.{Class}
+use Rattle.cjc_verify.specs.World.Classes.{Class}
 use Rattle.cjc_types.specs.declared.cell.Cell.{Cell}
 use Rattle.cjc_types.specs.declared.cell.Cell.TheVariants.{Number, Refs, Unusable}
 use Rattle.cjc_types.specs.declared.state.Stack.TheVariants.{Cells, Clash}
 use Rattle.cjc_types.specs.declared.state.State.{State}
-use Rattle.cjc_verify.specs.Narrow.Pairs.Open.{Open, begun, closed, pushed}
-use Rattle.cjc_narrow_proof.specs.Tables.Pairs.{IsSilent, a_narrow, a_nop}
-use Rattle.cjc_verify.specs.CapRead.declared.tree.ClassRef.{ClassRef}
-use Rattle.cjc_verify.specs.CardActs.CardTypes.{ValueType, needs_of}
-use Rattle.cjc_verify.specs.CardSemantics.Bytecode.Effects.{Letter}
+use Rattle.cjc_check_proof.specs.Narrow.Pairs.Open.{Open, begun, closed, pushed}
+use Rattle.cjc_check_proof.specs.LowerNarrowProof.Tables.Pairs.{IsSilent, a_narrow, a_nop}
+use Rattle.cjc_card_acts.specs.CapRead.declared.tree.ClassRef.{ClassRef}
+use Rattle.cjc_card_acts.specs.CardTypes.{ValueType, needs_of}
+use Rattle.cjc_check_proof.specs.CardSemantics.Bytecode.Effects.{Letter}
 use Rattle.cjc_verify.specs.ClassTypes.{class_type}
-use Rattle.cjc_verify.specs.Frames.declared.acts.Act.{Act}
-use Rattle.cjc_verify.specs.Frames.declared.acts.Given.{Given}
-use Rattle.cjc_verify.specs.Frames.declared.acts.Need.{Need}
-use Rattle.cjc_verify.specs.Frames.declared.acts.Need.TheVariants.{OfType}
-use Rattle.cjc_verify.specs.Frames.declared.acts.Write.{Write}
-use Rattle.cjc_verify.specs.Frames.Acts.{Subtype, given, has_wrong, is_wrong_local, stack_behind, with_writes}
+use Rattle.cjc_frames.specs.declared.acts.Act.{Act}
+use Rattle.cjc_frames.specs.declared.acts.Given.{Given}
+use Rattle.cjc_frames.specs.declared.acts.Need.{Need}
+use Rattle.cjc_frames.specs.declared.acts.Need.TheVariants.{OfType}
+use Rattle.cjc_frames.specs.declared.acts.Write.{Write}
+use Rattle.cjc_frames.specs.Acts.{Subtype, given, has_wrong, is_wrong_local, stack_behind, with_writes}
 use Rattle.cjc_verify.specs.Instructions.{putting}
 use Rattle.cjc_accepted_proof.specs.Frames.{FieldFits, Mirrors, MirrorsInPair, SubtypesAgree, card_cell, card_cells}
 use Rattle.cjc_accepted_proof.specs.Frames.{card_stack, card_state, left_out}

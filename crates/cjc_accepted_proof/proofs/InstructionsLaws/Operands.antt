@@ -6,19 +6,19 @@ use Rattle.std.specs.Prelude.{◌||◌, not, nat_le}
 use Rattle.std.specs.List.{AllZip}
 use Rattle.std.proofs.lemmas.Bool.Decides.{nat_tests}
 use Rattle.std.proofs.lemmas.List.{length-map}
-use Rattle.cjc_fixpoint.proofs.BytesGets.{get_below}
+use Rattle.cjc_types.proofs.BytesGets.{get_below}
 use Rattle.cjc_types.specs.Cells.{IsCellBelow}
 use Rattle.cjc_types.specs.Rules.{is_number, is_reference}
 use Rattle.cjc_types.specs.Steps.{operand}
 use Rattle.cjc_types.specs.Types.{as_reference}
 use Rattle.cjc_types.specs.declared.cell.Cell.{Cell}
 use Rattle.cjc_types.specs.declared.cell.Cell.TheVariants.{Number, Refs, Unusable}
-use Rattle.cjc_verify.specs.Frames.declared.acts.Given.{Given}
-use Rattle.cjc_verify.specs.Frames.declared.acts.Given.TheVariants.{Operand}
-use Rattle.cjc_verify.specs.Frames.declared.acts.Need.{Need}
-use Rattle.cjc_verify.specs.Frames.declared.acts.Need.TheVariants.{AnyWord, NumberWord, ReferenceWord}
-use Rattle.cjc_verify.specs.Frames.Acts.{Subtype, given, has_wrong, meets}
-use Rattle.cjc_verify.specs.CardActs.Rows.{any_words}
+use Rattle.cjc_frames.specs.declared.acts.Given.{Given}
+use Rattle.cjc_frames.specs.declared.acts.Given.TheVariants.{Operand}
+use Rattle.cjc_frames.specs.declared.acts.Need.{Need}
+use Rattle.cjc_frames.specs.declared.acts.Need.TheVariants.{AnyWord, NumberWord, ReferenceWord}
+use Rattle.cjc_frames.specs.Acts.{Subtype, given, has_wrong, meets}
+use Rattle.cjc_card_acts.specs.Rows.{any_words}
 use Rattle.cjc_accepted_proof.specs.Frames.{card_cell, card_cells}
 use Rattle.cjc_accepted_proof.proofs.RowsLaws.{zip_itself}
 

@@ -5,11 +5,11 @@ use Rattle.std.specs.Prelude.{◌||◌, ◌&&◌, ◌==◌, not, nat_le, if◌th
 use Rattle.std.specs.List.{AllZip, range_with_len}
 use Rattle.std.proofs.lemmas.List.{length-replicate}
 use Rattle.std.proofs.lemmas.Bool.{eqb-true}
-use Rattle.cjc_fixpoint.proofs.BytesGets.{map_set}
-use Rattle.cjc_types.specs.Bytecode.Jvm as jvm
-use Rattle.cjc_types.specs.Bytecode.declared.insn.JCase.{JCase}
-use Rattle.cjc_types.specs.Bytecode.declared.insn.JOp.{JOp}
-use Rattle.cjc_types.specs.Bytecode.declared.insn.JOp.TheVariants as jop
+use Rattle.cjc_types.proofs.BytesGets.{map_set}
+use Rattle.cjc_frames.specs.Bytecode.Jvm as jvm
+use Rattle.cjc_frames.specs.Bytecode.declared.insn.JCase.{JCase}
+use Rattle.cjc_frames.specs.Bytecode.declared.insn.JOp.{JOp}
+use Rattle.cjc_frames.specs.Bytecode.declared.insn.JOp.TheVariants as jop
 use Rattle.cjc_types.specs.Cells.{IsCellBelow}
 use Rattle.cjc_types.specs.Flow.{Body}
 use Rattle.cjc_types.specs.Rules.{accepts, has_wrong as has_wrong_by_name, has_wrong_local as has_wrong_local_by_name}
@@ -19,18 +19,18 @@ use Rattle.cjc_types.specs.Types.{as_reference}
 use Rattle.cjc_types.specs.declared.cell.Cell.{Cell}
 use Rattle.cjc_types.specs.declared.cell.Cell.TheVariants.{Number, Refs, Unusable}
 use Rattle.cjc_types.specs.declared.state.Stack.TheVariants.{Cells}
-use Rattle.cjc_types.specs.World.Classes.{Class}
-use Rattle.cjc_verify.specs.CardSemantics.Bytecode.Effects.{Letter}
-use Rattle.cjc_verify.specs.CardSemantics.Bytecode.Effects as letters
-use Rattle.cjc_verify.specs.Frames.declared.acts.Act.{Act}
-use Rattle.cjc_verify.specs.Frames.declared.acts.Given.{Given}
-use Rattle.cjc_verify.specs.Frames.declared.acts.Given.TheVariants.{ANumber, ANull}
-use Rattle.cjc_verify.specs.Frames.declared.acts.Given.TheVariants as given_words
-use Rattle.cjc_verify.specs.Frames.declared.acts.Need.{Need}
-use Rattle.cjc_verify.specs.Frames.declared.acts.Need.TheVariants.{AnyWord, NumberWord, ReferenceWord}
-use Rattle.cjc_verify.specs.Frames.Acts.{Subtype, given, has_wrong, has_wrong_local, is_wrong_local, meets}
-use Rattle.cjc_verify.specs.CardActs.Rows.{any_words, calculating, copying, idle, increasing, loading, number_words}
-use Rattle.cjc_verify.specs.CardActs.Rows.{operands_from, pushing, storing, swapping}
+use Rattle.cjc_verify.specs.World.Classes.{Class}
+use Rattle.cjc_check_proof.specs.CardSemantics.Bytecode.Effects.{Letter}
+use Rattle.cjc_check_proof.specs.CardSemantics.Bytecode.Effects as letters
+use Rattle.cjc_frames.specs.declared.acts.Act.{Act}
+use Rattle.cjc_frames.specs.declared.acts.Given.{Given}
+use Rattle.cjc_frames.specs.declared.acts.Given.TheVariants.{ANumber, ANull}
+use Rattle.cjc_frames.specs.declared.acts.Given.TheVariants as given_words
+use Rattle.cjc_frames.specs.declared.acts.Need.{Need}
+use Rattle.cjc_frames.specs.declared.acts.Need.TheVariants.{AnyWord, NumberWord, ReferenceWord}
+use Rattle.cjc_frames.specs.Acts.{Subtype, given, has_wrong, has_wrong_local, is_wrong_local, meets}
+use Rattle.cjc_card_acts.specs.Rows.{any_words, calculating, copying, idle, increasing, loading, number_words}
+use Rattle.cjc_card_acts.specs.Rows.{operands_from, pushing, storing, swapping}
 use Rattle.cjc_accepted_proof.specs.Frames.{Mirrors, card_cell, card_cells}
 use Rattle.cjc_accepted_proof.specs.Plain.{letter_moving, tested, tested_words}
 use Rattle.cjc_accepted_proof.proofs.KindsLaws.{first_operand}

@@ -3,22 +3,23 @@ use Rattle.std.proofs.Common.{◌≡◌, ℕ, suc, ◌+◌, ◌≤◌, ◌<◌, 
 use Rattle.std.proofs.Common.{◌∷◌, ◌++◌, length, get_or, drop, append_assoc, append-nil}
 use Rattle.std.specs.Prelude.{map, slice_get, slice_set, Some, if◌then◌else◌}
 use Rattle.std.proofs.lemmas.List.{drop_all}
-use Rattle.cjc_classes.specs.NCode.declared.narrow.NMethod.{NMethod}
-use Rattle.cjc_components.specs.Methods.{bytecode_count, extent_at, extent_from, handler_count, is_member, method_size}
-use Rattle.cjc_components.specs.Methods.{placed_from}
-use Rattle.cjc_classes.specs.Layout.Layouts.{IsLayout}
-use Rattle.cjc_components.specs.Package.{LaidMethod}
+use Rattle.cjc_methods.specs.NCode.declared.narrow.NMethod.{NMethod}
+use Rattle.cjc_classes.specs.Components.Methods.{bytecode_count, extent_at, extent_from, handler_count, is_member}
+use Rattle.cjc_classes.specs.Components.Methods.{method_size}
+use Rattle.cjc_classes.specs.Components.Methods.{placed_from}
+use Rattle.cjc_exported.specs.Layout.Layouts.{IsLayout}
+use Rattle.cjc_classes.specs.Components.Package.{LaidMethod}
 use Rattle.cjc_classes.specs.Descriptor.Made.{extent_by}
 use Rattle.cjc_classes.specs.declared.descriptor.parts.Extent.{Extent}
-use Rattle.cjc_world.specs.declared.found.Found.{Found}
-use Rattle.cjc_world.specs.Files.{Files}
+use Rattle.cjc_classes.specs.World.declared.found.Found.{Found}
+use Rattle.cjc_classes.specs.World.Files.{Files}
 use Rattle.cjc_methods.specs.declared.layouts.laid.Laid.{Laid}
 use Rattle.cjc_methods.specs.Layouts.Laid.{laid_method, with_layouts}
 use Rattle.cjc_methods.specs.Layouts.Working.Offsets as kept
 use Rattle.cjc_methods.proofs.LayoutsLaws.Standing.{same_handlers}
 use Rattle.cjc_captree.specs.Working.Tables.{extent_by_layout, extents_by, found_in, table_of}
 use Rattle.cjc_captree.proofs.ExtentsLaws.Setting.{set_table}
-use Rattle.cjc_world.proofs.BytesGets.{at_item}
+use Rattle.cjc_classes.proofs.BytesGets.{at_item}
 
 same_extent : (at k : ℕ) (c : NMethod) (l : Laid) → IsLayout c l.layout → extent_by_layout at k l.layout
     ≡ extent_by (extent_at at k (laid_method c l))

@@ -5,19 +5,19 @@ use Rattle.std.specs.Prelude.{map, All, slice_get, if◌then◌else◌, codes, S
 use Rattle.std.specs.Str.{bytes_eq}
 use Rattle.std.proofs.lemmas.Bool.{eqb-true}
 use Rattle.std.proofs.lemmas.List.Elements.{All-append, All-cons, All-head, All-nil, All-tail}
-use Rattle.cjc_world.specs.ClassFile.declared.tree.ClassTree.{ClassTree}
-use Rattle.cjc_world.specs.declared.found.Found.{Found}
-use Rattle.cjc_world.specs.Added.{added}
-use Rattle.cjc_world.specs.Classes.{Class, Member, all_classes, class_at, declared}
-use Rattle.cjc_world.specs.Files.{Files}
-use Rattle.cjc_world.specs.Lookup.{member_at}
-use Rattle.cjc_world.specs.Order.{in_order, method_order, methods_in_turn, methods_of_class, places, written}
-use Rattle.cjc_components.proofs.VTableNumbers.{at-tree}
-use Rattle.cjc_components.specs.Methods.{extent_at, extent_from, handler_count, is_member, method_size, nowhere}
-use Rattle.cjc_components.specs.Package.{LaidMethod}
+use Rattle.cjc_methods.specs.ClassFile.declared.tree.ClassTree.{ClassTree}
+use Rattle.cjc_classes.specs.World.declared.found.Found.{Found}
+use Rattle.cjc_classes.specs.World.Added.{added}
+use Rattle.cjc_classes.specs.World.Classes.{Class, Member, all_classes, class_at, declared}
+use Rattle.cjc_classes.specs.World.Files.{Files}
+use Rattle.cjc_classes.specs.World.Lookup.{member_at}
+use Rattle.cjc_classes.specs.World.Order.{in_order, method_order, methods_in_turn, methods_of_class, places, written}
+use Rattle.cjc_classes.proofs.VTableNumbers.{at-tree}
+use Rattle.cjc_classes.specs.Components.Methods.{extent_at, extent_from, handler_count, is_member, method_size, nowhere}
+use Rattle.cjc_classes.specs.Components.Package.{LaidMethod}
 use Rattle.cjc_methods.specs.Ready.{AreOrdered}
 use Rattle.cjc_classes.specs.Descriptor.Made.{member_count}
-use Rattle.cjc_world.proofs.BytesBools.{not_true}
+use Rattle.cjc_classes.proofs.BytesBools.{not_true}
 
 -- a member of a class of the package, within its row
 pub record IsInside (files : Files) (f : Found) : Type 0 where

@@ -2,9 +2,9 @@
 use Rattle.std.proofs.Common.{◌≡◌, ◌∙◌, ℕ, List, [], ◌∷◌, ◌++◌, map, refl, ap, sym, false, Option, Some}
 use Rattle.std.specs.Prelude.{option_map}
 use Rattle.std.proofs.lemmas.List.{map-append}
-use Rattle.cjc_world.specs.Files.{Files}
-use Rattle.cjc_world.specs.Classes.{Class, all_classes, class_at, declared}
-use Rattle.cjc_components.proofs.VTableNumbers.{at-tree}
+use Rattle.cjc_classes.specs.World.Files.{Files}
+use Rattle.cjc_classes.specs.World.Classes.{Class, all_classes, class_at, declared}
+use Rattle.cjc_classes.proofs.VTableNumbers.{at-tree}
 use Rattle.cjc_classes.specs.TypeInfo.TypeTable as types
 
 -- two lists one behind the other that are each told by numbers

@@ -3,8 +3,8 @@
 
 ghost use Rattle.std.specs.Prelude.{◌≡◌, map, IfOk};
 
+use cjc_classes::bytes::{NoMemory, Row};
 use cjc_classes::descriptor::Extent;
-use cjc_world::bytes::{NoMemory, Row};
 use std::alloc::Global;
 
 fn offsets_of(alloc: Global, extents: &[Extent]) -> Result<Row<u64>, NoMemory>

@@ -1,14 +1,14 @@
 //! Rows of extents, one for each class of a package. They know no method.
 
 ghost use Rattle.std.specs.Prelude.{◌≡◌, ◌<◌, [], Some, get_or, length, replicate, slice_get, slice_set, IfOk};
-ghost use Rattle.cjc_world.specs.ClassFile.declared.tree.ClassTree.{ClassTree};
-ghost use Rattle.cjc_world.specs.Classes.{all_classes, declared};
+ghost use Rattle.cjc_methods.specs.ClassFile.declared.tree.ClassTree.{ClassTree};
+ghost use Rattle.cjc_classes.specs.World.Classes.{all_classes, declared};
 ghost use Rattle.cjc_classes.specs.Descriptor.Made.{member_count};
 ghost use Rattle.cjc_captree.specs.Working.Tables.{nowhere, table_of};
 
+use cjc_classes::bytes::{NoMemory, Row};
 use cjc_classes::descriptor::Extent;
-use cjc_world::World;
-use cjc_world::bytes::{NoMemory, Row};
+use cjc_classes::world::World;
 use std::alloc::Global;
 use std::mem;
 

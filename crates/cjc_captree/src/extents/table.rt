@@ -2,19 +2,19 @@
 //! for.
 
 ghost use Rattle.std.specs.Prelude.{◌≡◌, ◌+◌, length, map, IfOk};
-ghost use Rattle.cjc_world.specs.Files.{Files};
-ghost use Rattle.cjc_components.specs.Methods.{placed_methods};
-ghost use Rattle.cjc_components.specs.Package.{Package};
+ghost use Rattle.cjc_classes.specs.World.Files.{Files};
+ghost use Rattle.cjc_classes.specs.Components.Methods.{placed_methods};
+ghost use Rattle.cjc_classes.specs.Components.Package.{Package};
 ghost use Rattle.cjc_classes.specs.Descriptor.Made.{extents_of};
 ghost use Rattle.cjc_methods.specs.Layouts.Laid.{AreLaid, laid_methods};
 ghost use Rattle.cjc_captree.specs.Working.Tables.{extent_by_layout, extents_by, found_in, nowhere, table_of};
 
 use crate::extents::rows::{empty_rows, put};
+use cjc_classes::bytes::{NoMemory, Row};
 use cjc_classes::descriptor::Extent;
-use cjc_components::layout::Layout;
+use cjc_classes::layout::Layout;
+use cjc_classes::world::World;
 use cjc_methods::layouts::{Laid, Methods};
-use cjc_world::World;
-use cjc_world::bytes::{NoMemory, Row};
 use std::alloc::Global;
 
 /// A method by its layout, at an offset and behind so many handlers.

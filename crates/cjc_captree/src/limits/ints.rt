@@ -3,14 +3,14 @@
 
 ghost use Rattle.std.specs.Prelude.{◌≡◌, ◌||◌, false, Some, IfOk};
 ghost use Rattle.std.specs.List.{list_any};
-ghost use Rattle.cjc_classes.specs.Subset.Types.{is_int_desc};
-ghost use Rattle.cjc_world.specs.Classes.{Class, all_classes, class_at};
-ghost use Rattle.cjc_components.specs.Components.{has_int, uses_int};
+ghost use Rattle.cjc_exported.specs.Subset.Types.{is_int_desc};
+ghost use Rattle.cjc_classes.specs.World.Classes.{Class, all_classes, class_at};
+ghost use Rattle.cjc_classes.specs.Components.Components.{has_int, uses_int};
 
-use cjc_components::subset::is_int_desc;
-use cjc_world::World;
-use cjc_world::bytes::{MemberId, NoMemory};
-use cjc_world::classfile::{FieldTree, MethodTree};
+use cjc_classes::bytes::{MemberId, NoMemory};
+use cjc_classes::classfile::{FieldTree, MethodTree};
+use cjc_classes::subset::is_int_desc;
+use cjc_classes::world::World;
 
 fn any_field(fields: &[FieldTree]) -> bool
     ensures { result ≡ list_any (λ f. is_int_desc f.desc) fields.now }

@@ -2,17 +2,17 @@
 //! its greatest size, so that the limit says nothing of how jumps are laid out.
 
 ghost use Rattle.std.specs.Prelude.{◌≡◌, ◌+◌, sum_by, option_map, IfOk};
-ghost use Rattle.cjc_world.specs.Bytes.Breaks.{IsFirstOf};
-ghost use Rattle.cjc_world.specs.Bytes.Told.{break_of};
-ghost use Rattle.cjc_components.specs.Components.{components_of};
-ghost use Rattle.cjc_components.specs.Limits.{size_breaks, widest_method};
-ghost use Rattle.cjc_components.specs.Methods.{handler_count};
-ghost use Rattle.cjc_components.specs.Package.{Package, codes};
+ghost use Rattle.cjc_classes.specs.Bytes.Breaks.{IsFirstOf};
+ghost use Rattle.cjc_classes.specs.Bytes.Told.{break_of};
+ghost use Rattle.cjc_classes.specs.Components.Components.{components_of};
+ghost use Rattle.cjc_classes.specs.Components.Limits.{size_breaks, widest_method};
+ghost use Rattle.cjc_classes.specs.Components.Methods.{handler_count};
+ghost use Rattle.cjc_classes.specs.Components.Package.{Package, codes};
 
+use cjc_classes::bytes::{Break, NoMemory, RulePlace};
 use cjc_classes::capread::CapTree;
-use cjc_components::capwrite::broken_limit;
-use cjc_components::ncode::NMethod;
-use cjc_world::bytes::{Break, NoMemory, RulePlace};
+use cjc_classes::capwrite::broken_limit;
+use cjc_classes::ncode::NMethod;
 
 fn sum(a: u64, b: u64) -> Result<u64, NoMemory>
     ensures { IfOk result (λ n. n ≡ a + b) }

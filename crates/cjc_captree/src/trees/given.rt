@@ -1,12 +1,12 @@
 //! `Given`, what the converter has made of a package before its components are put together: world, tokens,
 //! image, keys and extents. All modules of the crate read it.
 
+use cjc_classes::bytes::Row;
 use cjc_classes::descriptor::Extent;
+use cjc_classes::list::List;
+use cjc_classes::ncode::PoolKey;
 use cjc_classes::tokens::Tokens;
-use cjc_components::list::List;
-use cjc_components::ncode::PoolKey;
-use cjc_world::bytes::Row;
-use cjc_world::{StaticImage, World};
+use cjc_classes::world::{StaticImage, World};
 
 /// What is made of a package before its components.
 #[derive(Clone, Copy)]

@@ -1,9 +1,9 @@
 //! What names the classes and members of a package in its components: made once, and lent to whoever makes a component.
 
 ghost use Rattle.std.specs.Prelude.{◌≡◌, IfOk};
-ghost use Rattle.cjc_world.specs.Classes.{all_classes};
-ghost use Rattle.cjc_classes.specs.VTable.Tables.{class_tables};
-ghost use Rattle.cjc_components.specs.Package.{Package};
+ghost use Rattle.cjc_classes.specs.World.Classes.{all_classes};
+ghost use Rattle.cjc_methods.specs.VTable.Tables.{class_tables};
+ghost use Rattle.cjc_classes.specs.Components.Package.{Package};
 ghost use Rattle.cjc_captree.specs.Trees.Given.{AreGiven, HasTokens};
 ghost use Rattle.cjc_captree.specs.Trees.Working.{AreNames};
 
@@ -11,11 +11,11 @@ use crate::extents::method_offsets;
 use crate::trees::given::Given;
 use crate::trees::numbered::refs_by_number;
 use crate::trees::order::numbers_in_order;
+use cjc_classes::bytes::{NoMemory, Row};
 use cjc_classes::capread::ClassRef;
 use cjc_classes::class_info::{ClassRefs, class_refs};
 use cjc_classes::descriptor::cell_offsets;
-use cjc_components::vtable::{ClassTables, tables};
-use cjc_world::bytes::{NoMemory, Row};
+use cjc_classes::vtable::{ClassTables, tables};
 use std::alloc::Global;
 
 /// The names of a package.

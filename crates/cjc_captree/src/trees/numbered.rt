@@ -4,10 +4,10 @@
 ghost use Rattle.std.specs.Prelude.{◌≡◌, map, IfOk};
 ghost use Rattle.cjc_classes.specs.ClassInfo.Refs.{ref_of};
 
+use cjc_classes::bytes::{NoMemory, Row};
 use cjc_classes::capread::ClassRef;
 use cjc_classes::class_info::ClassRefs;
-use cjc_world::bytes::{NoMemory, Row};
-use cjc_world::classfile::ClassTree;
+use cjc_classes::classfile::ClassTree;
 use std::alloc::Global;
 
 /// The class_ref of each class of the package by its number.

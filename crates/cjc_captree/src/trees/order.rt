@@ -3,13 +3,13 @@
 
 ghost use Rattle.std.specs.Prelude.{◌≡◌, ◌++◌, map, Some, IfOk, OnOk};
 ghost use Rattle.cjc_methods.specs.Ready.{AreOrdered};
-ghost use Rattle.cjc_world.specs.Classes.{all_classes};
-ghost use Rattle.cjc_world.specs.Order.{class_order};
+ghost use Rattle.cjc_classes.specs.World.Classes.{all_classes};
+ghost use Rattle.cjc_classes.specs.World.Order.{class_order};
 ghost use Rattle.cjc_classes.specs.TypeInfo.TypeTable.{class_at};
 
-use cjc_components::class_order::classes::class_order;
-use cjc_world::World;
-use cjc_world::bytes::{NoMemory, Row};
+use cjc_classes::bytes::{NoMemory, Row};
+use cjc_classes::class_order::classes::class_order;
+use cjc_classes::world::World;
 use std::alloc::Global;
 
 /// Puts numbers at the end.

@@ -2,12 +2,12 @@
 //! size 0. Called by `tree`, which makes Directory last.
 
 ghost use Rattle.std.specs.Prelude.{◌≡◌, length, map, IfOk};
-ghost use Rattle.cjc_classes.specs.CapWrite.Size.{info_of};
-ghost use Rattle.cjc_components.specs.Components.{tags};
+ghost use Rattle.cjc_methods.specs.CapWrite.Size.{info_of};
+ghost use Rattle.cjc_classes.specs.Components.Components.{tags};
 
+use cjc_classes::bytes::{NoMemory, Row};
 use cjc_classes::capread::CapTree;
-use cjc_components::capwrite::size;
-use cjc_world::bytes::{NoMemory, Row};
+use cjc_classes::capwrite::size;
 use std::alloc::Global;
 
 const TAGS: [u8; 12] = [1, 2, 3, 4, 5, 6, 7, 8, 9, 10, 11, 12];

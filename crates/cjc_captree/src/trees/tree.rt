@@ -1,16 +1,17 @@
 //! The tree of all components. Each step puts some of them into it, and borrows what they are made from.
 
 ghost use Rattle.std.specs.Prelude.{◌≡◌, Some, length, replicate, IfOk, OnOk};
-ghost use Rattle.cjc_world.specs.Classes.{all_classes};
-ghost use Rattle.cjc_classes.specs.VTable.Tables.{class_tables};
-ghost use Rattle.cjc_components.specs.Class.{class_info};
-ghost use Rattle.cjc_components.specs.Components.{applet, components_of, directory_with, header, import, method};
-ghost use Rattle.cjc_components.specs.Components.{reference_location};
-ghost use Rattle.cjc_components.specs.Descriptor.{descriptor};
-ghost use Rattle.cjc_components.specs.Exports.{export};
-ghost use Rattle.cjc_components.specs.Names.{class_ref, pool_entries};
-ghost use Rattle.cjc_components.specs.Package.{Package};
-ghost use Rattle.cjc_components.specs.Statics.{static_field};
+ghost use Rattle.cjc_classes.specs.World.Classes.{all_classes};
+ghost use Rattle.cjc_methods.specs.VTable.Tables.{class_tables};
+ghost use Rattle.cjc_classes.specs.Components.Class.{class_info};
+ghost use Rattle.cjc_classes.specs.Components.Components.{applet, components_of, directory_with, header, import};
+ghost use Rattle.cjc_classes.specs.Components.Components.{method};
+ghost use Rattle.cjc_classes.specs.Components.Components.{reference_location};
+ghost use Rattle.cjc_classes.specs.Components.Descriptor.{descriptor};
+ghost use Rattle.cjc_classes.specs.Components.Exports.{export};
+ghost use Rattle.cjc_classes.specs.Components.Names.{class_ref, pool_entries};
+ghost use Rattle.cjc_classes.specs.Components.Package.{Package};
+ghost use Rattle.cjc_classes.specs.Components.Statics.{static_field};
 ghost use Rattle.cjc_classes.specs.Descriptor.Fits.{AreFit};
 ghost use Rattle.cjc_captree.specs.Trees.Given.{AreGiven, HasTokens};
 ghost use Rattle.cjc_captree.specs.Trees.Working.{AreNames, HasComponents};
@@ -20,6 +21,7 @@ use crate::limits::uses_int;
 use crate::trees::given::Given;
 use crate::trees::names::{Names, names_of};
 use crate::trees::sizes::sizes_of;
+use cjc_classes::bytes::{NoMemory, Row};
 use cjc_classes::capread::{
     CapTree, ConstantPool, Descriptor, Directory, Export, Header, Method, ReferenceLocation,
 };
@@ -29,7 +31,6 @@ use cjc_classes::directory::{applet, directory, header, import};
 use cjc_classes::pool_entries::pool_entries;
 use cjc_classes::type_info::Types;
 use cjc_exported::export_file::{Offsets, export};
-use cjc_world::bytes::{NoMemory, Row};
 use std::alloc::Global;
 
 const NO_SIZES: [u64; 12] = [0, 0, 0, 0, 0, 0, 0, 0, 0, 0, 0, 0];

@@ -8,10 +8,10 @@ use Rattle.std.proofs.lemmas.List.FromFn.{fill_by_all, get_or-map-range_with_len
 use Rattle.std.proofs.lemmas.Grind.{get_or-set_at}
 use Rattle.std.proofs.lemmas.Bool.Decides.{nat_tests}
 use Rattle.std.proofs.lemmas.Option.{slice_get_past, slice_get_within, slice_get-get_or}
-use Rattle.cjc_export.specs.Bytes.AccessFlags.{is_static}
-use Rattle.cjc_export.specs.declared.tree.ExportClass.{ExportClass}
-use Rattle.cjc_export.specs.declared.tree.ExportTree.{ExportTree}
-use Rattle.cjc_export.specs.Supers.{classes_of, has_virtual, inherits_virtual}
+use Rattle.cjc_check_rules.specs.Bytes.AccessFlags.{is_static}
+use Rattle.cjc_check_rules.specs.LowerExportFile.declared.tree.ExportClass.{ExportClass}
+use Rattle.cjc_check_rules.specs.LowerExportFile.declared.tree.ExportTree.{ExportTree}
+use Rattle.cjc_check_rules.specs.LowerExportFile.Supers.{classes_of, has_virtual, inherits_virtual}
 use Rattle.cjc_check_index.specs.Lookup.Indexed.{place_from, places_of}
 use Rattle.cjc_check_index.proofs.LookupLaws.Indexed.{file_at, found_at, place_is}
 use Rattle.cjc_check_rules.specs.Classes.{class_with, imported, is_exported_class}
@@ -22,9 +22,9 @@ use Rattle.cjc_check_index.specs.Imported.Tokens.{static_method}
 use Rattle.cjc_check_index.specs.Imported.Working.Rows.{lists_field, lists_method, with_answer}
 use Rattle.cjc_check_index.specs.Imported.Working.Lookup.{holds_of, answer_by_token, answer_of_class}
 use Rattle.cjc_check_index.proofs.ImportedLaws.Loops.{or_false}
-use Rattle.cjc_export.proofs.BytesBools.{or_true, bool_either, or_assoc}
-use Rattle.cjc_export.proofs.BytesNumbers.{number_apart}
-use Rattle.cjc_export.proofs.BytesLists.{map_same}
+use Rattle.cjc_check_rules.proofs.BytesBools.{or_true, bool_either, or_assoc}
+use Rattle.cjc_check_rules.proofs.BytesNumbers.{number_apart}
+use Rattle.cjc_check_rules.proofs.BytesLists.{map_same}
 
 -- ---- the loop
 

@@ -6,8 +6,8 @@ use Rattle.std.specs.List.{list_any}
 use Rattle.std.proofs.lemmas.Bool.{cases_lt}
 use Rattle.std.proofs.lemmas.Bool.Decides.{nat_tests}
 use Rattle.std.proofs.lemmas.List.{get_or-map, get_or_past, length-map}
-use Rattle.cjc_export.specs.declared.tree.ExportClass.{ExportClass}
-use Rattle.cjc_export.specs.Supers.{is_one_of, IsAtOrAbove, at, above, upwards}
+use Rattle.cjc_check_rules.specs.LowerExportFile.declared.tree.ExportClass.{ExportClass}
+use Rattle.cjc_check_rules.specs.LowerExportFile.Supers.{is_one_of, IsAtOrAbove, at, above, upwards}
 use Rattle.cjc_check_index.specs.Imported.Tokens.{all_tokens, each_class}
 use Rattle.cjc_check_index.specs.Imported.Working.Graph.{AreBelow, above_of, is_in, places}
 use Rattle.cjc_check_index.specs.Imported.Working.Names.{place_from}
@@ -17,7 +17,7 @@ use Rattle.cjc_check_index.proofs.ImportedLaws.Answers.{token_at}
 use Rattle.cjc_check_index.proofs.ImportedLaws.Loops.{same_when, map_is}
 use Rattle.cjc_check_index.proofs.ImportedLaws.Names.{found, found_place, in_places, place_in}
 use Rattle.cjc_check_index.proofs.ImportedLaws.Inherited.{passes_above, stands_above, one_step, inherits_is}
-use Rattle.cjc_export.proofs.BytesBools.{or_true, or_cases}
+use Rattle.cjc_check_rules.proofs.BytesBools.{or_true, or_cases}
 
 module _ (classes : List ExportClass) (test : ExportClass → Bool) (below : List (List ℕ)) (begin marks : List Bool)
     (rows : AreBelow (above_of classes) below) (first : begin ≡ map test classes) (reached : IsReached below begin

@@ -10,8 +10,8 @@ use Rattle.std.proofs.lemmas.List.{get_or-set_other, get_or_default, get_or_past
 use Rattle.std.proofs.lemmas.List.Folds.{list_any-append}
 use Rattle.cjc_check_index.specs.Imported.Working.Graph.{AreBelow, is_in, with_edge}
 use Rattle.cjc_check_index.proofs.ImportedLaws.Loops.{or_false}
-use Rattle.cjc_export.proofs.BytesBools.{and_false, bool_either}
-use Rattle.cjc_export.proofs.BytesNumbers.{number_apart}
+use Rattle.cjc_check_rules.proofs.BytesBools.{and_false, bool_either}
+use Rattle.cjc_check_rules.proofs.BytesNumbers.{number_apart}
 
 -- ---- one edge, and several
 

@@ -5,16 +5,16 @@ use Rattle.std.specs.Prelude.{◌||◌}
 use Rattle.std.specs.List.{AllByRecursion, list_any}
 use Rattle.std.specs.Str.{bytes_eq}
 use Rattle.std.proofs.lemmas.List.{get_or-map}
-use Rattle.cjc_export.specs.declared.tree.ExportClass.{ExportClass}
-use Rattle.cjc_export.specs.Supers.{class_named, is_one_of, IsAtOrAbove, at, above, upwards}
-use Rattle.cjc_export.proofs.Upwards.{all_found, each_own, found_is, one_here, one_more}
+use Rattle.cjc_check_rules.specs.LowerExportFile.declared.tree.ExportClass.{ExportClass}
+use Rattle.cjc_check_rules.specs.LowerExportFile.Supers.{class_named, is_one_of, IsAtOrAbove, at, above, upwards}
+use Rattle.cjc_check_rules.proofs.ExportFileUpwards.{all_found, each_own, found_is, one_here, one_more}
 use Rattle.cjc_check_index.specs.Imported.Working.Graph.{places}
 use Rattle.cjc_check_index.specs.Imported.Working.Rows.{has_or_inherits, is_any_marked}
 use Rattle.cjc_check_index.proofs.ImportedLaws.Loops.{same_when}
 use Rattle.cjc_check_index.proofs.ImportedLaws.Names.{found, found_place, in_places}
 use Rattle.cjc_check_index.proofs.ImportedLaws.Names.{place_in}
-use Rattle.cjc_export.proofs.BytesLists.{bytes_true}
-use Rattle.cjc_export.proofs.BytesBools.{or_true, or_cases}
+use Rattle.cjc_check_rules.proofs.BytesLists.{bytes_true}
+use Rattle.cjc_check_rules.proofs.BytesBools.{or_true, or_cases}
 
 -- ---- a class that passes, among several of which each is that of its name
 

@@ -10,7 +10,7 @@ use Rattle.cjc_check_index.specs.Imported.Working.Graph.{is_in}
 use Rattle.cjc_check_index.specs.Imported.Working.Reach.{IsWalk, IsReached, marked_from, marks_after, stack_after}
 use Rattle.cjc_check_index.specs.Imported.Working.Reach.{unmarked, with_mark, with_new}
 use Rattle.cjc_check_index.proofs.ImportedLaws.Loops.{or_false}
-use Rattle.cjc_export.proofs.BytesBools.{or_true, or_cases, bool_either}
+use Rattle.cjc_check_rules.proofs.BytesBools.{or_true, or_cases, bool_either}
 
 no : {P : Type 0} → (b : Bool) → b ≡ true → b ≡ false → P
 no b t f = let e : true ≡ false = sym t ∙ f in absurd (cc)

@@ -6,11 +6,11 @@ use Rattle.std.specs.List.{find}
 use Rattle.std.proofs.lemmas.List.{length-map}
 use Rattle.std.proofs.lemmas.Option.{slice_get_past, slice_get-map, slice_get-get_or}
 use Rattle.std.proofs.lemmas.List.FromFn.{length-map-range_with_len, get_or-map-range_with_len}
-use Rattle.cjc_export.specs.declared.tree.ExportClass.{ExportClass}
-use Rattle.cjc_export.specs.declared.tree.ExportTree.{ExportTree}
+use Rattle.cjc_check_rules.specs.LowerExportFile.declared.tree.ExportClass.{ExportClass}
+use Rattle.cjc_check_rules.specs.LowerExportFile.declared.tree.ExportTree.{ExportTree}
 use Rattle.cjc_check_rules.specs.Classes.{imported, class_with}
 use Rattle.cjc_check_index.specs.Lookup.Indexed.{place_from, places_of}
-use Rattle.cjc_export.proofs.BytesBools.{bool_either}
+use Rattle.cjc_check_rules.proofs.BytesBools.{bool_either}
 
 pub places_are_256 : (classes : List ExportClass) → length (places_of classes) ≡ 256
 places_are_256 classes = length-map-range_with_len (place_from 0 classes) 0 256

@@ -3,12 +3,12 @@
 ghost use Rattle.std.specs.Prelude.{◌≡◌, ◌++◌, IfOk, OnOk};
 ghost use Rattle.std.specs.Str.{bytes_eq};
 ghost use Rattle.std.specs.Cmp.{partial_equiv_from_equiv};
-ghost use Rattle.cjc_export.specs.Supers.{classes_of};
+ghost use Rattle.cjc_check_rules.specs.LowerExportFile.Supers.{classes_of};
 ghost use Rattle.cjc_check_index.specs.Imported.Tokens.{file_starts};
 ghost use Rattle.cjc_check_index.specs.Imported.Working.Names.{HasPlace, IsIndex, fed, names-equivalence, same-fed};
 
-use cjc_export::bytes::{NoMemory, Row};
-use cjc_export::{ExportClass, ExportTree};
+use cjc_check_rules::bytes::{NoMemory, Row};
+use cjc_check_rules::export_file::{ExportClass, ExportTree};
 use indexmap::IndexMap;
 use std::alloc::Global;
 use std::hash::{Hash, Hasher};
@@ -21,7 +21,7 @@ pub(crate) struct ImportedClass<'a> {
 }
 
 impl<'a> Model for ImportedClass<'a> {
-    ghost use Rattle.cjc_export.specs.declared.tree.ExportClass.{ExportClass as Class};
+    ghost use Rattle.cjc_check_rules.specs.LowerExportFile.declared.tree.ExportClass.{ExportClass as Class};
 
     ghost Value = { Class };
 

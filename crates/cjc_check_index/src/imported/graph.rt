@@ -7,10 +7,10 @@ ghost use Rattle.std.specs.Str.{bytes_eq};
 ghost use Rattle.indexmap.specs.IndexMap.{get};
 ghost use Rattle.cjc_check_index.specs.Imported.Working.Graph.{AreBelow, above_of, one_place, places, with_edge};
 ghost use Rattle.cjc_check_index.specs.Imported.Working.Names.{IsIndex};
-ghost use Rattle.cjc_export.specs.declared.tree.ExportClass.{ExportClass as Class};
+ghost use Rattle.cjc_check_rules.specs.LowerExportFile.declared.tree.ExportClass.{ExportClass as Class};
 
 use crate::imported::classes::{ImportedClass, Name, Places, places_of};
-use cjc_export::bytes::{Bytes, NoMemory, Row};
+use cjc_check_rules::bytes::{Bytes, NoMemory, Row};
 use std::alloc::Global;
 
 /// Puts the place of a name's first class at the end, if it has one.

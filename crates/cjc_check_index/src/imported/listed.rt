@@ -3,15 +3,15 @@
 
 ghost use Rattle.std.specs.Prelude.{◌≡◌, ◌==◌, ◌&&◌, IfOk, length, map};
 ghost use Rattle.std.specs.List.{list_any};
-ghost use Rattle.cjc_export.specs.Supers.{is_virtual};
+ghost use Rattle.cjc_check_rules.specs.LowerExportFile.Supers.{is_virtual};
 ghost use Rattle.cjc_check_rules.specs.Members.{is_unbound};
 ghost use Rattle.cjc_check_index.specs.Imported.Tokens.{all_tokens, each_class};
 ghost use Rattle.cjc_check_index.specs.Imported.Working.Rows.{is_asked, is_wanted, lists_field, lists_method};
 ghost use Rattle.cjc_check_index.specs.Imported.Working.Rows.{with_answer};
 
 use crate::imported::classes::ImportedClass;
-use cjc_export::bytes::{NoMemory, Row, is_private, is_static};
-use cjc_export::{ExportField, ExportMethod};
+use cjc_check_rules::bytes::{NoMemory, Row, is_private, is_static};
+use cjc_check_rules::export_file::{ExportField, ExportMethod};
 use std::alloc::Global;
 
 /// Whether a method is static or a constructor.

@@ -3,7 +3,7 @@
 
 ghost use Rattle.std.specs.Prelude.{◌≡◌, ◌<◌, ◌==◌, IfSome, get_or, length, option_and_then, slice_get, []};
 ghost use Rattle.std.specs.List.{find};
-ghost use Rattle.cjc_export.specs.Supers.{classes_of};
+ghost use Rattle.cjc_check_rules.specs.LowerExportFile.Supers.{classes_of};
 ghost use Rattle.cjc_check_index.specs.Imported.Tokens.{AreTokens, file_starts};
 ghost use Rattle.cjc_check_index.specs.Imported.Working.Lookup.{answer_by_token, answer_of_class};
 ghost use Rattle.cjc_check_index.specs.Lookup.Indexed.{IsIndexed, places_of};
@@ -14,9 +14,9 @@ ghost use Rattle.cjc_check_rules.specs.Members.{supers_have};
 use crate::imported::rows::answer;
 use crate::imported::tokens::Tokens;
 use crate::lookup::{Names, Want};
+use cjc_check_rules::bytes::Row;
 use cjc_check_rules::capread::ClassRef;
-use cjc_export::ExportClass;
-use cjc_export::bytes::Row;
+use cjc_check_rules::export_file::ExportClass;
 
 /// The place of the first class of a token among those of its file.
 fn place_in_file(classes: &[ExportClass], places: &[Option<usize>], token: u8) -> Option<usize>

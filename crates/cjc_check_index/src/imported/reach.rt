@@ -5,7 +5,7 @@ ghost use Rattle.std.specs.Prelude.{◌≡◌, ◌++◌, [], get_or, IfOk, OnOk}
 ghost use Rattle.cjc_check_index.specs.Imported.Working.Reach.{IsReached, marked_from, marks_after, stack_after};
 ghost use Rattle.cjc_check_index.specs.Imported.Working.Reach.{with_mark, with_new};
 
-use cjc_export::bytes::{NoMemory, Row};
+use cjc_check_rules::bytes::{NoMemory, Row};
 use std::alloc::Global;
 
 /// What stands below a class.

@@ -1,13 +1,13 @@
 //! By token, which classes have a member or inherit one, from what each lists itself. Called by `tokens`.
 
 ghost use Rattle.std.specs.Prelude.{◌≡◌, ◌<◌, ℕ, List, IfOk, false, get_or, map, Bool};
-ghost use Rattle.cjc_export.specs.declared.tree.ExportClass.{ExportClass as Class};
+ghost use Rattle.cjc_check_rules.specs.LowerExportFile.declared.tree.ExportClass.{ExportClass as Class};
 ghost use Rattle.cjc_check_index.specs.Imported.Tokens.{by_token, each_class};
 ghost use Rattle.cjc_check_index.specs.Imported.Working.Graph.{AreBelow, above_of};
 ghost use Rattle.cjc_check_index.specs.Imported.Working.Rows.{column, has_or_inherits, inherits, is_any_marked};
 
 use crate::imported::reach::reach;
-use cjc_export::bytes::{NoMemory, Row};
+use cjc_check_rules::bytes::{NoMemory, Row};
 use std::alloc::Global;
 
 /// The answers of all classes to one token.

@@ -2,8 +2,8 @@
 //! Whoever tests what components name of other packages makes it.
 
 ghost use Rattle.std.specs.Prelude.{◌≡◌, List, IfOk};
-ghost use Rattle.cjc_export.specs.declared.tree.ExportClass.{ExportClass as Class};
-ghost use Rattle.cjc_export.specs.Supers.{has_virtual, inherits_virtual};
+ghost use Rattle.cjc_check_rules.specs.LowerExportFile.declared.tree.ExportClass.{ExportClass as Class};
+ghost use Rattle.cjc_check_rules.specs.LowerExportFile.Supers.{has_virtual, inherits_virtual};
 ghost use Rattle.cjc_check_index.specs.Imported.Tokens.{AreTokens, by_token, has_field};
 ghost use Rattle.cjc_check_index.specs.Imported.Working.Graph.{AreBelow, above_of};
 ghost use Rattle.cjc_check_index.specs.Imported.Working.Upwards.{AreUpwards};
@@ -12,8 +12,8 @@ use crate::imported::classes::{Classes, ImportedClass, all_classes};
 use crate::imported::graph::{above_of, below_of};
 use crate::imported::listed::{field_tables, method_tables};
 use crate::imported::rows::{closed_rows, inherited_rows};
-use cjc_export::ExportTree;
-use cjc_export::bytes::{NoMemory, Row};
+use cjc_check_rules::bytes::{NoMemory, Row};
+use cjc_check_rules::export_file::ExportTree;
 use std::alloc::Global;
 
 /// What the classes of all export files have by token. The classes stand one behind the other, file by file.

@@ -9,7 +9,7 @@ ghost use Rattle.cjc_check_rules.specs.declared.spot.ComponentPlace.{ComponentPl
 
 use crate::lookup::spot::earlier;
 use cjc_check_rules::ComponentPlace;
-use cjc_export::bytes::{NoMemory, Row};
+use cjc_check_rules::bytes::{NoMemory, Row};
 use std::alloc::Global;
 
 /// An item of a component.

@@ -4,7 +4,7 @@
 ghost use Rattle.std.specs.Prelude.{◌≡◌, ℕ, ◌==◌, ◌&&◌, ◌++◌, IfOk, OnOk};
 ghost use Rattle.std.specs.List.{list_any};
 ghost use Rattle.std.specs.List.Sorted.{IsNonDecreasing};
-ghost use Rattle.cjc_export.specs.Bytes.AccessFlags.{is_static};
+ghost use Rattle.cjc_check_rules.specs.Bytes.AccessFlags.{is_static};
 ghost use Rattle.cjc_check_rules.specs.Members.{class_methods, is_method_start, is_static_start};
 ghost use Rattle.cjc_check_index.specs.Lookup.Indexed.{IsIndexed};
 ghost use Rattle.cjc_check_index.specs.Lookup.MethodStarts.{HasMethods, all_offsets, class_offsets, offset_of};
@@ -13,8 +13,8 @@ ghost use Rattle.cjc_check_index.specs.Lookup.Parts.{complete_of};
 
 use crate::lookup::along::is_among;
 use crate::lookup::names::{Names, is_own_class};
+use cjc_check_rules::bytes::{NoMemory, Row, is_static};
 use cjc_check_rules::capread::{ClassDescriptor, MethodDescriptor};
-use cjc_export::bytes::{NoMemory, Row, is_static};
 use std::alloc::Global;
 
 /// The offsets that Descriptor gives methods of classes, in order.

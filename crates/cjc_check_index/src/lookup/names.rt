@@ -5,16 +5,16 @@
 ghost use Rattle.std.specs.Prelude.{◌≡◌, ◌==◌};
 ghost use Rattle.std.specs.List.{find};
 ghost use Rattle.std.specs.Option.{option_copied};
-ghost use Rattle.cjc_check_rules.specs.CapRead.Parts.{class_of};
+ghost use Rattle.cjc_check_rules.specs.LowerCapRead.Parts.{class_of};
 ghost use Rattle.cjc_check_rules.specs.Classes.{classes_at, imported, interfaces_at, is_own_class};
 ghost use Rattle.cjc_check_rules.specs.Spots.{begins};
 ghost use Rattle.cjc_check_index.specs.Lookup.Indexed.{IsIndexed, names_as, places_of};
 
 use crate::lookup::along::is_among;
 use crate::lookup::parts::Parts;
+use cjc_check_rules::bytes::{Row, is_interface};
 use cjc_check_rules::capread::ClassRef;
-use cjc_export::bytes::{Row, is_interface};
-use cjc_export::{ExportClass, ExportTree};
+use cjc_check_rules::export_file::{ExportClass, ExportTree};
 
 /// What a class_ref is to name.
 #[derive(Clone, Copy)]

@@ -5,8 +5,8 @@ ghost use Rattle.std.specs.Prelude.{◌≡◌, IfOk, None, Some, get_or, length,
 ghost use Rattle.cjc_check_index.specs.Lookup.Indexed.{places_of};
 ghost use Rattle.cjc_check_index.specs.Lookup.Tokens.{or_else};
 
-use cjc_export::bytes::{NoMemory, Row};
-use cjc_export::{ExportClass, ExportTree};
+use cjc_check_rules::bytes::{NoMemory, Row};
+use cjc_check_rules::export_file::{ExportClass, ExportTree};
 use std::alloc::Global;
 
 /// A place, or another where there is none.

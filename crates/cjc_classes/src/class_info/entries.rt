@@ -13,7 +13,7 @@ use crate::class_info::fields::field_cells;
 use crate::class_info::flags::info_flags;
 use crate::class_info::refs::ClassRefs;
 use cjc_bytes::{Bytes, NoMemory, Row};
-use cjc_capread::{ClassEntry, ClassRef, ImplementedInterface, InterfaceEntry};
+use cjc_components::capread::{ClassEntry, ClassRef, ImplementedInterface, InterfaceEntry};
 use cjc_components::vtable::{ClassTable, InterfaceMap};
 use cjc_world::classfile::ClassTree;
 use cjc_world::{Found, Known, World};

@@ -3,7 +3,7 @@
 
 ghost use Rattle.std.specs.Prelude.{◌≡◌, map, IfOk};
 ghost use Rattle.cjc_world.specs.Classes.{all_classes};
-ghost use Rattle.cjc_components.specs.LowerVTable.Tables.{class_tables};
+ghost use Rattle.cjc_components.specs.VTable.Tables.{class_tables};
 ghost use Rattle.cjc_components.specs.Package.{Package};
 ghost use Rattle.cjc_classes.specs.ClassInfo.Refs.{AreRefs, ref_of};
 
@@ -11,7 +11,7 @@ use crate::class_info::outside::note_files;
 use crate::class_info::refs::ClassRefs;
 use crate::class_info::starts::{note_classes, note_interfaces};
 use cjc_bytes::{NoMemory, Row};
-use cjc_capread::ClassRef;
+use cjc_components::capread::ClassRef;
 use cjc_components::class_order::classes::{class_order, order_laws};
 use cjc_components::vtable::ClassTables;
 use cjc_world::World;

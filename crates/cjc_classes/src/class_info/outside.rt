@@ -2,14 +2,14 @@
 //! by `infos`.
 
 ghost use Rattle.std.specs.Prelude.{◌≡◌, ℕ, List, option_map, IfOk, OnOk};
-ghost use Rattle.cjc_capread.specs.declared.tree.ClassRef.TheVariants.{Outside};
-ghost use Rattle.cjc_components.specs.LowerCardSemantics.Machine.Classes.{external_from, or_else, token_named};
+ghost use Rattle.cjc_components.specs.CapRead.declared.tree.ClassRef.TheVariants.{Outside};
+ghost use Rattle.cjc_components.specs.CardSemantics.Machine.Classes.{external_from, or_else, token_named};
 ghost use Rattle.cjc_components.specs.Names.{ref_to};
 ghost use Rattle.cjc_classes.specs.ClassInfo.Refs.{ref_in};
 
 use crate::class_info::refs::ClassRefs;
 use cjc_bytes::NoMemory;
-use cjc_capread::ClassRef;
+use cjc_components::capread::ClassRef;
 use cjc_world::export_file::{ExportClass, ExportTree};
 use std::alloc::Global;
 

@@ -3,11 +3,11 @@
 
 ghost use Rattle.std.specs.Prelude.{◌≡◌, ℕ, List, None, OnOk, Some, cond};
 ghost use Rattle.std.specs.Str.{bytes_eq};
-ghost use Rattle.cjc_components.specs.LowerCardSemantics.Machine.Classes.{or_else};
+ghost use Rattle.cjc_components.specs.CardSemantics.Machine.Classes.{or_else};
 ghost use Rattle.cjc_classes.specs.ClassInfo.Refs.{ref_in, ref_of};
 
 use cjc_bytes::NoMemory;
-use cjc_capread::ClassRef;
+use cjc_components::capread::ClassRef;
 use std::alloc::Global;
 use std::collections::HashMap;
 

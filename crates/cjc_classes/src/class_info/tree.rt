@@ -3,8 +3,8 @@
 
 ghost use Rattle.std.specs.Prelude.{◌≡◌, ◌++◌, map, option_to_list, IfOk, OnOk};
 ghost use Rattle.cjc_world.specs.Classes.{all_classes};
-ghost use Rattle.cjc_components.specs.LowerClassOrder.Classes.Numbers.{declared_at};
-ghost use Rattle.cjc_components.specs.LowerVTable.Tables.{class_tables};
+ghost use Rattle.cjc_components.specs.ClassOrder.Classes.Numbers.{declared_at};
+ghost use Rattle.cjc_components.specs.VTable.Tables.{class_tables};
 ghost use Rattle.cjc_components.specs.Package.{Package};
 ghost use Rattle.cjc_components.specs.Class.{class_info, interface_entry};
 ghost use Rattle.cjc_components.specs.Names.{class_ref};
@@ -15,7 +15,7 @@ ghost use Rattle.cjc_classes.specs.ClassInfo.Entries.{offset_in};
 use crate::class_info::entries::{class_entry, interface_entry};
 use crate::class_info::refs::ClassRefs;
 use cjc_bytes::{NoMemory, Row};
-use cjc_capread::{ClassEntry, ClassInfo, InterfaceEntry};
+use cjc_components::capread::{ClassEntry, ClassInfo, InterfaceEntry};
 use cjc_components::class_order::classes::{class_order, order_laws};
 use cjc_components::vtable::{ClassTable, ClassTables};
 use cjc_world::{Known, World};

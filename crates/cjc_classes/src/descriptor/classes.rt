@@ -19,7 +19,7 @@ use crate::descriptor::flags::class_flags;
 use crate::descriptor::methods::methods_of;
 use crate::descriptor::parts::Parts;
 use cjc_bytes::{MemberId, NoMemory, Row};
-use cjc_capread::{ClassDescriptor, ClassRef, Descriptor};
+use cjc_components::capread::{ClassDescriptor, ClassRef, Descriptor};
 use cjc_components::ncode::PoolKey;
 use cjc_world::classfile::ClassTree;
 use cjc_world::{Known, World};

@@ -2,7 +2,7 @@
 //! by `classes`.
 
 ghost use Rattle.std.specs.Prelude.{◌≡◌, ◌++◌, ◌<◌, ◌^◌, length, IfOk, OnOk};
-ghost use Rattle.cjc_components.specs.LowerScript.Sorts.{field_sort};
+ghost use Rattle.cjc_components.specs.Script.Sorts.{field_sort};
 ghost use Rattle.cjc_tokens.specs.Fields.{is_constant};
 ghost use Rattle.cjc_classes.specs.ClassInfo.Refs.{ref_of};
 ghost use Rattle.cjc_classes.specs.TypeInfo.TypeTable.{offset_in};
@@ -14,7 +14,7 @@ use crate::descriptor::flags::field_flags;
 use crate::descriptor::parts::{Parts, cell_of, token_of};
 use crate::type_info::{Sort, Types, field_sort};
 use cjc_bytes::{NoMemory, Row, is_static};
-use cjc_capread::{FieldDescriptor, FieldPlace, FieldType};
+use cjc_components::capread::{FieldDescriptor, FieldPlace, FieldType};
 use cjc_world::classfile::{ClassTree, FieldTree};
 use cjc_world::export_file::may_be_constant;
 use std::alloc::Global;

@@ -8,7 +8,7 @@ ghost use Rattle.cjc_classes.specs.Descriptor.Working.Described.{own_methods_at}
 use crate::descriptor::flags::method_flags;
 use crate::descriptor::parts::{Parts, extent_of, token_of};
 use cjc_bytes::{ACC_ABSTRACT, ACC_PUBLIC, MemberId, NoMemory, Row};
-use cjc_capread::MethodDescriptor;
+use cjc_components::capread::MethodDescriptor;
 use cjc_world::classfile::{ClassTree, MethodTree};
 use std::alloc::Global;
 

@@ -11,7 +11,7 @@ ghost use Rattle.cjc_classes.specs.Applets.{entry_by, where_found};
 
 use crate::class_info::offset_in;
 use cjc_bytes::{AppletLine, Bytes, MemberId, NoMemory, Row};
-use cjc_capread::{Applet, AppletEntry};
+use cjc_components::capread::{Applet, AppletEntry};
 use cjc_components::list::List;
 use cjc_world::{Found, World};
 use std::alloc::Global;

@@ -7,7 +7,7 @@ ghost use Rattle.cjc_components.specs.Components.{header, header_flags, uses_int
 ghost use Rattle.cjc_components.specs.Exports.{export};
 
 use cjc_bytes::{Bytes, NoMemory};
-use cjc_capread::{Export, Header};
+use cjc_components::capread::{Export, Header};
 use cjc_components::list::List;
 use std::alloc::Global;
 

@@ -6,7 +6,7 @@ ghost use Rattle.cjc_components.specs.Package.{Package};
 ghost use Rattle.cjc_components.specs.Components.{import, imported_package};
 
 use cjc_bytes::{Bytes, NoMemory, Row};
-use cjc_capread::{Import, ImportedPackage};
+use cjc_components::capread::{Import, ImportedPackage};
 use cjc_world::World;
 use cjc_world::export_file::ExportTree;
 use std::alloc::Global;

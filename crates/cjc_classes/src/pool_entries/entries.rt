@@ -11,7 +11,7 @@ ghost use Rattle.cjc_classes.specs.Entries.{entry_by, key_cell, key_token, membe
 
 use crate::class_info::{ClassRefs, offset_in};
 use cjc_bytes::{NoMemory, Row};
-use cjc_capread::{ClassRef, PoolEntry, StaticRef};
+use cjc_components::capread::{ClassRef, PoolEntry, StaticRef};
 use cjc_components::ncode::PoolKey;
 use cjc_tokens::Tokens;
 use cjc_world::{Found, World};

@@ -2,7 +2,7 @@
 
 ghost use Rattle.std.specs.Prelude.{◌≡◌, ◌∷◌, ◌++◌, ◌/◌, ◌%◌, [], map, IfOk, OnOk};
 ghost use Rattle.std.specs.List.{flat_map};
-ghost use Rattle.cjc_components.specs.LowerScript.Sorts.{result_by, sort_of};
+ghost use Rattle.cjc_components.specs.Script.Sorts.{result_by, sort_of};
 ghost use Rattle.cjc_components.specs.Types.{ref_nibbles, result_nibbles, sort_nibbles};
 ghost use Rattle.cjc_classes.specs.TypeInfo.Meant.{sort_meant};
 ghost use Rattle.cjc_classes.specs.ClassInfo.Refs.{ref_of};
@@ -11,7 +11,7 @@ ghost use Rattle.cjc_classes.specs.TypeInfo.Working.Nibbles.{nibbles_in, parts_n
 use crate::class_info::ClassRefs;
 use crate::type_info::sort::{Sort, parsed, result_sort, sort_by};
 use cjc_bytes::{Bytes, Desc, Kind, NoMemory, Row};
-use cjc_capread::ClassRef;
+use cjc_components::capread::ClassRef;
 use std::alloc::Global;
 
 fn put_byte(out: &mut Bytes, byte: u8) -> Result<(), NoMemory>

@@ -1,40 +1,41 @@
 -- What is known of a package and components that are ready to be run.
 use Rattle.std.proofs.Common.{◌≡◌, inl, inr, ◌⊎◌, ℕ, List, [], refl, sym, ap, subst, ◌∙◌}
 use Rattle.std.specs.Prelude.{Some, Ok, Err, Result, IfErr}
-use Rattle.cjc_cmd_check.specs.Bytes.Breaks.{Among, Break, IsFirst, IsFirstRefusal}
-use Rattle.cjc_cmd_check.specs.Bytes.declared.fault.Fault.{Fault}
-use Rattle.cjc_cmd_check.specs.Bytes.declared.fault.Fault.TheVariants as faults
-use Rattle.cjc_cmd_check.specs.Bytes.declared.fault.Refusal.{Refusal}
-use Rattle.cjc_cmd_check.specs.Bytes.Order.{NotAfter}
-use Rattle.cjc_card.specs.CapRead.declared.tree.CapTree.{CapTree}
+use Rattle.cjc_card.specs.Bytes.Breaks.{Among, Break, IsFirst, IsFirstRefusal}
+use Rattle.cjc_card.specs.Bytes.declared.fault.Fault.{Fault}
+use Rattle.cjc_card.specs.Bytes.declared.fault.Fault.TheVariants as faults
+use Rattle.cjc_card.specs.Bytes.declared.fault.Refusal.{Refusal}
+use Rattle.cjc_card.specs.Bytes.Order.{NotAfter}
+use Rattle.cjc_cmd_check.specs.CapRead.declared.tree.CapTree.{CapTree}
 use Rattle.cjc_cmd_card.specs.Running.Ready.{Breaks, IsReady}
 use Rattle.cjc_cmd_card.specs.declared.running.input.Input.{Input}
 use Rattle.cjc_cmd_card.specs.declared.running.ready.Ready.{Ready}
-use Rattle.cjc_pairing.specs.Clinit.Image.{IsImage}
-use Rattle.cjc_pairing.specs.Clinit.Rules.{BreaksImage}
-use Rattle.cjc_judge.proofs.ClinitOneImage.{one-image}
-use Rattle.cjc_card.specs.Bytecode.PackageCodes.{all_codes}
-use Rattle.cjc_card.specs.Bytecode.declared.method_code.MethodCode.{MethodCode}
-use Rattle.cjc_judge.specs.declared.groups.Group.TheVariants as groups
-use Rattle.cjc_judge.specs.declared.judged.Judged.{Judged}
-use Rattle.cjc_judge.specs.Rules.{AreWorld, IsFirstFault, IsFirstOf, IsFirstRefused, OnLevels, files_spelt, has_applets}
-use Rattle.cjc_judge.specs.Rules.{of_group, of_world, on_first, on_second, settings_of, world_files}
-use Rattle.cjc_judge.specs.Spelt.{FileTree, SpellTrees, classes_of, exports_of}
-use Rattle.cjc_judge.proofs.Firsts.{one_spelling, all_spell}
-use Rattle.cjc_cmd_check.specs.List.Listed.{ListTree}
-use Rattle.cjc_shape.specs.Components.Paired.Pairs.{pair_breaks}
+use Rattle.cjc_shape.specs.Clinit.Image.{IsImage}
+use Rattle.cjc_shape.specs.Clinit.Rules.{BreaksImage}
+use Rattle.cjc_pairing.proofs.ClinitOneImage.{one-image}
+use Rattle.cjc_pairing.specs.Bytecode.PackageCodes.{all_codes}
+use Rattle.cjc_pairing.specs.Bytecode.declared.method_code.MethodCode.{MethodCode}
+use Rattle.cjc_shape.specs.Judge.declared.groups.Group.TheVariants as groups
+use Rattle.cjc_shape.specs.Judge.declared.judged.Judged.{Judged}
+use Rattle.cjc_shape.specs.Judge.Rules.{AreWorld, IsFirstFault, IsFirstOf, IsFirstRefused, OnLevels, files_spelt}
+use Rattle.cjc_shape.specs.Judge.Rules.{has_applets}
+use Rattle.cjc_shape.specs.Judge.Rules.{of_group, of_world, on_first, on_second, settings_of, world_files}
+use Rattle.cjc_shape.specs.Judge.Spelt.{FileTree, SpellTrees, classes_of, exports_of}
+use Rattle.cjc_shape.proofs.JudgeFirsts.{one_spelling, all_spell}
+use Rattle.cjc_pairing.specs.List.Listed.{ListTree}
+use Rattle.cjc_pairing.specs.Components.Paired.Pairs.{pair_breaks}
 use Rattle.cjc_shape.proofs.PreparedLaws.Limited as limited
-use Rattle.cjc_pairing.specs.CheckRules.Complete.{Complete, complete}
-use Rattle.cjc_pairing.specs.Subset.Checks.{check_breaks}
-use Rattle.cjc_judge.specs.Tokens.Rules.{FewCells, FewExported, tested_breaks, token_breaks}
-use Rattle.cjc_shape.specs.World.Files.{Files}
-use Rattle.cjc_shape.specs.World.Rules.{breaks}
-use Rattle.cjc_shape.specs.World.declared.image.StaticImage.{StaticImage}
+use Rattle.cjc_card.specs.CheckRules.Complete.{Complete, complete}
+use Rattle.cjc_shape.specs.Subset.Checks.{check_breaks}
+use Rattle.cjc_pairing.specs.Tokens.Rules.{FewCells, FewExported, tested_breaks, token_breaks}
+use Rattle.cjc_card.specs.World.Files.{Files}
+use Rattle.cjc_card.specs.World.Rules.{breaks}
+use Rattle.cjc_card.specs.World.declared.image.StaticImage.{StaticImage}
 use Rattle.cjc_cmd_card.specs.Report.Runs.{AnyBreaks, BreaksPair}
 use Rattle.cjc_cmd_card.specs.Report.Working.{IsPairFault}
 use Rattle.cjc_cmd_card.proofs.ReportLaws.Once.{SentencesHold, ready_unbroken}
-use Rattle.cjc_judge.proofs.BytesPlain.{the_same}
-use Rattle.cjc_judge.proofs.BytesBrokenRules.{no_breaks}
+use Rattle.cjc_cmd_check.proofs.BytesPlain.{the_same}
+use Rattle.cjc_cmd_check.proofs.BytesBrokenRules.{no_breaks}
 
 -- ---- a package
 

@@ -1,15 +1,15 @@
 //! The report of a run by token. Called by running.rt, and by the command that sums up two runs. It reads no file.
 
 ghost use Rattle.std.specs.Prelude.{◌≡◌, ◌<◌, ◌^◌, List as Items, ℕ, Some, IfErr, IfOk};
-ghost use Rattle.cjc_pairing.specs.CardSemantics.Machine.ByToken.{run as run_by_token};
+ghost use Rattle.cjc_card.specs.CardSemantics.Machine.ByToken.{run as run_by_token};
 ghost use Rattle.cjc_cmd_card.specs.Report.Runs.{IsReport};
 ghost use Rattle.cjc_cmd_card.specs.Report.Working.{IsPairFault, alone_with};
 ghost use Rattle.cjc_cmd_card.specs.Running.Ready.{IsReady};
 ghost use Rattle.cjc_cmd_card.specs.declared.running.input.Input.{Input as Given};
-ghost use Rattle.cjc_judge.specs.Rules.{has_applets};
-ghost use Rattle.cjc_shape.specs.Components.Paired.Naming.{loaded_of};
-ghost use Rattle.cjc_pairing.specs.CheckIndex.Lookup.Parts.{complete_of};
-ghost use Rattle.cjc_pairing.specs.CheckRules.Complete.{AreSmall, class_info_size, complete};
+ghost use Rattle.cjc_shape.specs.Judge.Rules.{has_applets};
+ghost use Rattle.cjc_pairing.specs.Components.Paired.Naming.{loaded_of};
+ghost use Rattle.cjc_card.specs.CheckIndex.Lookup.Parts.{complete_of};
+ghost use Rattle.cjc_card.specs.CheckRules.Complete.{AreSmall, class_info_size, complete};
 
 use crate::report::parts::part_of;
 use crate::running::{Input, Ready};
@@ -19,13 +19,13 @@ use cjc_card::export_file::ExportTree;
 use cjc_card::group::Group;
 use cjc_card::runs::run;
 use cjc_card::script::{Report, Script};
-use cjc_judge::bytes::{Fault, NoMemory};
-use cjc_judge::list::List;
-use cjc_judge::world::StaticImage;
-use cjc_judge::{image_of, tokens_of};
+use cjc_card::world::StaticImage;
+use cjc_cmd_check::bytes::{Fault, NoMemory};
+use cjc_cmd_check::list::List;
 use cjc_pairing::card_link::ClassNames;
 use cjc_pairing::card_names::{cell_names, class_names};
 use cjc_pairing::test_pair;
+use cjc_shape::judge::{image_of, tokens_of};
 use std::alloc::Global;
 
 /// The report of components with these names and export files.

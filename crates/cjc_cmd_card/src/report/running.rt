@@ -1,19 +1,19 @@
 //! What `card LIST DIR SCRIPT N` reads and prints. The program's top call calls it. Nothing here writes.
 
 ghost use Rattle.std.specs.Prelude.{IfErr, IfOk};
-ghost use Rattle.cjc_cmd_jvm.specs.LowerShelf.Command.Gather.{Gathers, Judged};
+ghost use Rattle.cjc_cmd_jvm.specs.Shelf.Command.Gather.{Gathers, Judged};
 ghost use Rattle.cjc_cmd_card.specs.Report.Runs.{AnyBreaks, IsRun, Runs, plan_of_report};
 ghost use Rattle.cjc_cmd_card.specs.Running.Reads.{IsInput};
 ghost use Rattle.cjc_cmd_card.specs.Running.Ready.{IsReady};
-ghost use Rattle.cjc_judge.specs.Rules.{IsFirstFault};
+ghost use Rattle.cjc_shape.specs.Judge.Rules.{IsFirstFault};
 
 use crate::report::reporting::report_of;
 use crate::running::{Input, Ready, gather_input, make_ready};
 use cjc_card::check_rules::consistent_where_unbroken;
+use cjc_cmd_check::bytes::Fault;
 use cjc_cmd_jvm::running::report_todo;
 use cjc_cmd_jvm::shelf::Shelf;
 use cjc_cmd_jvm::shelf::command::{Status, Todo};
-use cjc_judge::bytes::Fault;
 use std::alloc::Global;
 
 /// Runs what is ready, and gives the lines of its report.

@@ -2,17 +2,17 @@
 //! Nothing here writes.
 
 ghost use Rattle.std.specs.Prelude.{◌<◌, IfOk, length};
-ghost use Rattle.cjc_cmd_jvm.specs.LowerShelf.Command.Gather.{Gathers, IsSame};
-ghost use Rattle.cjc_judge.specs.Spelt.{IsRead};
+ghost use Rattle.cjc_cmd_jvm.specs.Shelf.Command.Gather.{Gathers, IsSame};
+ghost use Rattle.cjc_shape.specs.Judge.Spelt.{IsRead};
 ghost use Rattle.cjc_cmd_card.specs.Running.Reads.{IsInput, plan_behind_list, plan_behind_text, plan_of_card};
 
 use crate::running::input::Input;
+use cjc_cmd_check::bytes::{Fault, NoMemory};
 use cjc_cmd_check::folder::gather_parts;
+use cjc_cmd_check::list::{List, read_list};
 use cjc_cmd_jvm::running::names_of;
 use cjc_cmd_jvm::shelf::Shelf;
 use cjc_cmd_jvm::shelf::command::{Status, fetch, fetch_each};
-use cjc_judge::bytes::{Fault, NoMemory};
-use cjc_judge::list::{List, read_list};
 use std::alloc::Global;
 
 /// Reads the files of a list, then the components of a folder, and then a script.

@@ -3,25 +3,25 @@
 //! say together.
 
 ghost use Rattle.std.specs.Prelude.{◌≡◌, [], Some, Ok, IfOk, IfErr, OnOk};
-ghost use Rattle.cjc_cmd_check.specs.Bytes.Breaks.{Break as Broken, IsFirstRefusal};
+ghost use Rattle.cjc_card.specs.Bytes.Breaks.{Break as Broken, IsFirstRefusal};
 ghost use Rattle.cjc_cmd_check.specs.Folder.Breaks.{cap_in, part_breaks};
-ghost use Rattle.cjc_judge.specs.Judged.{IsJudged};
-ghost use Rattle.cjc_judge.specs.Rules.{BreaksFile, IsFirstFault};
-ghost use Rattle.cjc_cmd_jvm.specs.LowerScriptText.Scripted.{ScriptTree, scripted};
-ghost use Rattle.cjc_pairing.specs.CheckRules.Complete.{IsSmall};
-ghost use Rattle.cjc_pairing.specs.CheckRules.Consistent.{Consistent, breaks};
+ghost use Rattle.cjc_shape.specs.Judge.Judged.{IsJudged};
+ghost use Rattle.cjc_shape.specs.Judge.Rules.{BreaksFile, IsFirstFault};
+ghost use Rattle.cjc_cmd_jvm.specs.ScriptText.Scripted.{ScriptTree, scripted};
+ghost use Rattle.cjc_card.specs.CheckRules.Complete.{IsSmall};
+ghost use Rattle.cjc_card.specs.CheckRules.Consistent.{Consistent, breaks};
 ghost use Rattle.cjc_cmd_card.specs.Running.Reads.{IsInput};
 ghost use Rattle.cjc_cmd_card.specs.Running.Ready.{Breaks, IsReady, tested};
 
 use crate::running::input::Input;
 use cjc_card::export_file::ExportTree;
 use cjc_card::script::Script;
+use cjc_cmd_check::bytes::{Fault, Row};
 use cjc_cmd_check::capread::CapTree;
 use cjc_cmd_check::check::{Checked, check};
 use cjc_cmd_check::folder::{cap_of, parts_between};
 use cjc_cmd_jvm::script_text::read;
-use cjc_judge::bytes::{Fault, Row};
-use cjc_judge::{Group, Judged, files_first, judge, test_files};
+use cjc_shape::judge::{Group, Judged, files_first, judge, test_files};
 use std::alloc::Global;
 
 /// A package that breaks no rule of the first three hundreds, of limits and of tokens, components that are

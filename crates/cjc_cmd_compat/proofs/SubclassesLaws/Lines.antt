@@ -22,7 +22,7 @@ use Rattle.cjc_cmd_compat.proofs.SubclassesLaws.Slots.{AreAlike, AreAlikeAt, ali
 use Rattle.cjc_cmd_compat.proofs.SubclassesLaws.Slots.{longer}
 use Rattle.cjc_cmd_compat.proofs.SubclassesLaws.Slots.{neither, new_in-alike, slot-is, taken-alike, taken-at}
 use Rattle.cjc_cmd_compat.proofs.SubclassesLaws.Slots.{taken-length, taken-only, token-alike}
-use Rattle.cjc_compat.proofs.BytesBools.{true_or_false, clash}
+use Rattle.cjc_world.proofs.BytesBools.{true_or_false, clash}
 
 -- what the classes of the package on a line declare, public or protected, or get
 abbrev pub names : Line → Signature → Bool

@@ -11,7 +11,7 @@ use Rattle.cjc_tokens.specs.Slots.{token, with_all_taken}
 use Rattle.cjc_tokens.specs.Slots.{with_taken}
 use Rattle.cjc_tokens.proofs.Facts.{same-refl, same-true}
 use Rattle.cjc_tokens.proofs.Held.{token-cons}
-use Rattle.cjc_compat.proofs.BytesBools.{clash}
+use Rattle.cjc_world.proofs.BytesBools.{clash}
 
 -- ---- tests
 

@@ -4,8 +4,8 @@ use Rattle.std.proofs.Common.{◌≡◌, ℕ, refl, sym, ap, subst, ◌∙◌, B
 use Rattle.std.specs.Prelude.{◌⊎◌, ◌||◌, ◌&&◌, not, Option, Some, None, if◌then◌else◌, map}
 use Rattle.std.specs.List.{list_any}
 use Rattle.std.specs.Str.{bytes_eq}
-use Rattle.cjc_compat.specs.Bytes.AccessFlags.{is_abstract, is_interface, is_private, is_static}
-use Rattle.cjc_compat.specs.ExportFile.declared.tree.ExportTree.{ExportTree}
+use Rattle.cjc_tokens.specs.Bytes.AccessFlags.{is_abstract, is_interface, is_private, is_static}
+use Rattle.cjc_tokens.specs.ExportFile.declared.tree.ExportTree.{ExportTree}
 use Rattle.cjc_world.specs.Files.{Files}
 use Rattle.cjc_world.specs.Classes.{Class, Member, all_classes, class_named}
 use Rattle.cjc_world.specs.Supertypes.{AreSupertypes, End, IsAcyclic, Known, Lists, Supertypes, Unknown, ends}
@@ -34,7 +34,7 @@ use Rattle.cjc_cmd_compat.proofs.SubclassesLaws.Members.{AreGiven, ArePair, name
 use Rattle.cjc_cmd_compat.proofs.SubclassesLaws.Members.{two_classes}
 use Rattle.cjc_cmd_compat.proofs.SubclassesLaws.Slots.{both_ways}
 use Rattle.cjc_cmd_compat.proofs.SubclassesLaws.Worlds.{any-got, any-of, named-has, none-listed, ruled-class}
-use Rattle.cjc_compat.proofs.BytesBools.{bool_four}
+use Rattle.cjc_world.proofs.BytesBools.{bool_four}
 
 -- ---- trees
 

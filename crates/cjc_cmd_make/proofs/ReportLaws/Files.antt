@@ -2,16 +2,16 @@
 use Rattle.std.proofs.Common.{◌≡◌, ℕ, ◌+◌, ◌<◌, ◌≤◌, List, [], ◌∷◌, length, get_or, drop, sym, ap, ◌∙◌}
 use Rattle.std.proofs.lemmas.List.{drop_all}
 use Rattle.std.specs.FinMap.{insert}
-use Rattle.cjc_shelf.proofs.CommandLaws.Ahead.{written_files-append}
-use Rattle.cjc_shelf.specs.Command.Publish.{written_files}
-use Rattle.cjc_shelf.specs.declared.command.status.File.{File}
+use Rattle.cjc_cmd_convert.proofs.ShelfAhead.{written_files-append}
+use Rattle.cjc_cmd_convert.specs.Shelf.Command.Publish.{written_files}
+use Rattle.cjc_cmd_convert.specs.Shelf.declared.command.status.File.{File}
 use Rattle.cjc_cmd_make.specs.declared.package.made.Made.{Made}
 use Rattle.cjc_cmd_make.specs.Report.Package.{class_file_name, list_name, named_classes, named_files, package_files}
 use Rattle.cjc_cmd_make.specs.Report.Package.{script_name}
 use Rattle.cjc_cmd_convert.specs.Publication.{named}
-use Rattle.cjc_shelf.specs.Memory.{files_of, with_file}
-use Rattle.cjc_shelf.specs.Shelf.{Files, Shelved}
-use Rattle.cjc_shelf.proofs.BytesGets.{drop_next}
+use Rattle.cjc_cmd_convert.specs.Shelf.Memory.{files_of, with_file}
+use Rattle.cjc_cmd_convert.specs.Shelf.Shelf.{Files, Shelved}
+use Rattle.cjc_cmd_convert.proofs.BytesGets.{drop_next}
 
 -- what a shelf tells that got one file more
 pub with_one : (old new : Shelved) (name bytes : List ℕ) → new ≡ with_file name bytes old

@@ -8,7 +8,7 @@ ghost use Rattle.cjc_cmd_make.specs.Package.ClassFile.{method_bytes};
 ghost use Rattle.cjc_cmd_make.specs.Package.Kept.{entry_bytes};
 
 use crate::package::instruction::Instruction;
-use cjc_shelf::bytes::{Bytes, NoMemory, Out};
+use cjc_cmd_convert::bytes::{Bytes, NoMemory, Out};
 use std::alloc::Global;
 use std::marker::Model;
 

@@ -11,7 +11,7 @@ use crate::package::class_file::{Code, Entry, Method, put_entries, put_method};
 use crate::package::instruction::Instruction;
 use crate::package::texts::put_class_name;
 use cjc_cmd_convert::bytecode::jvm;
-use cjc_shelf::bytes::{ACC_PUBLIC, ACC_STATIC, ACC_SUPER, Bytes, NoMemory, Out};
+use cjc_cmd_convert::bytes::{ACC_PUBLIC, ACC_STATIC, ACC_SUPER, Bytes, NoMemory, Out};
 use std::alloc::Global;
 
 /// The name of class i.

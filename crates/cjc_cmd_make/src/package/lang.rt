@@ -4,7 +4,7 @@
 ghost use Rattle.std.specs.Prelude.{◌≡◌, IfOk};
 ghost use Rattle.cjc_cmd_make.specs.Package.Lang.{lang_file};
 
-use cjc_shelf::bytes::{Bytes, NoMemory};
+use cjc_cmd_convert::bytes::{Bytes, NoMemory};
 use std::alloc::Global;
 
 /// Version 1.0, with Object, Throwable and nine exceptions, each with its constructor and `equals`, which have token 0.

@@ -11,7 +11,7 @@ use crate::package::classes::class_file;
 use crate::package::lang::lang_file;
 use crate::package::numbers::{number_behind, operand_of};
 use crate::package::texts::{list_text, script_text};
-use cjc_shelf::bytes::{Bytes, NoMemory, Row};
+use cjc_cmd_convert::bytes::{Bytes, NoMemory, Row};
 use std::alloc::Global;
 
 /// A package: what its conversion and its runs are given.

@@ -7,7 +7,7 @@ ghost use Rattle.cjc_cmd_make.specs.Package.Classes.{class_name};
 ghost use Rattle.cjc_cmd_make.specs.Package.Numbers.{below};
 ghost use Rattle.cjc_cmd_make.specs.Package.Texts.{class_line, list_text, call_line, script_text};
 
-use cjc_shelf::bytes::{Bytes, NoMemory, Out};
+use cjc_cmd_convert::bytes::{Bytes, NoMemory, Out};
 use itoa::Buffer;
 use std::alloc::Global;
 

@@ -2,11 +2,11 @@
 //! what it reads, and refused as there.
 
 ghost use Rattle.std.specs.Prelude.{◌≡◌, IfErr, IfOk};
-ghost use Rattle.cjc_cmd_convert.specs.Judge.Rules.{IsFirstFault};
+ghost use Rattle.cjc_cmd_card.specs.Judge.Rules.{IsFirstFault};
 ghost use Rattle.cjc_cmd_card.specs.Report.Runs.{AnyBreaks};
 ghost use Rattle.cjc_cmd_card.specs.Running.Reads.{IsInput};
-ghost use Rattle.cjc_shelf.specs.Command.Plan.{complete};
-ghost use Rattle.cjc_shelf.specs.Memory.{clean_shelved, files_of};
+ghost use Rattle.cjc_cmd_convert.specs.Shelf.Command.Plan.{complete};
+ghost use Rattle.cjc_cmd_convert.specs.Shelf.Memory.{clean_shelved, files_of};
 ghost use Rattle.cjc_cmd_make.specs.Report.Package.{script_name};
 ghost use Rattle.cjc_cmd_make.specs.Report.Runs.{IsComponentsReport, IsReportByToken, card_end};
 ghost use Rattle.cjc_cmd_make.specs.Report.Working.{IsReadFault, IsTokenFault};
@@ -14,10 +14,10 @@ ghost use Rattle.cjc_cmd_make.specs.Report.Working.{IsReadFault, IsTokenFault};
 use crate::report::ends::fault_of;
 use cjc_cmd_card::report::report_of;
 use cjc_cmd_card::running::{Input, gather_input, make_ready};
+use cjc_cmd_convert::bytes::Fault;
 use cjc_cmd_convert::check_rules::consistent_where_unbroken;
 use cjc_cmd_convert::script::Report;
-use cjc_shelf::CleanShelf;
-use cjc_shelf::bytes::Fault;
+use cjc_cmd_convert::shelf::CleanShelf;
 use std::alloc::Global;
 
 /// The list, its files, the components and the script.

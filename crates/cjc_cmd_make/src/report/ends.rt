@@ -3,8 +3,8 @@
 ghost use Rattle.std.specs.Prelude.{◌≡◌};
 ghost use Rattle.cjc_cmd_make.specs.Report.Working.{fault_of};
 
-use cjc_shelf::bytes::Fault;
-use cjc_shelf::command::Status;
+use cjc_cmd_convert::bytes::Fault;
+use cjc_cmd_convert::shelf::command::Status;
 
 /// The fault for an end of reads. A made package has all files that its list names, a conversion those that its
 /// Directory says are there, none of them too long, and a shelf in memory does not fail: where the reads end otherwise

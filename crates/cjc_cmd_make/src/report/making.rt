@@ -2,14 +2,14 @@
 //! and what is written of it stand on a shelf in memory.
 
 ghost use Rattle.std.specs.Prelude.{◌≡◌, ◌≤◌, ◌^◌, All, length, map, true, IfErr, IfOk, OnOk};
-ghost use Rattle.cjc_shelf.specs.Command.Gather.{Gathers, Judged};
-ghost use Rattle.cjc_shelf.specs.Command.Plan.{complete};
-ghost use Rattle.cjc_shelf.specs.Command.Publish.{written_files};
+ghost use Rattle.cjc_cmd_convert.specs.Shelf.Command.Gather.{Gathers, Judged};
+ghost use Rattle.cjc_cmd_convert.specs.Shelf.Command.Plan.{complete};
+ghost use Rattle.cjc_cmd_convert.specs.Shelf.Command.Publish.{written_files};
 ghost use Rattle.cjc_cmd_convert.specs.Conversion.Promise.{KeepsPromise};
 ghost use Rattle.cjc_cmd_convert.specs.Conversion.Conversion.{IsConverted};
 ghost use Rattle.cjc_cmd_convert.specs.Publication.{below, files_made};
-ghost use Rattle.cjc_cmd_card.specs.LowerCmdJvm.Running.Reads.{IsInput};
-ghost use Rattle.cjc_shelf.specs.Memory.{clean_shelved, files_of};
+ghost use Rattle.cjc_cmd_card.specs.CmdJvm.Running.Reads.{IsInput};
+ghost use Rattle.cjc_cmd_convert.specs.Shelf.Memory.{clean_shelved, files_of};
 ghost use Rattle.cjc_cmd_make.specs.Report.Package.{folder, made_files};
 ghost use Rattle.cjc_cmd_make.specs.Report.Runs.{IsMade, IsSummary, Makes, plan_of_make, reads_end};
 ghost use Rattle.cjc_cmd_make.specs.Report.Working.{IsConversionFault, IsListFault, IsMakeFault, IsRunsFault};
@@ -20,11 +20,11 @@ use crate::report::ends::fault_of;
 use crate::report::shelf::{add_files, package_shelf};
 use crate::report::summary::{size_item, summary};
 use cjc_cmd_card::cmd_jvm::running::{Input, gather_input};
+use cjc_cmd_convert::bytes::{Bytes, Fault, NoMemory};
 use cjc_cmd_convert::conversion::{Converted, convert};
 use cjc_cmd_convert::publication::publication;
-use cjc_shelf::bytes::{Bytes, Fault, NoMemory};
-use cjc_shelf::command::{Status, Todo};
-use cjc_shelf::{CleanShelf, LONGEST, Shelf};
+use cjc_cmd_convert::shelf::command::{Status, Todo};
+use cjc_cmd_convert::shelf::{CleanShelf, LONGEST, Shelf};
 use std::alloc::Global;
 
 /// The list, its files and the script.

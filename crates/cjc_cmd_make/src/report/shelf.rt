@@ -1,14 +1,14 @@
 //! A shelf in memory for a made package. Called by making.rt. It knows neither list nor class file.
 
 ghost use Rattle.std.specs.Prelude.{◌≡◌, ◌≤◌, IfOk, OnOk};
-ghost use Rattle.cjc_shelf.specs.Command.Publish.{written_files};
-ghost use Rattle.cjc_shelf.specs.Memory.{clean_shelved, files_of};
+ghost use Rattle.cjc_cmd_convert.specs.Shelf.Command.Publish.{written_files};
+ghost use Rattle.cjc_cmd_convert.specs.Shelf.Memory.{clean_shelved, files_of};
 ghost use Rattle.cjc_cmd_make.specs.Report.Package.{class_file_name, made_files, named_classes, named_files};
 
 use crate::package::package;
-use cjc_shelf::CleanShelf;
-use cjc_shelf::bytes::{Bytes, NoMemory, Out};
-use cjc_shelf::command::File;
+use cjc_cmd_convert::bytes::{Bytes, NoMemory, Out};
+use cjc_cmd_convert::shelf::CleanShelf;
+use cjc_cmd_convert::shelf::command::File;
 use itoa::Buffer;
 use std::alloc::Global;
 

@@ -1,14 +1,14 @@
 //! The summary of a package and of its two runs, as lines. Called by making.rt. It knows no machine.
 
 ghost use Rattle.std.specs.Prelude.{◌≡◌, ◌≤◌, ◌++◌, [], codes, count_by, decimal, IfOk, OnOk};
-ghost use Rattle.cjc_cmd_card.specs.LowerScriptText.Printed.{line, value_text};
+ghost use Rattle.cjc_cmd_card.specs.ScriptText.Printed.{line, value_text};
 ghost use Rattle.cjc_cmd_make.specs.Report.Summary.{agree_word, is_result, last_result, package_lines, prints_alike};
 ghost use Rattle.cjc_cmd_make.specs.Report.Summary.{run_lines, size_item, summary_lines, value_of};
 
 use cjc_cmd_card::script_text::print;
+use cjc_cmd_convert::bytes::{Bytes, NoMemory, Out, Row};
 use cjc_cmd_convert::script::{Note, Report, Value};
-use cjc_shelf::bytes::{Bytes, NoMemory, Out, Row};
-use cjc_shelf::command::Todo;
+use cjc_cmd_convert::shelf::command::Todo;
 use itoa::Buffer;
 use std::alloc::Global;
 

@@ -2,31 +2,31 @@
 -- 721 to 729 is broken of what is spelt, and the other way.
 use Rattle.std.proofs.Common.{◌≡◌, inl, inr, [], map, refl, sym, ap, subst, ◌∙◌}
 use Rattle.std.specs.Prelude.{Some, Result, Ok, Err, IfErr, OnOk}
-use Rattle.cjc_cmd_card.specs.CheckRules.Complete.{Complete, complete}
-use Rattle.cjc_cmd_card.specs.CheckRules.Consistent.{break_at}
+use Rattle.cjc_verify_theorem.specs.CheckRules.Complete.{Complete, complete}
+use Rattle.cjc_verify_theorem.specs.CheckRules.Consistent.{break_at}
 use Rattle.cjc_cmd_card.proofs.ReportLaws.Free.{codes_are, first_fault, of_pair, spelt, trees, world_is}
 use Rattle.cjc_cmd_card.proofs.ReportLaws.Once.{SentencesHold, ready_unbroken}
 use Rattle.cjc_cmd_card.specs.Report.Runs as by_token
 use Rattle.cjc_cmd_card.specs.Running.Ready.{Breaks as Tested, IsReady}
 use Rattle.cjc_cmd_card.specs.declared.running.input.Input.{Input}
 use Rattle.cjc_cmd_card.specs.declared.running.ready.Ready.{Ready}
-use Rattle.cjc_cmd_card.specs.CapRead.declared.tree.CapTree.{CapTree}
+use Rattle.cjc_verify_theorem.specs.CapRead.declared.tree.CapTree.{CapTree}
 use Rattle.cjc_cmd_verify.specs.Verify.{AnyBreaks, AreTyped, BreaksTyping}
 use Rattle.cjc_cmd_card.proofs.BytesBrokenRules.{none_among}
 use Rattle.cjc_cmd_card.proofs.BytesPlain.{the_same}
 use Rattle.cjc_cmd_card.proofs.ClinitOneImage.{one-image}
 use Rattle.cjc_cmd_card.proofs.JudgeFirsts.{first_level_stops, one_spelling, second_level_stops}
-use Rattle.cjc_cmd_card.specs.Bytecode.PackageCodes.{all_codes}
-use Rattle.cjc_cmd_card.specs.Bytes.Breaks.{Among, Break}
-use Rattle.cjc_cmd_card.specs.Bytes.declared.fault.Fault.{Fault}
-use Rattle.cjc_cmd_card.specs.Clinit.Image.{IsImage}
-use Rattle.cjc_verify_theorem.specs.Judge.Rules.{IsFirstFault, files_spelt, has_applets, on_first, on_second}
-use Rattle.cjc_verify_theorem.specs.Judge.Spelt.{classes_of}
-use Rattle.cjc_cmd_card.specs.World.Files.{Files}
-use Rattle.cjc_cmd_card.specs.World.declared.image.StaticImage.{StaticImage}
-use Rattle.cjc_cmd_card.specs.Components.Paired.Pairs.{ArePaired}
-use Rattle.cjc_verify_theorem.specs.Verify.Pairs.{Pair, pair_of}
-use Rattle.cjc_verify_theorem.specs.Verify.Verified.{Breaks, IsRefused, IsVerified}
+use Rattle.cjc_verify_theorem.specs.Bytecode.PackageCodes.{all_codes}
+use Rattle.cjc_verify_theorem.specs.Bytes.Breaks.{Among, Break}
+use Rattle.cjc_verify_theorem.specs.Bytes.declared.fault.Fault.{Fault}
+use Rattle.cjc_verify_theorem.specs.Clinit.Image.{IsImage}
+use Rattle.cjc_cmd_card.specs.Judge.Rules.{IsFirstFault, files_spelt, has_applets, on_first, on_second}
+use Rattle.cjc_cmd_card.specs.Judge.Spelt.{classes_of}
+use Rattle.cjc_verify_theorem.specs.World.Files.{Files}
+use Rattle.cjc_verify_theorem.specs.World.declared.image.StaticImage.{StaticImage}
+use Rattle.cjc_verify_theorem.specs.Components.Paired.Pairs.{ArePaired}
+use Rattle.cjc_verify_theorem.specs.LowerVerify.Pairs.{Pair, pair_of}
+use Rattle.cjc_verify_theorem.specs.LowerVerify.Verified.{Breaks, IsRefused, IsVerified}
 use Rattle.cjc_verify_theorem.specs.FairExports.Fair.{ExportsAreFair}
 use Rattle.cjc_verify_theorem.specs.NeverStuck.{IsNeverStuck}
 

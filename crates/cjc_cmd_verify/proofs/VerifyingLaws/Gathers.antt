@@ -2,21 +2,21 @@
 use Rattle.std.proofs.Common.{◌≡◌, ℕ, ◌≤◌, List, [], length, refl, sym, ap, subst, arith, Result, Ok, Err}
 use Rattle.cjc_cmd_card.proofs.RunningLaws.Gathers.{Texts, input_of}
 use Rattle.cjc_cmd_card.specs.declared.running.input.Input.{Input}
-use Rattle.cjc_cmd_card.specs.CmdCheck.Folder.Reads.{plan_of_parts}
-use Rattle.cjc_cmd_card.specs.CmdCheck.declared.folder.folder.Parts.{Parts}
+use Rattle.cjc_cmd_card.specs.LowerCmdCheck.Folder.Reads.{plan_of_parts}
+use Rattle.cjc_cmd_card.specs.LowerCmdCheck.declared.folder.folder.Parts.{Parts}
 use Rattle.cjc_cmd_card.proofs.CmdJvmGathers.{answer_ok, answer_err}
 use Rattle.cjc_cmd_card.proofs.ShelfGathering.{gathers_then, gathers_end, gathers_has, gathers_refused}
-use Rattle.cjc_cmd_card.specs.LowerCmdJvm.Running.Reads.{names_of}
-use Rattle.cjc_cmd_card.specs.Shelf.Command.Gather.{Gathers, IsSame}
-use Rattle.cjc_cmd_card.specs.Shelf.Command.Plan.{has, ◌>>=◌, read, read_each, unless_refused}
-use Rattle.cjc_cmd_card.specs.Shelf.Shelf.{Shelved, longest_file}
-use Rattle.cjc_cmd_card.specs.Shelf.declared.command.status.Status.{Status}
-use Rattle.cjc_cmd_card.specs.Shelf.declared.command.status.Status.TheVariants as status
+use Rattle.cjc_cmd_card.specs.CmdJvm.Running.Reads.{names_of}
+use Rattle.cjc_cmd_card.specs.LowerShelf.Command.Gather.{Gathers, IsSame}
+use Rattle.cjc_cmd_card.specs.LowerShelf.Command.Plan.{has, ◌>>=◌, read, read_each, unless_refused}
+use Rattle.cjc_cmd_card.specs.LowerShelf.Shelf.{Shelved, longest_file}
+use Rattle.cjc_cmd_card.specs.LowerShelf.declared.command.status.Status.{Status}
+use Rattle.cjc_cmd_card.specs.LowerShelf.declared.command.status.Status.TheVariants as status
 use Rattle.cjc_cmd_verify.specs.Reads.{plan_behind_files, plan_behind_list, plan_behind_text, plan_of_input}
-use Rattle.cjc_cmd_card.specs.Bytes.Refused.{IsUnlessNoMemory}
-use Rattle.cjc_cmd_card.specs.Bytes.declared.fault.Fault.TheVariants as faults
-use Rattle.cjc_cmd_card.specs.Bytes.declared.fault.Refusal.{Refusal}
-use Rattle.cjc_cmd_card.specs.List.Listed.{ListTree, listed, answer}
+use Rattle.cjc_verify_theorem.specs.Bytes.Refused.{IsUnlessNoMemory}
+use Rattle.cjc_verify_theorem.specs.Bytes.declared.fault.Fault.TheVariants as faults
+use Rattle.cjc_verify_theorem.specs.Bytes.declared.fault.Refusal.{Refusal}
+use Rattle.cjc_verify_theorem.specs.List.Listed.{ListTree, listed, answer}
 
 -- ---- behind a list
 

@@ -5,7 +5,7 @@ use Rattle.std.specs.Prelude.{Option, Some, None, if◌then◌else◌, filter, i
 use Rattle.std.specs.Prelude.{option_map, unwrap_or, ◌||◌}
 use Rattle.std.proofs.Math.ListN.{drop_of_length-le}
 use Rattle.std.proofs.lemmas.Option.{slice_get-map}
-use Rattle.cjc_world.specs.Bytes.AccessFlags.{is_interface}
+use Rattle.cjc_world.specs.LowerBytes.AccessFlags.{is_interface}
 use Rattle.cjc_world.specs.Files.{Files}
 use Rattle.cjc_world.specs.Classes.{Member, Class, all_classes, class_at}
 use Rattle.cjc_world.specs.Added.{added, added_at, added_to, named_by}
@@ -13,14 +13,14 @@ use Rattle.cjc_world.specs.declared.class.Known.{Known}
 use Rattle.cjc_world.specs.declared.found.Found.{Found}
 use Rattle.cjc_world.specs.Working.Known.{class_of}
 use Rattle.cjc_world.specs.Lookup.{is_called, member_at}
-use Rattle.cjc_tokens.specs.Members.{Signature, has, signatures}
-use Rattle.cjc_tokens.specs.Lines.{line_at}
-use Rattle.cjc_tokens.specs.Methods.{interface_row}
-use Rattle.cjc_tokens.specs.Slots.{row}
-use Rattle.cjc_tokens.specs.Tokens.{assigned, public_in, public_methods_of}
-use Rattle.cjc_tokens.specs.declared.slot.Slot.{Slot}
-use Rattle.cjc_tokens.specs.Working.{signature_in, signs}
-use Rattle.cjc_tokens.proofs.Facts.{position-cons}
+use Rattle.cjc_components.specs.Tokens.Members.{Signature, has, signatures}
+use Rattle.cjc_components.specs.Tokens.Lines.{line_at}
+use Rattle.cjc_components.specs.Tokens.Methods.{interface_row}
+use Rattle.cjc_components.specs.Tokens.Slots.{row}
+use Rattle.cjc_components.specs.Tokens.Tokens.{assigned, public_in, public_methods_of}
+use Rattle.cjc_components.specs.Tokens.declared.slot.Slot.{Slot}
+use Rattle.cjc_components.specs.Tokens.Working.{signature_in, signs}
+use Rattle.cjc_components.proofs.TokensFacts.{position-cons}
 use Rattle.cjc_components.proofs.VTableNumbers.{at-kind, at-tree}
 use Rattle.cjc_components.specs.Package.{Package}
 use Rattle.cjc_components.specs.Descriptor.{as_added, methods_with_added, no_member}
@@ -31,7 +31,7 @@ use Rattle.cjc_exported.specs.ExportFile.Working.Sources.{world_in}
 use Rattle.cjc_exported.specs.declared.export_file.source.Source.{Source}
 use Rattle.cjc_exported.proofs.ExportFile.ByNumber.{of-number}
 use Rattle.cjc_world.proofs.BytesGets.{get_back}
-use Rattle.cjc_tokens.proofs.Means.{kept-at}
+use Rattle.cjc_components.proofs.TokensMeans.{kept-at}
 
 -- ---- the class of a number
 

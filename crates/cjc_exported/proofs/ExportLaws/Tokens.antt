@@ -6,24 +6,25 @@ use Rattle.std.specs.Prelude.{if◌then◌else◌}
 use Rattle.std.proofs.lemmas.List.Sums.{sum_by-cons}
 use Rattle.std.proofs.lemmas.Bool.{cases_order}
 use Rattle.std.proofs.lemmas.Bool.Decides.{nat_tests}
-use Rattle.cjc_world.specs.Bytes.declared.settings.FileLine.{FileLine}
-use Rattle.cjc_world.specs.Bytes.Order.{file_of}
-use Rattle.cjc_world.specs.ClassFile.declared.tree.ClassTree.{ClassTree}
-use Rattle.cjc_world.specs.ClassFile.declared.tree.FieldTree.{FieldTree}
+use Rattle.cjc_world.specs.LowerBytes.declared.settings.FileLine.{FileLine}
+use Rattle.cjc_world.specs.LowerBytes.Order.{file_of}
+use Rattle.cjc_components.specs.ClassFile.declared.tree.ClassTree.{ClassTree}
+use Rattle.cjc_components.specs.ClassFile.declared.tree.FieldTree.{FieldTree}
 use Rattle.cjc_world.specs.Classes.{Class, declared}
 use Rattle.cjc_world.specs.Exported.{is_exported}
 use Rattle.cjc_world.specs.Lookup.{member_at}
-use Rattle.cjc_tokens.specs.Fields.{cells, cells_of, field_token, field_tokens, group, instance_cells, instance_token}
-use Rattle.cjc_tokens.specs.Fields.{is_instance, is_open_static}
-use Rattle.cjc_tokens.specs.Tokens.{OfClass, assigned, joined, method_tokens}
-use Rattle.cjc_tokens.specs.Rules.{at_class, breaks_from, breaks_where, has_high_token, token_breaks}
-use Rattle.cjc_tokens.proofs.Sums.{some_cells, cells-cons}
+use Rattle.cjc_components.specs.Tokens.Fields.{cells, cells_of, field_token, field_tokens, group, instance_cells}
+use Rattle.cjc_components.specs.Tokens.Fields.{instance_token}
+use Rattle.cjc_components.specs.Tokens.Fields.{is_instance, is_open_static}
+use Rattle.cjc_components.specs.Tokens.Tokens.{OfClass, assigned, joined, method_tokens}
+use Rattle.cjc_components.specs.Tokens.Rules.{at_class, breaks_from, breaks_where, has_high_token, token_breaks}
+use Rattle.cjc_components.proofs.TokensSums.{some_cells, cells-cons}
 use Rattle.cjc_components.specs.Package.{Package, has_applets, world}
 use Rattle.cjc_components.specs.Names.{member_token}
 use Rattle.cjc_exported.proofs.ExportLaws.Own.{IsOwn}
 use Rattle.cjc_world.proofs.BytesLists.{none_left, none_right}
 use Rattle.cjc_world.proofs.BytesGets.{in_front}
-use Rattle.cjc_tokens.proofs.Means.{kept-at}
+use Rattle.cjc_components.proofs.TokensMeans.{kept-at}
 
 -- ---- where a token stands
 

@@ -2,11 +2,11 @@
 //! of an interface those of its superinterfaces.
 
 ghost use Rattle.std.specs.Prelude.{◌≡◌, ◌++◌, List, false, is_some, map, option_map, IfOk, OnOk, Some};
-ghost use Rattle.cjc_tokens.specs.Members.{Signature};
-ghost use Rattle.cjc_tokens.specs.Methods.{interface_methods};
-ghost use Rattle.cjc_tokens.specs.Tokens.{public_methods_of};
-ghost use Rattle.cjc_tokens.specs.Working.{signature_in, signs};
-ghost use Rattle.cjc_components.specs.LowerVTable.Tables.{is_own};
+ghost use Rattle.cjc_components.specs.Tokens.Members.{Signature};
+ghost use Rattle.cjc_components.specs.Tokens.Methods.{interface_methods};
+ghost use Rattle.cjc_components.specs.Tokens.Tokens.{public_methods_of};
+ghost use Rattle.cjc_components.specs.Tokens.Working.{signature_in, signs};
+ghost use Rattle.cjc_components.specs.VTable.Tables.{is_own};
 ghost use Rattle.cjc_world.specs.Working.Known.{class_of};
 ghost use Rattle.cjc_components.specs.ExportFile.{declares, exposed_entry, inherited, inherited_at, inherited_from};
 ghost use Rattle.cjc_components.specs.ExportFile.{super_at, super_entry, supers_from};
@@ -15,7 +15,7 @@ ghost use Rattle.cjc_world.specs.Classes.{Member};
 
 use crate::export_file::method::{Method, is_exposed, put_method};
 use crate::export_file::source::Source;
-use cjc_tokens::{Slot, interface_methods};
+use cjc_components::tokens::{Slot, interface_methods};
 use cjc_world::bytes::{NoMemory, Row};
 use cjc_world::export_file::ExportMethod;
 use cjc_world::{Found, Known};

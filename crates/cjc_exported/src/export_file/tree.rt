@@ -4,7 +4,7 @@
 ghost use Rattle.std.specs.Prelude.{◌≡◌, ◌++◌, ◌∷◌, [], false, if◌then◌else◌, length, map, nat_lt, IfOk, OnOk};
 ghost use Rattle.cjc_world.specs.Exported.{is_exported};
 ghost use Rattle.cjc_world.specs.Working.Known.{class_of};
-ghost use Rattle.cjc_tokens.specs.Tokens.{assigned};
+ghost use Rattle.cjc_components.specs.Tokens.Tokens.{assigned};
 ghost use Rattle.cjc_components.specs.ExportFile.{export_class, export_of};
 ghost use Rattle.cjc_components.specs.Exports.{exported_classes};
 ghost use Rattle.cjc_components.specs.Package.{Package};
@@ -13,7 +13,7 @@ ghost use Rattle.cjc_exported.specs.ExportFile.Working.Sources.{AreSources, IsNu
 use crate::export_file::class::export_class;
 use crate::export_file::source::Source;
 use cjc_components::list::List;
-use cjc_tokens::Tokens;
+use cjc_components::tokens::Tokens;
 use cjc_world::bytes::{Bytes, NoMemory, Row};
 use cjc_world::export_file::{ExportClass, ExportTree};
 use cjc_world::{Known, World};

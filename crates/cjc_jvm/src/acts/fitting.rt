@@ -2,19 +2,19 @@
 //! arguments of a call in code only whether they are numbers and references where it wants them.
 
 ghost use Rattle.std.specs.Prelude.{◌≡◌, List, None, option_map, map, IfOk};
-ghost use Rattle.cjc_script.specs.declared.report.Thing.{Thing};
+ghost use Rattle.cjc_jvm_semantics.specs.Script.declared.report.Thing.{Thing};
 ghost use Rattle.cjc_jvm_semantics.specs.Linked.{Linked};
-ghost use Rattle.cjc_script.specs.Sorts.{shape_name, fits, all_fit, result_fits};
+ghost use Rattle.cjc_jvm_semantics.specs.Script.Sorts.{shape_name, fits, all_fit, result_fits};
 ghost use Rattle.cjc_jvm_semantics.specs.Machine.{is_of_sort, are_of_sorts, object_fits};
 ghost use Rattle.cjc_jvm_step.specs.Step.Names.{shape_meant};
 ghost use Rattle.cjc_jvm.specs.Acts.Meant.{sort_meant};
 
 use crate::acts::sort::Sort;
+use cjc_jvm_semantics::bytes::NoMemory;
+use cjc_jvm_semantics::script::Value;
 use cjc_jvm_step::frame::is_kind;
 use cjc_jvm_step::heap::Heap;
 use cjc_jvm_step::step::{LookUps, Shape, array_of};
-use cjc_script::Value;
-use cjc_script::bytes::NoMemory;
 use std::alloc::Global;
 
 // Whether a type is of a shape, as a script asks.

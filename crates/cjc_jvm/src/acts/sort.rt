@@ -2,15 +2,15 @@
 //! each holds at first. It asks no look-up and no heap.
 
 ghost use Rattle.std.specs.Prelude.{◌≡◌, ◌≤◌, length, option_map, IfOk};
-ghost use Rattle.cjc_script.specs.Bytes.Descriptor.{part_at};
-ghost use Rattle.cjc_script.specs.Sorts.{sort_of, sort_by, element_sort, zero_of};
+ghost use Rattle.cjc_jvm_semantics.specs.Bytes.Descriptor.{part_at};
+ghost use Rattle.cjc_jvm_semantics.specs.Script.Sorts.{sort_of, sort_by, element_sort, zero_of};
 ghost use Rattle.cjc_jvm_step.specs.Heap.Kinds.{elements_of};
 ghost use Rattle.cjc_jvm.specs.Acts.Meant.{sort_meant};
 
+use cjc_jvm_semantics::bytes::{Desc, Kind, NoMemory};
+use cjc_jvm_semantics::script::Value;
 use cjc_jvm_step::heap::Element;
 use cjc_jvm_step::step::{Shape, shape_named};
-use cjc_script::Value;
-use cjc_script::bytes::{Desc, Kind, NoMemory};
 
 /// A type of numbers, of references, or of no value.
 #[derive(Clone, Copy)]

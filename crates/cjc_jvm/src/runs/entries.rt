@@ -2,7 +2,7 @@
 //! its descriptor, and a frame is made of these.
 
 ghost use Rattle.std.specs.Prelude.{◌≡◌, ◌≤◌, [], option_map, IfOk, OnOk};
-ghost use Rattle.cjc_script.specs.Sorts.{signature_of};
+ghost use Rattle.cjc_jvm_semantics.specs.Script.Sorts.{signature_of};
 ghost use Rattle.cjc_jvm_semantics.specs.Linked.{Linked};
 ghost use Rattle.cjc_jvm_semantics.specs.Machine.{entry_method, args_fit, arguments, sent_on, begins};
 ghost use Rattle.cjc_jvm.specs.States.{objects_at_most};
@@ -10,11 +10,11 @@ ghost use Rattle.cjc_jvm.specs.Runs.Starts.{Starts};
 
 use crate::acts::{all_fit, perform, signature_of};
 use crate::turns::Machine;
+use cjc_jvm_semantics::bytes::{MemberId, NoMemory};
+use cjc_jvm_semantics::script::{Entry, Outcome, Value};
 use cjc_jvm_step::frame::{Activation, Method};
 use cjc_jvm_step::heap::Heap;
 use cjc_jvm_step::step::LookUps;
-use cjc_script::bytes::{MemberId, NoMemory};
-use cjc_script::{Entry, Outcome, Value};
 use std::alloc::Global;
 
 /// The frame of an entry that begins, or the end.

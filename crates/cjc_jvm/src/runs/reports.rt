@@ -6,9 +6,9 @@ ghost use Rattle.cjc_jvm_semantics.specs.Machine.{report};
 ghost use Rattle.cjc_jvm_step.specs.Heap.Objects.{fields_with};
 
 use crate::turns::{Machine, copy_of, member_of};
+use cjc_jvm_semantics::bytes::{Bytes, NoMemory, Row};
+use cjc_jvm_semantics::script::{FieldValue, Outcome, Report, Thing, Value};
 use cjc_jvm_step::heap::{Heap, HeapObject, Parts, Statics};
-use cjc_script::bytes::{Bytes, NoMemory, Row};
-use cjc_script::{FieldValue, Outcome, Report, Thing, Value};
 use std::alloc::Global;
 
 // Fields with what they hold.

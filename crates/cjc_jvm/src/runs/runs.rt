@@ -2,7 +2,7 @@
 //! many, and the report of where it is then. What the crate is called for.
 
 ghost use Rattle.std.specs.Prelude.{◌≡◌, ◌<◌, ◌≤◌, ◌+◌, ◌^◌, length, IfOk, OnOk};
-ghost use Rattle.cjc_jvm_step.specs.CardSemantics.Bytecode.Runs;
+ghost use Rattle.cjc_jvm_semantics.specs.CardSemantics.Bytecode.Runs;
 ghost use Rattle.cjc_jvm_semantics.specs.Linked.{Linked};
 ghost use Rattle.cjc_jvm_semantics.specs.Machine.{move, idle, device, report, start, run};
 ghost use Rattle.cjc_jvm.specs.States.{Leads, frames_of, with_frame, objects_at_most};
@@ -11,11 +11,11 @@ use crate::runs::entries::{Begun, begin};
 use crate::runs::reports::report;
 use crate::runs::steps::step;
 use crate::turns::{After, Machine, pop};
+use cjc_jvm_semantics::bytes::{NoMemory, Row};
+use cjc_jvm_semantics::script::{Outcome, Report, Script};
 use cjc_jvm_step::frame::{Activation, Pile};
 use cjc_jvm_step::heap::Statics;
 use cjc_jvm_step::step::LookUps;
-use cjc_script::bytes::{NoMemory, Row};
-use cjc_script::{Outcome, Report, Script};
 use std::alloc::Global;
 
 // A whole turn: an entry where none is under way, and an instruction.

@@ -2,7 +2,7 @@
 //! `runs`, which does not look into instructions.
 
 ghost use Rattle.std.specs.Prelude.{◌≡◌, ◌<◌, ◌≤◌, ◌+◌, ◌^◌, ◌∷◌, List, length, slice_get, IfOk, OnOk, if◌then◌else◌};
-ghost use Rattle.cjc_script.specs.declared.report.Report.{Report};
+ghost use Rattle.cjc_jvm_semantics.specs.Script.declared.report.Report.{Report};
 ghost use Rattle.cjc_jvm_semantics.specs.Linked.{Linked};
 ghost use Rattle.cjc_jvm_semantics.specs.Effects.{effect};
 ghost use Rattle.cjc_jvm_semantics.specs.Machine.{Frame, after_effect, after_fetch, spend_unless_stuck, step};
@@ -11,10 +11,10 @@ ghost use Rattle.cjc_jvm.specs.Runs.Deeds.{IsInside, after_deed, most_after};
 
 use crate::turns::{After, Machine, class_of};
 use cjc_jvm_semantics::bytecode::JOp;
+use cjc_jvm_semantics::bytes::NoMemory;
+use cjc_jvm_semantics::script::Outcome;
 use cjc_jvm_step::frame::{Activation, Deed};
 use cjc_jvm_step::step::{LookUps, act};
-use cjc_script::Outcome;
-use cjc_script::bytes::NoMemory;
 use std::alloc::Global;
 
 // An instruction of a frame, on the heap and the static cells.

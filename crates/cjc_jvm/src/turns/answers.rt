@@ -14,10 +14,10 @@ use crate::acts::{Sort, perform, result_fits};
 use crate::turns::after::After;
 use crate::turns::machine::{Machine, pop};
 use crate::turns::notes::event;
+use cjc_jvm_semantics::bytes::{MemberId, NoMemory};
+use cjc_jvm_semantics::script::{Answer, Note, Outcome, Reply, Value};
 use cjc_jvm_step::frame::Activation;
 use cjc_jvm_step::step::LookUps;
-use cjc_script::bytes::{MemberId, NoMemory};
-use cjc_script::{Answer, Note, Outcome, Reply, Value};
 use std::alloc::Global;
 
 const THROWABLE: &[u8] = b"java/lang/Throwable";

@@ -4,7 +4,7 @@ ghost use Rattle.std.specs.Prelude.{◌≡◌, ◌<◌, ◌≤◌, ◌+◌, ◌^
 ghost use Rattle.std.specs.Prelude.{option_map, IfOk, OnOk};
 ghost use Rattle.cjc_jvm_semantics.specs.Machine.{Frame, are_of_sorts, heap_of, holder_of, at_callee, at_selected};
 ghost use Rattle.cjc_jvm_semantics.specs.Machine.{on_receiver, at_call, after_lookup, with_types};
-ghost use Rattle.cjc_script.specs.declared.value.Value.{Value};
+ghost use Rattle.cjc_jvm_semantics.specs.Script.declared.value.Value.{Value};
 ghost use Rattle.cjc_jvm_semantics.specs.Linked;
 ghost use Rattle.cjc_jvm.specs.Acts.Meant.{sort_meant};
 ghost use Rattle.cjc_jvm_step.specs.Step.Names.{callee_of, selection_of, IsCall};
@@ -15,10 +15,10 @@ use crate::turns::after::After;
 use crate::turns::machine::Machine;
 use crate::turns::notes::copy_of;
 use crate::turns::throws::class_of;
+use cjc_jvm_semantics::bytes::{MemberId, NoMemory, Row};
+use cjc_jvm_semantics::script::{Outcome, Value};
 use cjc_jvm_step::frame::{Activation, Caller, Exception};
 use cjc_jvm_step::step::{Call, Callee, LookUps};
-use cjc_script::bytes::{MemberId, NoMemory, Row};
-use cjc_script::{Outcome, Value};
 use std::alloc::Global;
 
 // A receiver before its arguments.

@@ -3,10 +3,10 @@
 
 ghost use Rattle.std.specs.Prelude.{◌≡◌, ◌∷◌, [], length, ◌<◌, IfSome, IfNone};
 
+use cjc_jvm_semantics::bytes::Row;
+use cjc_jvm_semantics::script::{Answer, Entry, Note};
 use cjc_jvm_step::frame::{Activation, Caller, Pile};
 use cjc_jvm_step::heap::{Heap, Statics};
-use cjc_script::bytes::Row;
-use cjc_script::{Answer, Entry, Note};
 use std::marker::Model;
 
 /// The callers, the heap and the static cells, what is left of the script, the notes, and how many instructions

@@ -1,7 +1,7 @@
 //! Exceptions and their handlers (Java Virtual Machine Specification, 2.10).
 
 ghost use Rattle.std.specs.Prelude.{◌≡◌, ◌<◌, ◌≤◌, ◌+◌, ◌^◌, ◌∷◌, ℕ, List, length, slice_get, IfOk, OnOk};
-ghost use Rattle.cjc_jvm_step.specs.CardSemantics.Bytecode.Runs.{Move};
+ghost use Rattle.cjc_jvm_semantics.specs.CardSemantics.Bytecode.Runs.{Move};
 ghost use Rattle.cjc_jvm_semantics.specs.Effects.{exception_class};
 ghost use Rattle.cjc_jvm_semantics.specs.Machine.{Frame, State, heap_of, offset, handler, handler_in, at_handler};
 ghost use Rattle.cjc_jvm_semantics.specs.Machine.{after_throw, after_raise, after_athrow, takes};
@@ -11,12 +11,12 @@ ghost use Rattle.cjc_jvm.specs.States.{Leads, handled, objects_at_most};
 use crate::turns::after::After;
 use crate::turns::machine::{Machine, pop};
 use crate::turns::notes::thrown;
+use cjc_jvm_semantics::bytes::{Bytes, NoMemory, Row};
 use cjc_jvm_semantics::classfile::Catch;
+use cjc_jvm_semantics::script::{Note, Outcome};
 use cjc_jvm_step::frame::{Activation, Caller, Exception, Pile};
 use cjc_jvm_step::heap::HeapObject;
 use cjc_jvm_step::step::LookUps;
-use cjc_script::bytes::{Bytes, NoMemory, Row};
-use cjc_script::{Note, Outcome};
 use std::alloc::Global;
 
 /// The class of an exception of the machine's own.

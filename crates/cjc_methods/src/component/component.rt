@@ -3,8 +3,8 @@
 
 ghost use Rattle.std.specs.Prelude.{◌≡◌, ◌++◌, length, map, IfOk, OnOk};
 ghost use Rattle.std.specs.List.{flat_map};
-ghost use Rattle.cjc_pool.specs.NCode.Lowering.Package.{all_bytes};
-ghost use Rattle.cjc_pool.specs.CheckRules.Locations.{distances};
+ghost use Rattle.cjc_components.specs.NCode.Lowering.Package.{all_bytes};
+ghost use Rattle.cjc_check.specs.CheckRules.Locations.{distances};
 ghost use Rattle.cjc_components.specs.Components.{method, places_in, reference_location};
 ghost use Rattle.cjc_components.specs.Methods.{placed_methods};
 ghost use Rattle.cjc_components.specs.Names.{names};
@@ -18,7 +18,7 @@ use crate::component::handlers::all_handlers;
 use crate::component::places::put_catches;
 use crate::layouts::Methods;
 use cjc_bytes::{Bytes, NoMemory, Row};
-use cjc_components::capread::{Method, ReferenceLocation};
+use cjc_check::capread::{Method, ReferenceLocation};
 use cjc_pool::Pool;
 use std::alloc::Global;
 

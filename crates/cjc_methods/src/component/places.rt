@@ -2,11 +2,11 @@
 //! 6.11).
 
 ghost use Rattle.std.specs.Prelude.{◌≡◌, ◌+◌, ◌++◌, map, IfOk, OnOk};
-ghost use Rattle.cjc_pool.specs.CheckRules.Locations.{catch_places};
+ghost use Rattle.cjc_check.specs.CheckRules.Locations.{catch_places};
 ghost use Rattle.cjc_check.specs.Jumps.Listing.{catch_place};
 
 use cjc_bytes::{NoMemory, Row};
-use cjc_components::capread::Handler;
+use cjc_check::capread::Handler;
 
 /// Puts places of a method that stands at an offset at the end.
 pub(crate) fn put_places(out: &mut Row<u64>, at: u32, places: &[u32]) -> Result<(), NoMemory>

@@ -3,8 +3,8 @@
 ghost use Rattle.std.specs.Prelude.{◌≡◌, [], All, length, IfOk, IfErr, OnOk, option_map};
 ghost use Rattle.cjc_bytes.specs.Breaks.{IsFirstOf, IsFirstRefusal, each};
 ghost use Rattle.cjc_bytes.specs.Told.{break_of};
-ghost use Rattle.cjc_pool.specs.NCode.declared.narrow.NMethod.{NMethod as Narrow};
-ghost use Rattle.cjc_pool.specs.Layout.Layouts.{IsWhole};
+ghost use Rattle.cjc_components.specs.NCode.declared.narrow.NMethod.{NMethod as Narrow};
+ghost use Rattle.cjc_components.specs.Layout.Layouts.{IsWhole};
 ghost use Rattle.cjc_components.specs.Limits.{form_breaks};
 ghost use Rattle.cjc_components.specs.Package.{Package};
 ghost use Rattle.cjc_methods.specs.Ready.{IsOwn};

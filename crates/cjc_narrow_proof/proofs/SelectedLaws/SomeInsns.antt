@@ -1,15 +1,15 @@
 -- Code with a byte has an instruction.
 use Rattle.std.proofs.Common.{◌≡◌, ◌<◌, refl, ap, subst, ◌∙◌, arith, List, [], ◌∷◌, length}
 use Rattle.std.proofs.lemmas.List.{length-map}
-use Rattle.cjc_code.specs.ClassFile.Code.{CodeTree}
-use Rattle.cjc_code.specs.ClassFile.declared.tree.ClassTree.{ClassTree}
-use Rattle.cjc_code.specs.ClassFile.declared.tree.MethodTree.{MethodTree}
+use Rattle.cjc_subset.specs.ClassFile.Code.{CodeTree}
+use Rattle.cjc_subset.specs.ClassFile.declared.tree.ClassTree.{ClassTree}
+use Rattle.cjc_subset.specs.ClassFile.declared.tree.MethodTree.{MethodTree}
 use Rattle.cjc_code.specs.Cut.{IsCutFrom, cut}
 use Rattle.cjc_code.specs.Rules.{stopped, with_names}
 use Rattle.cjc_code.specs.declared.method_code.MethodCode.{MethodCode}
 use Rattle.cjc_code.proofs.OneCut.{is_cut}
 use Rattle.cjc_narrow_proof.proofs.SelectedLaws.Cuts.{decoded}
-use Rattle.cjc_narrow.specs.Types.Tables.{IsMethodOf}
+use Rattle.cjc_types.specs.Tables.{IsMethodOf}
 use Rattle.cjc_world.specs.Files.{Files}
 
 pub some_insns : (files : Files) (code : MethodCode) (class : ClassTree) (method : MethodTree) (tree : CodeTree)

@@ -17,7 +17,7 @@ use Rattle.cjc_script.specs.Sorts.{Shape, field_sort, sort_of}
 use Rattle.cjc_script.specs.declared.value.Value.{Value}
 use Rattle.cjc_script.specs.declared.value.Value.TheVariants.{Num, Null}
 use Rattle.cjc_world.specs.Classes.{Class}
-use Rattle.cjc_types.specs.Fixpoint.Tables.{HasRow}
+use Rattle.cjc_narrow.specs.Fixpoint.Tables.{HasRow}
 use Rattle.cjc_types.specs.declared.cell.Cell.{Cell}
 use Rattle.cjc_types.specs.declared.cell.Cell.TheVariants.{Number, Refs, Unusable}
 use Rattle.cjc_types.specs.declared.state.Stack.TheVariants as stacks
@@ -424,7 +424,8 @@ module _ (by : Linked) (l : Named) (w : List Class) (a : Analysis) (m : Method) 
       let fits : nat_lt (length vs) m.max_stack ≡ true = grind (arith, nat_tests, high, long, max, tall) in (
         record {
           stack = h.v ∷ vs;
-          goes_on = ap (λ o. by_name.local_value o (λ v. by_name.only_if (by_name.is_kind true v) (by_name.push by m at ls
+          goes_on = ap (λ o. by_name.local_value o (λ v. by_name.only_if (by_name.is_kind true v)
+              (by_name.push by m at ls
               store v vs))) h.by_name
               ∙ ap (λ b. by_name.only_if b (by_name.push by m at ls store h.v vs)) there_on.0
               ∙ ap (λ b. by_name.only_if b (by_name.onward by m at ls store (h.v ∷ vs))) fits;
@@ -529,7 +530,8 @@ module _ (by : Linked) (l : Named) (w : List Class) (a : Analysis) (m : Method) 
       → RowOnLocals by l (a.resolution m) m op from to (kinds l local_cells x.locals)
       (kinds l local_cells x.locals)
   anywhere op from to row spots insn is room at next ks vs ws ls words store memory high stores held stack =
-      row spots insn is room at next ks (kinds l local_cells x.locals) vs ws ls words store memory high stores held stack
+      row spots insn is room at next ks (kinds l local_cells x.locals) vs ws ls words store memory high stores held
+      stack
 
   abbrev Pushed : JOp → Type 0
   Pushed op = There op → Role Alone → a.opened m (at + 1) ≡ pushed → KeepsIn begun op
@@ -537,13 +539,15 @@ module _ (by : Linked) (l : Named) (w : List Class) (a : Analysis) (m : Method) 
   null_rule : Pushed jop.Null
   null_rule there role open_behind = pushes jop.Null there role open_behind pushes_null (λ e. cc) refl (insns.Op 0x01)
       (λ place. refl) (Refs []) full (on by l w a m read decoded sound told at offset jop.Null cells local_cells x there
-      row ranged refl refl refl) (anywhere jop.Null [] (Refers (is_one_of l []) ∷ []) (aconst_null by l (a.resolution m) m (is_one_of l [])))
+      row ranged refl refl refl) (anywhere jop.Null [] (Refers (is_one_of l []) ∷ []) (aconst_null by l
+      (a.resolution m) m (is_one_of l [])))
 
   number_rule : (z : ℤ) → Holds full z → Pushed (jop.Number z)
   number_rule z inside there role open_behind = pushes (jop.Number z) there role open_behind pushes_number
       (λ e. cc) refl
       (pushed_word (low_word z)) (λ place. refl) Number (exactly z) (on by l w a m read decoded sound told at offset
-      (jop.Number z) cells local_cells x there row ranged refl refl refl) (anywhere (jop.Number z) [] (Range (exactly z) ∷ []) (constant by l (a.resolution m) m z
+      (jop.Number z) cells local_cells x there row ranged refl refl refl) (anywhere (jop.Number z) [] (Range
+      (exactly z) ∷ []) (constant by l (a.resolution m) m z
       (exactly z) (subst (λ s. Holds s z) (sym (exactly_is z inside)) (holds_itself z))))
 
   iload_rule : (k : ℕ) → Pushed (jop.Load false k)
@@ -585,7 +589,8 @@ module _ (by : Linked) (l : Named) (w : List Class) (a : Analysis) (m : Method) 
       ++ kinds l cells numbers) (kinds l local_cells x.locals)) one
       (subst (λ o. GoesTo by l w a m read decoded sound (at + 1) (kinds l (result_of p) (field_range o p ++ numbers)
       ++ kinds l cells numbers) (kinds l local_cells x.locals)) constant goes))
-      (anywhere op [] (Range (exactly z) ∷ []) (constant_field by l (a.resolution m) m z (exactly z) (subst (λ s. Holds s z) (sym
+      (anywhere op [] (Range (exactly z) ∷ []) (constant_field by l (a.resolution m) m z (exactly z) (subst
+      (λ s. Holds s z) (sym
       (exactly_is z inside))
       (holds_itself z)) named is))
 

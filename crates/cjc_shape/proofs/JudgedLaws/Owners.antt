@@ -6,18 +6,18 @@ use Rattle.std.specs.Str.{bytes_eq}
 use Rattle.std.proofs.lemmas.List.Quantifiers.{position-Some}
 use Rattle.std.proofs.lemmas.Option.{slice_get-get_or}
 use Rattle.std.proofs.lemmas.Slice.Eq.{bytes_eq-Decides}
-use Rattle.cjc_methods.specs.JvmSemantics.OnePackage.{method_hit}
+use Rattle.cjc_narrow_proof.specs.JvmSemantics.OnePackage.{method_hit}
 use Rattle.cjc_narrow_proof.proofs.VTableAsked.{Among, at_head, further}
 use Rattle.cjc_narrow_proof.proofs.VTableFiled.{at-number}
 use Rattle.cjc_narrow_proof.proofs.VTableStood.{gathered-named, upwards-named}
-use Rattle.cjc_world.proofs.Settled.{supertypes-AreSupertypes, supertypes-known}
-use Rattle.cjc_world.specs.Classes.{Class, Member, all_classes, class_named}
-use Rattle.cjc_world.specs.Files.{Files}
-use Rattle.cjc_world.specs.Interfaces.{gathered, known}
-use Rattle.cjc_world.specs.Supertypes.{IsAcyclic, supertypes, line, upwards}
-use Rattle.cjc_world.specs.Lookup.{find_method, first, is_called, is_wanted, member_at, or_else, own_method}
-use Rattle.cjc_world.specs.declared.found.Found.{Found}
-use Rattle.cjc_world.proofs.BytesBools.{both_front, both_back}
+use Rattle.cjc_methods.proofs.WorldSettled.{supertypes-AreSupertypes, supertypes-known}
+use Rattle.cjc_methods.specs.World.Classes.{Class, Member, all_classes, class_named}
+use Rattle.cjc_methods.specs.World.Files.{Files}
+use Rattle.cjc_methods.specs.World.Interfaces.{gathered, known}
+use Rattle.cjc_methods.specs.World.Supertypes.{IsAcyclic, supertypes, line, upwards}
+use Rattle.cjc_methods.specs.World.Lookup.{find_method, first, is_called, is_wanted, member_at, or_else, own_method}
+use Rattle.cjc_methods.specs.World.declared.found.Found.{Found}
+use Rattle.cjc_methods.proofs.BytesBools.{both_front, both_back}
 
 -- A method at its place in its class.
 pub record IsOwn (owner : Class) (name desc : List ℕ) (f : Found) : Type 0 where

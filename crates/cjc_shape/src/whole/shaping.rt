@@ -5,22 +5,22 @@ ghost use Rattle.std.specs.Prelude.{◌≡◌, [], All, IfOk, IfErr, OnOk};
 ghost use Rattle.cjc_methods.specs.Ready.{IsOwn};
 ghost use Rattle.cjc_shape.specs.Prepared.{BreaksNothing};
 ghost use Rattle.cjc_shape.specs.Whole.Working.Shaped.{IsShaped, Stopped, has_int_code, int_breaks};
-ghost use Rattle.cjc_world.specs.Bytes.Breaks.{IsFirstRefusal};
-ghost use Rattle.cjc_world.specs.Classes.{all_classes};
-ghost use Rattle.cjc_world.specs.Order.{method_order};
+ghost use Rattle.cjc_methods.specs.Bytes.Breaks.{IsFirstRefusal};
+ghost use Rattle.cjc_methods.specs.World.Classes.{all_classes};
+ghost use Rattle.cjc_methods.specs.World.Order.{method_order};
 
 use cjc_exported::export_file::export_of;
-use cjc_exported::tokens::Tokens;
 use cjc_judge::{Judged, image_of, tokens_of};
+use cjc_methods::bytes::{Fault, NoMemory, Row, RulePlace, answer, broken};
 use cjc_methods::class_order::classes::class_order;
+use cjc_methods::export_file::{ExportTree, pool_size};
 use cjc_methods::layouts::{Methods, lay_out, methods_are_of_a_package};
+use cjc_methods::tokens::Tokens;
+use cjc_methods::world::{Found, StaticImage, World};
 use cjc_methods::{
     method_order, methods_are_own, methods_can_be_laid_out, narrow_codes, test_words,
 };
 use cjc_narrow_proof::subset::any_works_on_int;
-use cjc_world::bytes::{Fault, NoMemory, Row, RulePlace, answer, broken};
-use cjc_world::export_file::{ExportTree, pool_size};
-use cjc_world::{Found, StaticImage, World};
 use std::alloc::Global;
 
 /// A package whose methods are laid out.

@@ -3,13 +3,13 @@
 //! definition and laws alone; nothing here runs.
 
 ghost use Rattle.std.specs.Prelude.{◌≡◌, ◌≢◌, ℕ, List};
-ghost use Rattle.cjc_token_proof.specs.CardSemantics.Machine.ByToken.{run as run_by_token};
+ghost use Rattle.cjc_ncode.specs.CardSemantics.Machine.ByToken.{run as run_by_token};
 ghost use Rattle.cjc_components.specs.Package.{Package};
-ghost use Rattle.cjc_shape_proof.specs.LowerJudge.declared.judged.Judged.{Judged};
-ghost use Rattle.cjc_token_proof.specs.List.Listed.{ListTree};
+ghost use Rattle.cjc_shape_proof.specs.Judge.declared.judged.Judged.{Judged};
+ghost use Rattle.cjc_components.specs.List.Listed.{ListTree};
 ghost use Rattle.cjc_narrow.specs.Rows.Package.{run as run_by_label};
-ghost use Rattle.cjc_token_proof.specs.Script.declared.report.Outcome.TheVariants.{Stuck};
-ghost use Rattle.cjc_token_proof.specs.Script.declared.script.Script.{Script};
+ghost use Rattle.cjc_jvm_semantics.specs.Script.declared.report.Outcome.TheVariants.{Stuck};
+ghost use Rattle.cjc_jvm_semantics.specs.Script.declared.script.Script.{Script};
 ghost use Rattle.cjc_token_proof.specs.Tables.Loading.{loaded};
 ghost use Rattle.cjc_token_proof.specs.WrittenCalls.Standing.{laid_code};
 ghost use Rattle.cjc_shape_proof.specs.Written.Converted.{IsConverted};

@@ -6,13 +6,13 @@ ghost use Rattle.cjc_check_rules.specs.Spots.{first};
 ghost use Rattle.cjc_bytes.specs.declared.fault.MemberId.{MemberId as Member};
 ghost use Rattle.cjc_world.specs.declared.image.ArrayCell.{ArrayCell as Array};
 ghost use Rattle.cjc_world.specs.declared.image.ValueCell.{ValueCell as Value};
-ghost use Rattle.cjc_components.specs.Statics.{cell_order};
+ghost use Rattle.cjc_classes.specs.Components.Statics.{cell_order};
 ghost use Rattle.cjc_verify.specs.Described.{array_number, is_number};
 ghost use Rattle.cjc_verify.specs.WantedDescriptor.{array_differs, arrays_differ};
 
 use cjc_bytes::{MemberId, NoMemory, Row};
 use cjc_capread::{ArrayInit, StaticField};
-use cjc_check::check_index::lookup::{Comparison, first_beside, unless};
+use cjc_card_calls::check_index::lookup::{Comparison, first_beside, unless};
 use cjc_check_rules::ComponentPlace;
 use cjc_world::{ArrayCell, StaticImage, ValueCell};
 use std::alloc::Global;

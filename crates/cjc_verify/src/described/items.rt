@@ -14,7 +14,7 @@ use crate::described::types::Types;
 use crate::described::wanted::{WantedClass, WantedEntry, WantedField, WantedMethod};
 use crate::infos::same_class;
 use cjc_capread::{ClassDescriptor, FieldDescriptor, FieldPlace, MethodDescriptor};
-use cjc_check::check_index::lookup::{Comparison, earlier, first_beside, unless};
+use cjc_card_calls::check_index::lookup::{Comparison, earlier, first_beside, unless};
 use cjc_check_rules::ComponentPlace;
 
 /// The tag of Descriptor.

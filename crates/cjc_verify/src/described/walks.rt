@@ -11,7 +11,7 @@ use crate::described::types::Types;
 use crate::described::wanted::{WantedClass, WantedEntry};
 use cjc_bytes::NoMemory;
 use cjc_capread::Descriptor;
-use cjc_check::check_index::lookup::{earlier, first_beside, pool_count_at, starts};
+use cjc_card_calls::check_index::lookup::{earlier, first_beside, pool_count_at, starts};
 use cjc_check_rules::ComponentPlace;
 use std::alloc::Global;
 

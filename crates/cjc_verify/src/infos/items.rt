@@ -10,7 +10,7 @@ ghost use Rattle.cjc_verify.specs.Wanted.{interface_differs, map_differs, map_in
 ghost use Rattle.cjc_verify.specs.Wanted.{tables_differ};
 
 use cjc_capread::{ClassEntry, ClassRef, ImplementedInterface, InterfaceEntry};
-use cjc_check::check_index::lookup::{Comparison, earlier, first_beside, unless};
+use cjc_card_calls::check_index::lookup::{Comparison, earlier, first_beside, unless};
 use cjc_check_rules::ComponentPlace;
 
 /// The tag of Class.

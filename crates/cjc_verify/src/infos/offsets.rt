@@ -6,13 +6,13 @@ ghost use Rattle.std.specs.List.{find};
 ghost use Rattle.cjc_world.specs.declared.found.Found.{Found as Member};
 ghost use Rattle.cjc_world.specs.Classes.{all_classes, declared};
 ghost use Rattle.cjc_world.specs.Order.{class_order, methods_of_class};
-ghost use Rattle.cjc_classes.specs.ClassOrder.Classes.Numbers.{declared_at};
+ghost use Rattle.cjc_pairing.specs.ClassOrder.Classes.Numbers.{declared_at};
 ghost use Rattle.cjc_verify.specs.Pairs.{Pair, method_offset, same_found};
 ghost use Rattle.cjc_verify.specs.Offsets.{ats_at, ats_by, ats_in, offset_among};
 
 use cjc_bytes::{NoMemory, Row};
 use cjc_capread::{ClassDescriptor, MethodDescriptor};
-use cjc_components::class_order::classes::class_order;
+use cjc_classes::class_order::classes::class_order;
 use cjc_methods::put_methods;
 use cjc_world::classfile::ClassTree;
 use cjc_world::{Found, World};

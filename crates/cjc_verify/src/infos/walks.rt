@@ -11,7 +11,7 @@ ghost use Rattle.cjc_verify.specs.Wanted.{tables_beside, tables_differ};
 use crate::infos::items::{class_differs, interface_differs, tables_differ};
 use crate::infos::wanted::Wanted;
 use cjc_capread::{ClassEntry, ClassInfo, InterfaceEntry};
-use cjc_check::check_index::lookup::{Comparison, earlier, first_beside, first_class, unless};
+use cjc_card_calls::check_index::lookup::{Comparison, earlier, first_beside, first_class, unless};
 use cjc_check_rules::ComponentPlace;
 
 /// The tag of Class.

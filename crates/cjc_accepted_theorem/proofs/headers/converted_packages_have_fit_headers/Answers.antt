@@ -1,12 +1,12 @@
 use Rattle.cjc_accepted_theorem.proofs.HeadersLaws.{headers_fit}
 use Rattle.cjc_accepted_theorem.proofs.headers.converted_packages_have_fit_headers.Goals as goal
-use Rattle.cjc_clinit.specs.Bytecode.PackageCodes.{all_codes}
-use Rattle.cjc_shape_proof.proofs.WrittenLaws.Files.{files_sound}
-use Rattle.cjc_token_proof.proofs.TablesLaws.Order.{own_names}
-use Rattle.cjc_token_proof.proofs.WrittenCalls.Ids.{own_ids}
-use Rattle.cjc_token_proof.proofs.WrittenCalls.Known.{classes_stand}
-use Rattle.cjc_token_proof.proofs.WrittenCalls.Offsets.{methods_begin}
-use Rattle.cjc_token_proof.proofs.WrittenCalls.Words.{added_begins, counts_from}
+use Rattle.cjc_theorem.specs.Bytecode.PackageCodes.{all_codes}
+use Rattle.cjc_theorem.proofs.ShapeProofFiles.{files_sound}
+use Rattle.cjc_verified_proof.proofs.TokenProofOrder.{own_names}
+use Rattle.cjc_verified_proof.proofs.TokenProofWrittenCallsIds.{own_ids}
+use Rattle.cjc_verified_proof.proofs.TokenProofWrittenCallsKnown.{classes_stand}
+use Rattle.cjc_verified_proof.proofs.TokenProofWrittenCallsOffsets.{methods_begin}
+use Rattle.cjc_verified_proof.proofs.TokenProofWrittenCallsWords.{added_begins, counts_from}
 
 pub returns : goal.returns
 returns c = λ list files judged p is.

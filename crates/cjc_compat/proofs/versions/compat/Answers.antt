@@ -1,5 +1,5 @@
 use Rattle.std.proofs.lemmas.Result.{on_ok_weaker}
-use Rattle.cjc_bytes.proofs.Firsts.{at_same}
+use Rattle.cjc_export.proofs.BytesFirsts.{at_same}
 use Rattle.cjc_compat.proofs.Keeping.{references_kept}
 use Rattle.cjc_compat.proofs.versions.compat.Goals as goal
 

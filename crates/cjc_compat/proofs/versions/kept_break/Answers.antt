@@ -1,4 +1,4 @@
-use Rattle.cjc_bytes.proofs.Firsts.{at_same}
+use Rattle.cjc_export.proofs.BytesFirsts.{at_same}
 use Rattle.cjc_compat.proofs.versions.kept_break.Goals as goal
 
 pub returns : goal.returns

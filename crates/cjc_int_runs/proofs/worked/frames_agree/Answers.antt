@@ -2,7 +2,7 @@ use Rattle.std.proofs.Common.{refl, [], ◌∷◌, arith}
 use Rattle.std.specs.Prelude.{Some, None, pos, negsuc}
 use Rattle.std.specs.Int.{int_wrap}
 use Rattle.std.proofs.lemmas.Int.{ints}
-use Rattle.cjc_card_semantics.specs.Script.declared.value.Value.TheVariants.{Num, Null}
+use Rattle.cjc_script.specs.declared.value.Value.TheVariants.{Num, Null}
 use Rattle.cjc_int_runs.specs.Relation.{number, reference, bottom, to_null, number_local, reference_local, no_local}
 use Rattle.cjc_int_runs.specs.Relation.{one_more, one_word, two_words, nothing}
 use Rattle.cjc_int_runs.proofs.worked.frames_agree.Goals as goal

@@ -2,7 +2,7 @@ use Rattle.std.proofs.Common.{◌∙◌, ap, List}
 use Rattle.std.specs.Prelude.{slice_set, []}
 use Rattle.cjc_classes.specs.declared.descriptor.parts.Extent.{Extent}
 use Rattle.cjc_captree.proofs.ExtentsLaws.Items.{set_twice}
-use Rattle.cjc_world.proofs.BytesGets.{any_default}
+use Rattle.cjc_classes.proofs.BytesGets.{any_default}
 use Rattle.cjc_captree.proofs.extents.rows.put.Goals as goal
 
 pub returns-then-class-rows : goal.returns-then-class-rows

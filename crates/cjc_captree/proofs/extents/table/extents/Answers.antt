@@ -1,11 +1,11 @@
 use Rattle.std.proofs.Common.{◌≡◌, ◌∙◌, ap, arith, sym, List, length}
-use Rattle.cjc_world.specs.Files.{Files}
+use Rattle.cjc_classes.specs.World.Files.{Files}
 use Rattle.cjc_classes.specs.declared.descriptor.parts.Extent.{Extent}
 use Rattle.cjc_methods.specs.declared.layouts.laid.Laid.{Laid}
 use Rattle.cjc_captree.specs.Working.Tables.{extents_by, found_in, nowhere, table_of}
 use Rattle.cjc_captree.proofs.ExtentsLaws.Finding.{extents_long}
 use Rattle.cjc_captree.proofs.ExtentsLaws.Joining.{joined}
-use Rattle.cjc_world.proofs.BytesGets.{written_back}
+use Rattle.cjc_classes.proofs.BytesGets.{written_back}
 use Rattle.cjc_captree.proofs.extents.table.extents.Goals as goal
 
 pub put_extents-requires : goal.put_extents-requires

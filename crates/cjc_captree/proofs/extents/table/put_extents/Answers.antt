@@ -3,7 +3,7 @@ use Rattle.std.proofs.lemmas.List.{drop_all}
 use Rattle.cjc_methods.specs.declared.layouts.laid.Laid.{Laid}
 use Rattle.cjc_captree.specs.Working.Tables.{found_in, nowhere, table_of}
 use Rattle.cjc_captree.proofs.ExtentsLaws.Finding.{put_more}
-use Rattle.cjc_world.proofs.BytesGets.{any_default}
+use Rattle.cjc_classes.proofs.BytesGets.{any_default}
 use Rattle.cjc_captree.proofs.extents.table.put_extents.Goals as goal
 
 pub loop-k-init : goal.loop-k-init

@@ -1,5 +1,5 @@
 use Rattle.std.proofs.Common.{List, Option, ap, ◌∙◌}
-use Rattle.cjc_card_semantics.specs.CapRead.declared.tree.PoolEntry.{PoolEntry}
+use Rattle.cjc_check_index.specs.CapRead.declared.tree.PoolEntry.{PoolEntry}
 use Rattle.cjc_card_semantics.specs.Machine.Loaded.{Part}
 use Rattle.cjc_card_semantics.specs.Machine.Operations.{entry}
 use Rattle.cjc_card_frame.specs.Kinds.{pool_in}

@@ -1,4 +1,4 @@
-use Rattle.cjc_shelf.proofs.CommandLaws.Judging.{gathers_judged}
+use Rattle.cjc_cmd_convert.proofs.ShelfJudging.{gathers_judged}
 use Rattle.cjc_cmd_make.specs.Report.Runs.{Makes}
 use Rattle.cjc_cmd_make.proofs.report.making.gather_make.Goals as goal
 

@@ -3,7 +3,7 @@ use Rattle.std.specs.Prelude.{None, slice_get}
 use Rattle.cjc_jvm.proofs.RunsLaws.Lists.{past}
 use Rattle.cjc_jvm.proofs.runs.reports.things_of.Goals as goal
 use Rattle.cjc_jvm.proofs.runs.reports.things_of.Goals.{in-Some+in_ok-thing_of+in_ok-push, in_default}
-use Rattle.cjc_script.proofs.BytesGets.{one_taken}
+use Rattle.cjc_jvm_semantics.proofs.BytesGets.{one_taken}
 
 pub loop-k-preserved : goal.loop-k-preserved
 loop-k-preserved c =

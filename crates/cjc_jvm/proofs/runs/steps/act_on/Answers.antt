@@ -7,7 +7,7 @@ use Rattle.cjc_jvm_step.specs.Step.Rows.{store_of}
 use Rattle.cjc_jvm.specs.States.{objects_at_most}
 use Rattle.cjc_jvm.specs.Runs.Deeds.{after_deed, most_after}
 use Rattle.cjc_jvm.proofs.RunsLaws.Followed.{at_most, goes_on, stands}
-use Rattle.cjc_script.proofs.BytesOptions.{option_both}
+use Rattle.cjc_jvm_semantics.proofs.BytesOptions.{option_both}
 use Rattle.cjc_jvm.proofs.runs.steps.act_on.Goals as goal
 
 pub returns-clause-next : goal.returns-clause-next

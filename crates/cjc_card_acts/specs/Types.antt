@@ -1,0 +1,2 @@
+-- What crates above take of LowerTypes.
+pub use Rattle.cjc_frames.specs.LowerTypes.declared as declared

@@ -1,2 +1,0 @@
--- What crates above take of cjc_check_rules.
-pub use Rattle.cjc_check_rules.specs.Complete as Complete

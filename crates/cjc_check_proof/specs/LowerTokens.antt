@@ -1,0 +1,2 @@
+-- What crates above take of cjc_tokens.
+pub use Rattle.cjc_tokens.specs.Members as Members

@@ -1,2 +1,0 @@
--- What crates above take of LowerEmit.
-pub use Rattle.cjc_components.specs.LowerEmit.Emitted as Emitted

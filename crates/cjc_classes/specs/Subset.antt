@@ -1,7 +1,0 @@
--- What crates above take of LowerSubset.
-pub use Rattle.cjc_components.specs.LowerSubset.Checks as Checks
-pub use Rattle.cjc_components.specs.LowerSubset.Flags as Flags
-pub use Rattle.cjc_components.specs.LowerSubset.Members as Members
-pub use Rattle.cjc_components.specs.LowerSubset.Overriding as Overriding
-pub use Rattle.cjc_components.specs.LowerSubset.Places as Places
-pub use Rattle.cjc_components.specs.LowerSubset.Types as Types

@@ -1,2 +1,0 @@
--- What crates above take of LowerCheckRules.
-pub use Rattle.cjc_check.specs.LowerCheckRules.Consistent as Consistent

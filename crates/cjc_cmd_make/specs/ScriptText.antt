@@ -1,0 +1,2 @@
+-- What crates above take of ScriptText.
+pub use Rattle.cjc_cmd_card.specs.ScriptText.Printed as Printed

@@ -1,0 +1,2 @@
+-- What crates above take of Clinit.
+pub use Rattle.cjc_verify_theorem.specs.Clinit.Image as Image

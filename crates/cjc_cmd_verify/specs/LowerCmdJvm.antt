@@ -1,0 +1,2 @@
+-- What crates above take of CmdJvm.
+pub use Rattle.cjc_cmd_card.specs.CmdJvm.Running as Running

@@ -1,2 +1,0 @@
--- What crates above take of cjc_range.
-pub use Rattle.cjc_range.specs.Span as Span

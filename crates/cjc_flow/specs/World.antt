@@ -1,3 +1,0 @@
--- What crates above take of World.
-pub use Rattle.cjc_types.specs.World.Classes as Classes
-pub use Rattle.cjc_types.specs.World.Files as Files

@@ -1,4 +1,0 @@
--- What crates above take of Bytes.
-pub use Rattle.cjc_subset.specs.Bytes.AccessFlags as AccessFlags
-pub use Rattle.cjc_subset.specs.Bytes.Descriptor as Descriptor
-pub use Rattle.cjc_subset.specs.Bytes.declared as declared

@@ -1,3 +1,0 @@
--- What crates above take of World.
-pub use Rattle.cjc_flow.specs.World.Classes as Classes
-pub use Rattle.cjc_flow.specs.World.Files as Files

@@ -1,3 +1,0 @@
--- What crates above take of cjc_layout.
-pub use Rattle.cjc_layout.specs.Handlers as Handlers
-pub use Rattle.cjc_layout.specs.Layouts as Layouts

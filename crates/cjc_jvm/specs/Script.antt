@@ -1,0 +1,2 @@
+-- What crates above take of Script.
+pub use Rattle.cjc_jvm_semantics.specs.Script.declared as declared

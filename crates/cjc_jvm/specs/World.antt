@@ -1,4 +1,0 @@
--- What crates above take of LowerWorld.
-pub use Rattle.cjc_jvm_semantics.specs.LowerWorld.Files as Files
-pub use Rattle.cjc_jvm_semantics.specs.LowerWorld.Rules as Rules
-pub use Rattle.cjc_jvm_semantics.specs.LowerWorld.declared as declared

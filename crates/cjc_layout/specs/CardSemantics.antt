@@ -1,3 +1,0 @@
--- What crates above take of LowerCardSemantics.
-pub use Rattle.cjc_ncode.specs.LowerCardSemantics.Bytecode as Bytecode
-pub use Rattle.cjc_ncode.specs.LowerCardSemantics.Machine as Machine

@@ -1,2 +1,0 @@
--- What crates above take of LowerCardSemantics.
-pub use Rattle.cjc_ncode.specs.LowerCardSemantics.Machine as Machine

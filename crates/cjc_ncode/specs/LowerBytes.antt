@@ -1,3 +1,0 @@
--- What crates above take of Bytes.
-pub use Rattle.cjc_code.specs.Bytes.Refused as Refused
-pub use Rattle.cjc_code.specs.Bytes.declared as declared

@@ -1,2 +1,0 @@
--- What crates above take of LowerCheckIndex.
-pub use Rattle.cjc_card_link.specs.LowerCheckIndex.Lookup as Lookup

@@ -1,3 +1,0 @@
--- What crates above take of Clinit.
-pub use Rattle.cjc_classes.specs.Clinit.Image as Image
-pub use Rattle.cjc_classes.specs.Clinit.Rules as Rules

@@ -1,2 +1,0 @@
--- What crates above take of LowerCheckRules.
-pub use Rattle.cjc_components.specs.LowerCheckRules.Locations as Locations

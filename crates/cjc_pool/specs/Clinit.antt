@@ -1,3 +1,0 @@
--- What crates above take of LowerClinit.
-pub use Rattle.cjc_components.specs.LowerClinit.Image as Image
-pub use Rattle.cjc_components.specs.LowerClinit.Rules as Rules

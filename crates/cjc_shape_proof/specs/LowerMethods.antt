@@ -1,2 +1,0 @@
--- What crates above take of LowerMethods.
-pub use Rattle.cjc_shape.specs.LowerMethods.Ready as Ready

@@ -1,2 +1,0 @@
--- What crates above take of cjc_subset.
-pub use Rattle.cjc_subset.specs.Checks as Checks

@@ -1,3 +1,0 @@
--- What crates above take of LowerCheckRules.
-pub use Rattle.cjc_components.specs.LowerCheckRules.Complete as Complete
-pub use Rattle.cjc_components.specs.LowerCheckRules.Consistent as Consistent

@@ -1,0 +1,2 @@
+-- What crates above take of cjc_card_acts.
+pub use Rattle.cjc_card_acts.specs.CardTypes as CardTypes

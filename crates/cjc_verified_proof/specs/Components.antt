@@ -1,4 +1,0 @@
--- What crates above take of cjc_components.
-pub use Rattle.cjc_components.specs.Descriptor as Descriptor
-pub use Rattle.cjc_components.specs.Package as Package
-pub use Rattle.cjc_components.specs.Paired as Paired

@@ -1,0 +1,2 @@
+-- What crates above take of Tokens.
+pub use Rattle.cjc_classes.specs.Tokens.Fields as Fields

@@ -1,3 +1,0 @@
--- What crates above take of LowerClassOrder.
-pub use Rattle.cjc_vtable.specs.LowerClassOrder.Classes as Classes
-pub use Rattle.cjc_vtable.specs.LowerClassOrder.Supers as Supers
