@@ -1,5 +1,5 @@
-//! Methods that are cut into headers and whole instructions, as the card runs them. It has laws alone, for whoever proves
-//! that components which break no rule are never stuck.
+//! Methods that are cut into headers and whole instructions, as the card runs them. It has laws alone, for whoever
+//! proves that components which break no rule are never stuck.
 ghost use Rattle.std.specs.Prelude.{◌≡◌, ℕ, suc, ◌+◌, List, [], ◌++◌, length, slice_get, Some};
 ghost use Rattle.cjc_check_rules.specs.LowerCapRead.Decode.{Instruction, decode, size};
 ghost use Rattle.cjc_check_rules.specs.LowerCapRead.declared.tree.MethodDescriptor.{MethodDescriptor};
@@ -18,10 +18,11 @@ pub fn instructions_stand_alone()
         × (rest : List ℕ) × (length xs ≡ size i + length rest) }
 {}
 
-/// Where the methods are cut whole, each method of a class that Descriptor lists has a code beside it, behind its header.
+/// Where the methods are cut whole, each method of a class that Descriptor lists has a code beside it, behind its
+/// header.
 pub fn methods_have_codes()
-    ensures { (c : Complete) → whole_spots c ≡ [] → (k : ℕ) (m : MethodDescriptor) → slice_get (class_methods c) k ≡ Some m
-        → (code : Cut) × (slice_get (codes c) k ≡ Some code) × IsMethodAt c m code }
+    ensures { (c : Complete) → whole_spots c ≡ [] → (k : ℕ) (m : MethodDescriptor) → slice_get (class_methods c) k
+        ≡ Some m → (code : Cut) × (slice_get (codes c) k ≡ Some code) × IsMethodAt c m code }
 {}
 
 /// The method that the card finds at an offset is the one that is cut there, and there is no other.
@@ -46,6 +47,6 @@ pub fn instructions_are_fetched()
           end = m.offset + h.size + m.bytecode_count;
         }) i.at) ≡ Some (fetched_as l p part.pool i.at i.item) }
     ensures next { (c : Complete) (m : MethodDescriptor) (code : Cut) → IsMethodAt c m code → (k : ℕ)
-        (i j : Placed Instruction) → slice_get code.instructions k ≡ Some i → slice_get code.instructions (suc k) ≡ Some j
-        → j.at ≡ i.at + size i.item }
+        (i j : Placed Instruction) → slice_get code.instructions k ≡ Some i → slice_get code.instructions (suc k)
+        ≡ Some j → j.at ≡ i.at + size i.item }
 {}

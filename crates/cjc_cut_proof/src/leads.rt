@@ -14,7 +14,8 @@ ghost use Rattle.cjc_cut_proof.specs.Cuts.{EndBehind, Jumps, Leads, StandApart};
 
 /// Each jump of an instruction leads to one of the same method, and what is last lets nothing follow.
 pub fn jumps_lead_inside()
-    ensures jumps { (c : Complete) → jump_spots c ≡ [] → (k : ℕ) (code : Code) → slice_get (codes c) k ≡ Some code → (j : ℕ)
+    ensures jumps { (c : Complete) → jump_spots c ≡ [] → (k : ℕ) (code : Code) → slice_get (codes c) k ≡ Some code
+        → (j : ℕ)
         (i : Placed Instruction) → slice_get code.instructions j ≡ Some i → Jumps code code.instructions j i }
     ensures lands { (code : Code) (at : ℕ) (bys : List ℤ) → list_all (lands code at) bys ≡ true → (to : ℕ)
         → Contains (map (moved at) bys) to → has_start code to ≡ true }

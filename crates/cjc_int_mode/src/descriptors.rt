@@ -1,6 +1,6 @@
-//! What descriptors say of words: those of a method's arguments, and the scratch pairs of a call. Called by space.rt, and
-//! by whoever selects code. Nothing here takes memory; a descriptor whose length 32 bits don't count, which no class
-//! file has, is taken for want of it.
+//! What descriptors say of words: those of a method's arguments, and the scratch pairs of a call. Called by space.rt,
+//! and by whoever selects code. Nothing here takes memory; a descriptor whose length 32 bits don't count, which no
+//! class file has, is taken for want of it.
 
 ghost use Rattle.std.specs.Prelude.{◌≡◌, ◌+◌, ◌<◌, ◌≤◌, ◌^◌, ◌&&◌, ℕ, List, map, false, if◌then◌else◌, IfOk};
 ghost use Rattle.cjc_flow.specs.Bytes.Spots.{desc_of};

@@ -178,7 +178,8 @@ impl<'w, 'a> GroupLinks<'w, 'a> {
             (λ m. (op : ℕ) → group_call (joint self.now.group) (all_classes (joint self.now.group)) holder.now op id.now
             (files_of_class self.now.group holder.now) ≡ call_by (joint self.now.group) (all_classes (joint
             self.now.group))
-            (selection_by (all_classes (joint self.now.group)) m.wanted) holder.now op id.now m.found (hit_of m.owner)) }
+            (selection_by (all_classes (joint self.now.group)) m.wanted) holder.now op id.now m.found (hit_of
+            m.owner)) }
     {
         if is_initialiser(id.name.items()) {
             return None;

@@ -199,9 +199,10 @@ pub fn statics_run()
 /// A package over another: a static call, constructors across both, and a package-visible method that the other
 /// package's does not override; alone, the upper one makes events of its calls.
 pub fn packages_run_together()
-    ensures across { run_group both no_images (script (call (codes "app/M") (codes "f") (codes "(S)S") (Num (pos 32767) ∷ [])
-        ∷ []) []) 100 ≡ ends (Result (Some (Num (negsuc 32767))) ∷ []) [] Done 8 }
-    ensures not_overridden { run_group both no_images (script (call (codes "app/M") (codes "make") (codes "()Lapp/M;") []
+    ensures across { run_group both no_images (script (call (codes "app/M") (codes "f") (codes "(S)S") (Num (pos
+        32767) ∷ []) ∷ []) []) 100 ≡ ends (Result (Some (Num (negsuc 32767))) ∷ []) [] Done 8 }
+    ensures not_overridden { run_group both no_images (script (call (codes "app/M") (codes "make") (codes "()Lapp/M;")
+        []
         ∷ send (codes "lib/L") (codes "w") (codes "()S") (Obj 0 ∷ []) ∷ send (codes "app/M") (codes "v") (codes "()S")
         (Obj 0 ∷ []) ∷ send (codes "lib/L") (codes "v") (codes "()S") (Obj 0 ∷ []) ∷ []) []) 100
         ≡ ends (Result (Some (Obj 0)) ∷ Result (Some (Num (pos 1))) ∷ Result (Some (Num (pos 2)))

@@ -69,7 +69,8 @@ body_as x (Some h) code = record {
 } ∷ []
 
 abbrev bodies_as : Complete → List Under → List Cut → List Body
-bodies_as c (x ∷ xs) (code ∷ codes) = body_as x (header_at c (let m = x.method in m.offset)) code ++ bodies_as c xs codes
+bodies_as c (x ∷ xs) (code ∷ codes) = body_as x (header_at c (let m = x.method in m.offset)) code
+    ++ bodies_as c xs codes
 bodies_as c xs codes = []
 
 same_with : {L : Type 0} (with : L → Option MethodHeader → Cut → List Body) (x : L) (y : Under) (code : Cut)

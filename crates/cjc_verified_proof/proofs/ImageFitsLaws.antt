@@ -203,8 +203,10 @@ array_shape l ref desc shape n e h =
         → shape_by l (shape_nibbles ref shape) ≡ Some (OfNumbers (element_of n))
     by true b c d p q r s f = at (codes "[Z") Booleans (p refl) array_sorts.0 refl (ap element_of (number_same n 2 f))
     by false true c d p q r s f = at (codes "[B") Bytes (q refl) array_sorts.1 refl (ap element_of (number_same n 3 f))
-    by false false true d p q r s f = at (codes "[S") Shorts (r refl) array_sorts.2 refl (ap element_of (number_same n 4 f))
-    by false false false true p q r s f = at (codes "[I") Ints (s refl) array_sorts.3 refl (ap element_of (number_same n 5 f))
+    by false false true d p q r s f = at (codes "[S") Shorts (r refl) array_sorts.2 refl (ap element_of (number_same n
+        4 f))
+    by false false false true p q r s f = at (codes "[I") Ints (s refl) array_sorts.3 refl (ap element_of (number_same
+        n 5 f))
     by false false false false p q r s f = cc
 
 -- ---- the image

@@ -170,7 +170,8 @@ content_fits n t e = class (n == 1) refl
     instance_field e1 false e2 = virtual_method e1 e2 (n == 3) refl
 
     class : (b : Bool) → (n == 1) ≡ b → Keeps Fits (content t)
-    class true is = subst (λ u. Keeps Fits (content u)) (same_some (there 1 is)) (keeps_then Fits IsRef class_ref _ ref_fits
+    class true is = subst (λ u. Keeps Fits (content u)) (same_some (there 1 is)) (keeps_then Fits IsRef class_ref _
+        ref_fits
         (λ r fit. keeps_behind Fits (number w8 (exactly 0)) _ (λ z. keeps_given Fits (entries.Classref r) (fit, tt))))
     class false e1 = instance_field e1 (n == 2) refl
 
@@ -220,8 +221,10 @@ HaveHolders x = Each HasHolder x.classes
 holders_fit : (end : ℕ) → Keeps HaveHolders (descriptor end)
 unfolding descriptor
 holders_fit end = keeps_behind HaveHolders u1 _ (λ n. keeps_then HaveHolders (Each HasHolder) (repeated n
-    class_descriptor) _ (keeps_each HasHolder class_descriptor holder_fits n) (λ classes fit. keeps_behind HaveHolders u2
-    _ (λ count. keeps_behind HaveHolders _ _ (λ pool_types. keeps_behind HaveHolders _ _ (λ types. keeps_given HaveHolders
+    class_descriptor) _ (keeps_each HasHolder class_descriptor holder_fits n) (λ classes fit. keeps_behind HaveHolders
+    u2
+    _ (λ count. keeps_behind HaveHolders _ _ (λ pool_types. keeps_behind HaveHolders _ _
+    (λ types. keeps_given HaveHolders
     _ fit)))))
 
 -- ---- components
@@ -239,8 +242,10 @@ pool_fits : (bytes : List ℕ) → InBytes bytes → (x : ConstantPool)
     → FileSpells (component 5 (length bytes)) (components.Pool x) bytes → HaveRefs x
 unfolding component info
 pool_fits bytes ok x spelt = (let keep : Keeps PoolHasRefs (component 5 (length bytes)) = keeps_behind PoolHasRefs
-    (number w8 (exactly 5)) _ (λ first. keeps_behind PoolHasRefs _ _ (λ size. keeps_then PoolHasRefs HaveRefs constant_pool
-    _ entries_fit (λ y fit. keeps_given PoolHasRefs (components.Pool y) fit))) in keep 0 (components.Pool x) bytes ok spelt)
+    (number w8 (exactly 5)) _ (λ first. keeps_behind PoolHasRefs _ _ (λ size. keeps_then PoolHasRefs HaveRefs
+    constant_pool
+    _ entries_fit (λ y fit. keeps_given PoolHasRefs (components.Pool y) fit))) in keep 0 (components.Pool x) bytes ok
+    spelt)
 
 module _ (bytes : List ℕ) (ok : InBytes bytes) (x : ConstantPool)
     (spelt : FileSpells (component 5 (length bytes)) (components.Pool x) bytes) where
@@ -293,7 +298,8 @@ handler_size at h bytes ok spelt =
     omega (arith, a.sizes, b.sizes, c.sizes, d.sizes, g.1, one.1, two.1, three.1, four.1)
 
 -- as many items, each of as many bytes
-each_size : {A : Type 0} (p : Format A) (m : ℕ) → ((at : ℕ) (x : A) (bytes : List ℕ) → InBytes bytes → Spells p at x bytes
+each_size : {A : Type 0} (p : Format A) (m : ℕ) → ((at : ℕ) (x : A) (bytes : List ℕ) → InBytes bytes
+    → Spells p at x bytes
     → length bytes ≡ m) → (n at : ℕ) (xs : List A) (bytes : List ℕ) → InBytes bytes → Spells (repeated n p) at xs bytes
     → (length xs ≡ n) × (length bytes ≡ m * n)
 unfolding repeated
@@ -338,7 +344,8 @@ behind_handlers : (end : ℕ) (hs : List Handler) (at : ℕ) (x : Method) (bytes
     → Spells (bytes_before end >>= λ methods. gives (record { handlers = hs; methods = methods })) at x bytes
     → (x.handlers ≡ hs) × (length bytes ≡ length x.methods)
 behind_handlers end hs at x bytes ok spelt =
-    let f = inner (bytes_before end) (λ methods. gives (record { handlers = hs; methods = methods })) at x bytes ok spelt in
+    let f = inner (bytes_before end) (λ methods. gives (record { handlers = hs; methods = methods })) at x bytes ok
+    spelt in
     let g = given (record { handlers = hs; methods = f.x }) (at + length f.front) x f.back f.rest in
     let size = left_size end at f.x f.front f.fronts f.one in
     let same : length f.x ≡ length x.methods = ap (λ (m : Method). length m.methods) g.0 in

@@ -1,6 +1,6 @@
 //! Packages whose components the type checker passes: memory holds what it may before the first entry and behind each
-//! instruction on a field and each new, none of which is stuck. It has laws alone, for whoever proves that such components
-//! are never stuck.
+//! instruction on a field and each new, none of which is stuck. It has laws alone, for whoever proves that such
+//! components are never stuck.
 ghost use Rattle.std.specs.Prelude.{◌≡◌, ℕ, false, List, Option, Some};
 ghost use Rattle.cjc_capread.specs.declared.tree.ClassRef.{ClassRef};
 ghost use Rattle.cjc_capread.specs.declared.tree.PoolEntry.{PoolEntry};
@@ -32,8 +32,8 @@ pub fn memory_begins_so()
         → (let p = pair c in IsMemory p.loaded (field_types p) (first_memory p.loaded)) }
 {}
 
-/// An instruction on a field of a package that is checked is not stuck, and memory holds what it may afterwards, where the
-/// state before it breaks no rule.
+/// An instruction on a field of a package that is checked is not stuck, and memory holds what it may afterwards, where
+/// the state before it breaks no rule.
 pub fn fields_go_on()
     ensures { (c : Checked) → IsChecked c
         → (let p = pair c in (room next : ℕ) (lc : List Cell) (lv : List (Option Value))
@@ -46,8 +46,8 @@ pub fn fields_go_on()
         (effect (classes p.loaded) (or_undone (machine.using p.loaded 0 how item)) room next lv m vs)) }
 {}
 
-/// An instruction of a package that is checked which makes an object is not stuck, and memory holds what it may afterwards,
-/// where the state before it breaks no rule and the class is neither abstract nor an interface.
+/// An instruction of a package that is checked which makes an object is not stuck, and memory holds what it may
+/// afterwards, where the state before it breaks no rule and the class is neither abstract nor an interface.
 pub fn objects_go_on()
     ensures { (c : Checked) → IsChecked c
         → (let p = pair c in (room next : ℕ) (lc : List Cell) (lv : List (Option Value))

@@ -1,5 +1,5 @@
-//! The program of a package whose components the type checker passes: its methods are typed, and what is open of it is that
-//! its calls reach its methods. It has laws alone, for whoever proves that such components are never stuck.
+//! The program of a package whose components the type checker passes: its methods are typed, and what is open of it is
+//! that its calls reach its methods. It has laws alone, for whoever proves that such components are never stuck.
 ghost use Rattle.std.specs.Prelude.{◌≡◌, ℕ, [], Some, None, Contains};
 ghost use Rattle.cjc_bytes.specs.declared.fault.MemberId.{MemberId};
 ghost use Rattle.cjc_script.specs.declared.script.Script.{Script};
@@ -24,7 +24,8 @@ pub fn programs_are_there()
     ensures { (c : Checked) → IsChecked c → HasCode c → (program : Program) × IsProgramOf (pair c) program }
 {}
 
-/// Each method that Descriptor lists begins in Method as the package says, and where it has code it is one of the program.
+/// Each method that Descriptor lists begins in Method as the package says, and where it has code it is one of the
+/// program.
 pub fn methods_stand()
     ensures { (c : Checked) → IsChecked c → HasCode c → (program : Program) → IsProgramOf (pair c) program
         → AreStanding (pair c) program }
@@ -35,8 +36,8 @@ pub fn descriptors_have_sorts()
     ensures { (c : Checked) → IsChecked c → HasCode c → HaveSorts (pair c) }
 {}
 
-/// Each method of the program is typed: its table is closed and breaks no rule, and its instructions and handlers lead to
-/// instructions of it.
+/// Each method of the program is typed: its table is closed and breaks no rule, and its instructions and handlers lead
+/// to instructions of it.
 pub fn methods_are_typed()
     ensures { (c : Checked) → IsChecked c → HasCode c → (program : Program) → IsProgramOf (pair c) program
         → (let p = pair c in AreMethods p.loaded program) }
@@ -56,8 +57,8 @@ pub fn exceptions_are_there()
         → (let p = pair c in HasExceptions p.loaded program.exceptions) }
 {}
 
-/// A static method that an entry of a script names begins one of the program, where methods have descriptors of methods and
-/// static ones have code.
+/// A static method that an entry of a script names begins one of the program, where methods have descriptors of methods
+/// and static ones have code.
 pub fn static_entries_are_there()
     ensures { (c : Checked) → IsChecked c → HasCode c → (program : Program) → IsProgramOf (pair c) program
         → HaveCode (pair c) → (let p = pair c in (id : MemberId) (m : Start Code) → called p.loaded id ≡ Some m
@@ -71,7 +72,8 @@ pub fn programs_are_lawful()
         → HaveCode (pair c) → CallsReach (pair c) program → (let p = pair c in IsProgram p.loaded program) }
 {}
 
-/// Where the files keep what dispatch rests on, calls by dispatch and entries on receivers reach methods of the program.
+/// Where the files keep what dispatch rests on, calls by dispatch and entries on receivers reach methods of the
+/// program.
 pub fn calls_reach()
     ensures { (c : Checked) → IsChecked c → HasCode c → HaveCode (pair c) → KeepsCalls c → (program : Program)
         → IsProgramOf (pair c) program → CallsReach (pair c) program }

@@ -1,5 +1,5 @@
-//! Class infos: each has slots for the instance fields of its class, of their kinds. It has laws alone, for whoever proves
-//! that components which break no rule are never stuck.
+//! Class infos: each has slots for the instance fields of its class, of their kinds. It has laws alone, for whoever
+//! proves that components which break no rule are never stuck.
 ghost use Rattle.std.specs.Prelude.{◌≡◌, Bool, ℕ, false, List, Option};
 ghost use Rattle.cjc_capread.specs.declared.tree.ClassRef.{ClassRef};
 ghost use Rattle.cjc_capread.specs.declared.tree.PoolEntry.TheVariants.{Classref};
@@ -38,8 +38,8 @@ pub fn fields_have_slots()
         → (let p = pair_of applets files image c in AreDeclared p.loaded (field_types p)) }
 {}
 
-/// new pushes a reference to a new object, and memory holds what it may afterwards, where the state before it breaks no rule
-/// and the class is neither abstract nor an interface.
+/// new pushes a reference to a new object, and memory holds what it may afterwards, where the state before it breaks no
+/// rule and the class is neither abstract nor an interface.
 pub fn new_goes()
     ensures { (applets : Bool) (list : List ℕ) (files : Files) (image : StaticImage) (c : Complete)
         → IsSound list files → AreTyped files → AreFieldDescs files → StaticInInterfaces files

@@ -1,5 +1,5 @@
-//! Dispatch by the tables of class infos, and calls. It has laws alone, for whoever proves that components which break no
-//! rule are never stuck.
+//! Dispatch by the tables of class infos, and calls. It has laws alone, for whoever proves that components which break
+//! no rule are never stuck.
 ghost use Rattle.std.specs.Prelude.{◌≡◌, ◌<◌, ℕ, false, List, [], Some, Bool, length, nat_lt, slice_get};
 ghost use Rattle.cjc_bytes.specs.AccessFlags.{is_interface};
 ghost use Rattle.cjc_tokens.specs.ExportFile.Writable.{IsWritable};
@@ -36,38 +36,46 @@ ghost use Rattle.cjc_verified_proof.specs.Suited.{AreStanding, HaveSorts};
 /// descriptor there: a public or protected one, and a package-visible one, which is of the package.
 pub fn tables_dispatch()
     ensures alike { (name : List ℕ) (list : ListTree) (files : Files) (image : StaticImage) (c : Complete)
-        → IsSound name files → ArePaired files image c → IsVerified (pair_of (nat_lt 0 (length list.applets)) files image c)
+        → IsSound name files → ArePaired files image c → IsVerified (pair_of (nat_lt 0 (length list.applets)) files
+        image c)
         → FilesAgree (package_of list files image) → ((k : Class) → class_named (all_classes files) k.name ≡ Some k
-        → k.is_imported ≡ false → is_interface k.flags ≡ false → TablesFit (pair_of (nat_lt 0 (length list.applets)) files
+        → k.is_imported ≡ false → is_interface k.flags ≡ false → TablesFit (pair_of (nat_lt 0 (length list.applets))
+        files
         image c) (all_classes files) k) → (x : List ℕ) (k : Class) → class_named (all_classes files) x ≡ Some k
         → is_interface k.flags ≡ false → (z : List ℕ) × DispatchAgrees (all_classes files) (naming_of (pair_of
         (nat_lt 0 (length list.applets)) files image c) (package_of list files image)) (offset_in (pair_of
         (nat_lt 0 (length list.applets)) files image c)) x z }
     ensures shown { (name : List ℕ) (list : ListTree) (files : Files) (image : StaticImage) (c : Complete)
-        → IsSound name files → ArePaired files image c → IsVerified (pair_of (nat_lt 0 (length list.applets)) files image c)
+        → IsSound name files → ArePaired files image c → IsVerified (pair_of (nat_lt 0 (length list.applets)) files
+        image c)
         → FilesAgree (package_of list files image) → ((k : Class) → class_named (all_classes files) k.name ≡ Some k
-        → k.is_imported ≡ false → is_interface k.flags ≡ false → TablesFit (pair_of (nat_lt 0 (length list.applets)) files
+        → k.is_imported ≡ false → is_interface k.flags ≡ false → TablesFit (pair_of (nat_lt 0 (length list.applets))
+        files
         image c) (all_classes files) k) → (x y : List ℕ) (k d : Class) → class_named (all_classes files) x ≡ Some k
         → is_interface k.flags ≡ false → class_named (all_classes files) y ≡ Some d → Under (all_classes files) x y
         → (s : Signature) (t : ℕ) → token (slots (line_of (all_classes files) y)) s ≡ Some t
         → IsReachedBy (pair_of (nat_lt 0 (length list.applets)) files image c) (package_of list files image) x t s }
     ensures hidden { (name : List ℕ) (list : ListTree) (files : Files) (image : StaticImage) (c : Complete)
-        → IsSound name files → ArePaired files image c → IsVerified (pair_of (nat_lt 0 (length list.applets)) files image c)
+        → IsSound name files → ArePaired files image c → IsVerified (pair_of (nat_lt 0 (length list.applets)) files
+        image c)
         → FilesAgree (package_of list files image) → ((k : Class) → class_named (all_classes files) k.name ≡ Some k
-        → k.is_imported ≡ false → is_interface k.flags ≡ false → TablesFit (pair_of (nat_lt 0 (length list.applets)) files
+        → k.is_imported ≡ false → is_interface k.flags ≡ false → TablesFit (pair_of (nat_lt 0 (length list.applets))
+        files
         image c) (all_classes files) k) → (x y : List ℕ) (k d : Class) → class_named (all_classes files) x ≡ Some k
         → is_interface k.flags ≡ false → class_named (all_classes files) y ≡ Some d → Under (all_classes files) x y
         → (s : Signature) (t : ℕ) → token (hidden_slots (line_of (all_classes files) y)) s ≡ Some t
         → IsHiddenBy (pair_of (nat_lt 0 (length list.applets)) files image c) (package_of list files image) x t s }
 {}
 
-/// The token of an entry that names a public or protected method of a class of the package reaches, on an object of that
-/// class or of a subclass, a method with the descriptor that the entry's type is by 721.
+/// The token of an entry that names a public or protected method of a class of the package reaches, on an object of
+/// that class or of a subclass, a method with the descriptor that the entry's type is by 721.
 pub fn entries_reach_their_descriptors()
     ensures { (name : List ℕ) (list : ListTree) (files : Files) (image : StaticImage) (c : Complete)
-        → IsSound name files → ArePaired files image c → IsVerified (pair_of (nat_lt 0 (length list.applets)) files image c)
+        → IsSound name files → ArePaired files image c → IsVerified (pair_of (nat_lt 0 (length list.applets)) files
+        image c)
         → FilesAgree (package_of list files image) → ((k : Class) → class_named (all_classes files) k.name ≡ Some k
-        → k.is_imported ≡ false → is_interface k.flags ≡ false → TablesFit (pair_of (nat_lt 0 (length list.applets)) files
+        → k.is_imported ≡ false → is_interface k.flags ≡ false → TablesFit (pair_of (nat_lt 0 (length list.applets))
+        files
         image c) (all_classes files) k) → (x y : List ℕ) (k d : Class) → class_named (all_classes files) x ≡ Some k
         → is_interface k.flags ≡ false → class_named (all_classes files) y ≡ Some d → d.is_imported ≡ false
         → is_interface d.flags ≡ false → Under (all_classes files) x y → (t : ℕ) → t < 128 → (desc : List ℕ)
@@ -91,6 +99,6 @@ pub fn calls_suit()
 /// Dispatch keeps the descriptors that entries of the constant pool and tokens of interfaces name, in a package that is
 /// checked, where the files keep what dispatch rests on.
 pub fn dispatch_fits()
-    ensures { (c : Checked) → IsChecked c → HasCode c → KeepsCalls c → (program : Program) → IsProgramOf (pair c) program
-        → DispatchFits (pair c) program }
+    ensures { (c : Checked) → IsChecked c → HasCode c → KeepsCalls c → (program : Program)
+        → IsProgramOf (pair c) program → DispatchFits (pair c) program }
 {}

@@ -27,8 +27,8 @@ ghost use Rattle.cjc_verify_proof.specs.Memories.{IsMemory, Goes, SupersStand, A
 ghost use Rattle.cjc_verified_proof.specs.PackageTypes.{field_types};
 ghost use Rattle.cjc_verified_proof.specs.Entries.{UsesField};
 
-/// The type that Descriptor gives the entry of a field of the package is the type of that field, where no rule is broken
-/// and Descriptor has a type for each entry.
+/// The type that Descriptor gives the entry of a field of the package is the type of that field, where no rule is
+/// broken and Descriptor has a type for each entry.
 pub fn entries_have_types()
     ensures instances { (p : Pair) → IsVerified p
         → (let c = p.components in let d = c.descriptor in let q = c.pool in length d.pool_types ≡ length q.entries)

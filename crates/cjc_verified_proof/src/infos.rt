@@ -1,5 +1,5 @@
-//! Class infos: they are those of the package's classes, and name and order them as the files do. It has laws alone, for
-//! whoever proves that components which break no rule are never stuck.
+//! Class infos: they are those of the package's classes, and name and order them as the files do. It has laws alone,
+//! for whoever proves that components which break no rule are never stuck.
 ghost use Rattle.std.specs.Prelude.{◌≡◌, ℕ, Bool, List, length, nat_lt};
 ghost use Rattle.cjc_check_rules.specs.Complete.{Complete};
 ghost use Rattle.cjc_components.specs.List.Listed.{ListTree};
@@ -25,7 +25,8 @@ pub fn class_infos_are_the_packages()
 /// Then components and export files name each class, and say what stands above it, as the class files and export files
 /// do.
 pub fn classes_are_named()
-    ensures { (name : List ℕ) (list : ListTree) (files : Files) (image : StaticImage) (c : Complete) → IsSound name files
+    ensures { (name : List ℕ) (list : ListTree) (files : Files) (image : StaticImage) (c : Complete)
+        → IsSound name files
         → ArePaired files image c → IsVerified (pair_of (nat_lt 0 (length list.applets)) files image c)
         → SaysKinds (all_classes files) (naming_of (pair_of (nat_lt 0 (length list.applets)) files image c)
         (package_of list files image)) }

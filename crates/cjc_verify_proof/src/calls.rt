@@ -1,6 +1,6 @@
 //! Calls by token: what a call takes are arguments of its method, and an imported call is answered by the script with a
-//! value of its result's type or an exception. It has laws alone, for whoever proves that components which break no rule
-//! are never stuck.
+//! value of its result's type or an exception. It has laws alone, for whoever proves that components which break no
+//! rule are never stuck.
 ghost use Rattle.std.specs.Prelude.{◌≡◌, ◌≤◌, ℕ, Bool, true, false, List, ◌++◌, length, take, reverse, Option, Some};
 ghost use Rattle.std.specs.Prelude.{Contains};
 ghost use Rattle.cjc_frames.specs.Bytes.declared.fault.MemberId.{MemberId};

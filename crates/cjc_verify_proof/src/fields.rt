@@ -22,8 +22,8 @@ ghost use Rattle.cjc_verify_proof.specs.Acts.{Passes};
 ghost use Rattle.cjc_verify_proof.specs.Heaps.{object_is};
 ghost use Rattle.cjc_verify_proof.specs.Memories.{FieldTypes, IsMemory, Goes, SupersStand, AreDeclared};
 
-/// getfield pushes a value of the field's type or raises, for the object of a reference on the stack or in local 0 all of
-/// whose types are of the field's class.
+/// getfield pushes a value of the field's type or raises, for the object of a reference on the stack or in local 0 all
+/// of whose types are of the field's class.
 pub fn fields_are_read()
     ensures object { (l : Loaded) (t : FieldTypes) (room next : ℕ) (lc : List Cell) (lv : List (Option Value))
         (m : Memory Class Field (List Image)) → AreLocals (object_is l m.heap) lc lv → IsMemory l t m
@@ -41,8 +41,8 @@ pub fn fields_are_read()
         → Goes l t next (stack_behind a lc cs) lc m (effect (classes l) (Get true letter f) room next lv m vs) }
 {}
 
-/// putfield replaces the value of a field by one of the field's type or raises, for the object of a reference on the stack
-/// or in local 0 all of whose types are of the field's class.
+/// putfield replaces the value of a field by one of the field's type or raises, for the object of a reference on the
+/// stack or in local 0 all of whose types are of the field's class.
 pub fn fields_are_put()
     ensures object { (l : Loaded) (t : FieldTypes) (room next : ℕ) (lc : List Cell) (lv : List (Option Value))
         (m : Memory Class Field (List Image)) → AreLocals (object_is l m.heap) lc lv → IsMemory l t m
@@ -64,8 +64,8 @@ pub fn fields_are_put()
 pub fn static_fields_are_read()
     ensures { (l : Loaded) (t : FieldTypes) (room next : ℕ) (lc : List Cell) (lv : List (Option Value))
         (m : Memory Class Field (List Image)) → AreLocals (object_is l m.heap) lc lv → IsMemory l t m
-        → (c : StaticCell) (type : ValueType) → t.cell c ≡ Some type → (letter : Letter) → is_moved_by letter type ≡ true
-        → (a : Act) → a.takes ≡ [] → a.gives ≡ words type
+        → (c : StaticCell) (type : ValueType) → t.cell c ≡ Some type → (letter : Letter) → is_moved_by letter type
+        ≡ true → (a : Act) → a.takes ≡ [] → a.gives ≡ words type
         → (cs : List Cell) (vs : List Value) → AreWords (object_is l m.heap) cs vs → Passes (is_type_of l) room a lc cs
         → Goes l t next (stack_behind a lc cs) lc m (effect (classes l) (GetStatic letter c) room next lv m vs) }
 {}
@@ -74,14 +74,14 @@ pub fn static_fields_are_read()
 pub fn static_fields_are_put()
     ensures { (l : Loaded) (t : FieldTypes) (room next : ℕ) (lc : List Cell) (lv : List (Option Value))
         (m : Memory Class Field (List Image)) → AreLocals (object_is l m.heap) lc lv → IsMemory l t m
-        → (c : StaticCell) (type : ValueType) → t.cell c ≡ Some type → (letter : Letter) → is_moved_by letter type ≡ true
-        → (a : Act) → a.takes ≡ needs_of type → a.gives ≡ []
+        → (c : StaticCell) (type : ValueType) → t.cell c ≡ Some type → (letter : Letter) → is_moved_by letter type
+        ≡ true → (a : Act) → a.takes ≡ needs_of type → a.gives ≡ []
         → (cs : List Cell) (vs : List Value) → AreWords (object_is l m.heap) cs vs → Passes (is_type_of l) room a lc cs
         → Goes l t next (stack_behind a lc cs) lc m (effect (classes l) (PutStatic letter c) room next lv m vs) }
 {}
 
-/// new pushes a reference to a new object of the class, whose slots hold values of the fields' types, where the class is
-/// no interface.
+/// new pushes a reference to a new object of the class, whose slots hold values of the fields' types, where the class
+/// is no interface.
 pub fn objects_are_made()
     ensures { (l : Loaded) (t : FieldTypes) (room next : ℕ) (lc : List Cell) (lv : List (Option Value))
         (m : Memory Class Field (List Image)) → AreLocals (object_is l m.heap) lc lv → IsMemory l t m

@@ -1,6 +1,6 @@
 //! Frames of a run by token: each stands where the least table of its method has a row, with a stack and locals of its
-//! cells. They stay so where an instruction goes on, a method begins or returns, and an exception is thrown, and none of
-//! these turns is stuck. It has laws alone, for whoever proves that components which break no rule are never stuck.
+//! cells. They stay so where an instruction goes on, a method begins or returns, and an exception is thrown, and none
+//! of these turns is stuck. It has laws alone, for whoever proves that components which break no rule are never stuck.
 ghost use Rattle.std.specs.Prelude.{◌≡◌, ℕ, true, false, List, [], ◌∷◌, ◌++◌, map, reverse, slice_get, Option, Some};
 ghost use Rattle.std.specs.Prelude.{Contains};
 ghost use Rattle.cjc_script.specs.declared.value.Value.{Value};
@@ -49,12 +49,14 @@ pub fn frames_go_on()
 /// What is thrown is caught by a frame, or ends its entry: an object or array of the type of all exceptions, and a new
 /// object of a class of that type.
 pub fn exceptions_are_caught()
-    ensures thrown { (l : Loaded) (program : Program) → AreMethods l program → (s : State Code Class Field (List Image)) (t : Typing)
+    ensures thrown { (l : Loaded) (program : Program) → AreMethods l program → (s : State Code Class Field (List
+        Image)) (t : Typing)
         → Contains program.methods t → (f : Frame Code) (outer : List (Frame Code)) → Stands l s.memory.heap t f
         → AreOuter l program s.memory.heap t.result outer → (object : ℕ)
         → object_is l s.memory.heap program.exceptions object ≡ true → GoesOn l program s.memory
         (turn_after_toss (by_token l) (slice_get s.memory.heap object) f outer object s) }
-    ensures raised { (l : Loaded) (program : Program) → AreMethods l program → (s : State Code Class Field (List Image)) (t : Typing)
+    ensures raised { (l : Loaded) (program : Program) → AreMethods l program → (s : State Code Class Field (List
+        Image)) (t : Typing)
         → Contains program.methods t → (f : Frame Code) (outer : List (Frame Code)) → Stands l s.memory.heap t f
         → AreOuter l program s.memory.heap t.result outer → (c : Class)
         → both_of l (Some (OfClass c)) (shape_by l program.exceptions) ≡ true
@@ -65,8 +67,8 @@ pub fn exceptions_are_caught()
 
 /// A frame that waits goes on with the words of a result, or the entry ends.
 pub fn results_are_returned()
-    ensures { (l : Loaded) (program : Program) → AreMethods l program → (s : State Code Class Field (List Image)) (t : Typing)
-        (words : List Value) → AreWords (object_is l s.memory.heap) (cells_of t.result) (reverse words)
+    ensures { (l : Loaded) (program : Program) → AreMethods l program → (s : State Code Class Field (List Image)) (t :
+        Typing) (words : List Value) → AreWords (object_is l s.memory.heap) (cells_of t.result) (reverse words)
         → (f : Frame Code) (outer : List (Frame Code)) → AreOuter l program s.memory.heap t.result outer
         → GoesOn l program s.memory (left (by_token l) words f outer s) }
 {}
@@ -77,8 +79,8 @@ pub fn methods_begin()
         → IsMethod l exceptions t → (m : Start Code) → Begins t m → (args : List Value)
         → AreWords (object_is l heap) (map (given [] []) t.body.arguments) args
         → Runs l heap t (frame_for_call m args) }
-    ensures calls { (l : Loaded) (program : Program) → AreMethods l program → (s : State Code Class Field (List Image)) (t : Typing)
-        → Contains program.methods t → (m : Start Code) → Begins t m → (args : List Value)
+    ensures calls { (l : Loaded) (program : Program) → AreMethods l program → (s : State Code Class Field (List
+        Image)) (t : Typing) → Contains program.methods t → (m : Start Code) → Begins t m → (args : List Value)
         → AreWords (object_is l s.memory.heap) (map (given [] []) t.body.arguments) args → (f : Frame Code)
         (outer : List (Frame Code)) → AreOuter l program s.memory.heap t.result (f ∷ outer)
         → GoesOn l program s.memory (inside (by_token l) m args f outer s) }

@@ -19,8 +19,8 @@ ghost use Rattle.cjc_verify_proof.specs.Growth.{AreZeros, AreNulls, Adds};
 ghost use Rattle.cjc_verify_proof.specs.References.{Puts};
 ghost use Rattle.cjc_verify_proof.specs.Memories.{FieldTypes, IsMemory, Goes};
 
-/// An instruction that leaves memory as it is, makes an array of zeros or nulls, or puts another element into an array of
-/// references leaves memory that holds what it may.
+/// An instruction that leaves memory as it is, makes an array of zeros or nulls, or puts another element into an array
+/// of references leaves memory that holds what it may.
 pub fn effects_keep_memory()
     ensures onward { (l : Loaded) (t : FieldTypes) (next : ℕ) (m : Memory Class Field (List Image)) → IsMemory l t m
         → (cs lc : List Cell) (e : Effect Class Field Callee (List Image)) → Onward l next cs lc m e
@@ -36,8 +36,8 @@ pub fn effects_keep_memory()
         → Puts l next cs lc m e → Goes l t next cs lc m e }
 {}
 
-/// bastore, sastore and iastore leave memory that holds what it may, or raise, where numbers lie on top of a reference all
-/// of whose types begin as arrays of the letter do.
+/// bastore, sastore and iastore leave memory that holds what it may, or raise, where numbers lie on top of a reference
+/// all of whose types begin as arrays of the letter do.
 pub fn stores_of_numbers_keep_memory()
     ensures bytes { (l : Loaded) (t : FieldTypes) (next : ℕ) (cs lc : List Cell) (m : Memory Class Field (List Image))
         → IsMemory l t m → (vs : List Value) → AreWords (object_is l m.heap) cs vs → (lv : List (Option Value))

@@ -42,8 +42,8 @@ pub fn new_arrays_hold()
         (effect classes (NewReferences class) room next locals m (v ∷ stack)) }
 {}
 
-/// checkcast leaves a reference of the type that it names, or raises, and instanceof a number, where a reference lies on
-/// top.
+/// checkcast leaves a reference of the type that it names, or raises, and instanceof a number, where a reference lies
+/// on top.
 pub fn type_tests_hold()
     ensures casts { (l : Loaded) (room next : ℕ) (local_cells : List Cell) (locals : List (Option Value))
         (m : Memory Class Field (List Image)) → AreLocals (object_is l m.heap) local_cells locals

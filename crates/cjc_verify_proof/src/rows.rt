@@ -41,8 +41,8 @@ pub fn rows_stand_beside_meanings()
     ensures { (opcode : ℕ) → Beside (row opcode) (meaning opcode) (form opcode) }
 {}
 
-/// The operands of a decoded instruction, of a switch those before its table, are as many as the form of its opcode says,
-/// and none without a sign is below 0.
+/// The operands of a decoded instruction, of a switch those before its table, are as many as the form of its opcode
+/// says, and none without a sign is below 0.
 pub fn operands_are_read()
     ensures { (opcode : ℕ) (bytes : List ℕ) (i : Instruction) (f : Form) → form opcode ≡ Some f
         → decode (opcode ∷ bytes) ≡ Some i → AreRead (before_table f) i.operands }

@@ -1,5 +1,5 @@
-//! Instructions that name nothing in the constant pool: what their rows take and give is what the machine asks of them. It
-//! has laws alone, for whoever proves that components which break no rule are never stuck.
+//! Instructions that name nothing in the constant pool: what their rows take and give is what the machine asks of them.
+//! It has laws alone, for whoever proves that components which break no rule are never stuck.
 ghost use Rattle.std.specs.Prelude.{◌≡◌, ℕ, Bool, true, false, not, List, [], ◌∷◌, ◌++◌, map, Option, Some, ℤ};
 ghost use Rattle.std.specs.Prelude.{Contains, if◌then◌else◌, length};
 ghost use Rattle.cjc_card_acts.specs.CapRead.Card as card;
@@ -31,15 +31,16 @@ ghost use Rattle.cjc_verify_proof.specs.Turns.{Calls};
 ghost use Rattle.cjc_verify_proof.specs.Instructions.{Suits};
 ghost use Rattle.cjc_verify_proof.specs.Uses.{is_index_form, is_used_by};
 
-/// The opcodes whose rows are those of jumps are the ones whose operand says how far to jump; those of switches are none of
-/// them.
+/// The opcodes whose rows are those of jumps are the ones whose operand says how far to jump; those of switches are
+/// none of them.
 pub fn opcodes_jump()
     ensures jumps { (opcode : ℕ) (needs : List Need) (falls : Bool) → row opcode ≡ Jumps needs falls
         → is_jump opcode ≡ true }
     ensures switches { (opcode n : ℕ) → row opcode ≡ Switches n → is_jump opcode ≡ false }
 {}
 
-/// An opcode whose row uses an entry of the constant pool has an index alone behind it, and needs an entry that is used so.
+/// An opcode whose row uses an entry of the constant pool has an index alone behind it, and needs an entry that is used
+/// so.
 pub fn uses_name_entries()
     ensures { (op : ℕ) (how : Use) → row op ≡ Uses how → (is_index_form (form op) ≡ true)
         × ((entry : PoolEntry) → is_needed_by entry op ≡ true → is_used_by how entry ≡ true)
@@ -91,8 +92,8 @@ pub fn numbers_are_meant()
         × ((element_type n ≡ Some element) × (shape_by l type ≡ Some (OfNumbers element))) }
 {}
 
-/// A call of a fixed method of the group is what its act says, where the method takes the arguments that the act takes and
-/// gives its result.
+/// A call of a fixed method of the group is what its act says, where the method takes the arguments that the act takes
+/// and gives its result.
 pub fn fixed_calls_suit()
     ensures { (l : Loaded) (program : Program) (a : Act) (receiver : Option (List ℕ)) (params : List ValueType)
         (result : ValueType) → a.takes ≡ needs_of_all params ++ receiver_needs receiver → a.gives ≡ words result
@@ -102,7 +103,8 @@ pub fn fixed_calls_suit()
         → Calls l program a (Fixed (has_receiver receiver) part offset) }
 {}
 
-/// A call of a fixed imported method is what its act says, where its descriptor has the types that the act takes and gives.
+/// A call of a fixed imported method is what its act says, where its descriptor has the types that the act takes and
+/// gives.
 pub fn outer_calls_suit()
     ensures { (l : Loaded) (program : Program) (a : Act) (receiver : Option (List ℕ)) (params : List ValueType)
         (result : ValueType) → a.takes ≡ needs_of_all params ++ receiver_needs receiver → a.gives ≡ words result

@@ -52,8 +52,8 @@ pub fn steps_go_on()
         → GoesOnBy l program s.memory e (step (by_token l) (f ∷ outer) s) }
 {}
 
-/// An instruction does what its act says, and where it goes on, memory holds what it may and objects are made as before, where operands and locals are
-/// what the act needs.
+/// An instruction does what its act says, and where it goes on, memory holds what it may and objects are made as
+/// before, where operands and locals are what the act needs.
 pub fn instructions_do()
     ensures { (l : Loaded) (program : Program) (result : ValueType) (room next : ℕ) (local_cells : List Cell)
         (locals : List (Option Value)) (m : Memory Class Field (List Image))

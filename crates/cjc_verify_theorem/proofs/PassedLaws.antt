@@ -161,7 +161,8 @@ module _ (list : ListTree) (files : List (List ℕ)) (tested : List Group) (judg
     no_object : HasNoObject (loaded_of (has_applets list) w image c)
     no_object k part e =
         let root = (let s = told.sound in s.root) in
-        let h = entry_of_name list.name q sound (letters "java/lang/Object") (imported root.number root.class) root.found
+        let h = entry_of_name list.name q sound (letters "java/lang/Object") (imported root.number root.class)
+        root.found
         refl in
         let named : (let d = root.class in d.name) ≡ letters "java/lang/Object" = class_named-name (all_classes w)
         (letters "java/lang/Object") (imported root.number root.class) root.found in

@@ -140,7 +140,8 @@ module _ (files : Files) (image : StaticImage) (near : List MemberId) (tables : 
   may_be : (class : List ℕ) → may_be_thrown by class ≡ true → is_subtype w class (codes "java/lang/Throwable") ≡ true
   unfolding linked
   may_be class may =
-      let both = and_true (is_plain_import (class_named w class)) (is_subtype w class (codes "java/lang/Throwable")) may in
+      let both = and_true (is_plain_import (class_named w class)) (is_subtype w class (codes "java/lang/Throwable"))
+      may in
       both.1
 
   acts_told : ActsAreTold by l

@@ -36,14 +36,16 @@ returns-then-is_high_class c =
     let T : Signature → Option ℕ = λ s. token_among (token_under c.in_ok-told.told s) (signs c.in_ok-slots.slots)
     c.items.result.now s in
     let tokens_are = slot_token-is (line_at w (declared n K)) c.in_ok-told.told c.in_ok-slots.slots c.items.result.now
-    c.in_ok-told.ensures (ap signs (c.in_ok-slots.ensures ∙ c.deref-3.ensures.value) ∙ c.requires.rows.shown_slots) (c.items.ensures
+    c.in_ok-told.ensures (ap signs (c.in_ok-slots.ensures ∙ c.deref-3.ensures.value)
+    ∙ c.requires.rows.shown_slots) (c.items.ensures
     ∙ c.in_ok-public_methods.ensures ∙ ap methods_in c.deref.ensures.value ∙ c.requires.rows.shown_methods) in
     let E = is_exported w c.args.applets (declared n K) in
     sym (high-class w n K T tokens_are c.args.rows.now c.requires.rows c.args.ids.now c.requires.added E
     c.requires.plain)
     ∙ ap (λ b. is_high_class b T (signs c.args.rows.now.hidden.items) K c.args.ids.now)
     (sym c.is_exported-exported.ensures)
-    ∙ ap (λ q. is_high_class c.is_exported-exported.result T (signs q) K c.args.ids.now) (sym (c.in_ok-hidden.ensures ∙ c.deref-2.ensures.value))
+    ∙ ap (λ q. is_high_class c.is_exported-exported.result T (signs q) K c.args.ids.now) (sym (c.in_ok-hidden.ensures
+    ∙ c.deref-2.ensures.value))
     ∙ sym c.is_high_class.ensures ∙ c.if-is_high_class.true
 
 pub invariant_of-result : goal.invariant_of-result
@@ -64,7 +66,8 @@ returns c =
     let H = signs c.args.rows.now.hidden.items in
     let A = map (λ m. T (signature_of (member_of m))) c.args.ids.now in
     let tokens_are = slot_token-is (line_at w (declared n K)) c.in_ok-told.told c.in_ok-slots.slots c.items.result.now
-    c.in_ok-told.ensures (ap signs (c.in_ok-slots.ensures ∙ c.deref-3.ensures.value) ∙ c.requires.rows.shown_slots) (c.items.ensures
+    c.in_ok-told.ensures (ap signs (c.in_ok-slots.ensures ∙ c.deref-3.ensures.value)
+    ∙ c.requires.rows.shown_slots) (c.items.ensures
     ∙ c.in_ok-public_methods.ensures ∙ ap methods_in c.deref.ensures.value ∙ c.requires.rows.shown_methods) in
     let one : c.in_ok-members.members ≡ field_tokens ex fs 0 fs = c.in_ok-members.ensures
     ∙ ap (λ q. field_tokens ex q 0 q) c.items-2.ensures in
@@ -82,7 +85,8 @@ returns c =
       sym (high-class w n K T tokens_are c.args.rows.now c.requires.rows c.args.ids.now c.requires.added E
           c.requires.plain)
           ∙ ap (λ b. is_high_class b T H K c.args.ids.now) (sym c.is_exported-exported.ensures)
-          ∙ ap (λ q. is_high_class ex T (signs q) K c.args.ids.now) (sym (c.in_ok-hidden.ensures ∙ c.deref-2.ensures.value))
+          ∙ ap (λ q. is_high_class ex T (signs q) K c.args.ids.now) (sym (c.in_ok-hidden.ensures
+          ∙ c.deref-2.ensures.value))
           ∙ sym c.is_high_class.ensures ∙ c.if-is_high_class.false,
       tokens-class w n K T tokens_are c.args.rows.now c.requires.rows c.args.ids.now c.requires.added c.args.applets
           c.args.before c.own_token.result c.put_added_tokens.new.tokens c.in_ok-instances.instances

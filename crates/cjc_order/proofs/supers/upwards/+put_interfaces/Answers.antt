@@ -81,7 +81,8 @@ loop-name-preserved t c =
     let begun = c.in_ok-is_new.ensures.put in
     let unlisted : HasAdded (interfaces_from w false) (interfaces_from w false) x came old after seen =
     elim c.if-is_new.branch [
-      | goal.then-is_new+in_ok-put_interfaces+in_ok-put_interfaces-2 b ↦ interfaces_added w acyclic x came c.put.new.self
+      | goal.then-is_new+in_ok-put_interfaces+in_ok-put_interfaces-2 b ↦ interfaces_added w acyclic x came
+          c.put.new.self
           b.put_interfaces.new.came after old b.put_interfaces.new.seen seen b.supers_of.result.now
           b.interfaces_of.result.now begun (b.supers_of.ensures ∙ ap supers_in b.class_named-class.ensures.named)
           (b.interfaces_of.ensures ∙ ap interfaces_in b.class_named-class.ensures.named)
@@ -97,7 +98,8 @@ loop-name-preserved t c =
     ] in
     let added : HasAdded (interfaces_from w false) (interfaces_from w c.args.listed) x came old after new =
     elim c.if-listed.branch [
-      | goal.then-listed+in_ok-put b ↦ subst (λ l. HasAdded (interfaces_from w false) (interfaces_from w l) x came old after
+      | goal.then-listed+in_ok-put b ↦ subst (λ l. HasAdded (interfaces_from w false) (interfaces_from w l) x came old
+          after
           new) (sym b.if-listed.true) (with_listed w acyclic x came old after seen new unlisted
           (b.seen-is ∙ b.in_ok-put.ensures.put))
       | goal.else-listed b ↦ subst (λ l. HasAdded (interfaces_from w false) (interfaces_from w l) x came old after new)

@@ -48,7 +48,8 @@ loop-name-preserved t c =
     let new = c.if-is_new.seen in
     let begun = c.in_ok-is_new.ensures.put in
     let added : HasAdded (upwards_from w) (upwards_from w) x old old new new = elim c.if-is_new.branch [
-      | goal.then-is_new+in_ok-put_upwards b ↦ upwards_added w acyclic x old c.put.new.self new b.supers_of.result.now begun
+      | goal.then-is_new+in_ok-put_upwards b ↦ upwards_added w acyclic x old c.put.new.self new b.supers_of.result.now
+          begun
           (b.supers_of.ensures ∙ ap supers_in b.class_named-class.ensures.named)
           (b.seen-is ∙ b.in_ok-put_upwards.ensures.put)
           (subst (λ s. AreDone (upwards_from w) c.put.new.self s s) (sym b.seen-is) b.in_ok-put_upwards.ensures.done)

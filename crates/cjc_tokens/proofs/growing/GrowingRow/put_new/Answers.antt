@@ -31,7 +31,8 @@ returns-in_ok-note-in-None c = λ ss m old o is.
     (sym (c.self.invariant (signature_in slot)) ∙ sym c.get.ensures ∙ c.in-None.is) in
     let items : c.push_reserved.new.self.items ≡ row ++ Some slot ∷ [] = c.push_reserved.ensures.items
     ∙ ap (λ q. q ++ Some slot ∷ []) c.in_ok-reserve-in-None.ensures.items in
-    let before : Offered ss m old row = subst (λ (v : Vec (Option Slot)). Offered ss m old v.items) (sym c.self.view_is) o in
+    let before : Offered ss m old row = subst (λ (v : Vec (Option Slot)). Offered ss m old v.items) (sym
+    c.self.view_is) o in
     subst (λ q. Offered (ss ++ signature_in slot ∷ []) m old q) (sym items) (offered-put ss slot m old row before none
     is)
 

@@ -9,7 +9,8 @@ use Rattle.cjc_world.proofs.class_index.ClassIndex.interface_places.Goals as goa
 pub returns-in-Some : goal.returns-in-Some
 returns-in-Some c =
     let w = all_classes c.args.self.now in
-    subst (λ places. IsWalk w (known (gathered false (supertypes w (c.args.class.now ∷ [])))) places) (sym c.row_at.ensures)
+    subst (λ places. IsWalk w (known (gathered false (supertypes w (c.args.class.now ∷ [])))) places) (sym
+    c.row_at.ensures)
     (interfaces-walk w c.args.rows.now c.requires c.args.class.now c.in-Some.place (sym c.in-Some.ensures))
 
 pub returns-in-None : goal.returns-in-None
