@@ -1,19 +1,16 @@
 -- Where no part of what is written breaks a rule, none is broken.
-use Rattle.std.proofs.Common.{◌≡◌, ℕ, ap, subst, ◌∙◌, List, [], ◌∷◌, ◌++◌, map}
-use Rattle.std.specs.Prelude.{flat_map}
-use Rattle.cjc_verify.specs.Bytes.Breaks.{Among, Break}
+use Rattle.std.proofs.Common.{◌≡◌, ℕ, ap, subst, ◌∙◌, [], ◌∷◌, ◌++◌, map}
+use Rattle.cjc_verify.specs.Bytes.Breaks.{Among}
 use Rattle.cjc_types.proofs.BytesBrokenRules.{no_among}
 use Rattle.cjc_card_acts.specs.CardTypes.{is_type_of}
 use Rattle.cjc_card_acts.specs.LowerCheckRules.Consistent.{break_at}
 use Rattle.cjc_check_proof.specs.Components.Package.{Package}
-use Rattle.cjc_check_proof.specs.LowerTokenProof.Tables.Loading.{components}
 use Rattle.cjc_check_proof.proofs.TokenProofTests.{none_in_both}
-use Rattle.cjc_verify.specs.Bodies.{bodies, frames_of}
+use Rattle.cjc_verify.specs.Bodies.{frames_of}
 use Rattle.cjc_verify.specs.Described.{all_array_spots, described_spots}
-use Rattle.cjc_verify.specs.Headers.{header_spots}
-use Rattle.cjc_verify.specs.Infos.{all_abstract_spots, all_info_spots, all_table_spots}
+use Rattle.cjc_verify.specs.Infos.{all_info_spots, all_table_spots}
 use Rattle.cjc_verify.specs.Pairs.{Pair}
-use Rattle.cjc_verify.specs.Verified.{Breaks, IsVerified, in_code, listed, listed_breaks}
+use Rattle.cjc_verify.specs.Verified.{IsVerified, in_code, listed, listed_breaks}
 use Rattle.cjc_accepted_proof.specs.Accepted.{CodeStands, HasNoAbstract, HeadersFit}
 use Rattle.cjc_accepted_proof.specs.Written.{written_pair}
 use Rattle.cjc_accepted_proof.proofs.BelowLaws.{none_below}

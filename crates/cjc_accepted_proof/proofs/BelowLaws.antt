@@ -1,17 +1,16 @@
 -- What breaks a rule in a frame breaks one in each frame above, so a closed table that breaks none leaves the least one
 -- none.
-use Rattle.std.proofs.Common.{◌≡◌, ◌⊎◌, ℕ, zero, suc, ◌+◌, ◌-◌, ◌<◌, ◌≤◌, refl, sym, ap, subst, ◌∙◌, arith, inl, inr}
+use Rattle.std.proofs.Common.{◌≡◌, ◌⊎◌, ℕ, zero, suc, ◌+◌, ◌-◌, ◌<◌, ◌≤◌, refl, sym, ap, ◌∙◌, inl, inr}
 use Rattle.std.proofs.Common.{⊎_elim}
 use Rattle.std.proofs.Common.{Bool, true, false, List, [], ◌∷◌, ◌++◌, length, length-append, map, drop, slice_get}
 use Rattle.std.proofs.Common.{Option}
-use Rattle.std.proofs.Common.{Some, None}
 use Rattle.std.specs.Prelude.{◌&&◌, ◌||◌, not, nat_le, nat_lt, if◌then◌else◌}
 use Rattle.std.specs.List.{AllZip, list_all, list_any}
 use Rattle.std.proofs.lemmas.List.{length-drop, length-map}
 use Rattle.cjc_types.proofs.Greater.{member_passes}
-use Rattle.cjc_types.specs.Names.{In, IsWithin}
+use Rattle.cjc_types.specs.Names.{In}
 use Rattle.cjc_types.specs.Cells.{IsCellBelow}
-use Rattle.cjc_frames.specs.Fixpoint.Tables.{HasRow, IsClosed}
+use Rattle.cjc_frames.specs.Fixpoint.Tables.{IsClosed}
 use Rattle.cjc_types.specs.Rules.{all_types}
 use Rattle.cjc_types.specs.States.{IsStackBelow, states}
 use Rattle.cjc_types.specs.declared.cell.Cell.{Cell}
@@ -29,7 +28,7 @@ use Rattle.cjc_frames.specs.Acts.{is_wrong_local}
 use Rattle.cjc_frames.specs.Acts.{lacks_local, meets, stack_behind}
 use Rattle.cjc_frames.specs.Acts.Breaks.{clash, wrong, off, unknown, misnamed}
 use Rattle.cjc_frames.specs.Flow.{Body, frame_flow}
-use Rattle.cjc_frames.specs.Tables.{Breach, IsLeastTable}
+use Rattle.cjc_frames.specs.Tables.{IsLeastTable}
 use Rattle.cjc_frames.specs.Types.{begins_with}
 use Rattle.cjc_accepted_proof.specs.Tables.{BreaksNone}
 

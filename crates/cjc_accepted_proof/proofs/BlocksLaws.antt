@@ -1,13 +1,13 @@
 -- A table of the frames of blocks is closed and breaks no rule.
 use Rattle.std.proofs.Common.{◌≡◌, ◌⊎◌, ⊎_elim, ℕ, zero, suc, ◌+◌, ◌-◌, ◌<◌, ◌≤◌, refl, sym, ap, subst, ◌∙◌, arith, inl}
 use Rattle.std.proofs.Common.{inr, Bool, true, false, List, [], ◌∷◌, ◌++◌, length, length-append, map, filter_map}
-use Rattle.std.proofs.Common.{flat_map, slice_get, Option, Some, None, option_map, Contains}
-use Rattle.std.specs.Prelude.{◌==◌, nat_lt, option_to_list, position, if◌then◌else◌}
+use Rattle.std.proofs.Common.{slice_get, Option, Some, None, option_map, Contains}
+use Rattle.std.specs.Prelude.{◌==◌, nat_lt, option_to_list, if◌then◌else◌}
 use Rattle.std.specs.List.{AllZip, cons_option}
 use Rattle.std.proofs.lemmas.Bool.Decides.{nat_tests}
 use Rattle.std.proofs.lemmas.List.{length-map}
 use Rattle.std.proofs.lemmas.List.Elements.{Contains-append_cases}
-use Rattle.cjc_types.proofs.BytesGets.{contained, get_back, get_below, get_front, get_inside, get_mapped}
+use Rattle.cjc_types.proofs.BytesGets.{get_back, get_below, get_front, get_inside, get_mapped}
 use Rattle.cjc_types.proofs.BytesGets.{position_there}
 use Rattle.cjc_types.specs.Cells.{IsCellBelow}
 use Rattle.cjc_frames.specs.Fixpoint.Tables.{Covers, HasRow, IsClosed}
@@ -22,7 +22,6 @@ use Rattle.cjc_types.specs.declared.state.State.{State}
 use Rattle.cjc_frames.specs.Acts.{Breaks, Subtype, after}
 use Rattle.cjc_frames.specs.Flow.{Body, caught, covers, edge, entry, frame_flow, handler_edge, next_place}
 use Rattle.cjc_frames.specs.Flow.{place_at, place_edges, step_edges, successors}
-use Rattle.cjc_frames.specs.Tables.{Breach}
 use Rattle.cjc_frames.specs.declared.acts.Act.{Act}
 use Rattle.cjc_frames.specs.declared.acts.Catch.{Catch}
 use Rattle.cjc_frames.specs.declared.acts.Step.{Step}

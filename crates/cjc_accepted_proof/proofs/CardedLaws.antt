@@ -1,6 +1,6 @@
 -- A descriptor that names none of the types which a package may not use is one of types that the card has.
 use Rattle.std.proofs.Common.{◌≡◌, ℕ, ◌<◌, ◌^◌, refl, sym, ap, ◌∙◌, Bool, true, false, List, [], ◌∷◌, ◌++◌, length, map}
-use Rattle.std.specs.Prelude.{◌&&◌, ◌||◌, Some, None, option_and_then}
+use Rattle.std.specs.Prelude.{◌&&◌, ◌||◌, Some, option_and_then}
 use Rattle.std.specs.List.{list_all, list_any}
 use Rattle.std.proofs.lemmas.Bool.{lt-ltb}
 use Rattle.cjc_verify.specs.Bytes.Descriptor.{AreTypes, IsDescriptor, IsResult, Part, Parts, field, method, next, none}

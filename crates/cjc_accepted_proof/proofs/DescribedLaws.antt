@@ -1,21 +1,19 @@
 -- Descriptor gives classes and members the tokens, flags, places and types of the package's, and entries of the
 -- constant pool the types of their members.
-use Rattle.std.proofs.Common.{◌≡◌, ℕ, zero, suc, ◌+◌, ◌*◌, ◌<◌, ◌≤◌, ◌==◌, ◌&&◌, ◌||◌, refl, sym, ap, subst, ◌∙◌, arith}
+use Rattle.std.proofs.Common.{◌≡◌, ℕ, zero, suc, ◌+◌, ◌*◌, ◌<◌, ◌≤◌, ◌==◌, ◌&&◌, ◌||◌, refl, sym, ap, ◌∙◌, arith}
 use Rattle.std.proofs.Common.{Bool, true, false, not, List, [], ◌∷◌, ◌++◌, length, map, slice_get, Option, Some, None}
 use Rattle.std.proofs.Common.{cond}
 use Rattle.std.specs.Prelude.{flat_map, if◌then◌else◌, option_and_then, option_map, position, unwrap_or}
-use Rattle.std.specs.List.{AllByRecursion, find, list_any}
+use Rattle.std.specs.List.{AllByRecursion, find}
 use Rattle.std.specs.Str.{bytes_eq}
 use Rattle.std.proofs.lemmas.Bool.Decides.{nat_tests}
-use Rattle.std.proofs.lemmas.List.{length-map}
 use Rattle.std.proofs.lemmas.List.Concat.{flat_map-cons}
 use Rattle.cjc_verify.specs.Bytes.AccessFlags.{is_static}
 use Rattle.cjc_types.proofs.BytesBools.{both_back}
-use Rattle.cjc_types.proofs.BytesGets.{get_below, get_inside, get_mapped, position_there}
+use Rattle.cjc_types.proofs.BytesGets.{get_below, get_mapped, position_there}
 use Rattle.cjc_types.proofs.BytesLists.{bytes_true, length_mapped, name_is, none_left, none_right}
 use Rattle.cjc_types.proofs.BytesNumbers.{like_number, number_same_number}
 use Rattle.cjc_card_acts.specs.CapRead.ClassRefs.{same_class}
-use Rattle.cjc_card_acts.specs.CapRead.declared.tree.ClassDescriptor.{ClassDescriptor}
 use Rattle.cjc_card_acts.specs.CapRead.declared.tree.FieldDescriptor.{FieldDescriptor}
 use Rattle.cjc_card_acts.specs.CapRead.declared.tree.FieldPlace.TheVariants as places
 use Rattle.cjc_card_acts.specs.CapRead.declared.tree.PoolEntry.{PoolEntry}
@@ -30,12 +28,11 @@ use Rattle.cjc_card_acts.specs.LowerCheckRules.Spots.{Placed, along, begins, bes
 use Rattle.cjc_card_acts.specs.LowerCheckRules.Spots.{unless}
 use Rattle.cjc_card_acts.specs.LowerCheckRules.declared.spot.ComponentPlace.{ComponentPlace}
 use Rattle.cjc_check_proof.proofs.ClassesLaws.Lists.{begins_where, start_within}
-use Rattle.cjc_check_proof.specs.Script.Sorts.{Boolean, Booleans, Byte, Bytes, Int, Ints, NoValue, OfClass, OfNumbers}
+use Rattle.cjc_check_proof.specs.Script.Sorts.{Boolean, Byte, Int, NoValue, OfClass, OfNumbers}
 use Rattle.cjc_check_proof.specs.Script.Sorts.{OfReferences}
-use Rattle.cjc_check_proof.specs.Script.Sorts.{Reference, Short, Shorts, Signature, Sort, field_sort, signature_of}
+use Rattle.cjc_check_proof.specs.Script.Sorts.{Reference, Short, Signature, Sort, field_sort, signature_of}
 use Rattle.cjc_frames.specs.ClassFile.declared.tree.FieldTree.{FieldTree}
 use Rattle.cjc_verify.specs.World.Classes.{Class}
-use Rattle.cjc_verify.specs.World.Lookup.{member_at}
 use Rattle.cjc_verify.specs.World.Order.{class_order, methods_of_class}
 use Rattle.cjc_verify.specs.World.declared.found.Found.{Found}
 use Rattle.cjc_verify.specs.Tokens.Fields.{is_constant}
@@ -44,28 +41,26 @@ use Rattle.cjc_verify.specs.NCode.Lowering.Naming.{entry_of}
 use Rattle.cjc_verify.specs.NCode.declared.narrow.PoolKey.{PoolKey}
 use Rattle.cjc_verify.specs.NCode.declared.narrow.PoolKey.TheVariants as keys
 use Rattle.cjc_check_proof.specs.Components.Class.{fields_of}
-use Rattle.cjc_check_proof.specs.Components.Descriptor.{class_descriptor, class_flags, descriptor, field_descriptor}
-use Rattle.cjc_check_proof.specs.Components.Descriptor.{field_flags}
+use Rattle.cjc_check_proof.specs.Components.Descriptor.{class_descriptor, descriptor, field_descriptor}
 use Rattle.cjc_check_proof.specs.Components.Descriptor.{field_place, field_type, fields_from, method_descriptor}
-use Rattle.cjc_check_proof.specs.Components.Descriptor.{method_flags}
 use Rattle.cjc_check_proof.specs.Components.Descriptor.{method_in, pool_type}
 use Rattle.cjc_check_proof.specs.Components.Names.{class_ref, names}
 use Rattle.cjc_check_proof.specs.Components.Package.{Package, pool, world}
 use Rattle.cjc_check_proof.specs.Components.Statics.{cell_offset}
-use Rattle.cjc_check_proof.specs.Components.Types.{array_nibble, desc_of_key, nibbles_by, nibbles_of, ref_nibbles}
+use Rattle.cjc_check_proof.specs.Components.Types.{desc_of_key, nibbles_by, nibbles_of, ref_nibbles}
 use Rattle.cjc_check_proof.specs.Components.Types.{result_nibbles}
 use Rattle.cjc_check_proof.specs.Components.Types.{sort_nibbles, type_descriptor, type_offset, type_starts, types_of}
 use Rattle.cjc_check_proof.proofs.TokenProofTests.{none_in_both, passes}
-use Rattle.cjc_verify.specs.Described.{Numbered, are_nibbles, class_spots, class_token, described_spots, entry_spots}
-use Rattle.cjc_verify.specs.Described.{field_spots, is_entry_type, is_field_type, is_place, member_token, method_spots}
+use Rattle.cjc_verify.specs.Described.{are_nibbles, class_spots, described_spots, entry_spots}
+use Rattle.cjc_verify.specs.Described.{field_spots, is_entry_type, is_field_type, is_place, method_spots}
 use Rattle.cjc_verify.specs.Described.{nibbles_at, says, wanted_fields}
 use Rattle.cjc_verify.specs.Described as described
 use Rattle.cjc_verify.specs.Named.{named_desc}
-use Rattle.cjc_verify.specs.Pairs.{Pair, is_card_type}
+use Rattle.cjc_verify.specs.Pairs.{Pair}
 use Rattle.cjc_verify.specs.Pairs as pairs
 use Rattle.cjc_accepted_proof.specs.Carded.{EntriesAreNamed, HasCardTypes, IsOnCard}
 use Rattle.cjc_accepted_proof.specs.Written.{written_pair}
-use Rattle.cjc_accepted_proof.proofs.InfosLaws.{both_hold, none_of_all}
+use Rattle.cjc_accepted_proof.proofs.InfosLaws.{both_hold}
 use Rattle.cjc_accepted_proof.proofs.NamesLaws.{ref_alike, same_itself}
 
 -- ---- lists

@@ -1,7 +1,7 @@
 -- The infos of Class are those of the package's classes: their flags, supers, items on instance fields, tables and
 -- maps.
-use Rattle.std.proofs.Common.{◌≡◌, ℕ, zero, suc, ◌+◌, ◌*◌, ◌==◌, ◌&&◌, refl, sym, ap, subst, ◌∙◌, Bool, true, false}
-use Rattle.std.proofs.Common.{not, List, [], ◌∷◌, ◌++◌, length, map, slice_get, Option, Some, None}
+use Rattle.std.proofs.Common.{◌≡◌, ℕ, suc, ◌+◌, ◌*◌, ◌==◌, ◌&&◌, refl, sym, ap, subst, ◌∙◌, Bool, true, false}
+use Rattle.std.proofs.Common.{List, [], ◌∷◌, ◌++◌, length, map, slice_get, Option, Some, None}
 use Rattle.std.specs.Prelude.{if◌then◌else◌}
 use Rattle.std.specs.List.{AllByRecursion}
 use Rattle.cjc_types.proofs.BytesBools.{not_true}
@@ -12,12 +12,10 @@ use Rattle.cjc_verify.specs.Bytes.AccessFlags.{is_interface}
 use Rattle.cjc_card_acts.specs.CapRead.ClassRefs.{same_class}
 use Rattle.cjc_card_acts.specs.CapRead.declared.tree.ClassEntry.{ClassEntry}
 use Rattle.cjc_card_acts.specs.CapRead.declared.tree.ClassRef.{ClassRef}
-use Rattle.cjc_card_acts.specs.CapRead.declared.tree.ImplementedInterface.{ImplementedInterface}
-use Rattle.cjc_card_acts.specs.CapRead.declared.tree.InterfaceEntry.{InterfaceEntry}
 use Rattle.cjc_card_acts.specs.LowerCheckRules.Classes.{first_interface}
 use Rattle.cjc_card_acts.specs.LowerCheckRules.ClassRefs.{maps_begin}
 use Rattle.cjc_card_acts.specs.LowerCheckRules.Complete.{map_size}
-use Rattle.cjc_card_acts.specs.LowerCheckRules.Spots.{beside, bytes_differ, in_info, unless}
+use Rattle.cjc_card_acts.specs.LowerCheckRules.Spots.{beside, in_info, unless}
 use Rattle.cjc_card_acts.specs.LowerCheckRules.declared.spot.ComponentPlace.{ComponentPlace}
 use Rattle.cjc_check_proof.specs.CardSemantics.Machine.Classes.{Info, IsClass, IsInterface, info_size}
 use Rattle.cjc_verify.specs.World.Classes.{Class}

@@ -2,7 +2,7 @@
 -- fit the members that these name.
 use Rattle.std.proofs.Common.{◌≡◌, ℕ, zero, suc, ◌+◌, ◌-◌, ◌<◌, ◌≤◌, refl, sym, ap, subst, ◌∙◌, arith, Bool, true}
 use Rattle.std.proofs.Common.{false, List, [], ◌∷◌, ◌++◌, length, length-append, map, drop, get_or, slice_get, Option}
-use Rattle.std.proofs.Common.{Some, None, append_assoc, append-nil}
+use Rattle.std.proofs.Common.{Some, None, append_assoc}
 use Rattle.std.specs.Prelude.{◌&&◌, ◌||◌, ◌==◌, not, nat_lt, option_to_list, if◌then◌else◌}
 use Rattle.std.specs.List.{AllZip}
 use Rattle.std.proofs.lemmas.Bool.Decides.{nat_tests}
@@ -10,7 +10,6 @@ use Rattle.cjc_verify.specs.Bytes.Descriptor.{Part}
 use Rattle.cjc_verify.specs.Bytes.declared.descriptor.Kind.{Kind}
 use Rattle.cjc_verify.specs.Bytes.declared.descriptor.Kind.TheVariants as kinds
 use Rattle.cjc_verify.specs.Bytes.declared.fault.MemberId.{MemberId}
-use Rattle.cjc_types.proofs.BytesGets.{get_below}
 use Rattle.cjc_card_acts.specs.CapRead.declared.tree.ClassRef.{ClassRef}
 use Rattle.cjc_frames.specs.Bytecode.Jvm as jvm
 use Rattle.cjc_frames.specs.Bytecode.declared.insn.JOp.{JOp}
@@ -24,25 +23,23 @@ use Rattle.cjc_types.specs.Steps.{receivers, takes}
 use Rattle.cjc_types.specs.States.{states}
 use Rattle.cjc_types.specs.declared.state.State.{State}
 use Rattle.cjc_types.specs.Flow.{caught as caught_by_name, caught_type}
-use Rattle.cjc_frames.specs.ClassFile.declared.tree.Catch.{Catch as CatchByName}
 use Rattle.cjc_frames.specs.declared.acts.Catch.{Catch}
 use Rattle.cjc_frames.specs.Flow.{caught}
 use Rattle.cjc_check_proof.specs.Narrow.Pairs.Open.{Open, closed}
-use Rattle.cjc_types.specs.Types.{cell_of, is_void, parts, result_of, value_of}
+use Rattle.cjc_types.specs.Types.{cell_of, is_void, parts, result_of}
 use Rattle.cjc_types.specs.declared.cell.Cell.{Cell}
 use Rattle.cjc_types.specs.declared.cell.Cell.TheVariants.{Number, Refs, Unusable}
 use Rattle.cjc_verify.specs.World.Classes.{Class}
-use Rattle.cjc_verify.specs.World.Subtype.{is_subtype}
 use Rattle.cjc_frames.specs.declared.acts.Need.{Need}
 use Rattle.cjc_frames.specs.declared.acts.Need.TheVariants.{NumberWord, OfType}
-use Rattle.cjc_frames.specs.Acts.{Subtype, given, has_wrong, meets}
-use Rattle.cjc_card_acts.specs.CardTypes.{Boolean, Byte, Int, MemberType, Reference, Short, ValueType, Void}
-use Rattle.cjc_card_acts.specs.CardTypes.{is_moved_by, needs_of, needs_of_all, words}
+use Rattle.cjc_frames.specs.Acts.{Subtype, given, has_wrong}
+use Rattle.cjc_card_acts.specs.CardTypes.{Boolean, Byte, MemberType, Reference, Short, ValueType, Void}
+use Rattle.cjc_card_acts.specs.CardTypes.{needs_of, needs_of_all, words}
 use Rattle.cjc_verify.specs.ClassTypes.{class_type}
 use Rattle.cjc_verify.specs.Instructions.{calling, calling_on, getting}
 use Rattle.cjc_accepted_proof.specs.Frames.{AreTypesFor, FieldFits, IsTypeFor, MethodFits, Mirrors, PassesFor}
 use Rattle.cjc_accepted_proof.specs.Frames.{card_state}
-use Rattle.cjc_accepted_proof.specs.Frames.{SubtypesAgree, card_cell, card_cells, types_named}
+use Rattle.cjc_accepted_proof.specs.Frames.{SubtypesAgree, card_cell, card_cells}
 use Rattle.cjc_accepted_proof.specs.Frames.{with_type}
 use Rattle.cjc_accepted_proof.proofs.RowsLaws.{cell_itself, zip_itself}
 use Rattle.cjc_accepted_proof.proofs.TypesLaws.{class_passes}

@@ -1,8 +1,8 @@
 -- The frames of a method of the card that is written for one of a class file: their blocks lead to each other.
-use Rattle.std.proofs.Common.{◌≡◌, ◌⊎◌, ⊎_elim, ℕ, zero, suc, ◌+◌, ◌-◌, ◌<◌, ◌≤◌, refl, sym, ap, subst, ◌∙◌, arith, inl}
-use Rattle.std.proofs.Common.{inr, Bool, true, false, List, [], ◌∷◌, ◌++◌, length, length-append, map, filter_map}
-use Rattle.std.proofs.Common.{flat_map, slice_get, Option, Some, None, option_map, Contains, append_assoc}
-use Rattle.std.specs.Prelude.{◌==◌, nat_lt, position, if◌then◌else◌}
+use Rattle.std.proofs.Common.{◌≡◌, ◌⊎◌, ⊎_elim, ℕ, zero, suc, ◌+◌, ◌-◌, ◌<◌, ◌≤◌, refl, sym, ap, subst, ◌∙◌, arith}
+use Rattle.std.proofs.Common.{Bool, true, false, List, [], ◌∷◌, ◌++◌, length, length-append, map, filter_map}
+use Rattle.std.proofs.Common.{flat_map, slice_get, Option, Some, None, option_map, Contains}
+use Rattle.std.specs.Prelude.{◌==◌, nat_lt, if◌then◌else◌}
 use Rattle.std.proofs.lemmas.Bool.{eqb-true}
 use Rattle.std.proofs.lemmas.Bool.Decides.{nat_tests}
 use Rattle.std.proofs.lemmas.List.Elements.{Contains-append_left, Contains-append_right}
@@ -10,8 +10,6 @@ use Rattle.cjc_types.proofs.BytesGets.{get_below, get_inside, position_there}
 use Rattle.cjc_types.proofs.Typed.{contains_kept, contains_mapped}
 use Rattle.cjc_frames.specs.Bytecode.declared.insn.JInsn.{JInsn}
 use Rattle.cjc_frames.specs.Bytecode.declared.insn.JOp.{JOp}
-use Rattle.cjc_frames.specs.Bytecode.declared.insn.JOp.TheVariants as jop
-use Rattle.cjc_frames.specs.ClassFile.declared.tree.Catch.{Catch as CatchByName}
 use Rattle.cjc_frames.specs.Fixpoint.Tables.{Covers, HasRow, IsClosed}
 use Rattle.cjc_frames.specs.Fixpoint.Working.Edges.{contains_head}
 use Rattle.cjc_frames.specs.Fixpoint.declared.flow.Edge.{Edge}
@@ -21,14 +19,13 @@ use Rattle.cjc_types.specs.Flow.{insn_edges, next_place as next_by_name, place_a
 use Rattle.cjc_types.specs.Flow.{successors as successors_by_name, type_flow}
 use Rattle.cjc_types.specs.States.{states}
 use Rattle.cjc_types.specs.Steps.{after as after_by_name, goes_on as goes_on_by_name, targets}
-use Rattle.cjc_types.specs.TypeLaws.Places.{HasPlace, IsPlaceOf}
 use Rattle.cjc_types.specs.declared.state.State.{State}
 use Rattle.cjc_verify.specs.NCode.Written.{Resolution, narrow_code, place_in, reached, written_for}
 use Rattle.cjc_verify.specs.NCode.declared.narrow.NInsn.{NInsn}
 use Rattle.cjc_verify.specs.NCode.declared.narrow.PairRole.{PairRole}
 use Rattle.cjc_check_proof.specs.Narrow.Pairs.Open.{Open, closed}
 use Rattle.cjc_check_proof.specs.LowerNarrowProof.Tables.Analysis.{Ascend, IsDecoded}
-use Rattle.cjc_check_proof.specs.LowerNarrowProof.Tables.Pairs.{AreInPairs, IsInPair, IsPushed, IsSilent, a_constant}
+use Rattle.cjc_check_proof.specs.LowerNarrowProof.Tables.Pairs.{AreInPairs, IsInPair, a_constant}
 use Rattle.cjc_check_proof.specs.LowerNarrowProof.Tables.Pairs.{a_local, a_narrow}
 use Rattle.cjc_check_proof.specs.LowerNarrowProof.Tables.Pairs.{a_nop, a_null, a_number, gets, goes_on as pair_goes_on}
 use Rattle.cjc_check_proof.specs.LowerNarrowProof.Tables.Pairs.{opens, pushes}
@@ -36,13 +33,12 @@ use Rattle.cjc_check_proof.specs.LowerNarrowProof.Tables.Pairs.{puts, stands_alo
 use Rattle.cjc_check_proof.proofs.NarrowProofPlaced.{ascend_tail, first_place, size, size_fixed}
 use Rattle.cjc_frames.specs.Acts.{Subtype}
 use Rattle.cjc_frames.specs.Flow.{Body, caught, covers, entry, place_at}
-use Rattle.cjc_frames.specs.declared.acts.Act.{Act}
 use Rattle.cjc_frames.specs.declared.acts.Catch.{Catch}
 use Rattle.cjc_frames.specs.declared.acts.Step.{Step}
 use Rattle.cjc_accepted_proof.specs.Blocks.{AllStand, AreBlocks, Block, LeadsTo, goes_on, label_of, steps_of}
 use Rattle.cjc_accepted_proof.specs.Frames.{card_state}
-use Rattle.cjc_accepted_proof.specs.Methods.{IsHandlerFor, IsWrittenFor, RowStands, between, block_of, blocks_from}
-use Rattle.cjc_accepted_proof.specs.Methods.{steps_for, steps_from}
+use Rattle.cjc_accepted_proof.specs.Methods.{IsWrittenFor, block_of, blocks_from}
+use Rattle.cjc_accepted_proof.specs.Methods.{steps_from}
 use Rattle.cjc_accepted_proof.proofs.BlocksLaws.{below_itself, below_through}
 use Rattle.cjc_accepted_proof.proofs.FramesLaws.{between_own, state_below, state_own}
 use Rattle.cjc_accepted_proof.proofs.KindsLaws.{handler_below}

@@ -1,6 +1,6 @@
 -- What components name beside their package: classes stand where they are written, so class_refs are those that are
 -- written.
-use Rattle.std.proofs.Common.{◌≡◌, ℕ, ◌==◌, ◌&&◌, ap, ◌∙◌, true, List, Option}
+use Rattle.std.proofs.Common.{◌≡◌, ℕ, ◌==◌, ◌&&◌, ap, ◌∙◌, true, List}
 use Rattle.std.specs.Prelude.{option_and_then, option_map, position, slice_get, unwrap_or}
 use Rattle.std.specs.Str.{bytes_eq}
 use Rattle.cjc_types.proofs.BytesNumbers.{like_number}

@@ -1,6 +1,6 @@
 -- Where a method stands in Method is what Descriptor says of it.
-use Rattle.std.proofs.Common.{◌≡◌, ℕ, zero, suc, ◌+◌, ◌==◌, refl, sym, ap, subst, ◌∙◌, Bool, true, false, List, []}
-use Rattle.std.proofs.Common.{◌∷◌, ◌++◌, map, length, slice_get, Option, Some, None, append_assoc}
+use Rattle.std.proofs.Common.{◌≡◌, ℕ, ◌+◌, ◌==◌, refl, sym, ap, subst, ◌∙◌, Bool, true, false, List, []}
+use Rattle.std.proofs.Common.{◌∷◌, ◌++◌, map, Option, Some, None, append_assoc}
 use Rattle.std.specs.Prelude.{◌&&◌, ◌||◌, cond, if◌then◌else◌, not, option_map, unwrap_or}
 use Rattle.std.specs.List.{AllByRecursion, find, list_any}
 use Rattle.cjc_types.proofs.BytesBools.{true_not_false}
@@ -20,7 +20,7 @@ use Rattle.cjc_check_proof.specs.Components.Descriptor.{class_descriptor, method
 use Rattle.cjc_check_proof.specs.Components.Names.{class_ref}
 use Rattle.cjc_check_proof.specs.LowerTokenProof.Components.Methods.{HasMethods}
 use Rattle.cjc_check_proof.proofs.TokenProofApart.{AreOwn, order_own}
-use Rattle.cjc_verify.specs.Pairs.{Described, Pair, described, described_among, described_in, same_found}
+use Rattle.cjc_verify.specs.Pairs.{Described, described_among, described_in, same_found}
 use Rattle.cjc_verify.specs.Pairs as pairs
 use Rattle.cjc_accepted_proof.specs.Written.{written_pair}
 

@@ -1,12 +1,10 @@
 -- The card's types of types by name: a type that passes by name passes by token, and fewer names give fewer types.
 use Rattle.std.proofs.Common.{◌≡◌, ◌⊎◌, ℕ, suc, ◌+◌, ◌≤◌, refl, sym, ap, subst, ◌∙◌, arith, inl, inr, ⊎_elim, Bool}
 use Rattle.std.proofs.Common.{true}
-use Rattle.std.proofs.Common.{false, List, [], ◌∷◌, length, Option, Some, None}
-use Rattle.std.specs.Prelude.{◌&&◌, option_map}
+use Rattle.std.proofs.Common.{List, [], ◌∷◌, length, Option, Some, None}
+use Rattle.std.specs.Prelude.{◌&&◌}
 use Rattle.std.specs.List.{AllZip, list_all}
-use Rattle.cjc_types.proofs.BytesBools.{both_back, both_front}
-use Rattle.cjc_card_acts.specs.CapRead.declared.tree.ClassRef.{ClassRef}
-use Rattle.cjc_types.specs.Cells.{IsCell, IsCellBelow, most_names}
+use Rattle.cjc_types.specs.Cells.{IsCellBelow}
 use Rattle.std.specs.declared.cmp.Ordering.{Ordering}
 use Rattle.std.specs.declared.cmp.Ordering.TheVariants.{Less, Equal, Greater}
 use Rattle.cjc_types.specs.Names.{In, IsSet, IsWithin, compare, insert, placed}

@@ -10,7 +10,6 @@ use Rattle.cjc_check_proof.specs.LowerTokenProof.Tables.Loading.{components}
 use Rattle.cjc_verify.specs.Bodies.{Body, bodies, frames_of}
 use Rattle.cjc_verify.specs.Headers.{header_spots}
 use Rattle.cjc_verify.specs.Infos.{all_abstract_spots}
-use Rattle.cjc_verify.specs.Pairs.{Pair}
 use Rattle.cjc_accepted_proof.specs.Tables.{BreaksNone}
 use Rattle.cjc_accepted_proof.specs.Written.{written_pair}
 

@@ -2,7 +2,6 @@
 use Rattle.std.specs.Prelude.{◌≡◌, ℕ, ◌==◌, ◌||◌, Bool, true, false, List, Option, Some, if◌then◌else◌}
 use Rattle.cjc_frames.specs.Bytecode.Jvm as jvm
 use Rattle.cjc_types.specs.Rules.{is_array_for}
-use Rattle.cjc_types.specs.Types.{held as held_by_name}
 use Rattle.cjc_verify.specs.World.Subtype.{starts}
 use Rattle.cjc_card_acts.specs.CardTypes.{all_arrays, arrays_of}
 use Rattle.cjc_check_proof.specs.CardSemantics.Bytecode.Effects.{Letter, Byte, Reference, Short}

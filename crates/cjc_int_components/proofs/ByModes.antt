@@ -1,5 +1,5 @@
 -- Where no method is in int mode, what is written by modes is what is written without them.
-use Rattle.std.proofs.Common.{◌≡◌, ℕ, refl, sym, ap, subst, ◌∙◌, Bool, true, false, List, ◌||◌}
+use Rattle.std.proofs.Common.{◌≡◌, ℕ, refl, sym, ap, ◌∙◌, Bool, true, false, List, ◌||◌}
 use Rattle.std.specs.Prelude.{Option, Some, None, is_some, slice_get}
 use Rattle.std.specs.List.{Contains}
 use Rattle.cjc_check_proof.proofs.BytesGets.{any_off}
@@ -24,13 +24,13 @@ use Rattle.cjc_check_proof.specs.World.declared.found.Found.{Found}
 use Rattle.cjc_check_proof.specs.Components.Components.{components_of, header, header_flags, uses_int}
 use Rattle.cjc_check_proof.specs.Components.Exports.{export}
 use Rattle.cjc_check_proof.specs.Components.Package.{LaidMethod, Package, has_applets, pool, world}
-use Rattle.cjc_check_proof.specs.Components.Written.{IsPackage, IsWritten, code_by}
+use Rattle.cjc_check_proof.specs.Components.Written.{IsPackage, code_by}
 use Rattle.cjc_int_narrow.specs.IntMode.Modes.{IsModeOf}
 use Rattle.cjc_int_narrow.specs.IntMode.declared.modes.Mode.{Mode}
 use Rattle.cjc_int_narrow.specs.IntMode.declared.modes.Mode.TheVariants as modes
 use Rattle.cjc_int_components.specs.Components.{components_by_modes, has_int_mode, is_in_int_mode}
 use Rattle.cjc_int_components.specs.Modes.{AreModes, Tables, is_int}
-use Rattle.cjc_int_components.specs.Written.{IsPackageByModes, IsWrittenByMode, code_by_mode, code_in}
+use Rattle.cjc_int_components.specs.Written.{IsPackageByModes, code_by_mode, code_in}
 
 -- ---- one method
 

@@ -1,5 +1,5 @@
 -- What is written for a method in int mode is that of its class file, by its tables.
-use Rattle.std.proofs.Common.{◌≡◌, ◌<◌, ◌≤◌, ℕ, sym, ap, subst, ◌∙◌, true, List, length}
+use Rattle.std.proofs.Common.{◌≡◌, ◌<◌, ◌≤◌, ℕ, sym, ap, subst, ◌∙◌, List, length}
 use Rattle.std.specs.Prelude.{Option, Some, Ok, slice_get}
 use Rattle.cjc_check_proof.specs.Bytes.declared.fault.MemberId.{MemberId}
 use Rattle.std.specs.List.{Contains}
@@ -15,8 +15,8 @@ use Rattle.cjc_int_narrow.specs.JvmSemantics.Linked.{Method}
 use Rattle.cjc_int_narrow.specs.JvmSemantics.OnePackage.{method_at, method_by}
 use Rattle.cjc_int_narrow.specs.Layout.Legal.{IsLeast}
 use Rattle.cjc_int_narrow.specs.Layout.Layouts.{IsWhole}
-use Rattle.cjc_int_narrow.specs.Narrow.Rows.Package.{flags_of, read_of, tree_of}
-use Rattle.cjc_int_narrow.specs.Narrow.Rows.Resolved.{method_found, resolution}
+use Rattle.cjc_int_narrow.specs.Narrow.Rows.Package.{read_of, tree_of}
+use Rattle.cjc_int_narrow.specs.Narrow.Rows.Resolved.{resolution}
 use Rattle.cjc_ncode.specs.Lowering.Naming.{Naming}
 use Rattle.cjc_ncode.specs.Written.{Resolution}
 use Rattle.cjc_ncode.specs.declared.narrow.NInsn.{NInsn}
@@ -24,7 +24,6 @@ use Rattle.cjc_ncode.specs.declared.narrow.NMethod.{NMethod}
 use Rattle.cjc_int_narrow.specs.Types.Flow.{body_of}
 use Rattle.cjc_int_narrow.specs.Types.Tables.{IsLeastTable, IsMethodOf}
 use Rattle.cjc_int_narrow.specs.Types.declared.state.State.{State}
-use Rattle.cjc_check_proof.specs.World.Classes.{all_classes}
 use Rattle.cjc_ncode.specs.ClassFile.Code.{CodeTree}
 use Rattle.cjc_ncode.specs.ClassFile.declared.tree.ClassTree.{ClassTree}
 use Rattle.cjc_ncode.specs.ClassFile.declared.tree.MethodTree.{MethodTree}

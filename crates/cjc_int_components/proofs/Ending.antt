@@ -1,5 +1,5 @@
 -- What is written in int mode ends with an instruction that does not go on.
-use Rattle.std.proofs.Common.{◌≡◌, ℕ, zero, suc, ◌+◌, ◌<◌, refl, sym, ap, subst, ◌∙◌, arith, Bool, true, false, List}
+use Rattle.std.proofs.Common.{◌≡◌, ℕ, suc, ◌+◌, ◌<◌, refl, sym, ap, subst, ◌∙◌, arith, Bool, true, false, List}
 use Rattle.std.proofs.Common.{[]}
 use Rattle.std.proofs.Common.{◌∷◌, ◌++◌, length, append-nil}
 use Rattle.std.specs.Prelude.{Option, Some, None, get_or, slice_get, ◌==◌, if◌then◌else◌}

@@ -1,10 +1,9 @@
 -- What is named in int mode is of the kind that its opcode uses.
-use Rattle.std.proofs.Common.{◌≡◌, ℕ, refl, sym, ap, subst, ◌∙◌, Bool, true, false, List, [], ◌∷◌, ◌++◌, append-nil}
-use Rattle.std.specs.Prelude.{Some, flat_map, slice_get}
+use Rattle.std.proofs.Common.{◌≡◌, ℕ, sym, ap, subst, ◌∙◌, Bool, true, List, [], ◌∷◌, ◌++◌, append-nil}
+use Rattle.std.specs.Prelude.{flat_map, slice_get}
 use Rattle.cjc_check_proof.specs.Bytes.declared.fault.MemberId.{MemberId}
-use Rattle.cjc_ncode.specs.Script.Sorts.{Sort, Boolean, Byte, Short, Int, Reference, NoValue, field_sort}
+use Rattle.cjc_ncode.specs.Script.Sorts.{Sort, field_sort}
 use Rattle.cjc_check_proof.specs.World.Files.{Files}
-use Rattle.cjc_ncode.specs.CardSemantics.Bytecode.Meanings.{Meaning, Uses, meaning}
 use Rattle.cjc_ncode.specs.Bytecode.declared.insn.JInsn.{JInsn}
 use Rattle.cjc_ncode.specs.Bytecode.declared.insn.JOp.{JOp}
 use Rattle.cjc_ncode.specs.Written.{Resolution, static_access, written, written_for}
@@ -12,12 +11,11 @@ use Rattle.cjc_ncode.specs.declared.narrow.NInsn.{NInsn}
 use Rattle.cjc_ncode.specs.declared.narrow.NInsn.TheVariants as insns
 use Rattle.cjc_ncode.specs.declared.narrow.PairRole.{PairRole}
 use Rattle.cjc_ncode.specs.declared.narrow.PairRole.TheVariants.{Alone}
-use Rattle.cjc_ncode.specs.declared.narrow.PoolKey.{PoolKey}
 use Rattle.cjc_ncode.specs.declared.narrow.PoolKey.TheVariants as keys
 use Rattle.cjc_int_narrow.proofs.NarrowRoles.{written_as_same}
 use Rattle.cjc_int_narrow.specs.Narrow.Rows.Resolved.{resolution}
-use Rattle.cjc_check_proof.proofs.PromisesLaws.KeyKinds.{code_has_kinds}
-use Rattle.cjc_check_proof.specs.Code.Kinds.{HasKind, is_for}
+use Rattle.cjc_check_proof.proofs.PromisesLaws.KeyKinds.{code_has_kinds, static_suits, suits}
+use Rattle.cjc_check_proof.specs.Code.Kinds.{HasKind}
 use Rattle.cjc_int_narrow.specs.IntProof.Operands.{names_nothing}
 use Rattle.cjc_int_components.specs.Names.{NamesAs, nothing, outside, static_field}
 
@@ -48,26 +46,6 @@ plain_kind (insns.Named op key) e = absurd cc
 plain_kind (insns.Interface nargs m) e = tt
 plain_kind (insns.NewArray kind) e = tt
 plain_kind (insns.TypeTest op kind class) e = tt
-
-abbrev suits : Meaning → PoolKey → Bool
-suits (Uses how) key = is_for how key
-suits m key = true
-
-static_suits : (put : Bool) (sort : Sort) (f : MemberId) → suits (meaning (static_access put sort)) (keys.StaticField f)
-    ≡ true
-unfolding meaning
-static_suits true Boolean f = refl
-static_suits true Byte f = refl
-static_suits true Short f = refl
-static_suits true Int f = refl
-static_suits true (Reference shape) f = refl
-static_suits true NoValue f = refl
-static_suits false Boolean f = refl
-static_suits false Byte f = refl
-static_suits false Short f = refl
-static_suits false Int f = refl
-static_suits false (Reference shape) f = refl
-static_suits false NoValue f = refl
 
 static_kind : (put : Bool) (sort : Sort) (f : MemberId) → HasKind (insns.Named (static_access put sort)
     (keys.StaticField f))

@@ -1,13 +1,13 @@
 -- Code whose wide jumps are the least choice has a layout, and can be written where bytes can say it.
-use Rattle.std.proofs.Common.{◌≡◌, ℕ, zero, suc, ◌+◌, ◌<◌, ◌≤◌, arith, refl, sym, ap, ◌∙◌, Bool, List, [], ◌∷◌, length}
-use Rattle.std.specs.Prelude.{Some, map, slice_get, slice_index}
+use Rattle.std.proofs.Common.{◌≡◌, ℕ, zero, suc, ◌+◌, ◌<◌, ◌≤◌, arith, refl, ap, ◌∙◌, Bool, List, [], ◌∷◌, length}
+use Rattle.std.specs.Prelude.{Some, slice_get, slice_index}
 use Rattle.cjc_ncode.specs.Lowering.Naming.{Naming}
 use Rattle.cjc_ncode.specs.declared.narrow.NInsn.{NInsn}
 use Rattle.cjc_ncode.specs.declared.narrow.NMethod.{NMethod}
 use Rattle.cjc_int_narrow.proofs.LayoutPlaces.{all_wide}
 use Rattle.cjc_int_narrow.specs.Layout.Forms.{HasForm}
 use Rattle.cjc_int_narrow.specs.Layout.Handlers.{handlers_of, table_order}
-use Rattle.cjc_int_narrow.specs.Layout.Layouts.{HasPlaces, IsLayout, IsWhole}
+use Rattle.cjc_int_narrow.specs.Layout.Layouts.{IsLayout, IsWhole}
 use Rattle.cjc_int_narrow.specs.Layout.Legal.{IsLeast}
 use Rattle.cjc_int_narrow.specs.Layout.Sizes.{bytes_before, code_size}
 use Rattle.cjc_int_narrow.specs.Layout.declared.layout.Layout.{Layout}

@@ -1,5 +1,5 @@
 -- Methods that come to their code by their modes keep all that consistent code asks.
-use Rattle.std.proofs.Common.{◌≡◌, ◌<◌, ℕ, zero, suc, refl, sym, ap, subst, ◌∙◌, true, false, List, [], ◌∷◌, length}
+use Rattle.std.proofs.Common.{◌≡◌, ◌<◌, ℕ, zero, suc, refl, sym, ap, subst, ◌∙◌, List, [], ◌∷◌, length}
 use Rattle.std.specs.Prelude.{Option, Some, slice_get}
 use Rattle.cjc_check_proof.specs.Bytes.declared.fault.MemberId.{MemberId}
 use Rattle.cjc_ncode.specs.ClassFile.Code.{CodeTree}

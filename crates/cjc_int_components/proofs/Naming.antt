@@ -17,7 +17,6 @@ use Rattle.cjc_ncode.specs.declared.narrow.NInsn.TheVariants.{NewArray}
 use Rattle.cjc_ncode.specs.declared.narrow.PoolKey.TheVariants as keys
 use Rattle.cjc_ncode.specs.Written.{Resolution, arithmetic, call_by, condition, element_number, field_access, is_byte}
 use Rattle.cjc_ncode.specs.Written.{leaving, local, pair_case, static_access, type_test}
-use Rattle.cjc_ncode.specs.Written.{written as outside_written}
 use Rattle.cjc_ncode.specs.IntCode.IntCode.{Before, Frame, Reached, called_with, copied, dropped, element_read}
 use Rattle.cjc_ncode.specs.IntCode.IntCode.{element_written, field_get, field_put, first_word, guard, handed_over}
 use Rattle.cjc_ncode.specs.IntCode.IntCode.{index_of_one, index_of_two, int_method, is_by_scratch, is_reference}

@@ -1,9 +1,8 @@
 -- The indices, words and tokens of what is named in int mode fit their operands.
 use Rattle.std.proofs.Common.{◌≡◌, ℕ, zero, suc, ◌<◌, ◌≤◌, arith, refl, sym, ap, subst, ◌∙◌, Bool, true, false, List}
 use Rattle.std.proofs.Common.{[], ◌∷◌, length}
-use Rattle.std.specs.Prelude.{Option, Some, None, position, slice_get, unwrap_or}
+use Rattle.std.specs.Prelude.{Option, Some, None, slice_get, unwrap_or}
 use Rattle.std.proofs.lemmas.List.Quantifiers.{position-Some}
-use Rattle.cjc_check_proof.specs.Bytes.declared.fault.MemberId.{MemberId}
 use Rattle.cjc_ncode.specs.CapRead.Opcodes.{Fields, Index2, form, forms}
 use Rattle.cjc_ncode.specs.Bytecode.declared.insn.JInsn.{JInsn}
 use Rattle.cjc_ncode.specs.Bytecode.declared.insn.JOp.{JOp}
@@ -11,12 +10,10 @@ use Rattle.cjc_ncode.specs.Bytecode.declared.insn.JOp.TheVariants as jop
 use Rattle.cjc_ncode.specs.Script.Sorts.{Sort, Boolean, Byte, Short, Int, Reference, NoValue, field_sort}
 use Rattle.cjc_ncode.specs.ClassFile.Code.{CodeTree}
 use Rattle.cjc_check_proof.specs.World.Files.{Files}
-use Rattle.cjc_ncode.specs.Lowering.Laid.{laid}
 use Rattle.cjc_ncode.specs.Lowering.Naming.{Naming}
-use Rattle.cjc_ncode.specs.Lowering.Placed.{IsSpellable}
 use Rattle.cjc_ncode.specs.PoolOrder.{same_key}
 use Rattle.cjc_ncode.specs.IntCode.IntCode.{Frame, Reached, int_method}
-use Rattle.cjc_ncode.specs.Written.{Access, accessed, static_access, written_for}
+use Rattle.cjc_ncode.specs.Written.{Access, accessed, static_access}
 use Rattle.cjc_ncode.specs.declared.narrow.NInsn.{NInsn}
 use Rattle.cjc_ncode.specs.declared.narrow.NInsn.TheVariants as insns
 use Rattle.cjc_ncode.specs.declared.narrow.PairRole.TheVariants.{Alone, Closes}
@@ -27,7 +24,6 @@ use Rattle.cjc_int_narrow.specs.Narrow.Rows.Resolved.{resolution}
 use Rattle.cjc_int_narrow.specs.Narrow.Rows.Selected.{near_fields}
 use Rattle.cjc_int_narrow.specs.Narrow.Written.Operands.{CanBeSaid}
 use Rattle.cjc_check_proof.proofs.NarrowProofNumbers.{all_fit}
-use Rattle.cjc_check_proof.proofs.NarrowProofSaid.{all_said}
 use Rattle.cjc_check_proof.specs.LowerNarrowProof.Selected.Operands.{IndexFits, IsSmall, NumbersFit, OperandsFit}
 use Rattle.cjc_int_narrow.specs.IntProof.Operands.{names_nothing}
 use Rattle.cjc_int_components.specs.Names.{NamesAs, NamesAsOneOf, WordsFit, as_one, has_name, no_name, nothing}

@@ -1,9 +1,8 @@
 -- The operands of a method's reached instructions fit what is written for them in int mode.
-use Rattle.std.proofs.Common.{◌≡◌, ℕ, zero, suc, ◌+◌, ◌*◌, ◌-◌, ◌<◌, ◌≤◌, ◌^◌, arith, refl, sym, ap, subst, ◌∙◌, Bool}
-use Rattle.std.proofs.Common.{true, false, List, [], ◌∷◌, length, map}
-use Rattle.std.specs.Prelude.{Option, Some, None, get_or, max, slice_get, ℤ, pos, negsuc, ◌≤ℤ◌}
+use Rattle.std.proofs.Common.{◌≡◌, ℕ, zero, suc, ◌+◌, ◌*◌, ◌-◌, ◌<◌, ◌≤◌, ◌^◌, arith, refl, ap, ◌∙◌}
+use Rattle.std.proofs.Common.{true, List, [], ◌∷◌}
+use Rattle.std.specs.Prelude.{Option, Some, None, slice_get, ℤ, pos, negsuc, ◌≤ℤ◌}
 use Rattle.std.proofs.lemmas.Int.{ints}
-use Rattle.std.proofs.lemmas.List.Sums.{sum_by-cons}
 use Rattle.cjc_check_proof.specs.Bytes.declared.fault.MemberId.{MemberId}
 use Rattle.cjc_ncode.specs.CapRead.Decode.{IsWithin, negative, positive}
 use Rattle.cjc_ncode.proofs.BytecodeDecoded.{decoded_instruction}
@@ -16,25 +15,22 @@ use Rattle.cjc_ncode.specs.Bytecode.declared.insn.JOp.TheVariants as jop
 use Rattle.cjc_ncode.specs.Bytecode.declared.method_code.MethodCode.{MethodCode}
 use Rattle.cjc_int_narrow.specs.Fixpoint.Tables.{HasRow}
 use Rattle.cjc_ncode.specs.Range.Span.{Holds, full, short_range}
-use Rattle.cjc_ncode.specs.Script.Sorts.{signature_of}
 use Rattle.cjc_ncode.specs.ClassFile.Code.{CodeTree}
 use Rattle.cjc_ncode.specs.ClassFile.declared.tree.ClassTree.{ClassTree}
 use Rattle.cjc_ncode.specs.ClassFile.declared.tree.MethodTree.{MethodTree}
 use Rattle.cjc_check_proof.specs.World.Files.{Files}
-use Rattle.cjc_int_narrow.specs.Intervals.Frames.{RangeState}
 use Rattle.cjc_int_narrow.specs.Types.Flow.{Body, body_of}
 use Rattle.cjc_int_narrow.specs.Types.Tables.{IsMethodOf}
 use Rattle.cjc_int_narrow.specs.Types.TypeLaws.Places.{local_of}
 use Rattle.cjc_int_narrow.specs.Types.declared.state.State.{State}
 use Rattle.cjc_int_narrow.proofs.TypesStanding.{local_there}
-use Rattle.cjc_ncode.specs.IntCode.IntCode.{Frame, Reached, first_word, nargs, scratch, scratch_pairs_by}
+use Rattle.cjc_ncode.specs.IntCode.IntCode.{Frame, first_word, scratch}
 use Rattle.cjc_ncode.specs.IntCode.IntCode.{scratch_pairs_of, widest}
 use Rattle.cjc_ncode.specs.Written.{Resolution, reached}
 use Rattle.cjc_check_proof.proofs.NarrowProofCuts.{decoded}
 use Rattle.cjc_check_proof.specs.LowerNarrowProof.Selected.Keeps.{IsSpelt}
 use Rattle.cjc_int_narrow.specs.IntMode.Room.{IsRoom, many_words}
-use Rattle.cjc_int_narrow.specs.IntMode.Written.{argument_words, before, int_frame, local_words, most_pairs}
-use Rattle.cjc_int_narrow.specs.IntMode.Written.{reached_from}
+use Rattle.cjc_int_narrow.specs.IntMode.Written.{argument_words, int_frame, local_words, most_pairs}
 use Rattle.cjc_int_narrow.specs.IntMode.declared.modes.Mode.TheVariants as modes
 use Rattle.cjc_int_narrow.proofs.Whole.{few_enough}
 use Rattle.cjc_int_narrow.specs.IntProof.Operands.{IsInt, OperandsFit}

@@ -2,7 +2,6 @@
 use Rattle.std.proofs.Common.{◌≡◌, ℕ, ◌+◌, ◌*◌, ◌≤◌, ◌<◌, refl, sym, ap, subst, ◌∙◌, Bool, true, false, List, [], ◌∷◌}
 use Rattle.std.proofs.Common.{length}
 use Rattle.std.specs.Prelude.{Some, slice_get}
-use Rattle.cjc_check_proof.specs.Bytes.declared.fault.MemberId.{MemberId}
 use Rattle.cjc_ncode.specs.CapRead.Decode.{below, more, none}
 use Rattle.cjc_ncode.specs.CapRead.Opcodes.{Fields, Index2, form}
 use Rattle.cjc_ncode.specs.Bytecode.declared.insn.JOp.{JOp}

@@ -1,6 +1,6 @@
 -- The components of a package some of whose methods are in int mode: ACC_INT says so in Header, and Method has the code
 -- of each by its mode.
-use Rattle.std.specs.Prelude.{Bool, true, false, ◌||◌, Option, Some, None, is_some}
+use Rattle.std.specs.Prelude.{Bool, false, ◌||◌, Option, Some, None, is_some}
 use Rattle.std.specs.List.{list_any}
 use Rattle.cjc_ncode.specs.CapRead.declared.tree.CapTree.{CapTree}
 use Rattle.cjc_ncode.specs.CapRead.declared.tree.Header.{Header}
@@ -8,7 +8,7 @@ use Rattle.cjc_int_narrow.specs.JvmSemantics.Linked.{Method}
 use Rattle.cjc_int_narrow.specs.JvmSemantics.OnePackage.{method_at}
 use Rattle.cjc_check_proof.specs.Components.Components.{components_of, header, header_flags, uses_int}
 use Rattle.cjc_check_proof.specs.Components.Exports.{export}
-use Rattle.cjc_check_proof.specs.Components.Package.{LaidMethod, Package, has_applets, world}
+use Rattle.cjc_check_proof.specs.Components.Package.{Package, has_applets, world}
 use Rattle.cjc_int_components.specs.Modes.{Tables, is_int}
 
 -- a method of a class file is in int mode; one that is added to its class is not

@@ -2,7 +2,7 @@
 -- least choice of wide jumps.
 use Rattle.std.specs.Prelude.{◌≡◌, ℕ, List, map, slice_get, Option, Some, None}
 use Rattle.cjc_check_proof.specs.Bytes.declared.fault.MemberId.{MemberId}
-use Rattle.cjc_check_proof.specs.World.Classes.{Class, all_classes, class_at}
+use Rattle.cjc_check_proof.specs.World.Classes.{all_classes, class_at}
 use Rattle.cjc_check_proof.specs.World.Files.{Files}
 use Rattle.cjc_check_proof.specs.World.Order.{method_order}
 use Rattle.cjc_check_proof.specs.World.declared.found.Found.{Found}

@@ -4,7 +4,6 @@ use Rattle.std.proofs.Common.{arith}
 use Rattle.std.proofs.Common.{Bool, true, false, ℤ, pos, negsuc}
 use Rattle.std.specs.Prelude.{Option, Some, slice_get, not, ◌==◌, ◌&&◌, int_le, int_lt, if◌then◌else◌}
 use Rattle.std.specs.List.{Contains}
-use Rattle.std.proofs.lemmas.Bool.Decides.{nat_tests}
 use Rattle.std.proofs.lemmas.Int.{ints}
 use Rattle.cjc_range.specs.Span.{Span}
 use Rattle.cjc_ncode.specs.Bytecode.declared.insn.JOp.TheVariants as jop
@@ -29,6 +28,7 @@ use Rattle.cjc_jvm_semantics.specs.Effects.{Store, effect, agree}
 use Rattle.cjc_jvm_semantics.specs.Effects as by_name
 use Rattle.cjc_int_proof.specs.Walks.{Within, walk}
 use Rattle.cjc_narrow_proof.specs.Selection.Relation.{Kind, Range, Refers, NMemory, Stores}
+use Rattle.cjc_narrow_proof.proofs.SelectionLaws.Branches.{alike_is, eq_turned, flipped_is, flips, truth_is}
 use Rattle.cjc_int_runs.specs.Relation.{IntLocals, IntStacks, to_null, to_object, number, reference}
 use Rattle.cjc_int_runs.specs.Steps.{IntJump, JumpInStep, HasIntRoom, NWalked, jumps, falls, spot}
 use Rattle.cjc_int_runs.proofs.Spelling.{spelt_words}
@@ -47,11 +47,6 @@ flat false f = refl
 pub solid : (b : Bool) → (b ≡ false → ⊥) → b ≡ true
 solid true f = refl
 solid false f = absurd (f refl)
-
--- the other truth
-flips : (b : Bool) → Calculations.flipped b ≡ not b
-flips true = refl
-flips false = refl
 
 -- a test of -1, 1 and 0 is a condition of the two numbers that give it
 by_order : (test : ℤ → Bool) (holds : Bool) (x y : ℤ) → (int_lt x y ≡ true → test (negsuc 0) ≡ holds)
@@ -335,28 +330,6 @@ module _ (by : Linked) (l : Named) (f : Frame) (pairs : ℕ) (r : Resolution) (m
       stores held stacks
 
 -- ---- references
-
--- numbers are the same in either order
-eq_turned : (j k : ℕ) → (j == k) ≡ (k == j)
-eq_turned j k = by (j == k) refl (k == j) refl
-  where
-    by : (a : Bool) → (j == k) ≡ a → (b : Bool) → (k == j) ≡ b → (j == k) ≡ (k == j)
-    by true e true f = e ∙ sym f
-    by false e false f = e ∙ sym f
-    by true e false f = absurd (grind (arith, nat_tests, e, f))
-    by false e true f = absurd (grind (arith, nat_tests, e, f))
-
-alike_is : (wanted b c : Bool) → b ≡ c → Calculations.alike wanted b ≡ agree wanted c
-alike_is true b c e = e
-alike_is false b c e = flips b ∙ ap not e
-
-flipped_is : (wanted : Bool) → Calculations.flipped wanted ≡ agree wanted false
-flipped_is true = refl
-flipped_is false = refl
-
-truth_is : (wanted : Bool) → wanted ≡ agree wanted true
-truth_is true = refl
-truth_is false = refl
 
 module _ (by : Linked) (l : Named) (f : Frame) (pairs : ℕ) (r : Resolution) (m : Method) (b : Before) (target : ℕ) where
   -- one jump on references

@@ -29,25 +29,10 @@ use Rattle.cjc_int_proof.specs.Walks.{walk}
 use Rattle.cjc_narrow_proof.specs.Selection.Relation.{Kind, Range, NMemory, Stores}
 use Rattle.cjc_narrow_proof.specs.Selection.Rows.{NEffect}
 use Rattle.cjc_narrow_proof.specs.Selection.Switches.{targets_of}
+use Rattle.cjc_narrow_proof.proofs.SelectionLaws.Switches.{Order, below, same, above, ordered}
 use Rattle.cjc_int_runs.specs.Relation.{IntLocals, IntStacks, number}
 use Rattle.cjc_int_runs.specs.Steps.{IntJump, JumpInStep, jumps, spot}
 use Rattle.cjc_int_runs.proofs.Stepping.{onward, asked}
-
--- ---- order
-
--- the order of two numbers
-data Order : ℤ → ℤ → Type 0 where
-  below : {a b : ℤ} → a <ℤ b → Order a b
-  same : {a b : ℤ} → a ≡ b → Order a b
-  above : {a b : ℤ} → b <ℤ a → Order a b
-
-ordered : (a b : ℤ) → Order a b
-ordered a b = go (int_le a b) refl (int_le b a) refl
-  where
-    go : (p : Bool) → int_le a b ≡ p → (q : Bool) → int_le b a ≡ q → Order a b
-    go true e true f = same (grind (arith, ints, e, f))
-    go true e false f = below (grind (arith, ints, e, f))
-    go false e q f = above (grind (arith, ints, e))
 
 -- ---- cases of a table
 

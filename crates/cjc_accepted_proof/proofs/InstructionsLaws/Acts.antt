@@ -1,7 +1,7 @@
 -- The acts of what is written for instructions that name nothing, as they are laid.
-use Rattle.std.proofs.Common.{◌≡◌, ℕ, zero, suc, ◌+◌, refl, sym, ap, subst, ◌∙◌, arith, Bool, true, false, List, []}
+use Rattle.std.proofs.Common.{◌≡◌, ℕ, zero, suc, ◌+◌, refl, subst, ◌∙◌, arith, Bool, true, false, List, []}
 use Rattle.std.proofs.Common.{◌∷◌, map}
-use Rattle.std.specs.Prelude.{◌==◌, nat_le, if◌then◌else◌, ℤ, pos, negsuc, Some, None}
+use Rattle.std.specs.Prelude.{◌==◌, nat_le, if◌then◌else◌, ℤ, pos, negsuc}
 use Rattle.std.proofs.lemmas.Bool.Decides.{nat_tests}
 use Rattle.cjc_frames.specs.Bytecode.Jvm as jvm
 use Rattle.cjc_verify.specs.NCode.Lowering.Naming.{Naming}
@@ -12,7 +12,7 @@ use Rattle.cjc_verify.specs.NCode.Written.{Resolution, arithmetic, is_byte, on_s
 use Rattle.cjc_verify.specs.NCode.declared.narrow.NInsn.{NInsn}
 use Rattle.cjc_verify.specs.NCode.declared.narrow.NInsn.TheVariants.{Inc, Local, Op, Push}
 use Rattle.cjc_card_acts.specs.CardTypes.{ValueType}
-use Rattle.cjc_card_acts.specs.Rows.{Calculates, Increases, Loads, Pushes, Row, Stores, any_words, calculating}
+use Rattle.cjc_card_acts.specs.Rows.{any_words, calculating}
 use Rattle.cjc_card_acts.specs.Rows.{idle, increasing, loading, pushing, row, storing}
 use Rattle.cjc_check_proof.specs.CardSemantics.Bytecode.Effects as letters
 use Rattle.cjc_frames.specs.declared.acts.Act.{Act}

@@ -1,12 +1,10 @@
 -- Rows of a method for which one instruction is written, or none; outside of pairs by an act that mirrors the class
 -- file's instruction.
-use Rattle.std.proofs.Common.{◌≡◌, ℕ, suc, refl, sym, ap, subst, ◌∙◌, Bool, true, false, List, [], ◌∷◌, Contains, inl}
+use Rattle.std.proofs.Common.{◌≡◌, ℕ, suc, sym, subst, ◌∙◌, true, false, List, [], ◌∷◌, Contains, inl}
 use Rattle.std.proofs.Common.{inr}
 use Rattle.std.proofs.Common.{Option, arith, ◌<◌}
 use Rattle.cjc_frames.specs.Bytecode.declared.insn.JInsn.{JInsn}
 use Rattle.cjc_frames.specs.Fixpoint.Working.Edges.{contains_cons}
-use Rattle.cjc_types.specs.Flow.{Body as BodyByName}
-use Rattle.cjc_types.specs.Rules.{is_off as is_off_by_name}
 use Rattle.cjc_types.specs.States.{states}
 use Rattle.cjc_types.specs.Steps.{after as after_by_name, goes_on as goes_on_by_name, targets}
 use Rattle.cjc_verify.specs.World.Classes.{Class}
@@ -17,11 +15,10 @@ use Rattle.cjc_verify.specs.NCode.Written.{Resolution, place_in, reached, writte
 use Rattle.cjc_verify.specs.NCode.declared.narrow.NInsn.{NInsn}
 use Rattle.cjc_check_proof.specs.Narrow.Pairs.Open.{Open, closed}
 use Rattle.cjc_frames.specs.Acts.{Subtype}
-use Rattle.cjc_frames.specs.declared.acts.Act.{Act}
 use Rattle.cjc_frames.specs.declared.acts.Step.{Step}
 use Rattle.cjc_accepted_proof.specs.Blocks.{AllStand, goes_on, nothing, one}
 use Rattle.cjc_accepted_proof.specs.Frames.{Mirrors, Stands, card_state}
-use Rattle.cjc_accepted_proof.specs.Methods.{RowStands, between, steps_for, steps_from}
+use Rattle.cjc_accepted_proof.specs.Methods.{RowStands, between, steps_from}
 use Rattle.cjc_accepted_proof.proofs.RowsLaws.{row_stands}
 
 module _ (card_type : List ℕ → Option (List ℕ)) (is_of : Subtype) (w : List Class) (r : Resolution) (b : BodyByName)

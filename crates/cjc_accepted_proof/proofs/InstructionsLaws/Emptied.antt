@@ -1,5 +1,5 @@
 -- A switch without a case of 16 bits is written as a pop and a goto: the frame between them has no operand.
-use Rattle.std.proofs.Common.{◌≡◌, ℕ, zero, suc, ◌≤◌, refl, sym, ap, subst, ◌∙◌, arith, Bool, true, false, List, []}
+use Rattle.std.proofs.Common.{◌≡◌, ℕ, ◌≤◌, refl, sym, ap, subst, ◌∙◌, arith, Bool, true, false, List, []}
 use Rattle.std.proofs.Common.{◌∷◌, length, Option}
 use Rattle.std.specs.Prelude.{◌||◌, nat_le, nat_lt, if◌then◌else◌}
 use Rattle.std.proofs.lemmas.Bool.Decides.{nat_tests}
@@ -12,14 +12,13 @@ use Rattle.cjc_verify.specs.World.Classes.{Class}
 use Rattle.cjc_types.specs.declared.cell.Cell.{Cell}
 use Rattle.cjc_types.specs.declared.state.Stack.{Stack}
 use Rattle.cjc_types.specs.declared.state.Stack.TheVariants.{Cells, Clash}
-use Rattle.cjc_types.specs.declared.state.State.{State}
 use Rattle.cjc_check_proof.specs.Narrow.Pairs.Open.{closed}
 use Rattle.cjc_card_acts.specs.Rows.{any_words, idle}
 use Rattle.cjc_frames.specs.Acts.{Subtype}
 use Rattle.cjc_frames.specs.declared.acts.Act.{Act}
 use Rattle.cjc_frames.specs.declared.acts.Step.{Step}
 use Rattle.cjc_accepted_proof.specs.Blocks.{AllStand, two}
-use Rattle.cjc_accepted_proof.specs.Frames.{Stands, card_cells, card_stack, card_state}
+use Rattle.cjc_accepted_proof.specs.Frames.{Stands, card_cells, card_stack}
 use Rattle.cjc_accepted_proof.proofs.RowsLaws.{row_stands}
 use Rattle.cjc_accepted_proof.proofs.InstructionsLaws.Plain.{goto_mirrors, shuffle_mirrors}
 

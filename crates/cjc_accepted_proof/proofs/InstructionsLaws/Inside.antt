@@ -1,8 +1,8 @@
 -- Instructions in pairs: those for which nothing is written, the aload_0 that opens a pair, what is pushed behind it,
 -- and the putfield that closes it.
-use Rattle.std.proofs.Common.{◌≡◌, ℕ, zero, suc, ◌+◌, ◌<◌, ◌≤◌, refl, sym, ap, subst, ◌∙◌, arith, Bool, true, false}
-use Rattle.std.proofs.Common.{List, [], ◌∷◌, ◌++◌, length, length-append, map, drop, slice_get, Option, Some, None}
-use Rattle.std.specs.Prelude.{◌||◌, ◌&&◌, ◌==◌, not, nat_le, nat_lt, if◌then◌else◌, option_map}
+use Rattle.std.proofs.Common.{◌≡◌, ℕ, ◌+◌, ◌<◌, ◌≤◌, refl, sym, ap, subst, ◌∙◌, arith, Bool, true, false}
+use Rattle.std.proofs.Common.{List, [], ◌∷◌, ◌++◌, length, length-append, map, drop, slice_get, Option, Some}
+use Rattle.std.specs.Prelude.{◌||◌, ◌&&◌, ◌==◌, not, nat_le, if◌then◌else◌, option_map}
 use Rattle.std.specs.List.{AllZip}
 use Rattle.std.proofs.lemmas.Bool.Decides.{nat_tests}
 use Rattle.cjc_types.proofs.BytesGets.{get_below, get_mapped}
@@ -31,7 +31,7 @@ use Rattle.cjc_frames.specs.declared.acts.Given.{Given}
 use Rattle.cjc_frames.specs.declared.acts.Need.{Need}
 use Rattle.cjc_frames.specs.declared.acts.Need.TheVariants.{OfType}
 use Rattle.cjc_frames.specs.declared.acts.Write.{Write}
-use Rattle.cjc_frames.specs.Acts.{Subtype, given, has_wrong, is_wrong_local, stack_behind, with_writes}
+use Rattle.cjc_frames.specs.Acts.{Subtype, given, has_wrong, is_wrong_local, with_writes}
 use Rattle.cjc_verify.specs.Instructions.{putting}
 use Rattle.cjc_accepted_proof.specs.Frames.{FieldFits, Mirrors, MirrorsInPair, SubtypesAgree, card_cell, card_cells}
 use Rattle.cjc_accepted_proof.specs.Frames.{card_stack, card_state, left_out}

@@ -1,42 +1,38 @@
 -- Instructions that name members, and returns: what their entries and types say of members is what the class file says.
-use Rattle.std.proofs.Common.{◌≡◌, ℕ, zero, suc, ◌+◌, ◌<◌, ◌≤◌, refl, sym, ap, subst, ◌∙◌, arith, Bool, true, false}
-use Rattle.std.proofs.Common.{List, [], ◌∷◌, ◌++◌, length, length-append, map, slice_get, Option, Some, None}
+use Rattle.std.proofs.Common.{◌≡◌, ℕ, ◌+◌, ◌<◌, ◌≤◌, refl, sym, ap, subst, ◌∙◌, arith, Bool, true, false}
+use Rattle.std.proofs.Common.{List, [], ◌∷◌, ◌++◌, length, length-append, slice_get, Option, Some, None}
 use Rattle.std.proofs.Common.{append-nil}
 use Rattle.std.specs.Prelude.{◌||◌, ◌==◌, ◌&&◌, not, if◌then◌else◌}
-use Rattle.std.specs.List.{AllZip}
 use Rattle.std.proofs.lemmas.Bool.{eqb-true}
 use Rattle.cjc_verify.specs.Bytes.declared.descriptor.Kind.{Kind}
 use Rattle.cjc_verify.specs.Bytes.declared.descriptor.Kind.TheVariants as kinds
 use Rattle.cjc_verify.specs.Bytes.declared.fault.MemberId.{MemberId}
 use Rattle.cjc_frames.specs.Bytecode.Jvm as jvm
-use Rattle.cjc_frames.specs.Bytecode.declared.insn.JOp.{JOp}
 use Rattle.cjc_frames.specs.Bytecode.declared.insn.JOp.TheVariants as jop
-use Rattle.cjc_types.specs.Cells.{IsCellBelow}
 use Rattle.cjc_types.specs.Flow.{Body}
-use Rattle.cjc_types.specs.Rules.{accepts, has_wrong as has_wrong_by_name, is_value, is_value_of, is_wrong_return}
+use Rattle.cjc_types.specs.Rules.{has_wrong as has_wrong_by_name, is_value, is_wrong_return}
 use Rattle.cjc_types.specs.Rules.{is_of as is_of_class, receiver_class, returns}
 use Rattle.cjc_types.specs.Steps.{gives, takes}
 use Rattle.cjc_types.specs.Types.{is_void, parts, result_of}
 use Rattle.cjc_verify.specs.World.Classes.{Class}
 use Rattle.cjc_types.specs.declared.cell.Cell.{Cell}
-use Rattle.cjc_types.specs.declared.cell.Cell.TheVariants.{Number, Refs, Unusable}
+use Rattle.cjc_types.specs.declared.cell.Cell.TheVariants.{Number}
 use Rattle.cjc_card_acts.specs.CapRead.declared.tree.ClassRef.{ClassRef}
 use Rattle.cjc_card_acts.specs.CapRead.declared.tree.StaticRef.{StaticRef}
-use Rattle.cjc_card_acts.specs.CardTypes.{Boolean, Byte, Int, MemberType, Reference, Short, ValueType, Void}
-use Rattle.cjc_card_acts.specs.CardTypes.{is_moved_by, is_returned_by, needs_of, words}
-use Rattle.cjc_card_acts.specs.Rows.{idle, letter_needs, pushing}
+use Rattle.cjc_card_acts.specs.CardTypes.{Boolean, Byte, MemberType, Reference, Short, ValueType, Void}
+use Rattle.cjc_card_acts.specs.CardTypes.{is_returned_by, needs_of, words}
+use Rattle.cjc_card_acts.specs.Rows.{pushing}
 use Rattle.cjc_check_proof.specs.CardSemantics.Bytecode.Effects.{Letter}
 use Rattle.cjc_check_proof.specs.CardSemantics.Bytecode.Effects as letters
 use Rattle.cjc_verify.specs.ClassTypes.{class_type}
 use Rattle.cjc_frames.specs.declared.acts.Given.TheVariants.{ANumber}
 use Rattle.cjc_frames.specs.declared.acts.Need.{Need}
 use Rattle.cjc_frames.specs.declared.acts.Need.TheVariants.{OfType}
-use Rattle.cjc_frames.specs.Acts.{Subtype, given, has_wrong}
+use Rattle.cjc_frames.specs.Acts.{Subtype, has_wrong}
 use Rattle.cjc_verify.specs.Instructions.{calling, calling_on, getting_static, putting, putting_static, result_needs}
 use Rattle.cjc_verify.specs.Instructions.{returning}
-use Rattle.cjc_verify.specs.Named.{is_static_outside}
 use Rattle.cjc_accepted_proof.specs.Frames.{FieldFits, IsTypeFor, MethodFits, Mirrors, PassesFor, SubtypesAgree}
-use Rattle.cjc_accepted_proof.specs.Frames.{card_cell, card_cells}
+use Rattle.cjc_accepted_proof.specs.Frames.{card_cells}
 use Rattle.cjc_accepted_proof.specs.Members.{StaticFits, letter_of_return}
 use Rattle.cjc_accepted_proof.proofs.KindsLaws.{first_operand, object_mirrors, result_puts, static_mirrors}
 use Rattle.cjc_accepted_proof.proofs.KindsLaws.{value_passes}

@@ -1,13 +1,12 @@
 -- Instructions on objects and arrays: what they make, test, load and store is of the card's types of what the class
 -- file names.
-use Rattle.std.proofs.Common.{◌≡◌, ◌⊎◌, ℕ, zero, suc, ◌+◌, ◌<◌, ◌≤◌, refl, sym, ap, subst, ◌∙◌, arith, inl, inr}
+use Rattle.std.proofs.Common.{◌≡◌, ◌⊎◌, ℕ, ◌+◌, ◌<◌, ◌≤◌, refl, sym, ap, subst, ◌∙◌, arith, inl, inr}
 use Rattle.std.proofs.Common.{⊎_elim, Bool, true, false}
-use Rattle.std.proofs.Common.{List, [], ◌∷◌, ◌++◌, length, map, slice_get, Option, Some, None}
-use Rattle.std.specs.Prelude.{◌||◌, ◌==◌, not, nat_le, if◌then◌else◌}
+use Rattle.std.proofs.Common.{List, [], ◌∷◌, ◌++◌, length, map, Option, Some, None}
+use Rattle.std.specs.Prelude.{◌||◌, ◌==◌, nat_le, if◌then◌else◌}
 use Rattle.std.specs.List.{AllZip}
 use Rattle.std.proofs.lemmas.Bool.Decides.{nat_tests}
 use Rattle.cjc_frames.specs.Bytecode.Jvm as jvm
-use Rattle.cjc_frames.specs.Bytecode.declared.insn.JOp.{JOp}
 use Rattle.cjc_frames.specs.Bytecode.declared.insn.JOp.TheVariants as jop
 use Rattle.cjc_types.specs.Cells.{IsCellBelow, most_names, refs}
 use Rattle.cjc_types.specs.Flow.{Body}
@@ -27,7 +26,6 @@ use Rattle.cjc_card_acts.specs.Rows.{idle, loading_item, storing_item, letter_ne
 use Rattle.cjc_check_proof.specs.CardSemantics.Bytecode.Effects.{Letter}
 use Rattle.cjc_check_proof.specs.CardSemantics.Bytecode.Effects as letters
 use Rattle.cjc_frames.specs.declared.acts.Given.TheVariants.{ANumber, AnObject}
-use Rattle.cjc_frames.specs.declared.acts.Given.TheVariants as given_words
 use Rattle.cjc_frames.specs.declared.acts.Need.{Need}
 use Rattle.cjc_frames.specs.declared.acts.Need.TheVariants.{NumberWord, OfArrays, OfType, ReferenceWord}
 use Rattle.cjc_frames.specs.Acts.{Subtype, given, has_wrong, meets}

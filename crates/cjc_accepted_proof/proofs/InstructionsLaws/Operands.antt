@@ -1,22 +1,20 @@
 -- Operands, locals and words that are put on both sides: what the card knows of a cell meets what the card needs, where
 -- the cell is one that the instruction of the class file accepts.
-use Rattle.std.proofs.Common.{◌≡◌, ℕ, zero, suc, ◌+◌, ◌<◌, ◌≤◌, refl, sym, ap, subst, ◌∙◌, arith, Bool, true, false}
-use Rattle.std.proofs.Common.{List, [], ◌∷◌, length, map, replicate, get_or, slice_get, slice_set, Option, Some, None}
+use Rattle.std.proofs.Common.{◌≡◌, ℕ, zero, suc, ◌+◌, ◌<◌, ◌≤◌, refl, ap, subst, ◌∙◌, arith, true, false}
+use Rattle.std.proofs.Common.{List, [], ◌∷◌, length, map, slice_get, Option, Some}
 use Rattle.std.specs.Prelude.{◌||◌, not, nat_le}
 use Rattle.std.specs.List.{AllZip}
 use Rattle.std.proofs.lemmas.Bool.Decides.{nat_tests}
 use Rattle.std.proofs.lemmas.List.{length-map}
-use Rattle.cjc_types.proofs.BytesGets.{get_below}
 use Rattle.cjc_types.specs.Cells.{IsCellBelow}
 use Rattle.cjc_types.specs.Rules.{is_number, is_reference}
 use Rattle.cjc_types.specs.Steps.{operand}
 use Rattle.cjc_types.specs.Types.{as_reference}
 use Rattle.cjc_types.specs.declared.cell.Cell.{Cell}
 use Rattle.cjc_types.specs.declared.cell.Cell.TheVariants.{Number, Refs, Unusable}
-use Rattle.cjc_frames.specs.declared.acts.Given.{Given}
 use Rattle.cjc_frames.specs.declared.acts.Given.TheVariants.{Operand}
 use Rattle.cjc_frames.specs.declared.acts.Need.{Need}
-use Rattle.cjc_frames.specs.declared.acts.Need.TheVariants.{AnyWord, NumberWord, ReferenceWord}
+use Rattle.cjc_frames.specs.declared.acts.Need.TheVariants.{NumberWord, ReferenceWord}
 use Rattle.cjc_frames.specs.Acts.{Subtype, given, has_wrong, meets}
 use Rattle.cjc_card_acts.specs.Rows.{any_words}
 use Rattle.cjc_accepted_proof.specs.Frames.{card_cell, card_cells}

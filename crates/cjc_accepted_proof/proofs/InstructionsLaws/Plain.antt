@@ -1,10 +1,9 @@
 -- Instructions that name nothing: words that are put, the stack's instructions, numbers, jumps and switches.
 use Rattle.std.proofs.Common.{◌≡◌, ℕ, zero, suc, ◌+◌, ◌<◌, ◌≤◌, refl, sym, ap, subst, ◌∙◌, arith, Bool, true, false}
-use Rattle.std.proofs.Common.{List, [], ◌∷◌, ◌++◌, length, map, replicate, slice_get, slice_set, Option, Some, None}
-use Rattle.std.specs.Prelude.{◌||◌, ◌&&◌, ◌==◌, not, nat_le, if◌then◌else◌, ℤ, pos}
-use Rattle.std.specs.List.{AllZip, range_with_len}
+use Rattle.std.proofs.Common.{List, [], ◌∷◌, ◌++◌, length, map, slice_get, slice_set, Option, Some}
+use Rattle.std.specs.Prelude.{◌||◌, ◌&&◌, ◌==◌, not, if◌then◌else◌, ℤ}
+use Rattle.std.specs.List.{AllZip}
 use Rattle.std.proofs.lemmas.List.{length-replicate}
-use Rattle.std.proofs.lemmas.Bool.{eqb-true}
 use Rattle.cjc_types.proofs.BytesGets.{map_set}
 use Rattle.cjc_frames.specs.Bytecode.Jvm as jvm
 use Rattle.cjc_frames.specs.Bytecode.declared.insn.JCase.{JCase}
@@ -14,23 +13,21 @@ use Rattle.cjc_types.specs.Cells.{IsCellBelow}
 use Rattle.cjc_types.specs.Flow.{Body}
 use Rattle.cjc_types.specs.Rules.{accepts, has_wrong as has_wrong_by_name, has_wrong_local as has_wrong_local_by_name}
 use Rattle.cjc_types.specs.Rules.{is_number, is_reference, tests_references}
-use Rattle.cjc_types.specs.Steps.{compares, gives, locals_after, operand, shuffled, stack_takes, stored, takes}
+use Rattle.cjc_types.specs.Steps.{compares, gives, locals_after, operand, shuffled, stack_takes, takes}
 use Rattle.cjc_types.specs.Types.{as_reference}
 use Rattle.cjc_types.specs.declared.cell.Cell.{Cell}
-use Rattle.cjc_types.specs.declared.cell.Cell.TheVariants.{Number, Refs, Unusable}
+use Rattle.cjc_types.specs.declared.cell.Cell.TheVariants.{Number, Unusable}
 use Rattle.cjc_types.specs.declared.state.Stack.TheVariants.{Cells}
 use Rattle.cjc_verify.specs.World.Classes.{Class}
-use Rattle.cjc_check_proof.specs.CardSemantics.Bytecode.Effects.{Letter}
 use Rattle.cjc_check_proof.specs.CardSemantics.Bytecode.Effects as letters
-use Rattle.cjc_frames.specs.declared.acts.Act.{Act}
 use Rattle.cjc_frames.specs.declared.acts.Given.{Given}
 use Rattle.cjc_frames.specs.declared.acts.Given.TheVariants.{ANumber, ANull}
 use Rattle.cjc_frames.specs.declared.acts.Given.TheVariants as given_words
 use Rattle.cjc_frames.specs.declared.acts.Need.{Need}
 use Rattle.cjc_frames.specs.declared.acts.Need.TheVariants.{AnyWord, NumberWord, ReferenceWord}
-use Rattle.cjc_frames.specs.Acts.{Subtype, given, has_wrong, has_wrong_local, is_wrong_local, meets}
-use Rattle.cjc_card_acts.specs.Rows.{any_words, calculating, copying, idle, increasing, loading, number_words}
-use Rattle.cjc_card_acts.specs.Rows.{operands_from, pushing, storing, swapping}
+use Rattle.cjc_frames.specs.Acts.{Subtype, given, has_wrong, is_wrong_local, meets}
+use Rattle.cjc_card_acts.specs.Rows.{any_words, calculating, idle, increasing, loading, number_words}
+use Rattle.cjc_card_acts.specs.Rows.{pushing, storing}
 use Rattle.cjc_accepted_proof.specs.Frames.{Mirrors, card_cell, card_cells}
 use Rattle.cjc_accepted_proof.specs.Plain.{letter_moving, tested, tested_words}
 use Rattle.cjc_accepted_proof.proofs.KindsLaws.{first_operand}

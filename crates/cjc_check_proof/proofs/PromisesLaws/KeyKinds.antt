@@ -70,14 +70,14 @@ if_kind false x y h g = g
 -- ---- keys
 
 -- the key is for what an opcode of this meaning uses
-abbrev suits : Meaning → PoolKey → Bool
+abbrev pub suits : Meaning → PoolKey → Bool
 suits (Uses how) key = is_for how key
 suits m key = true
 
 named_kind : (op : ℕ) (key : PoolKey) → suits (meaning op) key ≡ true → HasKind (Named op key)
 named_kind op key e how is = ap (λ m. suits m key) (sym is) ∙ e
 
-static_suits : (put : Bool) (sort : Sort) (f : MemberId) → suits (meaning (static_access put sort)) (keys.StaticField f)
+pub static_suits : (put : Bool) (sort : Sort) (f : MemberId) → suits (meaning (static_access put sort)) (keys.StaticField f)
     ≡ true
 unfolding meaning
 static_suits true Boolean f = refl

@@ -79,7 +79,7 @@ module _ (by : Linked) (l : Named) (r : Resolution) (m : Method) (target : ℕ) 
 -- ---- conditions on numbers
 
 -- the other truth
-flips : (b : Bool) → Calculations.flipped b ≡ not b
+pub flips : (b : Bool) → Calculations.flipped b ≡ not b
 flips true = refl
 flips false = refl
 
@@ -293,7 +293,7 @@ module _ (by : Linked) (l : Named) (r : Resolution) (m : Method) (target : ℕ) 
 -- ---- conditions on references
 
 -- numbers are the same in either order
-eq_turned : (j k : ℕ) → (j == k) ≡ (k == j)
+pub eq_turned : (j k : ℕ) → (j == k) ≡ (k == j)
 eq_turned j k = by (j == k) refl (k == j) refl
   where
     by : (a : Bool) → (j == k) ≡ a → (b : Bool) → (k == j) ≡ b → (j == k) ≡ (k == j)
@@ -302,15 +302,15 @@ eq_turned j k = by (j == k) refl (k == j) refl
     by true e false f = absurd (grind (arith, nat_tests, e, f))
     by false e true f = absurd (grind (arith, nat_tests, e, f))
 
-alike_is : (wanted b c : Bool) → b ≡ c → Calculations.alike wanted b ≡ agree wanted c
+pub alike_is : (wanted b c : Bool) → b ≡ c → Calculations.alike wanted b ≡ agree wanted c
 alike_is true b c e = e
 alike_is false b c e = flips b ∙ ap not e
 
-flipped_is : (wanted : Bool) → Calculations.flipped wanted ≡ agree wanted false
+pub flipped_is : (wanted : Bool) → Calculations.flipped wanted ≡ agree wanted false
 flipped_is true = refl
 flipped_is false = refl
 
-truth_is : (wanted : Bool) → wanted ≡ agree wanted true
+pub truth_is : (wanted : Bool) → wanted ≡ agree wanted true
 truth_is true = refl
 truth_is false = refl
 

@@ -39,12 +39,12 @@ use Rattle.cjc_bytes.proofs.Integers.{le_true, le_false}
 -- ---- order
 
 -- the order of two numbers
-data Order : ℤ → ℤ → Type 0 where
+pub data Order : ℤ → ℤ → Type 0 where
   below : {a b : ℤ} → a <ℤ b → Order a b
   same : {a b : ℤ} → a ≡ b → Order a b
   above : {a b : ℤ} → b <ℤ a → Order a b
 
-ordered : (a b : ℤ) → Order a b
+pub ordered : (a b : ℤ) → Order a b
 ordered a b = go (int_le a b) refl (int_le b a) refl
   where
     go : (p : Bool) → int_le a b ≡ p → (q : Bool) → int_le b a ≡ q → Order a b
