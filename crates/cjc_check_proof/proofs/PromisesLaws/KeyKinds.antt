@@ -77,7 +77,8 @@ suits m key = true
 named_kind : (op : ℕ) (key : PoolKey) → suits (meaning op) key ≡ true → HasKind (Named op key)
 named_kind op key e how is = ap (λ m. suits m key) (sym is) ∙ e
 
-pub static_suits : (put : Bool) (sort : Sort) (f : MemberId) → suits (meaning (static_access put sort)) (keys.StaticField f)
+pub static_suits : (put : Bool) (sort : Sort) (f : MemberId) → suits (meaning (static_access put sort))
+    (keys.StaticField f)
     ≡ true
 unfolding meaning
 static_suits true Boolean f = refl
