@@ -1,5 +1,6 @@
 -- Rows of fields, calls and handlers: their acts mirror the instructions of the class file where entries of the pool
 -- fit the members that these name.
+use Rattle.cjc_frames.specs.ClassFile.declared.tree.Catch.{Catch as CatchByName}
 use Rattle.std.proofs.Common.{◌≡◌, ℕ, zero, suc, ◌+◌, ◌-◌, ◌<◌, ◌≤◌, refl, sym, ap, subst, ◌∙◌, arith, Bool, true}
 use Rattle.std.proofs.Common.{false, List, [], ◌∷◌, ◌++◌, length, length-append, map, drop, get_or, slice_get, Option}
 use Rattle.std.proofs.Common.{Some, None, append_assoc}

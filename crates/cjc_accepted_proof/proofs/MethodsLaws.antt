@@ -1,4 +1,5 @@
 -- The frames of a method of the card that is written for one of a class file: their blocks lead to each other.
+use Rattle.cjc_frames.specs.ClassFile.declared.tree.Catch.{Catch as CatchByName}
 use Rattle.std.proofs.Common.{◌≡◌, ◌⊎◌, ⊎_elim, ℕ, zero, suc, ◌+◌, ◌-◌, ◌<◌, ◌≤◌, refl, sym, ap, subst, ◌∙◌, arith}
 use Rattle.std.proofs.Common.{Bool, true, false, List, [], ◌∷◌, ◌++◌, length, length-append, map, filter_map}
 use Rattle.std.proofs.Common.{flat_map, slice_get, Option, Some, None, option_map, Contains}

@@ -1,4 +1,5 @@
 -- What the card's types of arrays say of the arrays that they stand for.
+use Rattle.cjc_types.specs.Types.{held as held_by_name}
 use Rattle.std.specs.Prelude.{◌≡◌, ℕ, ◌==◌, ◌||◌, Bool, true, false, List, Option, Some, if◌then◌else◌}
 use Rattle.cjc_frames.specs.Bytecode.Jvm as jvm
 use Rattle.cjc_types.specs.Rules.{is_array_for}

@@ -1,5 +1,6 @@
 -- A method of the card beside the method of the class file that it is written for: its blocks are what is written for
 -- each reached instruction, and its frames are those of the class file's table.
+use Rattle.cjc_frames.specs.ClassFile.declared.tree.Catch.{Catch as CatchByName}
 use Rattle.std.specs.Prelude.{◌≡◌, ℕ, suc, ◌+◌, ◌<◌, ◌≤◌, true, List, [], ◌∷◌, length, slice_get, Option, Some}
 use Rattle.std.specs.Prelude.{None}
 use Rattle.std.specs.List.{Contains}

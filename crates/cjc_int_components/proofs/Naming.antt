@@ -1,4 +1,5 @@
 -- Each instruction that is written in int mode names nothing, or what the instruction of the class file names.
+use Rattle.cjc_ncode.specs.Written.{written as outside_written}
 use Rattle.std.proofs.Common.{◌≡◌, ℕ, zero, suc, ◌+◌, ◌-◌, refl, subst, Bool, true, false, List, [], ◌∷◌, ◌++◌, length}
 use Rattle.std.proofs.Common.{slice_get, map, take}
 use Rattle.std.specs.Prelude.{if◌then◌else◌, nat_le, ◌==◌, Option, Some, None, ℤ, pos, negsuc}

@@ -1,5 +1,7 @@
 -- Rows of a method for which one instruction is written, or none; outside of pairs by an act that mirrors the class
 -- file's instruction.
+use Rattle.cjc_types.specs.Flow.{Body as BodyByName}
+use Rattle.cjc_types.specs.Rules.{is_off as is_off_by_name}
 use Rattle.std.proofs.Common.{◌≡◌, ℕ, suc, sym, subst, ◌∙◌, true, false, List, [], ◌∷◌, Contains, inl}
 use Rattle.std.proofs.Common.{inr}
 use Rattle.std.proofs.Common.{Option, arith, ◌<◌}

@@ -1,3 +1,4 @@
+use Rattle.cjc_order.specs.ClassFile.declared.tree.ClassTree.{ClassTree as Tree}
 use Rattle.std.proofs.Common.{◌≡◌, ◌∙◌, ap, subst, false, map, get_or}
 use Rattle.std.proofs.lemmas.Option.{get_or_from_slice_get}
 use Rattle.cjc_world.specs.Classes.{all_classes, declared}
