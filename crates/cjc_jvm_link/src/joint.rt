@@ -122,7 +122,7 @@ pub fn joint_world<'a>(
     classes: Row<ClassTree<'a>>,
     exports: Row<ExportTree>,
 ) -> Result<Option<World<'a>>, NoMemory>
-    requires classes { classes.entry ≡ joint_classes packages.now }
+    requires classes { classes ≡ joint_classes packages.now }
     requires exports { exports ≡ flat_map (λ (p : Files). p.exports) packages.now }
     ensures { IfOk result (λ o. MatchOption o (has_cycle (all_classes (joint packages.now)) ≡ true)
         (λ w. w ≡ joint packages.now)) }
