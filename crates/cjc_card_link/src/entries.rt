@@ -41,14 +41,21 @@ fn cell_at(part: u32, offsets: &[u64], token: u8) -> Option<StaticCell>
 }
 
 impl<'a> Tables<'a> {
+    // The constant pool of a package; one that is not there has no entries.
+    fn pool(&self, part: u32) -> &'a [PoolEntry]
+        ensures { result.now ≡ pool_of (loaded_of self.now) part }
+    {
+        match self.package(part) {
+            Some(package) => package.pool(),
+            None => &[],
+        }
+    }
+
     /// The entry of an index in a package.
     pub(crate) fn pool_entry(&self, part: u32, index: i32) -> Option<PoolEntry>
         ensures { result ≡ entry (pool_of (loaded_of self.now) part) index }
     {
-        match self.package(part) {
-            Some(package) => entry(package.pool(), index),
-            None => entry(&[], index),
-        }
+        entry(self.pool(part), index)
     }
 
     /// The class that an entry names.

@@ -1,6 +1,5 @@
 use Rattle.std.proofs.Common.{ℕ, List, ap, ◌∙◌}
 use Rattle.std.specs.Prelude.{option_and_then, option_map, slice_get}
-use Rattle.cjc_card_semantics.specs.Machine.Statics.{StaticCell}
 use Rattle.cjc_card_link.specs.Tables.{loaded_of}
 use Rattle.cjc_card_link.proofs.Exporting.{cells_by, exported_by, is_listed, is_none}
 use Rattle.cjc_card_link.proofs.tables.Tables.exported_cell.Goals as goal
