@@ -8,3 +8,4 @@ pub mod CapWrite
 pub mod Judge
 pub mod LowerCmdConvert
 pub mod CmdJvm
+pub mod CmdCard

@@ -7,11 +7,6 @@ pub mod cmd_convert {
     pub use cjc_cmd_convert::{conversion, publication};
 }
 
-/// What crates above take of cjc_cmd_card.
-pub mod cmd_card {
-    pub use cjc_cmd_card::report;
-}
-
 pub mod laws;
 pub mod package;
 pub mod report;

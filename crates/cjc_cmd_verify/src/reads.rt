@@ -68,7 +68,7 @@ fn gather_text<S: Shelf>(
 ///
 /// A list that is refused, before the next file is read; the first file that is absent, too long or can't be
 /// read; want of memory.
-pub fn gather_input<S: Shelf>(
+pub(crate) fn gather_input<S: Shelf>(
     alloc: Global,
     name: &[u8],
     dir: &[u8],

@@ -4,7 +4,7 @@ use Rattle.cjc_cmd_compat.specs.Bytes.Refused.{IsUnlessNoMemory}
 use Rattle.cjc_cmd_compat.specs.Bytes.declared.fault.Fault.TheVariants as faults
 use Rattle.cjc_cmd_compat.specs.Bytes.declared.fault.Refusal.{Refusal}
 use Rattle.cjc_shelf.specs.Shelf.{Shelved}
-use Rattle.cjc_cmd_link.specs.List.Listed.{ListTree, listed, answer}
+use Rattle.cjc_cmd_verify.specs.List.Listed.{ListTree, listed, answer}
 use Rattle.cjc_shelf.specs.declared.command.status.Status.{Status}
 use Rattle.cjc_shelf.specs.declared.command.status.Status.TheVariants as status
 use Rattle.cjc_shelf.specs.declared.command.status.Todo.{Todo}
@@ -12,7 +12,7 @@ use Rattle.cjc_shelf.specs.Command.Plan.{◌>>=◌, has, read_each, unless_refus
 use Rattle.cjc_shelf.specs.Command.Gather.{Gathers, IsSame, Judged}
 use Rattle.cjc_shelf.proofs.CommandLaws.Gathering.{gathers_refused, gathers_then, gathers_end}
 use Rattle.cjc_shelf.proofs.CommandLaws.Judging.{gathers_judged}
-use Rattle.cjc_cmd_link.proofs.CmdJvmGathers.{answer_ok, answer_err}
+use Rattle.cjc_cmd_verify.proofs.CmdJvmGathers.{answer_ok, answer_err}
 use Rattle.cjc_run.specs.Convert.{names_of, plan_of_files, plan_of_list, Makes}
 
 -- the text is a list, and its files were asked for

@@ -1,22 +1,22 @@
 -- What a command makes of its inputs is one answer.
 use Rattle.std.proofs.Common.{◌≡◌, ℕ, List, Ok, Err}
 use Rattle.cjc_shelf.specs.declared.command.status.Todo.{Todo}
-use Rattle.cjc_cmd_link.specs.List.Listed.{ListTree}
+use Rattle.cjc_cmd_verify.specs.List.Listed.{ListTree}
 use Rattle.cjc_shelf.proofs.CommandLaws.OneAnswer.{IsOneAnswer}
 use Rattle.cjc_cmd_compat.specs.Bytes.declared.fault.Refusal.{Refusal}
-use Rattle.cjc_cmd_link.specs.CmdCard.Report.Runs as card_runs
-use Rattle.cjc_cmd_link.specs.CmdCard.declared.running.input.Input.{Input as ComponentsInput}
+use Rattle.cjc_cmd_make.specs.CmdCard.Report.Runs as card_runs
+use Rattle.cjc_cmd_make.specs.CmdCard.declared.running.input.Input.{Input as ComponentsInput}
 use Rattle.cjc_cmd_make.specs.LowerCmdConvert.Conversion.Conversion.{Conversion, IsConverted, IsRefused}
 use Rattle.cjc_cmd_compat.proofs.CmdCheckOneAnswer.{one_refusal as one_broken, never_both}
-use Rattle.cjc_cmd_link.specs.CmdCheck.Check.{Checks}
-use Rattle.cjc_cmd_link.specs.CmdCheck.declared.folder.folder.Folder.{Folder}
+use Rattle.cjc_cmd_verify.specs.CmdCheck.Check.{Checks}
+use Rattle.cjc_cmd_verify.specs.CmdCheck.declared.folder.folder.Folder.{Folder}
 use Rattle.cjc_cmd_compat.proofs.OneAnswer.{one_refusal as one_version, never_both as never_kept_and_refused}
 use Rattle.cjc_cmd_compat.specs.Compat.{Compares}
-use Rattle.cjc_cmd_link.proofs.CmdJvmOneAnswer.{one_refusal_of_runs, never_both as never_run_and_refused}
+use Rattle.cjc_cmd_verify.proofs.CmdJvmOneAnswer.{one_refusal_of_runs, never_both as never_run_and_refused}
 use Rattle.cjc_cmd_make.specs.CmdJvm.Runs.{Runs}
 use Rattle.cjc_cmd_make.specs.Report.Runs as summed
 use Rattle.cjc_cmd_make.specs.CmdJvm.declared.running.input.Input.{Input}
-use Rattle.cjc_cmd_link.specs.LowerCmdVerify.Verify.{Verifies}
+use Rattle.cjc_cmd_verify.specs.Verify.{Verifies}
 use Rattle.cjc_run.specs.Request.{Request, card, check, compat, convert, jvm, make, verify}
 use Rattle.cjc_run.specs.Command.{command_of}
 use Rattle.cjc_run.specs.Convert.{Makes}

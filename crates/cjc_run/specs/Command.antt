@@ -1,11 +1,11 @@
 -- From a request to the command that does it: what it reads, and what is made of that.
 use Rattle.cjc_shelf.specs.Command.Answer.{Command}
-use Rattle.cjc_cmd_link.specs.CmdCard.Report.Runs as by_token
-use Rattle.cjc_cmd_link.specs.CmdCheck.Check.{Checks, plan_of_check}
+use Rattle.cjc_cmd_make.specs.CmdCard.Report.Runs as by_token
+use Rattle.cjc_cmd_verify.specs.CmdCheck.Check.{Checks, plan_of_check}
 use Rattle.cjc_cmd_compat.specs.Compat.{Compares, plan_of_compat}
 use Rattle.cjc_cmd_make.specs.CmdJvm.Runs.{Runs, plan_of_jvm}
 use Rattle.cjc_cmd_make.specs.Report.Runs as summed
-use Rattle.cjc_cmd_link.specs.LowerCmdVerify.Verify.{Verifies, plan_of_verify}
+use Rattle.cjc_cmd_verify.specs.Verify.{Verifies, plan_of_verify}
 use Rattle.cjc_run.specs.Request.{Request, card, check, compat, convert, jvm, make, verify}
 use Rattle.cjc_run.specs.Convert.{plan_of_convert, Makes}
 

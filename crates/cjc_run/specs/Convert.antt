@@ -1,7 +1,7 @@
 -- What `convert LIST DIR` reads, and what it writes and prints.
 use Rattle.std.specs.Prelude.{◌≡◌, ℕ, List, map, Result, Ok, Err}
 use Rattle.cjc_cmd_compat.specs.Bytes.declared.fault.Refusal.{Refusal}
-use Rattle.cjc_cmd_link.specs.List.Listed.{ListTree, listed}
+use Rattle.cjc_cmd_verify.specs.List.Listed.{ListTree, listed}
 use Rattle.cjc_cmd_make.specs.LowerCmdConvert.Conversion.Conversion.{Conversion, IsConverted, IsRefused}
 use Rattle.cjc_cmd_make.specs.LowerCmdConvert.Conversion.Promise.{KeepsPromise}
 use Rattle.cjc_shelf.specs.Command.Plan.{Plan, has, ◌>>=◌, read, read_each, unless_refused}

@@ -6,27 +6,27 @@ use Rattle.cjc_cmd_compat.specs.Bytes.declared.settings.FileLine.{FileLine}
 use Rattle.cjc_shelf.specs.Shelf.{Files, Shelved}
 use Rattle.cjc_shelf.specs.Sink.{Sunk}
 use Rattle.cjc_shelf.specs.Command.Publish.{IsPrinted, Stand}
-use Rattle.cjc_cmd_link.specs.List.Listed.{ListTree}
-use Rattle.cjc_cmd_link.specs.List.Spelling.{IsSpelt as IsListSpelt}
-use Rattle.cjc_cmd_link.specs.ClassFile.ClassFile.{class_file}
-use Rattle.cjc_cmd_link.specs.ClassFile.declared.tree.ClassTree.{ClassTree}
-use Rattle.cjc_cmd_link.specs.ExportFile.declared.tree.ExportTree.{ExportTree}
-use Rattle.cjc_cmd_link.specs.ExportFile.ExportFile.{export_file}
-use Rattle.cjc_cmd_link.specs.CapRead.declared.tree.CapTree.{CapTree}
+use Rattle.cjc_cmd_verify.specs.List.Listed.{ListTree}
+use Rattle.cjc_cmd_verify.specs.List.Spelling.{IsSpelt as IsListSpelt}
+use Rattle.cjc_cmd_verify.specs.ClassFile.ClassFile.{class_file}
+use Rattle.cjc_cmd_verify.specs.ClassFile.declared.tree.ClassTree.{ClassTree}
+use Rattle.cjc_cmd_verify.specs.ExportFile.declared.tree.ExportTree.{ExportTree}
+use Rattle.cjc_cmd_verify.specs.ExportFile.ExportFile.{export_file}
+use Rattle.cjc_cmd_verify.specs.CapRead.declared.tree.CapTree.{CapTree}
 use Rattle.cjc_cmd_make.specs.CapWrite.Writable.{IsSpelt}
 use Rattle.cjc_cmd_make.specs.LowerCmdConvert.Conversion.Conversion.{BehaveAlike, Conversion, ExportsAreFair}
 use Rattle.cjc_cmd_make.specs.Judge.Rules.{world_files}
-use Rattle.cjc_cmd_link.specs.CheckRules.Consistent.{Consistent}
+use Rattle.cjc_cmd_verify.specs.CheckRules.Consistent.{Consistent}
 use Rattle.cjc_cmd_make.specs.LowerCmdConvert.Publication.{files_made, below}
-use Rattle.cjc_cmd_link.specs.CmdCheck.Check.{AreConsistent, check_breaks, ok_line, plan_of_check}
+use Rattle.cjc_cmd_verify.specs.CmdCheck.Check.{AreConsistent, check_breaks, ok_line, plan_of_check}
 use Rattle.cjc_shelf.specs.Command.Plan.{complete, verdict}
 use Rattle.cjc_shelf.specs.declared.command.status.Todo.{Todo}
-use Rattle.cjc_cmd_link.specs.CmdCheck.declared.folder.folder.Folder.{Folder}
+use Rattle.cjc_cmd_verify.specs.CmdCheck.declared.folder.folder.Folder.{Folder}
 use Rattle.cjc_cmd_compat.specs.Compat.{AreCompatible}
-use Rattle.cjc_cmd_link.specs.CmdCard.Report.Runs as by_token
-use Rattle.cjc_cmd_link.specs.CmdCard.Running.Ready as components
-use Rattle.cjc_cmd_link.specs.CmdCard.declared.running.input.Input.{Input as ComponentsInput}
-use Rattle.cjc_cmd_link.specs.CmdCard.declared.running.ready.Ready.{Ready as ComponentsReady}
+use Rattle.cjc_cmd_make.specs.CmdCard.Report.Runs as by_token
+use Rattle.cjc_cmd_make.specs.CmdCard.Running.Ready as components
+use Rattle.cjc_cmd_make.specs.CmdCard.declared.running.input.Input.{Input as ComponentsInput}
+use Rattle.cjc_cmd_make.specs.CmdCard.declared.running.ready.Ready.{Ready as ComponentsReady}
 use Rattle.cjc_cmd_make.specs.CmdJvm.Running.Ready.{IsReady}
 use Rattle.cjc_cmd_make.specs.CmdJvm.declared.running.input.Input.{Input}
 use Rattle.cjc_cmd_make.specs.CmdJvm.declared.running.ready.Ready.{Ready}
@@ -34,7 +34,7 @@ use Rattle.cjc_cmd_make.specs.Script.declared.report.Report.{Report}
 use Rattle.cjc_cmd_make.specs.ScriptText.Printed.{report_text}
 use Rattle.cjc_cmd_make.specs.CmdJvm.Runs.{IsReport, plan_of_jvm}
 use Rattle.cjc_cmd_make.specs.Report.Runs.{IsMade}
-use Rattle.cjc_cmd_link.specs.LowerCmdVerify.Verify.{AreTyped, plan_of_verify}
+use Rattle.cjc_cmd_verify.specs.Verify.{AreTyped, plan_of_verify}
 use Rattle.cjc_run.specs.Request.{Request, card, check, compat, convert, jvm, make, verify}
 
 -- by one line: a class file is there and spells the first of these classes, and the other lines the rest; an export

@@ -17,8 +17,6 @@ pub data Request : Type 0 where
   make : ℕ → ℕ → Request
   -- verify LIST DIR
   verify : List ℕ → List ℕ → Request
-  -- linkjvm GROUP SCRIPT N
-  linkjvm : List ℕ → List ℕ → ℕ → Request
   -- compat OLD NEW
   compat : List ℕ → List ℕ → Request
 
@@ -47,9 +45,7 @@ request (verb ∷ list ∷ dir ∷ []) =
     else if bytes_eq verb (codes "verify") then Some (verify list dir)
     else if bytes_eq verb (codes "compat") then Some (compat list dir)
     else None
-request (verb ∷ list ∷ script ∷ n ∷ []) =
-    if bytes_eq verb (codes "jvm") then option_map (jvm list script) (count n)
-    else if bytes_eq verb (codes "linkjvm") then option_map (linkjvm list script) (count n)
+request (verb ∷ list ∷ script ∷ n ∷ []) = if bytes_eq verb (codes "jvm") then option_map (jvm list script) (count n)
     else None
 request (verb ∷ list ∷ dir ∷ script ∷ n ∷ []) = if bytes_eq verb (codes "card") then option_map (card list dir script)
     (count n) else None

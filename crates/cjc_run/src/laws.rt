@@ -8,10 +8,10 @@ ghost use Rattle.cjc_shelf.specs.declared.command.status.Status.{Status as Answe
 ghost use Rattle.cjc_run.specs.Request.{Request};
 ghost use Rattle.cjc_run.specs.Command.{command_of};
 
-use cjc_cmd_link::cmd_verify::one_answer as one_verdict;
-use cjc_cmd_make::cmd_card::report::one_answer as one_report;
 use cjc_cmd_make::cmd_convert::conversion::one_answer;
 use cjc_cmd_make::report::one_answer as one_summary;
+use cjc_cmd_verify::cmd_card::report::one_answer as one_report;
+use cjc_cmd_verify::one_answer as one_verdict;
 
 /// The words and the told files decide one answer: two runs in which no fault count rises and memory is there
 /// end the same way, and of all refusals that a run may answer for them there is one.

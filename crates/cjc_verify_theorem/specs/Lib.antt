@@ -5,13 +5,13 @@ pub use Rattle.cjc_theorem.specs.FairExports as FairExports
 -- Definitions of lower crates, for those above.
 pub mod Bytes
 pub mod List
+pub mod ClassFile
 pub mod Bytecode
-pub mod Script
+pub mod ExportFile
 pub mod CapRead
 pub mod World
 pub mod Clinit
 pub mod CheckRules
 pub mod CheckIndex
-pub mod JvmSemantics
 pub mod Components
 pub mod LowerVerify

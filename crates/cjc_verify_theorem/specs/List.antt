@@ -1,2 +1,3 @@
 -- What crates above take of List.
 pub use Rattle.cjc_theorem.specs.List.Listed as Listed
+pub use Rattle.cjc_theorem.specs.List.Spelling as Spelling

@@ -1,2 +1,0 @@
--- What crates above take of CmdJvm.
-pub use Rattle.cjc_cmd_card.specs.CmdJvm.Running as Running

@@ -1,2 +1,0 @@
--- What crates above take of JvmSemantics.
-pub use Rattle.cjc_verify_theorem.specs.JvmSemantics.Group as Group

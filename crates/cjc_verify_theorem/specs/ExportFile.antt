@@ -1,0 +1,3 @@
+-- What crates above take of LowerExportFile.
+pub use Rattle.cjc_verified_proof.specs.LowerExportFile.ExportFile as ExportFile
+pub use Rattle.cjc_verified_proof.specs.LowerExportFile.declared as declared
