@@ -1,3 +1,2 @@
 -- What crates above take of ExportFile.
-pub use Rattle.cjc_verify_theorem.specs.ExportFile.ExportFile as ExportFile
 pub use Rattle.cjc_verify_theorem.specs.ExportFile.declared as declared

@@ -12,7 +12,7 @@ use Rattle.cjc_cmd_verify.specs.List.Listed.{ListTree, listed}
 use Rattle.cjc_cmd_verify.specs.ClassFile.ClassFile.{class_file}
 use Rattle.cjc_cmd_verify.specs.ClassFile.declared.tree.ClassTree.{ClassTree}
 use Rattle.cjc_cmd_make.specs.Judge.Spelt.{FileTree, SpellTrees, classes_of, exports_of, of_class, of_export}
-use Rattle.cjc_cmd_verify.specs.ExportFile.ExportFile.{export_file}
+use Rattle.cjc_cmd_make.specs.ExportFile.ExportFile.{export_file}
 use Rattle.cjc_cmd_verify.specs.ExportFile.declared.tree.ExportTree.{ExportTree}
 use Rattle.cjc_shelf.specs.Command.Plan.{◌>>=◌, has, Verdict, verdict, for_each, read_behind, read_each}
 use Rattle.cjc_shelf.specs.Command.Plan.{unless_refused, absent, too_long, refused, complete}

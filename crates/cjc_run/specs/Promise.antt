@@ -7,11 +7,11 @@ use Rattle.cjc_shelf.specs.Shelf.{Files, Shelved}
 use Rattle.cjc_shelf.specs.Sink.{Sunk}
 use Rattle.cjc_shelf.specs.Command.Publish.{IsPrinted, Stand}
 use Rattle.cjc_cmd_verify.specs.List.Listed.{ListTree}
-use Rattle.cjc_cmd_verify.specs.List.Spelling.{IsSpelt as IsListSpelt}
+use Rattle.cjc_list.specs.Spelling.{IsSpelt as IsListSpelt}
 use Rattle.cjc_cmd_verify.specs.ClassFile.ClassFile.{class_file}
 use Rattle.cjc_cmd_verify.specs.ClassFile.declared.tree.ClassTree.{ClassTree}
 use Rattle.cjc_cmd_verify.specs.ExportFile.declared.tree.ExportTree.{ExportTree}
-use Rattle.cjc_cmd_verify.specs.ExportFile.ExportFile.{export_file}
+use Rattle.cjc_cmd_make.specs.ExportFile.ExportFile.{export_file}
 use Rattle.cjc_cmd_verify.specs.CapRead.declared.tree.CapTree.{CapTree}
 use Rattle.cjc_cmd_make.specs.CapWrite.Writable.{IsSpelt}
 use Rattle.cjc_cmd_make.specs.LowerCmdConvert.Conversion.Conversion.{BehaveAlike, Conversion, ExportsAreFair}

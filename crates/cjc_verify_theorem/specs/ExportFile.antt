@@ -1,3 +1,2 @@
 -- What crates above take of LowerExportFile.
-pub use Rattle.cjc_verified_proof.specs.LowerExportFile.ExportFile as ExportFile
 pub use Rattle.cjc_verified_proof.specs.LowerExportFile.declared as declared

@@ -1,3 +1,2 @@
 -- What crates above take of List.
 pub use Rattle.cjc_theorem.specs.List.Listed as Listed
-pub use Rattle.cjc_theorem.specs.List.Spelling as Spelling
